@@ -1,0 +1,19 @@
+ghost use Rattle.std.specs.Prelude.{◌≡◌, ◌++◌, ◌∷◌, [], List, ℕ, Option, option_map};
+
+/// The clock of a command.
+pub trait Lobby: Drop {
+    /// The clock's readings so far, where they are told.
+    ghost readings: { Self → Option (List ℕ) };
+
+    /// How often a call has failed.
+    ghost fault_count: { Self → ℕ };
+
+    /// Milliseconds since 1970, as the clock shows them; a reading of before 1970 is 0. It can't fail.
+    fn now(&mut self) -> u64
+        ensures read { readings self.new ≡ option_map (λ so_far. so_far ++ result ∷ []) (readings self.old) }
+        ensures same { fault_count self.new ≡ fault_count self.old };
+
+    /// How often a call has failed. At the last value of u64 the count stands still.
+    fn faults(&self) -> u64
+        ensures { result ≡ fault_count self.now };
+}

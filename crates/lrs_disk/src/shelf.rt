@@ -1,0 +1,33 @@
+ghost use Rattle.std.specs.Prelude.{◌≡◌, List, ℕ, Option, Some, IfOk};
+ghost use Rattle.lrs_disk.specs.Faults.{HasCause};
+
+use crate::{Disk, Failed};
+
+/// Where disks come from, by name. A name that isn't there is made as an empty disk.
+pub trait Shelf: Drop {
+    type Disk: Disk;
+
+    /// What the disk of a name reads, where it is told.
+    ghost holds: { Self → List ℕ → Option (List ℕ) };
+
+    /// The count of faults with which the disk of a name is taken.
+    ghost begins: { Self → List ℕ → ℕ };
+
+    /// The moment with which the disk of a name is taken.
+    ghost starts: { Self → List ℕ → ℕ };
+
+    /// How often a call has failed.
+    ghost fault_count: { Self → ℕ };
+
+    /// The disk of a name. Nothing is pending on it: a crash leaves what a read gives.
+    fn take(&mut self, name: &str) -> Result<Self::Disk, Failed>
+        ensures told { IfOk result (λ disk. Self.Disk.told disk ≡ holds self.old name.now) }
+        ensures begins { IfOk result (λ disk. Self.Disk.fault_count disk ≡ begins self.old name.now) }
+        ensures starts { IfOk result (λ disk. Self.Disk.time disk ≡ starts self.old name.now) }
+        ensures settled { IfOk result (λ disk. (c : List ℕ) → Self.Disk.image disk c → Self.Disk.told disk ≡ Some c) }
+        ensures cause { HasCause (fault_count self.old) (fault_count self.new) result };
+
+    /// How often a call has failed. At the last value of u64 the count stands still.
+    fn faults(&self) -> u64
+        ensures { result ≡ fault_count self.now };
+}
