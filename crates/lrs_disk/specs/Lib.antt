@@ -1,2 +1,17 @@
+pub mod Allowance
+pub mod Calls
+pub mod Clock
 pub mod Disk
 pub mod Faults
+pub mod Images
+pub mod Kept
+pub mod Ledger
+pub mod MemDisk
+pub mod MemLobby
+pub mod MemShelf
+pub mod MemSink
+pub mod MemSource
+pub mod Named
+pub mod Readings
+pub mod Schedule
+pub mod Steps

@@ -7,11 +7,13 @@
 mod disk;
 mod failed;
 mod lobby;
+mod memory;
 mod shelf;
 mod streams;
 
 pub use disk::Disk;
 pub use failed::Failed;
 pub use lobby::Lobby;
+pub use memory::{MemDisk, MemLobby, MemShelf, MemSink, MemSource, Memory, Pending};
 pub use shelf::Shelf;
 pub use streams::{Sink, Source};

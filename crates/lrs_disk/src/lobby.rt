@@ -1,4 +1,5 @@
-ghost use Rattle.std.specs.Prelude.{◌≡◌, ◌++◌, ◌∷◌, [], List, ℕ, Option, option_map};
+ghost use Rattle.std.specs.Prelude.{◌≡◌, List, ℕ, Option};
+ghost use Rattle.lrs_disk.specs.Readings.{AddsReading};
 
 /// The clock of a command.
 pub trait Lobby: Drop {
@@ -10,7 +11,7 @@ pub trait Lobby: Drop {
 
     /// Milliseconds since 1970, as the clock shows them; a reading of before 1970 is 0. It can't fail.
     fn now(&mut self) -> u64
-        ensures read { readings self.new ≡ option_map (λ so_far. so_far ++ result ∷ []) (readings self.old) }
+        ensures read { AddsReading (readings self.old) (readings self.new) result }
         ensures same { fault_count self.new ≡ fault_count self.old };
 
     /// How often a call has failed. At the last value of u64 the count stands still.

@@ -1,0 +1,18 @@
+-- What is seen of an output in memory.
+use Rattle.std.specs.Prelude.{◌-◌, ℕ, List, length}
+use Rattle.lrs_disk.specs.Schedule.{Schedule}
+use Rattle.lrs_disk.specs.declared.memory.sink.MemSink.{MemSink}
+
+-- what it took
+abbrev pub taken_of : MemSink → List ℕ
+taken_of s = s.taken.items
+
+-- how many bytes more it takes
+abbrev pub room_of : MemSink → ℕ
+room_of s = s.room - length s.taken.items
+
+abbrev pub schedule_of : MemSink → Schedule
+schedule_of s = record { failing = s.plan.failing.items; number = s.plan.number }
+
+abbrev pub faults_of : MemSink → ℕ
+faults_of s = s.plan.faults
