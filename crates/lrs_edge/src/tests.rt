@@ -1,0 +1,51 @@
+use crate::{FileShelf, StdSink, StdSource, SystemLobby};
+use lrs_disk::{Disk, Lobby, Shelf, Sink, Source};
+use std::test::Fail;
+use std::{env, fs};
+
+#[test]
+fn a_file_keeps_its_bytes(rt: HostRuntime) -> Result<(), Fail> {
+    let mut path = env::temp_dir(&rt)?;
+    path.push(format!(in rt.alloc();
+        "kilnlime-lrs-edge-{}",
+        std::process::id(rt.process())
+    )?.as_str())?;
+    let name = path.as_path().as_str();
+    let mut shelf = FileShelf::new(rt);
+    let mut disk = shelf.take(name)?;
+    assert_eq!(rt; disk.len()?, 0);
+    disk.write_at(0, b"hello")?;
+    disk.write_at(5, b" you")?;
+    disk.cut(7)?;
+    disk.sync()?;
+    let mut disk = shelf.take(name)?;
+    let mut read = [0; 9];
+    assert_eq!(rt; disk.read_at(1, &mut read)?, 6);
+    assert_eq!(rt; read, *b"ello y\0\0\0");
+    assert_eq!(rt; disk.faults() + shelf.faults(), 0);
+    fs::remove_file(&rt, name)?;
+    assert!(rt; shelf.take("/no/such/folder").is_err());
+    assert_eq!(rt; shelf.faults(), 1);
+    Ok(())
+}
+
+#[test]
+fn streams_pass_bytes_on(rt: HostRuntime) -> Result<(), Fail> {
+    let mut source = StdSource::new(b"abc".as_slice());
+    let mut read = [0; 2];
+    assert_eq!(rt; source.read(&mut read)?, 2);
+    assert_eq!(rt; read, *b"ab");
+    assert_eq!(rt; source.read(&mut read)?, 1);
+    assert_eq!(rt; source.read(&mut read)?, 0);
+    let mut sink = StdSink::new(rt.stdout());
+    assert_eq!(rt; sink.write(b"\n")?, 1);
+    assert_eq!(rt; source.faults() + sink.faults(), 0);
+    Ok(())
+}
+
+#[test]
+fn the_clock_is_past_2020(rt: HostRuntime) -> Result<(), Fail> {
+    let mut lobby = SystemLobby::new(rt);
+    assert!(rt; lobby.now() > 1_577_836_800_000);
+    Ok(())
+}
