@@ -1,0 +1,144 @@
+-- What a replay reads.
+use Rattle.std.proofs.Common.{◌≡◌, ◌⊎◌, ⊎_elim, Bool, ℕ, ◌+◌, ◌-◌, ◌≤◌, ◌<◌, ◌^◌, min, List, [], ◌∷◌, ◌++◌, length, take, drop, refl, sym, ◌∙◌, ap, arith, subst, Option, Some, None, option_map, true, false, IfSome, length-append, length-drop, take-append-drop}
+use Rattle.std.proofs.lemmas.List.{take_all, take_min, take-take}
+use Rattle.std.proofs.lemmas.Nat.{from_be_bytes-to_be_bytes_4}
+use Rattle.std.specs.Int.{w32, to_be_bytes, from_be_bytes}
+use Rattle.lrs_journal.specs.Store.{store, header, body, Stands, HasHeader, IsDamaged, IsPayload, payloads_in}
+use Rattle.lrs_journal.specs.Replay.{HasReadTo}
+use Rattle.lrs_journal.specs.Steps.{Reads, IsPlaced, IsSettled, IsSound, IsReplay, IsClosed, IsCutBack}
+use Rattle.lrs_journal.specs.Journal.{settled, frames_of, TellsAlike}
+use Rattle.lrs_journal.proofs.Told.{alike_told, alike_back}
+use Rattle.lrs_journal.proofs.Doubt.{placed_push, frame_read}
+use Rattle.lrs_journal.proofs.Cutting.{closed_rests, cut_back_stands}
+use Rattle.lrs_journal.proofs.Kept.{seen, settled_read}
+
+pub at_some : (P : List ℕ → Type 0) (o : Option (List ℕ)) (x : List ℕ) → o ≡ Some x → IfSome o P → P x
+at_some P o x told holds = subst (λ (o : Option (List ℕ)). IfSome o P) told holds
+
+pub same_told : (o : Option (List ℕ)) (b c : List ℕ) → o ≡ Some b → o ≡ Some c → b ≡ c
+same_told o b c one two = cc (one, two)
+
+-- ---- the header
+
+pub head_is : (k n : ℕ) (into b : List ℕ) → n ≡ min k (length b) → take n into ≡ take n b → take (min n k) into ≡ take k b
+head_is k n into b is same = ap (λ (m : ℕ). take m into) (omega (arith, is)) ∙ same ∙ ap (λ (m : ℕ). take m b) is ∙ take_min k b
+
+pub header_front : (bytes : List ℕ) (limit : ℕ) → HasHeader bytes limit → take 17 bytes ≡ header limit
+header_front bytes limit h = ap (λ (l : List ℕ). take 17 l) h.split
+
+pub has_header : (bytes : List ℕ) (limit : ℕ) → take 17 bytes ≡ header limit → 512 ≤ limit → limit ≤ 2 ^ 30 → HasHeader bytes limit
+has_header bytes limit front least most = record {
+  least = least;
+  most = most;
+  rest = drop 17 bytes;
+  split = sym (take-append-drop 17 bytes) ∙ ap (λ (l : List ℕ). l ++ drop 17 bytes) front;
+}
+
+pub read_none : (bytes : List ℕ) (limit : ℕ) → HasHeader bytes limit → HasReadTo bytes limit 17 0 []
+read_none bytes limit h = record {
+  least = h.least;
+  most = h.most;
+  sizes = tt;
+  begins = sym (take-append-drop 17 bytes) ∙ ap (λ (l : List ℕ). l ++ drop 17 bytes) (header_front bytes limit h);
+  behind = refl;
+  counts = refl;
+}
+
+-- ---- a frame
+
+pub placed_of : (bytes : List ℕ) (limit place number : ℕ) (ps : List (List ℕ)) → HasReadTo bytes limit place number ps → IsPlaced limit place ps
+placed_of bytes limit place number ps h = record { least = h.least; most = h.most; sizes = h.sizes; behind = h.behind }
+
+-- a whole frame more was read
+pub read_more : (bytes : List ℕ) (limit place number : ℕ) (ps : List (List ℕ)) (head into word : List ℕ) (n m len : ℕ) → HasReadTo bytes limit place number ps
+    → take n head ≡ take n (drop place bytes) → n ≡ 5 → head ≡ 1 ∷ word → length word ≡ 4 → to_be_bytes w32 len ≡ word → length into ≡ len → len < 2 ^ 32
+    → take m into ≡ take m (drop (place + 5) bytes) → m ≡ len → HasReadTo bytes limit (place + (5 + len)) (number + 1) (ps ++ into ∷ [])
+read_more bytes limit place number ps head into word n m len h same five head_is four spelled long small same2 all =
+    let placed = placed_push limit place len ps into (placed_of bytes limit place number ps h) (sym long) small in
+    record {
+      least = h.least;
+      most = h.most;
+      sizes = placed.sizes;
+      begins = frame_read limit place ps bytes head into word n m len h.begins same five head_is four spelled long same2 all;
+      behind = placed.behind;
+      counts = omega (arith, h.counts, length-append ps (into ∷ []));
+    }
+
+-- a frame whose length goes past the end
+pub not_whole : (bytes : List ℕ) (limit place number : ℕ) (ps : List (List ℕ)) (head word : List ℕ) (n len : ℕ) → HasReadTo bytes limit place number ps
+    → n ≡ min 5 (length bytes - place) → take n head ≡ take n (drop place bytes) → 2 ≤ n → head ≡ 1 ∷ word → length word ≡ 4 → to_be_bytes w32 len ≡ word → len < 2 ^ 32
+    → (n < 5) ⊎ (length bytes - place < 5 + len) → IsDamaged bytes limit ps
+not_whole bytes limit place number ps head word n len h is same some head_is four spelled small short = record {
+  sizes = h.sizes;
+  rest = drop 1 tail;
+  split = h.begins ∙ ap (λ (l : List ℕ). store limit ps ++ l) whole;
+  more = omega (arith, size, length-drop 1 tail);
+  torn = λ payload behind fits e. ⊎_elim
+      (λ lt. absurd (omega (arith, ap length e, length-drop 1 tail, size, length-append (body payload) behind, length-body payload)))
+      (λ lt. absurd (too_long payload behind fits e lt)) short;
+}
+  where
+    tail : List ℕ
+    tail = drop place bytes
+
+    size : length tail ≡ length bytes - place
+    size = length-drop place bytes
+
+    length-body : (p : List ℕ) → length (body p) ≡ 4 + length p
+    length-body p = omega arith
+
+    front : take 1 tail ≡ 1 ∷ []
+    front = sym (take-take 1 n tail (omega arith)) ∙ ap (λ (l : List ℕ). take 1 l) (sym same ∙ ap (λ (l : List ℕ). take n l) head_is) ∙ take-take 1 n (1 ∷ word) (omega arith)
+
+    whole : tail ≡ 1 ∷ drop 1 tail
+    whole = sym (take-append-drop 1 tail) ∙ ap (λ (l : List ℕ). l ++ drop 1 tail) front
+
+    too_long : (payload behind : List ℕ) → IsPayload payload → drop 1 tail ≡ body payload ++ behind → length bytes - place < 5 + len → ⊥
+    too_long payload behind fits e lt =
+        let long : 5 ≤ length tail = omega (arith, ap length e, length-drop 1 tail, size, length-append (body payload) behind, length-body payload) in
+        let five : n ≡ 5 = omega (arith, is, size, long) in
+        let head_whole : take 5 tail ≡ 1 ∷ word = ap (λ (k : ℕ). take k tail) (sym five) ∙ sym same ∙ ap (λ (l : List ℕ). take n l) head_is ∙ take_all n (1 ∷ word) (omega (arith, five, four)) in
+        let words : to_be_bytes w32 (length payload) ≡ to_be_bytes w32 len =
+        ap (λ (l : List ℕ). take 4 l) (sym e) ∙ sym (take-take 4 4 (drop 1 tail) (omega arith)) ∙ ap (λ (l : List ℕ). take 4 (drop 1 (take 5 l))) (sym whole) ∙ ap (λ (l : List ℕ). take 4 (drop 1 l)) head_whole ∙ take_all 4 word (omega (arith, four)) ∙ sym spelled in
+        let same_len : length payload ≡ len = sym (from_be_bytes-to_be_bytes_4 (length payload) fits) ∙ ap (λ (l : List ℕ). from_be_bytes w32 l) words ∙ from_be_bytes-to_be_bytes_4 len small in
+        omega (arith, ap length e, length-drop 1 tail, size, length-append (body payload) behind, length-body payload, same_len, lt)
+
+-- ---- the end
+
+module _ {D : Type 0} (told : D → Option (List ℕ)) (image : D → List ℕ → Type 0) (reads : (disk : D) (b : List ℕ) → told disk ≡ Some b → image disk b) (d0 d1 : D) (limit place number : ℕ) where
+  pub closed_settled : (x : List ℕ) (payloads : List (List ℕ)) → told d0 ≡ Some x → HasReadTo x limit place number payloads → ((c : List ℕ) → image d1 c → IsClosed place (Reads told d0) c)
+      → IsSettled (image d1) limit place number payloads
+  closed_settled x payloads told_x h closed = record {
+    placed = placed_of x limit place number payloads h;
+    each = λ c left.
+        let from = closed c left in
+        let same : x ≡ from.0 = same_told (told d0) x from.0 told_x from.1 in
+        closed_rests limit place payloads c from.0 from.3 (placed_of x limit place number payloads h) (subst (λ (b : List ℕ). b ≡ store limit payloads ++ drop place b) same h.begins) from.2 from.4;
+    counts = h.counts;
+  }
+
+  pub after_closed : (size : ℕ) (ended : Bool) → IsReplay (told d0) (image d0) limit size place number ended → TellsAlike (told d0) (told d1) → ((c : List ℕ) → image d1 c → IsClosed place (Reads told d0) c)
+      → IsSound (told d1) (image d1) limit place number None
+  after_closed size ended r alike closed = record {
+    least = r.least;
+    most = r.most;
+    fits = r.few;
+    tied = λ c told_c.
+        let old = alike_back (told d0) (told d1) c alike told_c in
+        let tied = r.tied old.0 old.1 in
+        (tied.0, closed_settled old.0 tied.0 old.1 tied.1 closed);
+  }
+
+  pub closed_frames : (x : List ℕ) (payloads : List (List ℕ)) → told d0 ≡ Some x → HasReadTo x limit place number payloads → TellsAlike (told d0) (told d1) → ((c : List ℕ) → image d1 c → IsClosed place (Reads told d0) c)
+      → frames_of told (seen d1 limit place number None) ≡ Some payloads
+  closed_frames x payloads told_x h alike closed =
+      let new = alike_told (told d0) (told d1) x alike told_x in
+      ap (λ (o : Option (List ℕ)). option_map (λ bytes. payloads_in (settled false place bytes)) o) new.1
+      ∙ ap Some (settled_read (image d1) limit place number payloads new.0 (closed_settled x payloads told_x h closed) (reads d1 new.0 new.1))
+
+  pub cut_stands : (size : ℕ) → IsReplay (told d0) (image d0) limit size place number true → (x : List ℕ) (payloads : List (List ℕ)) → told d0 ≡ Some x → HasReadTo x limit place number payloads
+      → (c : List ℕ) → IsCutBack place (image d0) c → Stands c limit payloads
+  cut_stands size r x payloads told_x h c back =
+      let told_d : told d0 ≡ Some back.0 = r.synced back.0 back.1 in
+      let same : x ≡ back.0 = same_told (told d0) x back.0 told_x told_d in
+      cut_back_stands limit place payloads c back.0 (placed_of x limit place number payloads h) (subst (λ (b : List ℕ). b ≡ store limit payloads ++ drop place b) same h.begins) (r.ends back.0 told_d refl) back.2 back.3 back.4

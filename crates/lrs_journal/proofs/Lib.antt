@@ -1,0 +1,9 @@
+mod Lists
+mod Told
+mod Cutting
+mod Doubt
+pub mod Reading
+mod Kept
+mod Frames
+mod Creating
+pub mod Unique

@@ -1,0 +1,74 @@
+use Rattle.std.proofs.Common.{◌+◌, refl, ◌∙◌, ap, sym, arith}
+use Rattle.std.proofs.lemmas.Result.{on_ok_weaker}
+use Rattle.lrs_disk.specs.Disk.{written}
+use Rattle.lrs_disk.proofs.Moments.{started, stepped, stayed}
+use Rattle.lrs_journal.specs.Steps.{IsBehind}
+use Rattle.lrs_journal.proofs.Lists.{torn_behind, staged_is}
+use Rattle.lrs_journal.proofs.Told.{before}
+use Rattle.lrs_journal.proofs.steps.stage.Goals as goal
+
+pub returns-in_err-write_at-clause-any_moment : goal.returns-in_err-write_at-clause-any_moment
+returns-in_err-write_at-clause-any_moment g c =
+    let T = g.D.Disk.time in
+    let S = g.D.Disk.image_since in
+    let I = g.D.Disk.image in
+    let cn = g.met.D.Disk.counts_now in
+    let on = g.met.D.Disk.only_now in
+    let d0 = c.args.disk.now in
+    let fence = c.args.place + 1 in
+    let P = IsBehind fence (I d0) in
+    let at_start = started T S I cn on d0 P (λ f left. (f, left, refl)) in
+    stepped T S I cn on d0 d0 c.write_at.new.self P _ at_start c.write_at.ensures.time c.write_at.ensures.crash (torn_behind fence _ _ (I d0) (omega arith))
+
+pub returns-in_err-write_at-2-clause-any_moment : goal.returns-in_err-write_at-2-clause-any_moment
+returns-in_err-write_at-2-clause-any_moment g c =
+    let T = g.D.Disk.time in
+    let S = g.D.Disk.image_since in
+    let I = g.D.Disk.image in
+    let cn = g.met.D.Disk.counts_now in
+    let on = g.met.D.Disk.only_now in
+    let d0 = c.args.disk.now in
+    let fence = c.args.place + 1 in
+    let P = IsBehind fence (I d0) in
+    let at_start = started T S I cn on d0 P (λ f left. (f, left, refl)) in
+    let one = stepped T S I cn on d0 d0 c.write_at.new.self P _ at_start c.write_at.ensures.time c.write_at.ensures.crash (torn_behind fence _ _ (I d0) (omega arith)) in
+    stepped T S I cn on d0 c.write_at.new.self c.write_at-2.new.self P _ one c.write_at-2.ensures.time c.write_at-2.ensures.crash (torn_behind fence _ _ (I d0) (omega arith))
+
+pub returns-in_err-write_at-3-clause-any_moment : goal.returns-in_err-write_at-3-clause-any_moment
+returns-in_err-write_at-3-clause-any_moment g c =
+    let T = g.D.Disk.time in
+    let S = g.D.Disk.image_since in
+    let I = g.D.Disk.image in
+    let cn = g.met.D.Disk.counts_now in
+    let on = g.met.D.Disk.only_now in
+    let d0 = c.args.disk.now in
+    let fence = c.args.place + 1 in
+    let P = IsBehind fence (I d0) in
+    let at_start = started T S I cn on d0 P (λ f left. (f, left, refl)) in
+    let one = stepped T S I cn on d0 d0 c.write_at.new.self P _ at_start c.write_at.ensures.time c.write_at.ensures.crash (torn_behind fence _ _ (I d0) (omega arith)) in
+    let two = stepped T S I cn on d0 c.write_at.new.self c.write_at-2.new.self P _ one c.write_at-2.ensures.time c.write_at-2.ensures.crash (torn_behind fence _ _ (I d0) (omega arith)) in
+    stepped T S I cn on d0 c.write_at-2.new.self c.write_at-3.new.self P _ two c.write_at-3.ensures.time c.write_at-3.ensures.crash (torn_behind fence _ _ (I d0) (omega arith))
+
+pub returns-clause-any_moment : goal.returns-clause-any_moment
+returns-clause-any_moment g c =
+    let T = g.D.Disk.time in
+    let S = g.D.Disk.image_since in
+    let I = g.D.Disk.image in
+    let cn = g.met.D.Disk.counts_now in
+    let on = g.met.D.Disk.only_now in
+    let d0 = c.args.disk.now in
+    let fence = c.args.place + 1 in
+    let P = IsBehind fence (I d0) in
+    let at_start = started T S I cn on d0 P (λ f left. (f, left, refl)) in
+    let one = stepped T S I cn on d0 d0 c.write_at.new.self P _ at_start c.write_at.ensures.time c.write_at.ensures.crash (torn_behind fence _ _ (I d0) (omega arith)) in
+    let two = stepped T S I cn on d0 c.write_at.new.self c.write_at-2.new.self P _ one c.write_at-2.ensures.time c.write_at-2.ensures.crash (torn_behind fence _ _ (I d0) (omega arith)) in
+    let three = stepped T S I cn on d0 c.write_at-2.new.self c.write_at-3.new.self P _ two c.write_at-3.ensures.time c.write_at-3.ensures.crash (torn_behind fence _ _ (I d0) (omega arith)) in
+    stayed T S I cn on d0 c.write_at-3.new.self c.sync.new.self P three c.sync.ensures.time c.sync.ensures.crash
+
+pub returns-clause-staged : goal.returns-clause-staged
+returns-clause-staged g c =
+    on_ok_weaker c.sync.result (λ d f left.
+    let third = before _ _ _ f c.in_ok-write_at-3.ensures.written (sym c.sync.ensures.still ∙ d f left) in
+    let second = before _ _ _ third.0 c.in_ok-write_at-2.ensures.written third.1 in
+    let first = before _ _ _ second.0 c.in_ok-write_at.ensures.written second.1 in
+    (first.0, first.1, staged_is first.0 second.0 third.0 f c.args.place c.args.payload.now (c.requires.gate first.0 first.1) (first.2 ∙ ap (λ l. written first.0 (c.args.place + 1) l) c.to_be_bytes.ensures) second.2 third.2)) c.sync.ensures.durable

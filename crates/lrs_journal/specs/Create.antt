@@ -1,0 +1,33 @@
+-- When a store is made on a disk.
+use Rattle.std.specs.Prelude.{◌≡◌, ◌≢◌, ◌⊎◌, ◌<◌, ℕ, List, [], ◌∷◌, length, get_or, take, drop, Option}
+use Rattle.lrs_disk.specs.Disk.{LeavesOnly}
+use Rattle.lrs_journal.specs.Store.{magic, HasHeader, Stands}
+use Rattle.lrs_journal.specs.declared.create.CreateRefused.{CreateRefused}
+use Rattle.lrs_journal.specs.declared.create.CreateRefused.TheVariants as refused
+
+-- an open gate and the magic
+abbrev pub IsStore : List ℕ → Type 0
+IsStore bytes = take 8 bytes ≡ 1 ∷ magic
+
+-- more than one byte, the first not 0, and no magic behind it
+abbrev pub IsForeign : List ℕ → Type 0
+IsForeign bytes = (1 < length bytes) × (get_or bytes 0 0 ≢ 0) × (take 7 (drop 1 bytes) ≢ magic)
+
+-- a store may be made here
+abbrev pub IsOpenTo : List ℕ → Type 0
+IsOpenTo bytes = (IsStore bytes → ⊥) × (IsForeign bytes → ⊥)
+
+-- what the bytes are where no store is made on them
+abbrev pub IsRefused : List ℕ → CreateRefused → Type 0
+IsRefused bytes refused.AlreadyStore = IsStore bytes
+IsRefused bytes refused.Foreign = IsForeign bytes
+IsRefused bytes (refused.Full need limit) = IsOpenTo bytes
+IsRefused bytes refused.Failed = Unit {0}
+
+-- no open header, or the one frame
+abbrev pub IsMade : ℕ → List ℕ → List ℕ → Type 0
+IsMade limit first bytes = ((other : ℕ) → HasHeader bytes other → ⊥) ⊎ Stands bytes limit (first ∷ [])
+
+-- nothing was written
+abbrev pub IsUntouched : {D : Type 0} → (D → Option (List ℕ)) → (D → List ℕ → Type 0) → (D → ℕ) → (D → ℕ → List ℕ → Type 0) → D → D → Type 0
+IsUntouched told image time image_since old new = (told new ≡ told old) × LeavesOnly time image_since old new (image old)

@@ -1,0 +1,5 @@
+pub mod Store
+pub mod Replay
+pub mod Steps
+pub mod Journal
+pub mod Create

@@ -1,0 +1,33 @@
+-- What callers see of a replay, and what it has read.
+use Rattle.std.specs.Prelude.{◌≡◌, ◌≤◌, ◌^◌, ℕ, List, ◌++◌, length, drop, Bool}
+use Rattle.std.specs.List.{AllByRecursion}
+use Rattle.lrs_journal.specs.Store.{store, IsPayload}
+
+-- A replay over a disk.
+pub record Reading (D : Type 0) : Type 0 where
+  pub disk : D
+  -- the bytes that the header allows
+  pub limit : ℕ
+  -- where the next gate stands
+  pub place : ℕ
+  -- how many frames were read
+  pub number : ℕ
+  -- the list's end was met
+  pub ended : Bool
+
+-- The bytes begin with a header of this limit and the whole open frames of these payloads, and there the place is.
+pub record HasReadTo (bytes : List ℕ) (limit place number : ℕ) (payloads : List (List ℕ)) : Type 0 where
+  pub least : 512 ≤ limit
+  pub most : limit ≤ 2 ^ 30
+  pub sizes : AllByRecursion IsPayload payloads
+  pub begins : bytes ≡ store limit payloads ++ drop place bytes
+  pub behind : place ≡ length (store limit payloads)
+  pub counts : number ≡ length payloads
+
+-- the replay has read these payloads of the bytes
+abbrev pub HasRead : {D : Type 0} → List ℕ → Reading D → List (List ℕ) → Type 0
+HasRead bytes replay payloads = HasReadTo bytes replay.limit replay.place replay.number payloads
+
+-- nothing more was read
+abbrev pub IsSamePlace : {D : Type 0} → Reading D → Reading D → Type 0
+IsSamePlace old new = (new.place ≡ old.place) × (new.number ≡ old.number)

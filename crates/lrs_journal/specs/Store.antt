@@ -1,0 +1,80 @@
+-- What the bytes of a disk stand for: a header, open frames, and an end.
+use Rattle.std.specs.Prelude.{◌≡◌, ◌≢◌, ◌⊎◌, ◌<◌, ◌≤◌, ◌+◌, ◌^◌, ℕ, zero, suc, List, [], ◌∷◌, ◌++◌, length, take, drop, get_or, Bool, ◌&&◌, ◌==◌, nat_le, if◌then◌else◌}
+use Rattle.std.specs.List.{AllByRecursion}
+use Rattle.std.specs.Int.{w32, w64, to_be_bytes, from_be_bytes}
+
+-- LRSJRNL
+abbrev pub magic : List ℕ
+magic = 76 ∷ 82 ∷ 83 ∷ 74 ∷ 82 ∷ 78 ∷ 76 ∷ []
+
+-- an open gate, the magic, the version 1 and the limit
+abbrev pub header : ℕ → List ℕ
+header limit = 1 ∷ magic ++ 1 ∷ to_be_bytes w64 limit
+
+-- The bytes begin with an open header of this limit.
+pub record HasHeader (bytes : List ℕ) (limit : ℕ) : Type 0 where
+  pub least : 512 ≤ limit
+  pub most : limit ≤ 2 ^ 30
+  pub rest : List ℕ
+  pub split : bytes ≡ header limit ++ rest
+
+-- the length and the payload
+abbrev pub body : List ℕ → List ℕ
+body payload = to_be_bytes w32 (length payload) ++ payload
+
+-- open frames of these payloads
+abbrev pub frames : List (List ℕ) → List ℕ
+frames [] = []
+frames (payload ∷ payloads) = 1 ∷ body payload ++ frames payloads
+
+abbrev pub store : ℕ → List (List ℕ) → List ℕ
+store limit payloads = header limit ++ frames payloads
+
+-- the list ends here: no byte, a last one, or a gate that isn't 1
+abbrev pub IsEnd : List ℕ → Type 0
+IsEnd [] = Unit {0}
+IsEnd (gate ∷ []) = Unit {0}
+IsEnd (gate ∷ next ∷ rest) = gate ≢ 1
+
+abbrev pub IsPayload : List ℕ → Type 0
+IsPayload payload = length payload < 2 ^ 32
+
+-- The bytes begin with an open header of this limit, and then stand for these payloads. What is behind the end is free.
+pub record Stands (bytes : List ℕ) (limit : ℕ) (payloads : List (List ℕ)) : Type 0 where
+  pub least : 512 ≤ limit
+  pub most : limit ≤ 2 ^ 30
+  pub sizes : AllByRecursion IsPayload payloads
+  pub rest : List ℕ
+  pub split : bytes ≡ store limit payloads ++ rest
+  pub ends : IsEnd rest
+
+-- Behind these payloads there is an open gate and a byte, and no whole frame.
+pub record IsDamaged (bytes : List ℕ) (limit : ℕ) (payloads : List (List ℕ)) : Type 0 where
+  pub sizes : AllByRecursion IsPayload payloads
+  pub rest : List ℕ
+  pub split : bytes ≡ store limit payloads ++ 1 ∷ rest
+  pub more : 0 < length rest
+  pub torn : (payload behind : List ℕ) → IsPayload payload → rest ≢ body payload ++ behind
+
+-- the bytes stand for the payloads, with one more or without it
+abbrev pub IsBeforeOrAfter : ℕ → List (List ℕ) → List ℕ → List ℕ → Type 0
+IsBeforeOrAfter limit payloads payload bytes = Stands bytes limit payloads ⊎ Stands bytes limit (payloads ++ payload ∷ [])
+
+-- Reading the list, of which Stands is the meaning.
+
+-- the length that a frame's four bytes spell
+abbrev pub length_at : List ℕ → ℕ
+length_at bytes = from_be_bytes w32 (take 4 (drop 1 bytes))
+
+-- an open gate and a whole frame
+abbrev pub begins_open : List ℕ → Bool
+begins_open bytes = (get_or bytes 0 0 == 1) && nat_le (5 + length_at bytes) (length bytes)
+
+-- the payloads of the open frames in front, at most this many
+abbrev pub payloads_within : ℕ → List ℕ → List (List ℕ)
+payloads_within zero bytes = []
+payloads_within (suc n) bytes = if begins_open bytes then take (length_at bytes) (drop 5 bytes) ∷ payloads_within n (drop (5 + length_at bytes) bytes) else []
+
+-- the payloads that a store's bytes stand for
+abbrev pub payloads_in : List ℕ → List (List ℕ)
+payloads_in bytes = payloads_within (length bytes) (drop 17 bytes)

@@ -1,0 +1,169 @@
+// Makes a store on a disk. Its header's gate is opened last.
+ghost use Rattle.std.specs.Prelude.{◌≡◌, ◌≢◌, ◌<◌, ◌≤◌, ◌+◌, ◌^◌, ◌++◌, [], ◌∷◌, List, ℕ, length, take, option_map, Err, OnOk, IsOk, IfOk, IfErr, IsErrOf, false};
+ghost use Rattle.std.specs.Option.{ForSome};
+ghost use Rattle.lrs_disk.specs.Disk.{LeavesOnly};
+ghost use Rattle.lrs_disk.specs.Faults.{HasCause};
+ghost use Rattle.lrs_journal.specs.Journal.{frames_of, IsJournal, IsSynced, TellsAlike, HasCount};
+ghost use Rattle.lrs_journal.specs.Steps.{Reads, IsBehind, AtRest, IsBlank, IsShort, IsCutShort, behind_gate};
+ghost use Rattle.lrs_journal.specs.Create.{IsStore, IsForeign, IsOpenTo, IsRefused, IsMade, IsUntouched};
+ghost use Rattle.lrs_journal.specs.declared.create.CreateRefused.TheVariants as CreateRefused;
+
+use crate::Journal;
+use crate::steps::{stage, write_gate};
+use lrs_disk::{Disk, Failed};
+
+/// Why no store was made.
+#[derive(Clone, Copy, Debug, PartialEq, Eq)]
+pub enum CreateRefused {
+    /// The disk begins with an open gate and a store's magic.
+    AlreadyStore,
+    /// The disk has more than one byte, the first isn't 0, and there is no store's magic behind it.
+    Foreign,
+    /// The file would need more bytes than the limit.
+    Full { need: u64, limit: u64 },
+    /// The disk failed. It holds no store now, or the whole new one.
+    Failed,
+}
+
+impl From<Failed> for CreateRefused {
+    ghost from_gives = { λ _ e. e ≡ CreateRefused.Failed };
+
+    fn from(_: Failed) -> Self {
+        CreateRefused::Failed
+    }
+}
+
+// Whether a store may be made on a disk that begins with these bytes, at most eight.
+fn look(head: &[u8]) -> Result<(), CreateRefused>
+    requires { length head.now ≤ 8 }
+    ensures free { IsOk result → IsOpenTo head.now }
+    ensures store { IsErrOf result CreateRefused.AlreadyStore → IsStore head.now }
+    ensures foreign { IsErrOf result CreateRefused.Foreign → IsForeign head.now }
+    ensures full { (need limit : ℕ) → result ≢ Err (CreateRefused.Full need limit) }
+    ensures failed { result ≢ Err CreateRefused.Failed }
+{
+    if head.len() < 2 || head[0] == 0 {
+        return Ok(());
+    }
+    if &head[1..] != b"LRSJRNL".as_slice() {
+        return Err(CreateRefused::Foreign);
+    }
+    if head[0] == 1 {
+        return Err(CreateRefused::AlreadyStore);
+    }
+    Ok(())
+}
+
+// Cuts a disk to one byte.
+fn shorten<D: Disk>(disk: &mut D, size: u64) -> Result<(), Failed>
+    requires size { (b : List ℕ) → Reads D.told disk.old b → size ≡ length b }
+    ensures short { OnOk result ((b : List ℕ) → Reads D.told disk.new b → IsShort b) }
+    ensures synced { OnOk result (IsSynced D.told D.image disk.old → IsSynced D.told D.image disk.new) }
+    ensures tells { TellsAlike (D.told disk.old) (D.told disk.new) }
+    ensures any_moment { LeavesOnly D.time D.image_since disk.old disk.new (IsCutShort (D.image disk.old)) }
+    ensures cause { HasCause (D.fault_count disk.old) (D.fault_count disk.new) result }
+{
+    if size <= 1 {
+        return Ok(());
+    }
+    disk.cut(1)?;
+    disk.sync()
+}
+
+// Writes the header behind its gate, and the first frame's open gate.
+fn head<D: Disk>(disk: &mut D, limit: u64) -> Result<(), Failed>
+    requires shut { (b : List ℕ) → Reads D.told disk.old b → b ≡ 0 ∷ [] }
+    ensures written { OnOk result ((b : List ℕ) → Reads D.told disk.new b → b ≡ 0 ∷ behind_gate limit) }
+    ensures tells { TellsAlike (D.told disk.old) (D.told disk.new) }
+    ensures any_moment { LeavesOnly D.time D.image_since disk.old disk.new (IsBehind 1 (D.image disk.old)) }
+    ensures cause { HasCause (D.fault_count disk.old) (D.fault_count disk.new) result }
+{
+    let [a, b, c, d, e, f, g, h] = limit.to_be_bytes();
+    disk.write_at(
+        1,
+        &[76, 82, 83, 74, 82, 78, 76, 1, a, b, c, d, e, f, g, h, 1],
+    )
+}
+
+// Makes a store of one frame on a disk that has none.
+fn build<D: Disk>(disk: &mut D, size: u64, limit: u64, first: &[u8]) -> Result<(), Failed>
+    requires limit { (512 ≤ limit) × (limit ≤ 2 ^ 30) }
+    requires first { length first.now + 23 < 2 ^ 32 }
+    requires blank { (b : List ℕ) → Reads D.told disk.old b → IsBlank b }
+    requires size { (b : List ℕ) → Reads D.told disk.old b → size ≡ length b }
+    ensures made { OnOk result ((c : List ℕ) → D.image disk.new c → AtRest limit (first.now ∷ []) c) }
+    ensures tells { TellsAlike (D.told disk.old) (D.told disk.new) }
+    ensures any_moment { IsSynced D.told D.image disk.old → LeavesOnly D.time D.image_since disk.old disk.new (IsMade limit first.now) }
+    ensures cause { HasCause (D.fault_count disk.old) (D.fault_count disk.new) result }
+{
+    shorten(disk, size)?;
+    write_gate(disk, 0, 0)?;
+    head(disk, limit)?;
+    stage(disk, 17, first)?;
+    write_gate(disk, 0, 1)
+}
+
+// Makes a store of one frame on a disk, where there may be one.
+fn make<D: Disk>(disk: &mut D, limit: u64, first: &[u8]) -> Result<(), CreateRefused>
+    requires limit { (512 ≤ limit) × (limit ≤ 2 ^ 30) }
+    requires first { length first.now < 2 ^ 32 }
+    ensures made { IsOk result → (c : List ℕ) → D.image disk.new c → AtRest limit (first.now ∷ []) c }
+    ensures free { IsOk result → ForSome (D.told disk.old) IsOpenTo }
+    ensures room { IsOk result → length first.now + 23 ≤ limit }
+    ensures refused { IfErr result (λ e. ForSome (D.told disk.old) (λ bytes. IsRefused bytes e)) }
+    ensures full { (need most : ℕ) → IsErrOf result (CreateRefused.Full need most) → (need ≡ length first.now + 23) × (most ≡ limit) × (limit < need) }
+    ensures spared { IfErr result (λ e. e ≢ CreateRefused.Failed → IsUntouched D.told D.image D.time D.image_since disk.old disk.new) }
+    ensures store { ForSome (D.told disk.old) (λ bytes. IsStore bytes → IsUntouched D.told D.image D.time D.image_since disk.old disk.new) }
+    ensures tells { TellsAlike (D.told disk.old) (D.told disk.new) }
+    ensures any_moment { IsSynced D.told D.image disk.old → ForSome (D.told disk.old) (λ bytes. (IsStore bytes → ⊥)
+        → LeavesOnly D.time D.image_since disk.old disk.new (IsMade limit first.now)) }
+    ensures cause { HasCount (D.fault_count disk.old) (D.fault_count disk.new) (IsErrOf result CreateRefused.Failed) (IsOk result) }
+{
+    let size = disk.len()?;
+    let mut head = [0; 8];
+    let number = disk.read_at(0, &mut head)?;
+    look(&head[..number.min(8)])?;
+    let need = first.len() as u64 + 23;
+    if need > limit {
+        return Err(CreateRefused::Full { need, limit });
+    }
+    build(disk, size, limit, first)?;
+    Ok(())
+}
+
+impl<D: Disk> Journal<D> {
+    /// Makes a store on a disk, with one frame. The limit is what the file may have in bytes.
+    ///
+    /// Each step is on the disk before the next, and the header's gate is opened last. Where there is a store already,
+    /// nothing is written.
+    pub fn create(disk: D, limit: u64, first: &[u8]) -> Result<Journal<D>, (CreateRefused, D)>
+        requires limit { (512 ≤ limit) × (limit ≤ 2 ^ 30) }
+        requires first { length first.now < 2 ^ 32 }
+        ensures made { IfOk result (λ journal. frames_of D.told journal ≡ option_map (λ _. first.now ∷ []) (D.told disk)) }
+        ensures fields { IfOk result (λ journal. (journal.doubt ≡ false) × (journal.limit ≡ limit) × (journal.end ≡ length first.now + 22) × (journal.number ≡ 1)) }
+        ensures sound { IfOk result (IsJournal D.told D.image) }
+        ensures free { IsOk result → (length first.now + 23 ≤ limit) × ForSome (D.told disk) IsOpenTo }
+        ensures refused { IfErr result (λ e. ForSome (D.told disk) (λ bytes. IsRefused bytes e.0)) }
+        ensures full { IfErr result (λ e. (need most : ℕ) → e.0 ≡ CreateRefused.Full need most → (need ≡ length first.now + 23) × (most ≡ limit) × (limit < need)) }
+        ensures spared { IfErr result (λ e. e.0 ≢ CreateRefused.Failed → IsUntouched D.told D.image D.time D.image_since disk e.1) }
+        ensures store { IfErr result (λ e. ForSome (D.told disk) (λ bytes. IsStore bytes → IsUntouched D.told D.image D.time D.image_since disk e.1)) }
+        ensures tells { IfErr result (λ e. TellsAlike (D.told disk) (D.told e.1)) }
+        // Where nothing was pending, a crash at any moment leaves no open header or the one frame.
+        ensures any_moment { IfOk result (λ journal. IsSynced D.told D.image disk → ForSome (D.told disk) (λ bytes. (IsStore bytes → ⊥) → LeavesOnly D.time D.image_since disk journal.disk (IsMade limit first.now))) }
+        ensures any_moment_err { IfErr result (λ e. IsSynced D.told D.image disk → ForSome (D.told disk) (λ bytes. (IsStore bytes → ⊥) → LeavesOnly D.time D.image_since disk e.1 (IsMade limit first.now))) }
+        ensures kept { IfOk result (λ journal. D.fault_count journal.disk ≡ D.fault_count disk) }
+        ensures cause { IfErr result (λ e. HasCount (D.fault_count disk) (D.fault_count e.1) (e.0 ≡ CreateRefused.Failed) ⊥) }
+    {
+        let mut disk = disk;
+        match make(&mut disk, limit, first) {
+            Err(refused) => Err((refused, disk)),
+            Ok(()) => Ok(Journal {
+                disk,
+                limit,
+                gate: first.len() as u64 + 22,
+                number: 1,
+                doubt: None,
+            }),
+        }
+    }
+}

@@ -1,0 +1,163 @@
+ghost use Rattle.std.specs.Prelude.{◌≡◌, ◌<◌, ◌≤◌, ◌+◌, ◌-◌, ◌^◌, ◌++◌, [], ◌∷◌, List, ℕ, length, Some, None, Ok, Err, IfOk, IsOk, IsErr, IsErrOf, true, false, min};
+ghost use Rattle.std.specs.Option.{ForSome};
+ghost use Rattle.lrs_disk.specs.Disk.{LeavesOnly};
+ghost use Rattle.lrs_disk.specs.Faults.{HasCause};
+ghost use Rattle.lrs_journal.specs.Store.{IsBeforeOrAfter};
+ghost use Rattle.lrs_journal.specs.Journal.{frames_of, need_of, StandsFor, IsJournal, IsAppended, IsAppendFailed, IsUnchanged, HasCount, Stores};
+ghost use Rattle.lrs_journal.specs.declared.journal.AppendRefused.TheVariants as AppendRefused;
+
+use crate::steps::{stage, write_gate};
+use lrs_disk::{Disk, Failed};
+use std::marker::Model;
+
+/// Why a frame wasn't added.
+#[derive(Clone, Copy, Debug, PartialEq, Eq)]
+pub enum AppendRefused {
+    /// The file would need more bytes than its header allows.
+    Full { need: u64, limit: u64 },
+    /// The disk failed. The journal may be in doubt now.
+    Failed,
+}
+
+impl From<Failed> for AppendRefused {
+    ghost from_gives = { λ _ e. e ≡ AppendRefused.Failed };
+
+    fn from(_: Failed) -> Self {
+        AppendRefused::Failed
+    }
+}
+
+/// A list of frames on a disk, open for more.
+///
+/// After a failure the journal may be in doubt: its last frame is then on the disk whole, and a crash may leave it in
+/// the list or not. `settle` ends the doubt.
+#[derive(Drop)]
+pub struct Journal<D: Disk> {
+    pub(crate) disk: D,
+    pub(crate) limit: u64,
+    /// The place of the end gate, or in doubt that of the doubtful frame's gate.
+    pub(crate) gate: u64,
+    pub(crate) number: u64,
+    /// The length of the payload that is in doubt.
+    pub(crate) doubt: Option<u64>,
+}
+
+impl<D: Disk> Model for Journal<D> {
+    ghost use Rattle.std.specs.Option.{is_some};
+    ghost use Rattle.lrs_journal.specs.Journal.{Held};
+    ghost use Rattle.lrs_journal.specs.Steps.{IsSound, end_behind};
+
+    ghost Value = { Held D };
+
+    ghost view = { λ j. record { disk = j.disk; limit = j.limit; gate = j.gate; end = end_behind j.gate j.doubt; doubt = is_some j.doubt; number = j.number } };
+
+    ghost invariant = { λ j. IsSound (D.told j.disk) (D.image j.disk) j.limit j.gate j.number j.doubt };
+}
+
+impl<D: Disk> Journal<D> {
+    /// Whether the last frame is in doubt.
+    pub fn in_doubt(&self) -> bool
+        ensures { result ≡ self.now.doubt }
+    {
+        self.doubt.is_some()
+    }
+
+    /// The number of frames, with one that is in doubt.
+    pub fn length(&self) -> u64
+        ensures number { result ≡ self.now.number }
+        ensures sound { IsJournal D.told D.image self.now }
+    {
+        self.number
+    }
+
+    /// The bytes that the file may have.
+    pub fn limit(&self) -> u64
+        ensures { result ≡ self.now.limit }
+    {
+        self.limit
+    }
+
+    /// How often a call of the disk has failed.
+    pub fn faults(&self) -> u64
+        ensures { result ≡ D.fault_count self.now.disk }
+    {
+        self.disk.faults()
+    }
+
+    /// The disk's moment.
+    pub fn moment(&self) -> u64
+        ensures { result ≡ D.time self.now.disk }
+    {
+        self.disk.moment()
+    }
+
+    /// Gives the disk back as it is. Nothing is written.
+    pub fn into_disk(self) -> D
+        ensures disk { result ≡ self.disk }
+        ensures stored { self.doubt ≡ false → ForSome (frames_of D.told self) (Stores D.told result self.limit) }
+    {
+        let Journal {
+            disk,
+            limit: _,
+            gate: _,
+            number: _,
+            doubt: _,
+        } = self;
+        disk
+    }
+
+    /// Ends a doubt: the doubtful frame is in the list for good, and its number is answered.
+    ///
+    /// Without doubt it makes no call of the disk. After an error the frame is still in doubt.
+    pub fn settle(&mut self) -> Result<Option<u64>, Failed>
+        ensures none { self.old.doubt ≡ false → (result ≡ Ok None) × (self.new ≡ self.old) }
+        ensures some { self.old.doubt ≡ true → IfOk result (λ frame. (frame ≡ Some (self.old.number - 1)) × (self.new.doubt ≡ false)) }
+        ensures failed { IsErr result → self.new.doubt ≡ true }
+        ensures frames { IsUnchanged D.told self.old self.new }
+        ensures sound { IsJournal D.told D.image self.new }
+        ensures any_moment { ForSome (frames_of D.told self.old) (λ payloads. LeavesOnly D.time D.image_since self.old.disk self.new.disk (StandsFor self.old.limit self.old.doubt payloads)) }
+        ensures cause { HasCause (D.fault_count self.old.disk) (D.fault_count self.new.disk) result }
+    {
+        let Some(size) = self.doubt else {
+            return Ok(None);
+        };
+        write_gate(&mut self.disk, self.gate, 1)?;
+        self.gate += 5 + size;
+        self.doubt = None;
+        Ok(Some(self.number - 1))
+    }
+
+    /// Adds a frame, and answers its number, counted from 0.
+    ///
+    /// At `Ok` it is acknowledged: from then on each crash leaves a disk that has it. It makes six calls of the disk.
+    pub fn append(&mut self, payload: &[u8]) -> Result<u64, AppendRefused>
+        requires { self.old.doubt ≡ false }
+        ensures full { self.old.limit < need_of self.old payload.now
+            → (result ≡ Err (AppendRefused.Full (min (need_of self.old payload.now) (2 ^ 64 - 1)) self.old.limit)) × (self.new ≡ self.old) }
+        ensures fits { need_of self.old payload.now ≤ self.old.limit → IsErr result → IsErrOf result AppendRefused.Failed }
+        ensures appended { IfOk result (λ number. (number ≡ self.old.number) × (self.new.doubt ≡ false) × IsAppended D.told self.old self.new payload.now) }
+        ensures number { IfOk result (λ number. ForSome (frames_of D.told self.old) (λ payloads. number ≡ length payloads)) }
+        ensures failed { IsErrOf result AppendRefused.Failed → IsAppendFailed D.told self.old self.new payload.now }
+        ensures sound { IsJournal D.told D.image self.new }
+        // A crash at any moment of the call leaves the frames from before it, with the new one or without.
+        ensures any_moment { ForSome (frames_of D.told self.old) (λ payloads. LeavesOnly D.time D.image_since self.old.disk self.new.disk (IsBeforeOrAfter self.old.limit payloads payload.now)) }
+        ensures cause { HasCount (D.fault_count self.old.disk) (D.fault_count self.new.disk) (IsErrOf result AppendRefused.Failed) (IsOk result) }
+    {
+        let need = self
+            .gate
+            .saturating_add(6)
+            .saturating_add(payload.len() as u64);
+        if need > self.limit {
+            return Err(AppendRefused::Full {
+                need,
+                limit: self.limit,
+            });
+        }
+        stage(&mut self.disk, self.gate, payload)?;
+        let number = self.number;
+        self.number += 1;
+        self.doubt = Some(payload.len() as u64);
+        self.settle()?;
+        Ok(number)
+    }
+}

@@ -1,0 +1,260 @@
+// Reads the frames of a disk one by one, and makes its end a closed gate.
+ghost use Rattle.std.specs.Prelude.{◌≡◌, ◌≢◌, ◌⊎◌, ◌<◌, ◌≤◌, ◌+◌, ◌-◌, ◌^◌, ◌++◌, [], ◌∷◌, List, ℕ, length, IfOk, IfErr, IfSome, IsNone, IsOk, IsErr, IsErrOf, true, false, not};
+ghost use Rattle.std.specs.Int.{w32, w64, to_be_bytes};
+ghost use Rattle.std.specs.Option.{ForSome};
+ghost use Rattle.lrs_disk.specs.Disk.{LeavesOnly};
+ghost use Rattle.lrs_disk.specs.Faults.{Rises};
+ghost use Rattle.lrs_journal.specs.Store.{header, HasHeader, Stands, IsDamaged};
+ghost use Rattle.lrs_journal.specs.Journal.{frames_of, IsJournal, IsSynced, Stores, TellsAlike, HasCount};
+ghost use Rattle.lrs_journal.specs.Replay.{HasRead, IsSamePlace};
+ghost use Rattle.lrs_journal.specs.declared.replay.RecoverRefused.TheVariants as RecoverRefused;
+ghost use Rattle.lrs_journal.specs.declared.replay.ReplayRefused.TheVariants as ReplayRefused;
+
+use crate::Journal;
+use crate::steps::close_end;
+use lrs_disk::{Disk, Failed};
+use std::alloc::AllocError;
+use std::marker::Model;
+
+/// Why a disk isn't read.
+#[derive(Clone, Copy, Debug, PartialEq, Eq)]
+pub enum RecoverRefused {
+    /// The disk doesn't begin with an open header.
+    NotAStore,
+    Failed,
+}
+
+/// Why there is no next frame.
+#[derive(Clone, Copy, Debug, PartialEq, Eq)]
+pub enum ReplayRefused {
+    /// The gate of frame k is open, and the frame isn't whole.
+    Damaged { k: u64 },
+    Failed,
+    Memory,
+}
+
+impl From<Failed> for ReplayRefused {
+    ghost from_gives = { λ _ e. e ≡ ReplayRefused.Failed };
+
+    fn from(_: Failed) -> Self {
+        ReplayRefused::Failed
+    }
+}
+
+impl From<AllocError> for ReplayRefused {
+    ghost from_gives = { λ _ e. e ≡ ReplayRefused.Memory };
+
+    fn from(_: AllocError) -> Self {
+        ReplayRefused::Memory
+    }
+}
+
+// The length that four bytes spell.
+fn word_of(word: [u8; 4]) -> u32
+    ensures { to_be_bytes w32 result ≡ word }
+{
+    u32::from_be_bytes(word)
+}
+
+fn number_of(word: [u8; 8]) -> u64
+    ensures { to_be_bytes w64 result ≡ word }
+{
+    u64::from_be_bytes(word)
+}
+
+// The limit that an open header tells.
+fn limit_of(head: &[u8]) -> Option<u64>
+    requires { length head.now ≤ 17 }
+    ensures found { IfSome result (λ limit. (head.now ≡ header limit) × (512 ≤ limit) × (limit ≤ 2 ^ 30)) }
+    ensures none { IsNone result → (limit : ℕ) → HasHeader head.now limit → ⊥ }
+{
+    match head {
+        [
+            1,
+            b'L',
+            b'R',
+            b'S',
+            b'J',
+            b'R',
+            b'N',
+            b'L',
+            1,
+            a,
+            b,
+            c,
+            d,
+            e,
+            f,
+            g,
+            h,
+        ] => {
+            let limit = number_of([*a, *b, *c, *d, *e, *f, *g, *h]);
+            if limit < 512 || limit > 1_073_741_824 {
+                None
+            } else {
+                Some(limit)
+            }
+        }
+        _ => None,
+    }
+}
+
+/// The frames of a disk, read one by one.
+#[derive(Drop)]
+pub struct Replay<D: Disk> {
+    disk: D,
+    limit: u64,
+    size: u64,
+    place: u64,
+    number: u64,
+    ended: bool,
+}
+
+impl<D: Disk> Model for Replay<D> {
+    ghost use Rattle.lrs_journal.specs.Replay.{Reading};
+    ghost use Rattle.lrs_journal.specs.Steps.{IsReplay};
+
+    ghost Value = { Reading D };
+
+    ghost view = { λ r. record { disk = r.disk; limit = r.limit; place = r.place; number = r.number; ended = r.ended } };
+
+    ghost invariant = { λ r. IsReplay (D.told r.disk) (D.image r.disk) r.limit r.size r.place r.number r.ended };
+}
+
+impl<D: Disk> Journal<D> {
+    /// Opens a disk that holds a store, to read its frames. It begins with a sync, so that what is read stays.
+    pub fn recover(disk: D) -> Result<Replay<D>, (RecoverRefused, D)>
+        ensures opened { IfOk result (λ replay. ForSome (D.told disk) (λ bytes. HasHeader bytes replay.limit × HasRead bytes replay [])) }
+        ensures begun { IfOk result (λ replay. (replay.number ≡ 0) × (replay.ended ≡ false)) }
+        ensures synced { IfOk result (λ replay. IsSynced D.told D.image replay.disk) }
+        ensures not_a_store { IfErr result (λ e. e.0 ≡ RecoverRefused.NotAStore → ForSome (D.told disk) (λ bytes. (limit : ℕ) → HasHeader bytes limit → ⊥)) }
+        ensures still { IfOk result (λ replay. D.told replay.disk ≡ D.told disk) }
+        ensures still_err { IfErr result (λ e. D.told e.1 ≡ D.told disk) }
+        ensures any_moment { IfOk result (λ replay. LeavesOnly D.time D.image_since disk replay.disk (D.image disk)) }
+        ensures any_moment_err { IfErr result (λ e. LeavesOnly D.time D.image_since disk e.1 (D.image disk)) }
+        ensures kept { IfOk result (λ replay. D.fault_count replay.disk ≡ D.fault_count disk) }
+        ensures cause { IfErr result (λ e. HasCount (D.fault_count disk) (D.fault_count e.1) (e.0 ≡ RecoverRefused.Failed) (e.0 ≡ RecoverRefused.NotAStore)) }
+    {
+        let mut disk = disk;
+        let Ok(()) = disk.sync() else {
+            return Err((RecoverRefused::Failed, disk));
+        };
+        let Ok(size) = disk.len() else {
+            return Err((RecoverRefused::Failed, disk));
+        };
+        let mut head = [0; 17];
+        let Ok(number) = disk.read_at(0, &mut head) else {
+            return Err((RecoverRefused::Failed, disk));
+        };
+        match limit_of(&head[..number.min(17)]) {
+            None => Err((RecoverRefused::NotAStore, disk)),
+            Some(limit) => Ok(Replay {
+                disk,
+                limit,
+                size,
+                place: 17,
+                number: 0,
+                ended: false,
+            }),
+        }
+    }
+}
+
+impl<D: Disk> Replay<D> {
+    /// The bytes that the file may have.
+    pub fn limit(&self) -> u64
+        ensures { result ≡ self.now.limit }
+    {
+        self.limit
+    }
+
+    /// Gives the disk back as it is. Nothing is written.
+    pub fn into_disk(self) -> D
+        ensures { result ≡ self.disk }
+    {
+        let Replay {
+            disk,
+            limit: _,
+            size: _,
+            place: _,
+            number: _,
+            ended: _,
+        } = self;
+        disk
+    }
+
+    /// Puts the next frame's payload into a vector and answers true, or answers false at the end of the list.
+    pub fn next(&mut self, into: &mut Vec<u8>) -> Result<bool, ReplayRefused>
+        ensures frame { IfOk result (λ more. more ≡ true → ForSome (D.told self.old.disk) (λ bytes. (payloads : List (List ℕ)) → HasRead bytes self.old payloads → HasRead bytes self.new (payloads ++ into.new.items ∷ []))) }
+        ensures end { IfOk result (λ more. more ≡ false → IsSamePlace self.old self.new × ForSome (D.told self.old.disk) (λ bytes. (payloads : List (List ℕ)) → HasRead bytes self.old payloads → HasRead bytes self.new payloads × Stands bytes self.old.limit payloads)) }
+        ensures ended { IfOk result (λ more. self.new.ended ≡ not more) }
+        ensures damaged { (k : ℕ) → IsErrOf result (ReplayRefused.Damaged k) → (k ≡ self.old.number) × ForSome (D.told self.old.disk) (λ bytes. (payloads : List (List ℕ)) → HasRead bytes self.old payloads → IsDamaged bytes self.old.limit payloads) }
+        ensures refused { IsErr result → IsSamePlace self.old self.new × (self.new.ended ≡ self.old.ended) }
+        ensures limit { self.new.limit ≡ self.old.limit }
+        ensures still { D.told self.new.disk ≡ D.told self.old.disk }
+        ensures synced { IsSynced D.told D.image self.new.disk }
+        ensures any_moment { LeavesOnly D.time D.image_since self.old.disk self.new.disk (λ bytes. D.told self.old.disk ≡ Some bytes) }
+        ensures cause { HasCount (D.fault_count self.old.disk) (D.fault_count self.new.disk) (IsErrOf result ReplayRefused.Failed) (IsOk result) }
+    {
+        let mut head = [0; 5];
+        let number = self.disk.read_at(self.place, &mut head)?;
+        let [gate, a, b, c, d] = head;
+        // No byte, or a gate that is the last byte.
+        if number < 2 || gate != 1 {
+            self.ended = true;
+            return Ok(false);
+        }
+        let length = word_of([a, b, c, d]);
+        let left = self.size.saturating_sub(self.place);
+        if number < 5 || left < 5 + u64::from(length) {
+            return Err(ReplayRefused::Damaged { k: self.number });
+        }
+        into.clear();
+        into.resize(length as usize, 0)?;
+        let read = self.disk.read_at(self.place + 5, into)?;
+        if read < length as usize {
+            return Err(ReplayRefused::Damaged { k: self.number });
+        }
+        self.place += 5 + u64::from(length);
+        self.number += 1;
+        self.ended = false;
+        Ok(true)
+    }
+
+    /// The journal that was read, with a closed gate at its end. `next` has answered false before.
+    pub fn finish(self) -> Result<Journal<D>, (Failed, D)>
+        requires { self.ended ≡ true }
+        ensures finished { IfOk result (λ journal. ForSome (D.told self.disk) (λ bytes. (payloads : List (List ℕ)) → HasRead bytes self payloads → frames_of D.told journal ≡ Some payloads)) }
+        ensures fields { IfOk result (λ journal. (journal.doubt ≡ false) × (journal.limit ≡ self.limit) × (journal.end ≡ self.place) × (journal.number ≡ self.number)) }
+        ensures sound { IfOk result (IsJournal D.told D.image) }
+        ensures tells { IfOk result (λ journal. TellsAlike (D.told self.disk) (D.told journal.disk)) }
+        ensures tells_err { IfErr result (λ e. TellsAlike (D.told self.disk) (D.told e.1)) }
+        ensures failed { IfErr result (λ e. ForSome (D.told self.disk) (λ bytes. (payloads : List (List ℕ)) → HasRead bytes self payloads → Stores D.told e.1 self.limit payloads)) }
+        // A crash at any moment leaves the frames that were read.
+        ensures any_moment { IfOk result (λ journal. ForSome (D.told self.disk) (λ bytes. (payloads : List (List ℕ)) → HasRead bytes self payloads
+            → LeavesOnly D.time D.image_since self.disk journal.disk (λ image. Stands image self.limit payloads))) }
+        ensures any_moment_err { IfErr result (λ e. ForSome (D.told self.disk) (λ bytes. (payloads : List (List ℕ)) → HasRead bytes self payloads
+            → LeavesOnly D.time D.image_since self.disk e.1 (λ image. Stands image self.limit payloads))) }
+        ensures kept { IfOk result (λ journal. D.fault_count journal.disk ≡ D.fault_count self.disk) }
+        ensures cause { IfErr result (λ e. (D.fault_count self.disk ≤ D.fault_count e.1) × Rises (D.fault_count self.disk) (D.fault_count e.1)) }
+    {
+        let Replay {
+            mut disk,
+            limit,
+            size: _,
+            place,
+            number,
+            ended: _,
+        } = self;
+        match close_end(&mut disk, place) {
+            Err(failed) => Err((failed, disk)),
+            Ok(()) => Ok(Journal {
+                disk,
+                limit,
+                gate: place,
+                number,
+                doubt: None,
+            }),
+        }
+    }
+}

@@ -1,0 +1,70 @@
+// The steps of the calls that write, of at most four calls of the disk each.
+ghost use Rattle.std.specs.Prelude.{◌≡◌, ◌<◌, ◌≤◌, ◌+◌, ◌^◌, ◌++◌, [], ◌∷◌, List, ℕ, length, take, OnOk};
+ghost use Rattle.lrs_disk.specs.Disk.{written, LeavesOnly, Follows, Within};
+ghost use Rattle.lrs_disk.specs.Faults.{HasCause};
+ghost use Rattle.lrs_journal.specs.Store.{body};
+ghost use Rattle.lrs_journal.specs.Journal.{TellsAlike};
+ghost use Rattle.lrs_journal.specs.Steps.{Reads, IsBehind, IsAtGate, IsCutBack, IsClosed};
+
+use lrs_disk::{Disk, Failed};
+
+/// Writes a frame's body and a closed gate behind the gate at this place, and syncs.
+pub(crate) fn stage<D: Disk>(disk: &mut D, place: u64, payload: &[u8]) -> Result<(), Failed>
+    requires fits { place + 6 + length payload.now < 2 ^ 32 }
+    requires gate { (b : List ℕ) → Reads D.told disk.old b → place < length b }
+    ensures staged { OnOk result (Follows (λ b c. c ≡ written b (place + 1) (body payload.now ++ 0 ∷ [])) (Reads D.told disk.old) (D.image disk.new)) }
+    ensures tells { TellsAlike (D.told disk.old) (D.told disk.new) }
+    ensures any_moment { LeavesOnly D.time D.image_since disk.old disk.new (IsBehind (place + 1) (D.image disk.old)) }
+    ensures cause { HasCause (D.fault_count disk.old) (D.fault_count disk.new) result }
+{
+    let length = payload.len() as u32;
+    disk.write_at(place + 1, &length.to_be_bytes())?;
+    disk.write_at(place + 5, payload)?;
+    disk.write_at(place + 5 + payload.len() as u64, &[0])?;
+    disk.sync()
+}
+
+/// Writes a gate, and syncs.
+pub(crate) fn write_gate<D: Disk>(disk: &mut D, place: u64, gate: u8) -> Result<(), Failed>
+    requires place { (b : List ℕ) → Reads D.told disk.old b → place ≤ length b }
+    ensures written { OnOk result (Follows (λ b c. c ≡ written b place (gate ∷ [])) (Reads D.told disk.old) (D.image disk.new)) }
+    ensures tells { TellsAlike (D.told disk.old) (D.told disk.new) }
+    ensures any_moment { LeavesOnly D.time D.image_since disk.old disk.new (IsAtGate place (D.image disk.old)) }
+    ensures cause { HasCause (D.fault_count disk.old) (D.fault_count disk.new) result }
+{
+    disk.write_at(place, &[gate])?;
+    disk.sync()
+}
+
+/// Cuts the disk at a place, and puts a closed gate there.
+pub(crate) fn repair<D: Disk>(disk: &mut D, place: u64) -> Result<(), Failed>
+    requires place { (b : List ℕ) → Reads D.told disk.old b → place ≤ length b }
+    requires fixed { Within (Reads D.told disk.old) (D.image disk.old) }
+    ensures closed { OnOk result (Within (IsClosed place (Reads D.told disk.old)) (D.image disk.new)) }
+    ensures tells { TellsAlike (D.told disk.old) (D.told disk.new) }
+    ensures any_moment { LeavesOnly D.time D.image_since disk.old disk.new (IsCutBack place (D.image disk.old)) }
+    ensures cause { HasCause (D.fault_count disk.old) (D.fault_count disk.new) result }
+{
+    disk.cut(place)?;
+    // The cut has to be on the disk first: behind a gate that is torn open, what was there would count.
+    disk.sync()?;
+    disk.write_at(place, &[0])?;
+    disk.sync()
+}
+
+/// Makes the gate at a place a closed one, where it isn't a 0.
+pub(crate) fn close_end<D: Disk>(disk: &mut D, place: u64) -> Result<(), Failed>
+    requires place { (b : List ℕ) → Reads D.told disk.old b → place ≤ length b }
+    requires fixed { Within (Reads D.told disk.old) (D.image disk.old) }
+    ensures closed { OnOk result (Within (IsClosed place (Reads D.told disk.old)) (D.image disk.new)) }
+    ensures tells { TellsAlike (D.told disk.old) (D.told disk.new) }
+    ensures any_moment { LeavesOnly D.time D.image_since disk.old disk.new (IsCutBack place (D.image disk.old)) }
+    ensures cause { HasCause (D.fault_count disk.old) (D.fault_count disk.new) result }
+{
+    let mut gate = [1];
+    let number = disk.read_at(place, &mut gate)?;
+    if number == 1 && gate[0] == 0 {
+        return Ok(());
+    }
+    repair(disk, place)
+}
