@@ -1,0 +1,33 @@
+-- The numbers that are in range.
+use Rattle.std.specs.Prelude.{ℕ, ◌+◌, ◌-◌, ◌==◌, ◌&&◌, ◌||◌, nat_le, List, length, reverse, Bool}
+use Rattle.std.specs.List.{prefix_len}
+use Rattle.lrs_decimal.specs.Parts.{all_digits, exponent_digits, point_right, point_left}
+
+abbrev pub is_zero_digit : ℕ → Bool
+is_zero_digit d = d == 48
+
+abbrev pub leading_zeros : List ℕ → ℕ
+leading_zeros ds = prefix_len is_zero_digit ds
+
+abbrev pub trailing_zeros : List ℕ → ℕ
+trailing_zeros ds = prefix_len is_zero_digit (reverse ds)
+
+-- Where some digit isn't zero: how many digits stand from the first to the last such digit.
+abbrev pub significant_digits : List ℕ → ℕ
+significant_digits ds = length ds - (leading_zeros ds + trailing_zeros ds)
+
+-- each digit is zero
+abbrev pub is_zero : List ℕ → Bool
+is_zero ds = leading_zeros ds == length ds
+
+-- With the zeros at the end of the digits taken into it, the exponent is from -999 to 999.
+abbrev pub has_small_exponent : List ℕ → Bool
+has_small_exponent spelling =
+    let right = point_right spelling + trailing_zeros (all_digits spelling) in
+    nat_le (point_left spelling) (right + 999) && nat_le right (point_left spelling + 999)
+
+-- Of a number's spelling: at most 64 bytes, at most four digits in the exponent, and zero, or at most 34 significant digits and a small exponent.
+abbrev pub is_in_range : List ℕ → Bool
+is_in_range spelling =
+    nat_le (length spelling) 64 && nat_le (length (exponent_digits spelling)) 4
+    && (is_zero (all_digits spelling) || (nat_le (significant_digits (all_digits spelling)) 34 && has_small_exponent spelling))

@@ -1,0 +1,14 @@
+//! The numbers of JSON: their grammar (RFC 8259, section 6), which of them are in range, and their exact values.
+#![tactic(auto)]
+
+mod decimal;
+mod numbers;
+mod parts;
+mod range;
+
+pub use decimal::Decimal;
+pub use numbers::number_len;
+pub use range::is_in_range;
+
+#[cfg(test)]
+mod tests;

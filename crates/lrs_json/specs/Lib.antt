@@ -1,0 +1,16 @@
+pub mod formers
+pub mod Json
+pub mod View
+pub mod Trees
+pub mod Written
+pub mod Find
+pub mod Strings
+pub mod Placed
+pub mod Grammar
+pub mod Depth
+pub mod Faults
+pub mod Fits
+pub mod Refusals
+pub mod Steps
+pub mod Reading
+pub mod SameValue
