@@ -1,0 +1,122 @@
+-- Digits, runs of them, and the numbers that they stand for.
+use Rattle.std.proofs.Common.{◌≡◌, ℕ, zero, suc, ◌+◌, ◌-◌, ◌*◌, ◌^◌, ◌<◌, ◌≤◌, List, [], ◌∷◌, ◌++◌, Bool, true, false, length, take, drop, get_or, cond, ◌&&◌, nat_le, Some, refl, sym, ap, ◌∙◌, subst, lit≤, arith}
+use Rattle.std.specs.List.{prefix_len}
+use Rattle.std.specs.Char.{is_ascii_digit, digit_value}
+use Rattle.std.specs.Str.Parse.{AllDigits, digits_value}
+use Rattle.std.proofs.lemmas.Int.Digits.{digits_value_more}
+use Rattle.std.proofs.lemmas.Nat.{pow-add}
+use Rattle.std.proofs.Math.Nat.{pow-le-pow_right, one-le-pow, mul-le-mul_right}
+use Rattle.std.proofs.lemmas.Option.{cond_some}
+use Rattle.std.proofs.lemmas.List.{take-append-drop}
+use Rattle.std.proofs.lemmas.List.Folds.{length-prefix_len}
+use Rattle.lrs_time.specs.Digits.{IsNumeral}
+use Rattle.lrs_time.specs.Reading.{numeral_at}
+
+-- ---- one digit
+
+pub digit_range : (b : ℕ) → digit_value b < 10 → (48 ≤ b) × (b ≤ 57) × (digit_value b ≡ b - 48)
+digit_range b h = grind arith
+
+pub digit_test : (b : ℕ) → digit_value b < 10 → is_ascii_digit b ≡ true
+digit_test b h = grind arith
+
+pub test_digit : (b : ℕ) → is_ascii_digit b ≡ true → digit_value b < 10
+test_digit b h = grind arith
+
+pub digit_at : (ds : List ℕ) (i : ℕ) → AllDigits 10 ds → i < length ds → digit_value (get_or ds i 0) < 10
+digit_at [] i all lt = absurd (omega arith)
+digit_at (d ∷ ds) zero all lt = all.0
+digit_at (d ∷ ds) (suc i) all lt = digit_at ds i all.1 (omega arith)
+
+-- ---- runs
+
+run_at : (b : ℕ) (bs : List ℕ) (t : Bool) → is_ascii_digit b ≡ t → AllDigits 10 (take (prefix_len is_ascii_digit bs) bs) → AllDigits 10 (take (cond t (1 + prefix_len is_ascii_digit bs) 0) (b ∷ bs))
+run_at b bs true e all = let one : 1 + prefix_len is_ascii_digit bs ≡ suc (prefix_len is_ascii_digit bs) = omega arith in rw one (test_digit b e, all)
+run_at b bs false e all = tt
+
+-- the digits at the front are digits
+pub AllDigits-run : (bs : List ℕ) → AllDigits 10 (take (prefix_len is_ascii_digit bs) bs)
+AllDigits-run [] = tt
+AllDigits-run (b ∷ bs) = run_at b bs (is_ascii_digit b) refl (AllDigits-run bs)
+
+-- ---- numbers
+
+pub pow_step : (i : ℕ) → 10 ^ (i + 1) ≡ 10 ^ i * 10
+pow_step i = pow-add 10 i 1
+
+pub pow_le : (i k : ℕ) → i ≤ k → 10 ^ i ≤ 10 ^ k
+pow_le i k h = pow-le-pow_right (lit≤ tt) h
+
+-- one digit more of the number that nine digits write
+pub number_step : (ds : List ℕ) (i v : ℕ) → AllDigits 10 ds → length ds ≤ 9 → i < length ds → v ≡ digits_value 10 (take i ds) → v < 10 ^ i → (48 ≤ get_or ds i 0) × (v < 10 ^ 8) × (v * 10 + (get_or ds i 0 - 48) < 10 ^ 9) × (v * 10 + (get_or ds i 0 - 48) ≡ digits_value 10 (take (i + 1) ds)) × (v * 10 + (get_or ds i 0 - 48) < 10 ^ (i + 1))
+number_step ds i v all few lt is small =
+    let d = digit_range (get_or ds i 0) (digit_at ds i all lt) in
+    let top = pow_le i 8 (omega arith) in
+    let up = pow_step i in
+    let more = digits_value_more 10 ds i lt in
+    (d.0, omega arith, omega arith, omega arith, omega arith)
+
+-- a number of k digits, with noughts behind it up to p digits
+pub cut_fits : (v k p : ℕ) → v < 10 ^ k → k ≤ p → v * 10 ^ (p - k) < 10 ^ p
+cut_fits v k p h le =
+    let whole : 10 ^ k * 10 ^ (p - k) ≡ 10 ^ p = sym (pow-add 10 k (p - k)) ∙ ap (λ n. 10 ^ n) (omega arith) in
+    let some : 1 ≤ 10 ^ (p - k) = one-le-pow (p - k) 10 (lit≤ tt) in
+    let more : suc v * 10 ^ (p - k) ≤ 10 ^ k * 10 ^ (p - k) = mul-le-mul_right (10 ^ (p - k)) h in
+    omega arith
+
+pub length_take_le : (n : ℕ) (ds : List ℕ) → length (take n ds) ≤ n
+length_take_le zero ds = omega arith
+length_take_le (suc n) [] = omega arith
+length_take_le (suc n) (d ∷ ds) = omega (arith, length_take_le n ds)
+
+pub AllDigits-take : (n : ℕ) (ds : List ℕ) → AllDigits 10 ds → AllDigits 10 (take n ds)
+AllDigits-take zero ds all = tt
+AllDigits-take (suc n) [] all = tt
+AllDigits-take (suc n) (d ∷ ds) all = (all.0, AllDigits-take n ds all.1)
+
+-- ---- a run of digits, and what stops it
+
+-- no digit comes first
+abbrev pub Stops : List ℕ → Type 0
+Stops [] = Unit {0}
+Stops (b ∷ bs) = is_ascii_digit b ≡ false
+
+len_stopped : (rest : List ℕ) → Stops rest → prefix_len is_ascii_digit rest ≡ 0
+len_stopped [] stops = refl
+len_stopped (b ∷ bs) stops = rw stops refl
+
+pub len_again : (ds rest : List ℕ) → AllDigits 10 ds → Stops rest → prefix_len is_ascii_digit (ds ++ rest) ≡ length ds
+len_again [] rest all stops = len_stopped rest stops
+len_again (d ∷ ds) rest all stops = let passes = digit_test d all.0 in rw (passes, len_again ds rest all.1 stops) (omega arith)
+
+take_front : (xs rest : List ℕ) → take (length xs) (xs ++ rest) ≡ xs
+take_front [] rest = refl
+take_front (x ∷ xs) rest = ap (λ ys. x ∷ ys) (take_front xs rest)
+
+drop_front : (xs rest : List ℕ) → drop (length xs) (xs ++ rest) ≡ rest
+drop_front [] rest = refl
+drop_front (x ∷ xs) rest = drop_front xs rest
+
+few_true : (n most : ℕ) → 0 < n → n ≤ most → (nat_le 1 n && nat_le n most) ≡ true
+few_true n most h k = grind arith
+
+pub numeral_again : (most : ℕ) (ds rest : List ℕ) → IsNumeral most ds → Stops rest → numeral_at most (ds ++ rest) ≡ Some (ds, rest)
+unfolding numeral_at
+numeral_again most ds rest n stops =
+    rw (len_again ds rest n.digits stops) (rw (few_true (length ds) most n.some n.few, take_front ds rest, drop_front ds rest) refl)
+
+numeral_is : (most : ℕ) (text : List ℕ) → (nat_le 1 (prefix_len is_ascii_digit text) && nat_le (prefix_len is_ascii_digit text) most) ≡ true → IsNumeral most (take (prefix_len is_ascii_digit text) text)
+numeral_is most text t =
+    let long = length-prefix_len is_ascii_digit text in
+    let len : (1 ≤ prefix_len is_ascii_digit text) × (prefix_len is_ascii_digit text ≤ most) = grind arith in
+    record { digits = AllDigits-run text; some = omega arith; few = omega arith }
+
+-- the bytes are digits, so many at most, and those behind them
+abbrev pub IsNumeralFront : ℕ → List ℕ → List ℕ × List ℕ → Type 0
+IsNumeralFront most text n = IsNumeral most n.0 × (text ≡ n.0 ++ n.1)
+
+pub numeral_found : (most : ℕ) (text : List ℕ) (n : List ℕ × List ℕ) → numeral_at most text ≡ Some n → IsNumeralFront most text n
+unfolding numeral_at
+numeral_found most text n e =
+    let g = cond_some (nat_le 1 (prefix_len is_ascii_digit text) && nat_le (prefix_len is_ascii_digit text) most) (take (prefix_len is_ascii_digit text) text, drop (prefix_len is_ascii_digit text) text) n e in
+    subst (IsNumeralFront most text) g.1 (numeral_is most text g.0, sym (take-append-drop (prefix_len is_ascii_digit text) text))

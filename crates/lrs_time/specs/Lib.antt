@@ -1,0 +1,4 @@
+pub mod Digits
+pub mod Duration
+pub mod Reading
+pub mod Timestamp

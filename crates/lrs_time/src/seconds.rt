@@ -1,0 +1,69 @@
+//! The seconds of a duration as a text.
+ghost use Rattle.std.specs.Prelude.{◌≡◌, ◌/◌, ◌≤◌, ◌<◌, ◌++◌, Some, OnOk, OnErr};
+ghost use Rattle.std.specs.Fmt.{decimal};
+ghost use Rattle.lrs_time.specs.Duration.{seconds_text, hundredths_text, IsDurationOf, span_of_hundredths, Extends};
+ghost use Rattle.lrs_time.specs.Reading.{duration_at};
+
+use crate::digits::in_two_digits;
+use std::alloc::AllocError;
+
+/// Memory ran out.
+#[derive(Clone, Copy, Debug, PartialEq, Eq)]
+pub struct Memory;
+
+/// Appends the duration of that many milliseconds in whole seconds and hundredths, as
+/// `PT12.34S`; what is less than a hundredth is cut off. An `Err` appends nothing.
+pub fn seconds_text(ms: u64, into: &mut Vec<u8>) -> Result<(), Memory>
+    ensures ok { OnOk result (into.new.items ≡ into.old.items ++ seconds_text ms) }
+    ensures err { OnErr result (into.new.items ≡ into.old.items) }
+
+    // What is appended is a duration, and read as one: a number has up to nine digits there.
+    ensures duration { ms ≤ 999_999_999_999 →
+        IsDurationOf (seconds_text ms) (span_of_hundredths (ms / 10)) }
+    ensures reads_back { ms ≤ 999_999_999_999 →
+        duration_at (seconds_text ms) ≡ Some (span_of_hundredths (ms / 10)) }
+{
+    let length = into.len();
+    match push_seconds(ms, into) {
+        Ok(()) => Ok(()),
+        Err(_) => {
+            into.truncate(length);
+            Err(Memory)
+        }
+    }
+}
+
+#[tactic(auto, using(crate::proofs::Extending::extends_trans))]
+fn push_seconds(ms: u64, into: &mut Vec<u8>) -> Result<(), AllocError>
+    ensures ok { OnOk result (into.new.items ≡ into.old.items ++ seconds_text ms) }
+    ensures kept { Extends into.old.items into.new.items }
+{
+    into.extend_from_slice(b"PT")?;
+    push_decimal(ms / 1000, into)?;
+    push_hundredths((ms % 1000 / 10) as u8, into)?;
+    into.extend_from_slice(b"S")
+}
+
+fn push_hundredths(hundredths: u8, into: &mut Vec<u8>) -> Result<(), AllocError>
+    requires { hundredths < 100 }
+    ensures ok { OnOk result (into.new.items ≡ into.old.items ++ hundredths_text hundredths) }
+    ensures kept { Extends into.old.items into.new.items }
+{
+    if hundredths == 0 {
+        return Ok(());
+    }
+    let [tens, ones] = in_two_digits(hundredths);
+    into.extend_from_slice(&[b'.', tens, ones])
+}
+
+#[tactic(auto, using(crate::proofs::Extending::extends_trans))]
+fn push_decimal(number: u64, into: &mut Vec<u8>) -> Result<(), AllocError>
+    ensures ok { OnOk result (into.new.items ≡ into.old.items ++ decimal number) }
+    ensures kept { Extends into.old.items into.new.items }
+{
+    if number >= 10 {
+        push_decimal(number / 10, into)?;
+    }
+    into.push(b'0' + (number % 10) as u8)?;
+    Ok(())
+}
