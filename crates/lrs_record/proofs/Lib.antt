@@ -1,0 +1,13 @@
+pub mod Kept
+pub mod Joined
+pub mod Words
+pub mod Counts
+pub mod SameParts
+pub mod EntryParts
+pub mod Decimals
+pub mod Exactly
+pub mod Readable
+pub mod Escapes
+pub mod ValueKinds
+pub mod SameWritten
+pub mod Told

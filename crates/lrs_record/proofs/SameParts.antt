@@ -1,0 +1,45 @@
+-- Two objects that are the same have the same members, one by one.
+use Rattle.std.proofs.Common.{◌≡◌, ℕ, List, [], ◌∷◌, ap, sym, ◌∙◌}
+use Rattle.lrs_json.specs.Json.{Json, Members, no_members, member, number, object}
+use Rattle.lrs_json.specs.View.{members_of, view}
+use Rattle.lrs_json.specs.declared.tree.Tree.{Tree, Number}
+use Rattle.lrs_json.proofs.Views.{view-Number}
+
+same_pair : (a p : List ℕ × Json) → a.0 ≡ p.0 → a.1 ≡ p.1 → a ≡ p
+same_pair a p names values = ap (λ name. (name, a.1)) names ∙ ap (λ value. (p.0, value)) values
+
+-- the first members are the same, and what stands behind them
+first_member : (a p : List ℕ × Json) (ms ns : Members) → member a.0 a.1 ms ≡ member p.0 p.1 ns → (a ≡ p) × (ms ≡ ns)
+first_member a p ms ns same =
+    let names : a.0 ≡ p.0 = cc same in
+    let values : a.1 ≡ p.1 = cc same in
+    (same_pair a p names values, cc same)
+
+same_members : (ms ns : Members) → object ms ≡ object ns → ms ≡ ns
+same_members ms ns same = cc same
+
+pub one_part : (seen : Json) (a p : List ℕ × Json) → seen ≡ object (members_of (a ∷ [])) → seen ≡ object (members_of (p ∷ [])) → a ≡ p
+one_part seen a p x y = (first_member a p no_members no_members (same_members _ _ (sym x ∙ y))).0
+
+pub two_parts : (seen : Json) (a b p q : List ℕ × Json) → seen ≡ object (members_of (a ∷ b ∷ [])) → seen ≡ object (members_of (p ∷ q ∷ [])) → (a ≡ p) × (b ≡ q)
+two_parts seen a b p q x y =
+    let first = first_member a p _ _ (same_members (members_of (a ∷ b ∷ [])) (members_of (p ∷ q ∷ [])) (sym x ∙ y)) in
+    let second = first_member b q no_members no_members first.1 in
+    (first.0, second.0)
+
+pub four_parts : (seen : Json) (a b c d p q r s : List ℕ × Json) → seen ≡ object (members_of (a ∷ b ∷ c ∷ d ∷ [])) → seen ≡ object (members_of (p ∷ q ∷ r ∷ s ∷ []))
+    → (a ≡ p) × (b ≡ q) × (c ≡ r) × (d ≡ s)
+four_parts seen a b c d p q r s x y =
+    let first = first_member a p _ _ (same_members (members_of (a ∷ b ∷ c ∷ d ∷ [])) (members_of (p ∷ q ∷ r ∷ s ∷ [])) (sym x ∙ y)) in
+    let second = first_member b q (members_of (c ∷ d ∷ [])) (members_of (r ∷ s ∷ [])) first.1 in
+    let third = first_member c r (members_of (d ∷ [])) (members_of (s ∷ [])) second.1 in
+    let fourth = first_member d s no_members no_members third.1 in
+    (first.0, second.0, third.0, fourth.0)
+
+-- the value of a member
+pub value_of_member : (seen : List ℕ × Json) (name : List ℕ) (a b : Json) → seen ≡ (name, a) → seen ≡ (name, b) → a ≡ b
+value_of_member seen name a b x y = ap (λ pair. pair.1) (sym x ∙ y)
+
+pub spelling_of_member : (seen : List ℕ × Json) (name : List ℕ) (value : Tree) (a b : List ℕ) → seen ≡ (name, view value) → value ≡ Number a → seen ≡ (name, number b) → a ≡ b
+spelling_of_member seen name value a b x is y =
+    let same : number a ≡ number b = sym (view-Number a) ∙ ap view (sym is) ∙ value_of_member seen name (view value) (number b) x y in cc same

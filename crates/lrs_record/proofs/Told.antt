@@ -1,0 +1,93 @@
+-- The text of a lawful entry tells the entry.
+use Rattle.std.proofs.Common.{◌≡◌, ◌<◌, ◌^◌, ℕ, List, Result, Ok, codes, arith, refl, sym, ap, ◌∙◌}
+use Rattle.std.specs.Fmt.{decimal}
+use Rattle.std.specs.Int.{to_be_bytes, w128}
+use Rattle.std.proofs.lemmas.Fmt.{decimal_injective}
+use Rattle.hex.specs.Hex.{decode_of}
+use Rattle.hex.specs.declared.error.FromHexError.{FromHexError}
+use Rattle.hex.proofs.HexLemmas.{decode_of-encode_lower}
+use Rattle.lrs_json.specs.Json.{number, string}
+use Rattle.lrs_json.specs.View.{view}
+use Rattle.lrs_json.proofs.Back.{same_tree}
+use Rattle.lrs_names.specs.Ids.{id_text}
+use Rattle.lrs_names.specs.declared.draw.Draw.{Draw}
+use Rattle.lrs_names.proofs.IdTexts.{same_id}
+use Rattle.lrs_names.proofs.WordBytes.{same_word, small_word_bytes}
+use Rattle.lrs_record.specs.Entries.{HoldsCommand, HoldsDraw, IsLawful, IsLawfulCaller, caller_text, command_args, command_json, command_name, draw_text, entry_json, fields, word_text, written_entry}
+use Rattle.lrs_record.specs.declared.entry.Caller.{Caller}
+use Rattle.lrs_record.specs.declared.entry.Caller.TheVariants.{Nobody, Operator, Token}
+use Rattle.lrs_record.specs.declared.entry.Command.{Command}
+use Rattle.lrs_record.specs.declared.entry.Command.TheVariants.{Found, Put}
+use Rattle.lrs_record.specs.declared.entry.Entry.{Entry}
+use Rattle.lrs_record.proofs.EntryParts.{member_texts}
+use Rattle.lrs_record.proofs.Readable.{readable}
+use Rattle.lrs_record.proofs.SameParts.{one_part, two_parts}
+use Rattle.lrs_record.proofs.SameWritten.{told_by_written}
+use Rattle.lrs_record.proofs.Words.{first_half, second_half}
+
+same_caller : (a b : Caller) → IsLawfulCaller a → IsLawfulCaller b → caller_text a ≡ caller_text b → a ≡ b
+same_caller Nobody Nobody x y e = refl
+same_caller Nobody Operator x y e = absurd (cc e)
+same_caller Nobody (Token token) x y e = absurd (y.0 (sym e))
+same_caller Operator Nobody x y e = absurd (cc e)
+same_caller Operator Operator x y e = refl
+same_caller Operator (Token token) x y e = absurd (y.1 (sym e))
+same_caller (Token token) Nobody x y e = absurd (x.0 e)
+same_caller (Token token) Operator x y e = absurd (x.1 e)
+same_caller (Token token) (Token other) x y e = ap Token e
+
+told_word : (a b : ℕ) → a < 2 ^ 128 → b < 2 ^ 128 → word_text a ≡ word_text b → a ≡ b
+unfolding word_text
+told_word a b x y e =
+    let bytes : ◌≡◌ {A = Result (List ℕ) FromHexError} (Ok (to_be_bytes w128 a)) (Ok (to_be_bytes w128 b)) =
+    sym (decode_of-encode_lower (to_be_bytes w128 a) (small_word_bytes a)) ∙ ap decode_of e ∙ decode_of-encode_lower (to_be_bytes w128 b) (small_word_bytes b) in
+    same_word a b x y (cc bytes)
+
+told_draw : (a b : Draw) → HoldsDraw a → HoldsDraw b → draw_text a ≡ draw_text b → a ≡ b
+told_draw a b x y e =
+    let name : a.name ≡ b.name = told_word _ _ x.0 y.0 (sym (first_half a (draw_text a) refl) ∙ first_half b (draw_text a) e) in
+    let secret : a.secret ≡ b.secret = told_word _ _ x.1 y.1 (sym (second_half a (draw_text a) refl) ∙ second_half b (draw_text a) e) in
+    rw (name, secret) refl
+
+same_args : (a b : Command) → command_json a ≡ command_json b → (command_name a ≡ command_name b) × (fields (command_args a) ≡ fields (command_args b))
+same_args a b e =
+    let same = one_part (command_json a) (command_name a, fields (command_args a)) (command_name b, fields (command_args b)) refl e in
+    (ap (λ pair. pair.0) same, ap (λ pair. pair.1) same)
+
+same_string : (a b : List ℕ) → string a ≡ string b → a ≡ b
+same_string a b e = cc e
+
+same_spelling : (a b : List ℕ) → number a ≡ number b → a ≡ b
+same_spelling a b e = cc e
+
+same_command : (a b : Command) → HoldsCommand a → HoldsCommand b → command_json a ≡ command_json b → a ≡ b
+same_command (Found admin base) (Found token address) x y e =
+    let args = (same_args (Found admin base) (Found token address) e).1 in
+    let parts = two_parts _ (codes "admin", string admin) (codes "base", string base) (codes "admin", string token) (codes "base", string address) refl args in
+    let first : admin ≡ token = same_string _ _ (ap (λ pair. pair.1) parts.0) in
+    let second : base ≡ address = same_string _ _ (ap (λ pair. pair.1) parts.1) in
+    rw (first, second) refl
+same_command (Found admin base) (Put id statement) x y e = absurd (cc (same_args (Found admin base) (Put id statement) e).0)
+same_command (Put id statement) (Found admin base) x y e = absurd (cc (same_args (Put id statement) (Found admin base) e).0)
+same_command (Put id statement) (Put key tree) x y e =
+    let args = (same_args (Put id statement) (Put key tree) e).1 in
+    let parts = two_parts _ (codes "id", string (id_text id)) (codes "statement", view statement) (codes "id", string (id_text key)) (codes "statement", view tree) refl args in
+    let first : id ≡ key = same_id id key x y (same_string _ _ (ap (λ pair. pair.1) parts.0)) in
+    let second : statement ≡ tree = same_tree statement tree (ap (λ pair. pair.1) parts.1) in
+    rw (first, second) refl
+
+told_by_json : (a b : Entry) → IsLawful a → IsLawful b → entry_json a ≡ entry_json b → a ≡ b
+unfolding entry_json
+told_by_json a b x y e =
+    let parts = member_texts (entry_json a) (codes "caller", string (caller_text a.caller)) (codes "moment", number (decimal a.moment))
+    (codes "draw", string (draw_text a.draw)) (codes "command", command_json a.command) b refl e in
+    let caller : a.caller ≡ b.caller = same_caller _ _ x.caller y.caller (same_string _ _ (ap (λ pair. pair.1) parts.caller)) in
+    let digits : decimal a.moment ≡ decimal b.moment = same_spelling _ _ (ap (λ pair. pair.1) parts.moment) in
+    let moment : a.moment ≡ b.moment = decimal_injective a.moment b.moment (omega (arith, x.values.moment)) (omega (arith, y.values.moment)) digits in
+    let draw : a.draw ≡ b.draw = told_draw a.draw b.draw x.values.draw y.values.draw (same_string _ _ (ap (λ pair. pair.1) parts.draw)) in
+    let command : a.command ≡ b.command = same_command a.command b.command x.values.command y.values.command (ap (λ pair. pair.1) parts.command) in
+    rw (caller, moment, draw, command) refl
+
+pub written_entry_injective : (a b : Entry) → IsLawful a → IsLawful b → written_entry a ≡ written_entry b → a ≡ b
+unfolding written_entry
+written_entry_injective a b x y e = told_by_json a b x y (told_by_written (entry_json a) (entry_json b) (readable a x).0 (readable b y).0 e)

@@ -1,0 +1,26 @@
+use Rattle.std.proofs.Common.{◌≡◌, ap, sym, ◌∙◌}
+use Rattle.std.proofs.lemmas.Bool.{false≢true}
+use Rattle.lrs_record.specs.Entries.{entry_json, written_entry}
+use Rattle.lrs_record.proofs.Exactly.{refused_for_memory}
+use Rattle.lrs_record.proofs.Readable.{entry_is_spelled}
+use Rattle.lrs_record.proofs.reading.read_lawful.Goals as goal
+
+pub returns-in_err-tree-clause-again : goal.returns-in_err-tree-clause-again
+returns-in_err-tree-clause-again c = λ entry lawful is.
+    refused_for_memory _ _ c.from_residual.result c.from_residual.ensures.1 (c.in_err-tree.ensures.all (entry_json entry) (entry_is_spelled entry _ lawful is))
+
+pub returns-in-None-clause-again : goal.returns-in-None-clause-again
+returns-in-None-clause-again c = λ entry lawful is.
+    let seen = c.in_ok-tree.ensures.all (entry_json entry) (entry_is_spelled entry _ lawful is) in
+    absurd (cc (c.in-None.ensures.all entry lawful seen))
+
+pub returns-then-branch-clause-again : goal.returns-then-branch-clause-again
+returns-then-branch-clause-again c = λ entry lawful is.
+    let seen = c.in_ok-tree.ensures.all (entry_json entry) (entry_is_spelled entry _ lawful is) in
+    cc (c.in-Some.ensures.all entry lawful seen)
+
+pub returns-else-branch-clause-again : goal.returns-else-branch-clause-again
+returns-else-branch-clause-again c = λ entry lawful is.
+    let seen = c.in_ok-tree.ensures.all (entry_json entry) (entry_is_spelled entry _ lawful is) in
+    let same : c.in-Some.entry ≡ entry = cc (c.in-Some.ensures.all entry lawful seen) in
+    absurd (false≢true (sym c.if-branch.false ∙ c.in_ok-has_text-in-Some.ensures.same.1 (ap written_entry same ∙ is)))

@@ -1,0 +1,32 @@
+use Rattle.std.proofs.Common.{ap, codes, true, false, ◌++◌, ◌∙◌}
+use Rattle.std.proofs.lemmas.Result.{on_ok_weaker}
+use Rattle.lrs_json.specs.View.{members_of}
+use Rattle.lrs_json.specs.Written.{comma_if, members_text, quoted}
+use Rattle.lrs_record.specs.Entries.{command_args, command_name}
+use Rattle.lrs_record.specs.Texts.{name_text}
+use Rattle.lrs_record.proofs.Joined.{member_of_member}
+use Rattle.lrs_record.proofs.Kept.{over_two, over_three, over_four, over_five, over_six}
+use Rattle.lrs_record.proofs.writing.put_command.Goals as goal
+
+pub returns-in_err-put-clause-kept : goal.returns-in_err-put-clause-kept
+returns-in_err-put-clause-kept c = over_two _ _ _ c.put_name.ensures.kept c.put.ensures.kept
+
+pub returns-in_err-put_name-2-clause-kept : goal.returns-in_err-put_name-2-clause-kept
+returns-in_err-put_name-2-clause-kept c = over_three _ _ _ _ c.put_name.ensures.kept c.put.ensures.kept c.put_name-2.ensures.kept
+
+pub returns-in_err-put-2-clause-kept : goal.returns-in_err-put-2-clause-kept
+returns-in_err-put-2-clause-kept c = over_four _ _ _ _ _ c.put_name.ensures.kept c.put.ensures.kept c.put_name-2.ensures.kept c.put-2.ensures.kept
+
+pub returns-in_err-put_args-clause-kept : goal.returns-in_err-put_args-clause-kept
+returns-in_err-put_args-clause-kept c = over_five _ _ _ _ _ _ c.put_name.ensures.kept c.put.ensures.kept c.put_name-2.ensures.kept c.put-2.ensures.kept c.put_args.ensures.kept
+
+pub returns-clause-kept : goal.returns-clause-kept
+returns-clause-kept c = over_six _ _ _ _ _ _ _ c.put_name.ensures.kept c.put.ensures.kept c.put_name-2.ensures.kept c.put-2.ensures.kept c.put_args.ensures.kept c.put-3.ensures.kept
+
+pub returns-clause-ok : goal.returns-clause-ok
+returns-clause-ok c =
+    let named = c.in_ok-put_name-2.ensures.ok ∙ ap (λ t. c.put.new.into.items ++ name_text false t) c.name.ensures in
+    let command = c.args.command.now in
+    on_ok_weaker c.put-3.result (λ closed.
+    member_of_member _ _ _ _ _ _ _ (comma_if true ++ quoted (codes "command")) (comma_if false ++ quoted (command_name command)) (members_text false (members_of (command_args command)))
+    c.in_ok-put_name.ensures.ok c.in_ok-put.ensures.ok named c.in_ok-put-2.ensures.ok c.in_ok-put_args.ensures.ok closed) c.put-3.ensures.ok

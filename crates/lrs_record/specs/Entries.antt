@@ -1,0 +1,107 @@
+-- The text of an entry: `{"caller":C,"moment":MS,"draw":HEX64,"command":{NAME:ARGS}}`, in the written form of JSON.
+use Rattle.std.specs.Prelude.{◌≡◌, ◌≢◌, ◌<◌, ◌≤◌, ◌^◌, ℕ, List, [], ◌∷◌, ◌++◌, codes, IsUtf8}
+use Rattle.std.specs.Fmt.{decimal}
+use Rattle.std.specs.Int.{to_be_bytes, w128}
+use Rattle.hex.specs.Hex.{encode_lower}
+use Rattle.lrs_json.specs.Fits.{IsReadable}
+use Rattle.lrs_json.specs.Json.{Json, number, string, object}
+use Rattle.lrs_json.specs.View.{view, members_of}
+use Rattle.lrs_json.specs.Written.{written}
+use Rattle.lrs_names.specs.Ids.{IsId, id_text}
+use Rattle.lrs_names.specs.declared.draw.Draw.{Draw}
+use Rattle.lrs_record.specs.declared.entry.Caller.{Caller}
+use Rattle.lrs_record.specs.declared.entry.Caller.TheVariants.{Nobody, Operator, Token}
+use Rattle.lrs_record.specs.declared.entry.Command.{Command}
+use Rattle.lrs_record.specs.declared.entry.Command.TheVariants.{Found, Put}
+use Rattle.lrs_record.specs.declared.entry.Entry.{Entry}
+use Rattle.lrs_record.specs.Moments.{latest}
+
+-- an object of these members
+abbrev pub fields : List (List ℕ × Json) → Json
+fields members = object (members_of members)
+
+-- empty for nobody, `*` for the operator, else the token
+abbrev pub caller_text : Caller → List ℕ
+caller_text Nobody = []
+caller_text Operator = codes "*"
+caller_text (Token token) = token
+
+-- 32 lower-case hexadecimal digits
+unfoldable pub word_text : ℕ → List ℕ
+word_text word = encode_lower (to_be_bytes w128 word)
+
+-- 64 digits: the name, then the secret
+abbrev pub draw_text : Draw → List ℕ
+draw_text draw = word_text draw.name ++ word_text draw.secret
+
+abbrev pub command_name : Command → List ℕ
+command_name (Found admin base) = codes "found"
+command_name (Put id statement) = codes "put"
+
+abbrev pub found_args : List ℕ → List ℕ → List (List ℕ × Json)
+found_args admin base = (codes "admin", string admin) ∷ (codes "base", string base) ∷ []
+
+abbrev pub put_args : List ℕ → Json → List (List ℕ × Json)
+put_args id statement = (codes "id", string (id_text id)) ∷ (codes "statement", statement) ∷ []
+
+abbrev pub command_args : Command → List (List ℕ × Json)
+command_args (Found admin base) = found_args admin base
+command_args (Put id statement) = put_args id (view statement)
+
+abbrev pub command_json : Command → Json
+command_json command = fields ((command_name command, fields (command_args command)) ∷ [])
+
+unfoldable pub entry_json : Entry → Json
+entry_json entry =
+    fields ((codes "caller", string (caller_text entry.caller)) ∷ (codes "moment", number (decimal entry.moment))
+    ∷ (codes "draw", string (draw_text entry.draw)) ∷ (codes "command", command_json entry.command) ∷ [])
+
+unfoldable pub written_entry : Entry → List ℕ
+written_entry entry = written (entry_json entry)
+
+-- A token is written as itself, so it is not what is written for nobody and for the operator.
+abbrev pub IsLawfulCaller : Caller → Type 0
+IsLawfulCaller Nobody = Unit {0}
+IsLawfulCaller Operator = Unit {0}
+IsLawfulCaller (Token token) = (token ≢ []) × (token ≢ codes "*")
+
+-- a tree such as reading gives, with at most 64 levels
+abbrev pub IsLawfulTree : Json → Type 0
+IsLawfulTree tree = IsReadable 64 tree
+
+-- Its trees are such as reading gives.
+abbrev pub IsLawfulCommand : Command → Type 0
+IsLawfulCommand (Found admin base) = Unit {0}
+IsLawfulCommand (Put id statement) = IsLawfulTree (view statement)
+
+-- Each text is UTF-8.
+abbrev pub HoldsCaller : Caller → Type 0
+HoldsCaller Nobody = Unit {0}
+HoldsCaller Operator = Unit {0}
+HoldsCaller (Token token) = IsUtf8 token
+
+-- Each text is UTF-8, and each id has its sixteen bytes.
+abbrev pub HoldsCommand : Command → Type 0
+HoldsCommand (Found admin base) = IsUtf8 admin × IsUtf8 base
+HoldsCommand (Put id statement) = IsId id
+
+-- two words of 128 bits
+abbrev pub HoldsDraw : Draw → Type 0
+HoldsDraw draw = (draw.name < 2 ^ 128) × (draw.secret < 2 ^ 128)
+
+-- what holds of every entry of the program, by the types of its parts
+pub record HasValues (entry : Entry) : Type 0 where
+  pub caller : HoldsCaller entry.caller
+  pub command : HoldsCommand entry.command
+  pub moment : entry.moment ≤ latest
+  pub draw : HoldsDraw entry.draw
+
+-- an entry that may be written, and is read again as itself
+pub record IsLawful (entry : Entry) : Type 0 where
+  pub caller : IsLawfulCaller entry.caller
+  pub command : IsLawfulCommand entry.command
+  pub values : HasValues entry
+
+-- the text of some lawful entry
+abbrev pub IsEntryText : List ℕ → Type 0
+IsEntryText bytes = (entry : Entry) × IsLawful entry × (written_entry entry ≡ bytes)

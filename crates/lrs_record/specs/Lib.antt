@@ -1,0 +1,5 @@
+pub mod Moments
+pub mod Texts
+pub mod Entries
+pub mod Widths
+pub mod Refusals

@@ -1,0 +1,64 @@
+ghost use Rattle.std.specs.Prelude.{◌≡◌, ◌<◌, ◌^◌, ℕ, Some, length, IsUtf8};
+ghost use Rattle.lrs_names.specs.declared.draw.Draw.{Draw as SpecDraw};
+ghost use Rattle.lrs_record.specs.Entries.{HoldsDraw, draw_text, word_text};
+
+use hex::{decode_to_slice, encode_to_slice};
+use lrs_names::Draw;
+
+/// The draw as 64 lower-case hexadecimal digits.
+pub fn draw_digits(draw: Draw) -> [u8; 64]
+    ensures text { result ≡ draw_text draw }
+    ensures holds { HoldsDraw draw }
+{
+    let mut digits = [0; 64];
+    let (name, secret) = digits.split_at_mut(32);
+    put_word(draw.name, name);
+    put_word(draw.secret, secret);
+    digits
+}
+
+#[tactic(auto, unfolding(crate::specs::Entries::word_text))]
+fn put_word(word: u128, digits: &mut [u8])
+    requires { length digits.old ≡ 32 }
+    ensures { digits.new ≡ word_text word }
+{
+    match encode_to_slice(word.to_be_bytes(), digits) {
+        Ok(()) => {}
+        Err(_) => unreachable!(),
+    }
+}
+
+/// The text that the bytes are.
+pub fn ascii(bytes: &[u8]) -> &str
+    requires { IsUtf8 bytes.now }
+    ensures { result.now ≡ bytes.now }
+{
+    match str::from_utf8(bytes) {
+        Ok(text) => text,
+        Err(_) => unreachable!(),
+    }
+}
+
+/// The draw of 64 hexadecimal digits.
+pub fn draw_of(digits: &[u8]) -> Option<Draw>
+    ensures { (draw : SpecDraw) → HoldsDraw draw → digits.now ≡ draw_text draw → result ≡ Some draw }
+{
+    if digits.len() != 64 {
+        return None;
+    }
+    let (name, secret) = digits.split_at(32);
+    Some(Draw {
+        name: word_of(name)?,
+        secret: word_of(secret)?,
+    })
+}
+
+fn word_of(digits: &[u8]) -> Option<u128>
+    ensures { (word : ℕ) → word < 2 ^ 128 → digits.now ≡ word_text word → result ≡ Some word }
+{
+    let mut bytes = [0; 16];
+    match decode_to_slice(digits, &mut bytes) {
+        Ok(()) => Some(u128::from_be_bytes(bytes)),
+        Err(_) => None,
+    }
+}

@@ -1,0 +1,62 @@
+ghost use Rattle.std.specs.Prelude.{◌≡◌};
+ghost use Rattle.lrs_record.specs.Entries.{HoldsCaller, caller_text, command_name};
+
+use crate::Moment;
+use lrs_json::{Text, Tree};
+use lrs_names::{Draw, Id};
+
+/// What is presented for a command.
+#[derive(Drop)]
+pub enum Caller {
+    /// Nothing.
+    Nobody,
+    /// The command comes from the program itself, on the store's own machine.
+    Operator,
+    /// A credential.
+    Token(Text),
+}
+
+/// What a caller asks to be kept.
+#[derive(Drop)]
+pub enum Command {
+    /// Begins a store: the token of its first admin, and the address under which it is reached.
+    Found { admin: Text, base: Text },
+    /// Keeps a statement under an id.
+    Put { id: Id, statement: Tree },
+}
+
+/// An accepted command, as the journal keeps it: with its caller, the moment at which it was accepted and what was
+/// drawn by chance for it.
+#[derive(Drop)]
+pub struct Entry {
+    pub caller: Caller,
+    pub command: Command,
+    pub moment: Moment,
+    pub draw: Draw,
+}
+
+impl Command {
+    /// The name under which the journal keeps the command.
+    pub fn name(&self) -> &'static str
+        ensures { result.now ≡ command_name self.now }
+    {
+        match self {
+            Command::Found { .. } => "found",
+            Command::Put { .. } => "put",
+        }
+    }
+}
+
+impl Caller {
+    /// What the journal keeps for the caller: nothing for nobody, `*` for the operator, else the token.
+    pub fn text(&self) -> &str
+        ensures text { result.now ≡ caller_text self.now }
+        ensures holds { HoldsCaller self.now }
+    {
+        match self {
+            Caller::Nobody => "",
+            Caller::Operator => "*",
+            Caller::Token(token) => token.as_str(),
+        }
+    }
+}

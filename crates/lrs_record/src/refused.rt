@@ -1,0 +1,35 @@
+use lrs_json::{Memory, ReadRefused};
+
+/// Why a text is refused as an entry.
+#[derive(Clone, Copy, Debug, PartialEq, Eq)]
+pub enum EntryRefused {
+    /// The bytes are the text of no entry.
+    BadEntry,
+    /// Want of memory.
+    Memory,
+}
+
+impl From<Memory> for EntryRefused {
+    ghost use Rattle.std.specs.Prelude.{◌≡◌};
+    ghost use Rattle.lrs_record.specs.declared.refused.EntryRefused.TheVariants as Refused;
+
+    ghost from_gives = { λ _ e. e ≡ Refused.Memory };
+
+    fn from(_: Memory) -> EntryRefused {
+        EntryRefused::Memory
+    }
+}
+
+impl From<ReadRefused> for EntryRefused {
+    ghost use Rattle.std.specs.Prelude.{◌≡◌};
+    ghost use Rattle.lrs_record.specs.Refusals.{refused_as};
+
+    ghost from_gives = { λ refused e. e ≡ refused_as refused };
+
+    fn from(refused: ReadRefused) -> EntryRefused {
+        match refused {
+            ReadRefused::Memory => EntryRefused::Memory,
+            _ => EntryRefused::BadEntry,
+        }
+    }
+}

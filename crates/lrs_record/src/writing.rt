@@ -1,0 +1,139 @@
+ghost use Rattle.std.specs.Prelude.{◌≡◌, ◌≤◌, [], ◌∷◌, ◌++◌, codes, false, true, OnOk, OnErr};
+ghost use Rattle.std.specs.Fmt.{decimal};
+ghost use Rattle.lrs_json.specs.Json.{number, string};
+ghost use Rattle.lrs_json.specs.View.{members_of, view};
+ghost use Rattle.lrs_json.specs.Written.{Extends, members_text, quoted, written};
+ghost use Rattle.lrs_record.specs.Entries.{HasValues, HoldsCommand, IsLawful, IsLawfulCaller, IsLawfulCommand, command_args, command_json, written_entry};
+ghost use Rattle.lrs_record.specs.Moments.{latest};
+ghost use Rattle.lrs_record.specs.Texts.{member_text, name_text};
+ghost use Rattle.lrs_record.specs.declared.entry.Entry.{Entry as SpecEntry};
+
+use crate::digits::{ascii, draw_digits};
+use crate::{Command, Entry, Moment};
+use itoa::Buffer;
+use lrs_json::{Memory, Text, Tree, write};
+
+/// Appends the text of the entry, or nothing where memory runs out.
+pub fn write_entry(entry: &Entry, into: &mut Vec<u8>) -> Result<(), Memory>
+    requires caller { IsLawfulCaller entry.now.caller }
+    requires command { IsLawfulCommand entry.now.command }
+    ensures ok { OnOk result (into.new.items ≡ into.old.items ++ written_entry entry.now) }
+    ensures err { OnErr result (into.new.items ≡ into.old.items) }
+    ensures lawful { OnOk result (IsLawful entry.now) }
+
+    // The text is that of this entry alone.
+    ensures alone { OnOk result ((other : SpecEntry) → IsLawful other → written_entry other ≡ written_entry entry.now → other ≡ entry.now) }
+{
+    let length = into.len();
+    match put_entry(entry, into) {
+        Ok(()) => Ok(()),
+        Err(error) => {
+            into.truncate(length);
+            Err(error)
+        }
+    }
+}
+
+// Each of the following appends its part of the text, and leaves what stood before where memory runs out in the middle.
+
+fn put_entry(entry: &Entry, into: &mut Vec<u8>) -> Result<(), Memory>
+    ensures ok { OnOk result (into.new.items ≡ into.old.items ++ written_entry entry.now) }
+    ensures kept { Extends into.old.items into.new.items }
+    ensures values { OnOk result (HasValues entry.now) }
+{
+    put(b"{", into)?;
+    put_text(false, "caller", entry.caller.text(), into)?;
+    put_moment(entry.moment, into)?;
+    let digits = draw_digits(entry.draw);
+    put_text(true, "draw", ascii(&digits), into)?;
+    put_command(&entry.command, into)?;
+    put(b"}", into)
+}
+
+fn put_moment(moment: Moment, into: &mut Vec<u8>) -> Result<(), Memory>
+    ensures ok { OnOk result (into.new.items ≡ into.old.items ++ member_text true (codes "moment") (number (decimal moment))) }
+    ensures kept { Extends into.old.items into.new.items }
+    ensures holds { moment ≤ latest }
+{
+    let mut buffer = Buffer::new();
+    let digits = buffer.format(moment.milliseconds());
+    put_name(true, "moment", into)?;
+    put(digits.as_bytes(), into)
+}
+
+fn put_command(command: &Command, into: &mut Vec<u8>) -> Result<(), Memory>
+    ensures ok { OnOk result (into.new.items ≡ into.old.items ++ member_text true (codes "command") (command_json command.now)) }
+    ensures kept { Extends into.old.items into.new.items }
+    ensures holds { OnOk result (HoldsCommand command.now) }
+{
+    put_name(true, "command", into)?;
+    put(b"{", into)?;
+    put_name(false, command.name(), into)?;
+    put(b"{", into)?;
+    put_args(command, into)?;
+    put(b"}}", into)
+}
+
+// The members of the command's object, without the brace behind them.
+fn put_args(command: &Command, into: &mut Vec<u8>) -> Result<(), Memory>
+    ensures ok { OnOk result (into.new.items ++ 125 ∷ [] ≡ into.old.items ++ members_text false (members_of (command_args command.now))) }
+    ensures kept { Extends into.old.items into.new.items }
+    ensures holds { OnOk result (HoldsCommand command.now) }
+{
+    match command {
+        Command::Found { admin, base } => {
+            put_text(false, "admin", admin.as_str(), into)?;
+            put_text(true, "base", base.as_str(), into)
+        }
+        Command::Put { id, statement } => {
+            let id = id.text();
+            put_text(false, "id", ascii(&id), into)?;
+            put_name(true, "statement", into)?;
+            put_tree(statement, into)
+        }
+    }
+}
+
+// A member whose value is a text.
+fn put_text(later: bool, name: &str, text: &str, into: &mut Vec<u8>) -> Result<(), Memory>
+    ensures ok { OnOk result (into.new.items ≡ into.old.items ++ member_text later name.now (string text.now)) }
+    ensures kept { Extends into.old.items into.new.items }
+{
+    put_name(later, name, into)?;
+    put_quoted(text, into)
+}
+
+// The name of a member and its colon, and a comma before it where other members stand before.
+fn put_name(later: bool, name: &str, into: &mut Vec<u8>) -> Result<(), Memory>
+    ensures ok { OnOk result (into.new.items ≡ into.old.items ++ name_text later name.now) }
+    ensures kept { Extends into.old.items into.new.items }
+{
+    if later {
+        into.push(b',')?;
+    }
+    put_quoted(name, into)?;
+    put(b":", into)
+}
+
+fn put_quoted(text: &str, into: &mut Vec<u8>) -> Result<(), Memory>
+    ensures ok { OnOk result (into.new.items ≡ into.old.items ++ quoted text.now) }
+    ensures kept { Extends into.old.items into.new.items }
+{
+    let text = Text::of(*into.allocator(), text)?;
+    put_tree(&Tree::Words(text), into)
+}
+
+fn put_tree(tree: &Tree, into: &mut Vec<u8>) -> Result<(), Memory>
+    ensures ok { OnOk result (into.new.items ≡ into.old.items ++ written (view tree.now)) }
+    ensures kept { Extends into.old.items into.new.items }
+{
+    write(tree, into)
+}
+
+fn put(bytes: &[u8], into: &mut Vec<u8>) -> Result<(), Memory>
+    ensures ok { OnOk result (into.new.items ≡ into.old.items ++ bytes.now) }
+    ensures kept { Extends into.old.items into.new.items }
+{
+    into.extend_from_slice(bytes)?;
+    Ok(())
+}
