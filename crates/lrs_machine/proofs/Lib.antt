@@ -1,0 +1,8 @@
+pub mod Indexes
+pub mod Equal
+pub mod Histories
+pub mod ActLemmas
+pub mod ReplayLemmas
+pub mod OpenLemmas
+pub mod DeskLemmas
+pub mod Spares

@@ -1,0 +1,10 @@
+pub mod Same
+pub mod Statement
+pub mod Founding
+pub mod History
+pub mod Index
+pub mod Replies
+pub mod Desk
+pub mod Steps
+pub mod Fold
+pub mod Replays

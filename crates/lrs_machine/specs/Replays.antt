@@ -1,0 +1,92 @@
+-- What the desk's private functions say of reading a store's frames into the fold.
+use Rattle.std.specs.Prelude.{◌≡◌, ◌<◌, ◌-◌, ◌^◌, min, ◌&&◌, ◌==◌, ℕ, List, [], ◌∷◌, ◌++◌, length, map, Bool, true, false, is_none, nat_le, nat_lt, Result, Ok, Err}
+use Rattle.lrs_names.specs.declared.draw.Draw.{Draw}
+use Rattle.lrs_journal.specs.Store.{Stands}
+use Rattle.lrs_journal.specs.Replay.{Reading, HasRead}
+use Rattle.lrs_journal.specs.declared.replay.ReplayRefused.{ReplayRefused}
+use Rattle.lrs_journal.specs.declared.replay.ReplayRefused.TheVariants as replay
+use Rattle.lrs_journal.specs.declared.replay.RecoverRefused.{RecoverRefused}
+use Rattle.lrs_journal.specs.declared.replay.RecoverRefused.TheVariants as recover
+use Rattle.lrs_journal.specs.declared.create.CreateRefused.{CreateRefused}
+use Rattle.lrs_journal.specs.declared.create.CreateRefused.TheVariants as create
+use Rattle.lrs_machine.specs.declared.opening.FoundRefused.{FoundRefused}
+use Rattle.lrs_machine.specs.declared.opening.FoundRefused.TheVariants as found
+use Rattle.lrs_record.specs.declared.entry.Caller.{Caller}
+use Rattle.lrs_record.specs.declared.entry.Caller.TheVariants.{Nobody, Operator, Token}
+use Rattle.lrs_record.specs.declared.entry.Command.{Command}
+use Rattle.lrs_record.specs.declared.entry.Command.TheVariants.{Found, Put}
+use Rattle.lrs_record.specs.declared.entry.Entry.{Entry}
+use Rattle.lrs_record.specs.Entries.{IsLawful, written_entry}
+use Rattle.lrs_machine.specs.declared.opening.DeskRefused.{DeskRefused}
+use Rattle.lrs_machine.specs.declared.opening.DeskRefused.TheVariants as desk
+use Rattle.lrs_machine.specs.Founding.{is_token, is_base}
+use Rattle.lrs_machine.specs.History.{State, state, step, said_at_once, IsLegalFrom}
+use Rattle.lrs_machine.specs.Desk.{IsRefused}
+
+abbrev pub is_operator : Caller → Bool
+is_operator Nobody = false
+is_operator Operator = true
+is_operator (Token token) = false
+
+abbrev pub is_zero : Draw → Bool
+is_zero draw = (draw.name == 0) && (draw.secret == 0)
+
+abbrev pub founds : Command → Bool
+founds (Found admin base) = is_token admin && is_base base
+founds (Put id statement) = false
+
+abbrev pub is_founding : Entry → Bool
+is_founding e = is_operator e.caller && is_zero e.draw && founds e.command
+
+-- Whether an entry comes next, by the fold alone. The flag: it is the first. The place: where the end gate stands behind its frame.
+abbrev pub may_come : Bool → ℕ → ℕ → State → Entry → Bool
+may_come true limit place st e = is_founding e
+may_come false limit place st e = is_none (said_at_once st e.caller e.command) && nat_le st.last e.moment && nat_lt place limit
+
+-- what reading a frame into the fold does, where k frames were taken in before
+abbrev pub TakesEntry : List ℕ → ℕ → ℕ → ℕ → State → State → Result Unit DeskRefused → Type 0
+TakesEntry frame k limit place st su (Ok _) = (e : Entry) × IsLawful e × (written_entry e ≡ frame) × (may_come (k == 0) limit place st e ≡ true) × (su ≡ step st e)
+TakesEntry frame k limit place st su (Err (desk.IllegalEntry j)) = (j ≡ k)
+    × ((e : Entry) → IsLawful e → written_entry e ≡ frame → may_come (k == 0) limit place st e ≡ false)
+TakesEntry frame k limit place st su (Err desk.Memory) = Unit {0}
+TakesEntry frame k limit place st su (Err other) = ⊥
+
+-- The replay has read the frames of these entries, each of which came next, and this is their fold.
+pub record IsReplayed {D : Type 0} (bytes : List ℕ) (replay : Reading D) (st : State) (h : List Entry) : Type 0 where
+  pub frames : HasRead bytes replay (map written_entry h)
+  pub legal : IsLegalFrom replay.limit [] h
+  pub folded : st ≡ state h
+
+-- a place as a u64, which stands still at its last value
+abbrev pub IsCapped : ℕ → ℕ → Type 0
+IsCapped number place = number ≡ min place (2 ^ 64 - 1)
+
+-- one frame more, or the list's end, or a refusal
+abbrev pub Takes : {D : Type 0} → List ℕ → Reading D → ℕ → State → List Entry → Result Bool DeskRefused → Type 0
+Takes bytes new place su h (Ok true) = (e : Entry) × IsReplayed bytes new su (h ++ e ∷ []) × IsCapped place new.place
+Takes bytes new place su h (Ok false) = IsReplayed bytes new su h × Stands bytes new.limit (map written_entry h)
+Takes bytes new place su h (Err refused) = IsRefused bytes refused
+
+-- the replay has read a legal history to its end
+pub record HasReplayed {D : Type 0} (bytes : List ℕ) (replay : Reading D) (st : State) (h : List Entry) : Type 0 where
+  pub replayed : IsReplayed bytes replay st h
+  pub some : 0 < length h
+  pub stands : Stands bytes replay.limit (map written_entry h)
+
+-- a frame that isn't read
+abbrev pub refusal_of : ReplayRefused → DeskRefused
+refusal_of (replay.Damaged k) = desk.Damaged k
+refusal_of replay.Failed = desk.Failed
+refusal_of replay.Memory = desk.Memory
+
+-- a disk that isn't a store, or failed
+abbrev pub opening_refusal : RecoverRefused → DeskRefused
+opening_refusal recover.NotAStore = desk.NotAStore
+opening_refusal recover.Failed = desk.Failed
+
+-- a disk on which no store is made
+abbrev pub founding_refusal : CreateRefused → FoundRefused
+founding_refusal create.AlreadyStore = found.AlreadyStore
+founding_refusal create.Foreign = found.Foreign
+founding_refusal (create.Full need limit) = found.Full need limit
+founding_refusal create.Failed = found.Failed

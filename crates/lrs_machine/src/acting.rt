@@ -1,0 +1,59 @@
+// An act on the journal and the fold: first a doubt is ended, then the command is answered.
+ghost use Rattle.std.specs.Prelude.{◌≡◌, max};
+ghost use Rattle.lrs_journal.specs.Journal.{IsJournal};
+ghost use Rattle.lrs_record.specs.Entries.{IsLawfulCaller, IsLawfulCommand};
+ghost use Rattle.lrs_record.specs.Moments.{clamped};
+ghost use Rattle.lrs_machine.specs.History.{entry_at};
+ghost use Rattle.lrs_machine.specs.Desk.{HasCause, landed_place};
+ghost use Rattle.lrs_machine.specs.Fold.{state_of};
+ghost use Rattle.lrs_machine.specs.Steps.{Acts};
+
+use crate::fold::Fold;
+use crate::keeping::keep;
+use crate::{Answered, Trouble};
+use lrs_disk::Disk;
+use lrs_journal::Journal;
+use lrs_names::Draw;
+use lrs_record::{Caller, Command, Entry, Moment};
+use std::alloc::Global;
+
+/// Answers a command, and says where an earlier entry stands whose doubt was ended.
+pub(crate) fn act<D: Disk>(
+    alloc: Global,
+    journal: &mut Journal<D>,
+    fold: &mut Fold,
+    caller: Caller,
+    command: Command,
+    clock: u64,
+    draw: &Draw,
+) -> (Result<Answered, Trouble>, Option<u64>)
+    requires sound { IsJournal D.told D.image journal.old }
+    requires caller { IsLawfulCaller caller }
+    requires command { IsLawfulCommand command }
+    ensures acted { Acts D.told journal.old journal.new (state_of fold.old) (state_of fold.new) (entry_at caller command (max (clamped clock) fold.old.last) draw.now) result.0 }
+    ensures sound { IsJournal D.told D.image journal.new }
+    ensures cause { HasCause (D.fault_count journal.old.disk) (D.fault_count journal.new.disk) result.0 }
+    ensures landed { result.1 ≡ landed_place journal.old journal.new }
+{
+    let landed = match journal.settle() {
+        Ok(landed) => landed,
+        Err(_) => return (Err(Trouble::Disk), None),
+    };
+    if let Some(said) = fold.said_at_once(&caller, &command) {
+        return (Ok(said), landed);
+    }
+    let entry = Entry {
+        caller,
+        command,
+        moment: next_moment(clock, fold.last),
+        draw: *draw,
+    };
+    (keep(alloc, journal, fold, entry), landed)
+}
+
+// The later one of the clock's reading, which may be out of range, and the last entry's moment.
+fn next_moment(clock: u64, last: Moment) -> Moment
+    ensures { result ≡ max (clamped clock) last }
+{
+    Moment::clamp(clock.max(last.milliseconds()))
+}

@@ -1,0 +1,48 @@
+// Adding an entry to the journal and the fold.
+ghost use Rattle.std.specs.Prelude.{◌≡◌, ◌≤◌, ◌⊎◌, List, ℕ, false, OnOk, OnErr};
+ghost use Rattle.lrs_journal.specs.Journal.{Held, IsJournal};
+ghost use Rattle.lrs_record.specs.Entries.{IsLawfulCaller, IsLawfulCommand};
+ghost use Rattle.lrs_machine.specs.Desk.{HasCause};
+ghost use Rattle.lrs_machine.specs.Fold.{state_of};
+ghost use Rattle.lrs_machine.specs.Steps.{IsFresh, Keeps};
+
+use crate::fold::Fold;
+use crate::{Answered, Trouble};
+use lrs_disk::Disk;
+use lrs_journal::{AppendRefused, Journal};
+use lrs_record::{Entry, write_entry};
+use std::alloc::Global;
+
+/// Keeps the entry of a command that is to have one. All memory is taken before the frame is written.
+pub(crate) fn keep<D: Disk>(
+    alloc: Global,
+    journal: &mut Journal<D>,
+    fold: &mut Fold,
+    entry: Entry,
+) -> Result<Answered, Trouble>
+    requires settled { journal.old.doubt ≡ false }
+    requires sound { IsJournal D.told D.image journal.old }
+    requires fresh { IsFresh (state_of fold.old) entry.command }
+    requires caller { IsLawfulCaller entry.caller }
+    requires command { IsLawfulCommand entry.command }
+    ensures kept { Keeps D.told journal.old journal.new (state_of fold.old) (state_of fold.new) entry result }
+    ensures sound { IsJournal D.told D.image journal.new }
+    ensures cause { HasCause (D.fault_count journal.old.disk) (D.fault_count journal.new.disk) result }
+{
+    let mut frame = Vec::new(alloc);
+    write_entry(&entry, &mut frame)?;
+    fold.ready(&entry.command)?;
+    match journal.append(&frame) {
+        Ok(_) => {
+            fold.install(entry);
+            Ok(Answered::Kept)
+        }
+        Err(AppendRefused::Full { need, limit }) => Ok(Answered::Full { need, limit }),
+        Err(AppendRefused::Failed) => {
+            if journal.in_doubt() {
+                fold.install(entry);
+            }
+            Err(Trouble::Disk)
+        }
+    }
+}

@@ -1,0 +1,202 @@
+// Making a store, and opening one.
+ghost use Rattle.std.specs.Prelude.{◌≡◌, ◌≢◌, ◌⊎◌, ◌≤◌, ◌^◌, List, [], ◌∷◌, ℕ, Some, length, true, false, IfOk, IfErr};
+ghost use Rattle.std.specs.Option.{ForSome};
+ghost use Rattle.lrs_disk.specs.Faults.{Rises};
+ghost use Rattle.lrs_journal.specs.Create.{IsStore, IsOpenTo};
+ghost use Rattle.lrs_record.specs.declared.entry.Entry.{Entry};
+ghost use Rattle.lrs_record.specs.Entries.{IsLawful, written_entry};
+ghost use Rattle.lrs_machine.specs.Desk.{StandsFor, IsStoreOf, LeavesStore, IsRefused, SparesLegal, IsNotFounded, founding_entry};
+ghost use Rattle.lrs_machine.specs.Fold.{state_of};
+ghost use Rattle.lrs_machine.specs.Founding.{IsToken, IsBase};
+ghost use Rattle.lrs_machine.specs.History.{state, IsFounding};
+ghost use Rattle.lrs_machine.specs.Replays.{HasReplayed, founding_refusal, opening_refusal};
+ghost use Rattle.lrs_machine.specs.declared.opening.DeskRefused.TheVariants as DeskRefused;
+ghost use Rattle.lrs_machine.specs.declared.opening.FoundRefused.TheVariants as FoundRefused;
+
+use crate::Desk;
+use crate::fold::Fold;
+use crate::replaying::replay_all;
+use lrs_disk::Disk;
+use lrs_journal::{CreateRefused, Journal, RecoverRefused, Replay};
+use lrs_json::{Memory, Text};
+use lrs_names::Draw;
+use lrs_record::{Caller, Command, Entry, Moment, write_entry};
+use std::alloc::Global;
+
+/// Why a disk isn't opened as a store.
+#[derive(Clone, Copy, Debug, PartialEq, Eq)]
+pub enum DeskRefused {
+    /// The disk doesn't begin with a store's open header.
+    NotAStore,
+    /// Frame k isn't whole.
+    Damaged { k: u64 },
+    /// Frame k is no entry, or not one that may come next. With k 0 also: there is no frame.
+    IllegalEntry { k: u64 },
+    /// The disk failed.
+    Failed,
+    /// Memory was wanting.
+    Memory,
+}
+
+/// Why no store was made on a disk.
+#[derive(Clone, Copy, Debug, PartialEq, Eq)]
+pub enum FoundRefused {
+    /// The disk begins with an open gate and a store's magic.
+    AlreadyStore,
+    /// The disk has more than one byte, the first isn't 0, and there is no store's magic behind it.
+    Foreign,
+    /// The file would need more bytes than the limit.
+    Full { need: u64, limit: u64 },
+    /// The disk failed. It holds no store now, or the whole new one.
+    Failed,
+    /// Memory was wanting. Nothing was written.
+    Memory,
+}
+
+impl<D: Disk> Desk<D> {
+    /// Makes a store on a disk, whose one entry is the operator's founding entry with the admin's token and the
+    /// address under which the store is reached. The limit is what the file may have in bytes.
+    pub fn found(
+        alloc: Global,
+        disk: D,
+        limit: u64,
+        admin: &Text,
+        base: &Text,
+        clock: u64,
+    ) -> Result<Desk<D>, (FoundRefused, D)>
+        requires limit { (512 ≤ limit) × (limit ≤ 2 ^ 30) }
+        requires admin { IsToken admin.now }
+        requires base { IsBase base.now }
+        ensures founded { IfOk result (λ desk. ForSome (D.told disk) (λ bytes. IsOpenTo bytes × StandsFor D.told desk (founding_entry admin.now base.now clock ∷ []))) }
+        ensures fields { IfOk result (λ desk. (desk.limit ≡ limit) × (desk.doubt ≡ false) × (desk.number ≡ 1)) }
+        ensures kept { IfOk result (λ desk. D.fault_count desk.disk ≡ D.fault_count disk) }
+        ensures refused { IfErr result (λ e. ForSome (D.told disk) (λ bytes. IsNotFounded bytes limit (founding_entry admin.now base.now clock) e.0)) }
+        ensures spared { IfErr result (λ e. e.0 ≢ FoundRefused.Failed → D.told e.1 ≡ D.told disk) }
+        ensures store { IfErr result (λ e. ForSome (D.told disk) (λ bytes. IsStore bytes → D.told e.1 ≡ D.told disk)) }
+        ensures later { IfErr result (λ e. D.fault_count disk ≤ D.fault_count e.1) }
+        ensures cause { IfErr result (λ e. e.0 ≡ FoundRefused.Failed → Rises (D.fault_count disk) (D.fault_count e.1)) }
+    {
+        let (entry, frame) = match founding(alloc, admin, base, clock) {
+            Ok(founding) => founding,
+            Err(_) => return Err((FoundRefused::Memory, disk)),
+        };
+        match Journal::create(disk, limit, &frame) {
+            Ok(journal) => Ok(Desk {
+                journal,
+                fold: founded(alloc, entry),
+                alloc,
+            }),
+            Err((refused, disk)) => Err((founding_refusal(refused), disk)),
+        }
+    }
+
+    /// Opens a disk as a store: reads its frames one by one, and asks of each whether it is the entry that comes
+    /// next.
+    pub fn recover(alloc: Global, disk: D) -> Result<Desk<D>, (DeskRefused, D)>
+        ensures opened { IfOk result (λ desk. ForSome (D.told disk) (λ bytes. (h : List Entry) × IsStoreOf bytes desk.limit h × StandsFor D.told desk h)) }
+        ensures settled { IfOk result (λ desk. desk.doubt ≡ false) }
+        ensures kept { IfOk result (λ desk. D.fault_count desk.disk ≡ D.fault_count disk) }
+        ensures refused { IfErr result (λ e. ForSome (D.told disk) (λ bytes. IsRefused bytes e.0)) }
+        ensures legal { IfErr result (λ e. ForSome (D.told disk) (λ bytes. SparesLegal bytes e.0)) }
+        ensures same { IfErr result (λ e. e.0 ≢ DeskRefused.Failed → D.told e.1 ≡ D.told disk) }
+        ensures left { IfErr result (λ e. ForSome (D.told disk) (λ bytes. (D.told e.1 ≡ Some bytes) ⊎ ((limit : ℕ) × (h : List Entry) × IsStoreOf bytes limit h × LeavesStore D.told e.1 limit false h))) }
+        ensures later { IfErr result (λ e. D.fault_count disk ≤ D.fault_count e.1) }
+        ensures cause { IfErr result (λ e. e.0 ≡ DeskRefused.Failed → Rises (D.fault_count disk) (D.fault_count e.1)) }
+    {
+        let mut replay = match Journal::recover(disk) {
+            Ok(replay) => replay,
+            Err((unread, disk)) => return Err((opening_refusal(unread), disk)),
+        };
+        match replay_all(alloc, &mut replay) {
+            Ok(fold) => finish(alloc, replay, fold),
+            Err(refused) => Err((refused, replay.into_disk())),
+        }
+    }
+}
+
+// The desk over what was read to its end.
+fn finish<D: Disk>(
+    alloc: Global,
+    replay: Replay<D>,
+    fold: Fold,
+) -> Result<Desk<D>, (DeskRefused, D)>
+    requires ended { replay.ended ≡ true }
+    requires replayed { ForSome (D.told replay.disk) (λ bytes. (h : List Entry) × HasReplayed bytes replay (state_of fold) h) }
+    ensures opened { IfOk result (λ desk. ForSome (D.told replay.disk) (λ bytes. (h : List Entry) × IsStoreOf bytes desk.limit h × StandsFor D.told desk h)) }
+    ensures settled { IfOk result (λ desk. desk.doubt ≡ false) }
+    ensures kept { IfOk result (λ desk. D.fault_count desk.disk ≡ D.fault_count replay.disk) }
+    ensures failed { IfErr result (λ e. e.0 ≡ DeskRefused.Failed) }
+    ensures left { IfErr result (λ e. ForSome (D.told replay.disk) (λ bytes. (limit : ℕ) × (h : List Entry) × IsStoreOf bytes limit h × LeavesStore D.told e.1 limit false h)) }
+    ensures cause { IfErr result (λ e. (D.fault_count replay.disk ≤ D.fault_count e.1) × Rises (D.fault_count replay.disk) (D.fault_count e.1)) }
+{
+    match replay.finish() {
+        Ok(journal) => Ok(Desk {
+            journal,
+            fold,
+            alloc,
+        }),
+        Err((_, disk)) => Err((DeskRefused::Failed, disk)),
+    }
+}
+
+fn opening_refusal(unread: RecoverRefused) -> DeskRefused
+    ensures { result ≡ opening_refusal unread }
+{
+    match unread {
+        RecoverRefused::NotAStore => DeskRefused::NotAStore,
+        RecoverRefused::Failed => DeskRefused::Failed,
+    }
+}
+
+fn founding_refusal(refused: CreateRefused) -> FoundRefused
+    ensures { result ≡ founding_refusal refused }
+{
+    match refused {
+        CreateRefused::AlreadyStore => FoundRefused::AlreadyStore,
+        CreateRefused::Foreign => FoundRefused::Foreign,
+        CreateRefused::Full { need, limit } => FoundRefused::Full { need, limit },
+        CreateRefused::Failed => FoundRefused::Failed,
+    }
+}
+
+// The longest founding entry for which memory is spent. The file of a store is never longer.
+const LONGEST_FRAME: usize = 1 << 30;
+
+// The founding entry, and its text.
+fn founding(
+    alloc: Global,
+    admin: &Text,
+    base: &Text,
+    clock: u64,
+) -> Result<(Entry, Vec<u8>), Memory>
+    ensures entry { IfOk result (λ made. made.0 ≡ founding_entry admin.now base.now clock) }
+    ensures frame { IfOk result (λ made. made.1.items ≡ written_entry (founding_entry admin.now base.now clock)) }
+    ensures lawful { IfOk result (λ made. IsLawful (founding_entry admin.now base.now clock)) }
+    ensures short { IfOk result (λ made. length made.1.items ≤ 2 ^ 30) }
+{
+    let entry = Entry {
+        caller: Caller::Operator,
+        command: Command::Found {
+            admin: admin.clone()?,
+            base: base.clone()?,
+        },
+        moment: Moment::clamp(clock),
+        draw: Draw { name: 0, secret: 0 },
+    };
+    let mut frame = Vec::new(alloc);
+    write_entry(&entry, &mut frame)?;
+    if frame.len() > LONGEST_FRAME {
+        return Err(Memory);
+    }
+    Ok((entry, frame))
+}
+
+// What a store's first entry gives.
+fn founded(alloc: Global, entry: Entry) -> Fold
+    requires { IsFounding entry }
+    ensures { state_of result ≡ state (entry ∷ []) }
+{
+    let mut fold = Fold::new(alloc);
+    fold.install(entry);
+    fold
+}

@@ -1,0 +1,109 @@
+ghost use Rattle.std.specs.Prelude.{◌≡◌};
+ghost use Rattle.lrs_machine.specs.Desk.{plain_account};
+
+use std::marker::Model;
+
+/// What is kept of a response: of an act on the desk, the places and counts by which it can be held against the
+/// history. Only the desk makes the receipt of an act, and no receipt is copied.
+#[derive(Debug, Drop)]
+pub struct Receipt {
+    pub(crate) acted: bool,
+    pub(crate) status: u16,
+    pub(crate) point: u64,
+    pub(crate) entry: Option<u64>,
+    pub(crate) landed: Option<u64>,
+    pub(crate) clock: u64,
+    pub(crate) disk: u64,
+    pub(crate) was: u64,
+    pub(crate) is: u64,
+}
+
+impl Model for Receipt {
+    ghost use Rattle.lrs_machine.specs.Desk.{Account};
+
+    ghost Value = { Account };
+
+    ghost view = { λ r. record { acted = r.acted; status = r.status; point = r.point; entry = r.entry; landed = r.landed; clock = r.clock; disk = r.disk; was = r.was; is = r.is } };
+}
+
+impl Receipt {
+    /// The receipt of a response without an act.
+    pub fn plain(status: u16) -> Receipt
+        ensures { result ≡ plain_account status }
+    {
+        Receipt {
+            acted: false,
+            status,
+            point: 0,
+            entry: None,
+            landed: None,
+            clock: 0,
+            disk: 0,
+            was: 0,
+            is: 0,
+        }
+    }
+
+    /// Whether an act made it.
+    pub fn acted(&self) -> bool
+        ensures { result ≡ self.now.acted }
+    {
+        self.acted
+    }
+
+    /// The reply's status.
+    pub fn status(&self) -> u16
+        ensures { result ≡ self.now.status }
+    {
+        self.status
+    }
+
+    /// How many entries the history had that answered.
+    pub fn point(&self) -> u64
+        ensures { result ≡ self.now.point }
+    {
+        self.point
+    }
+
+    /// Where the act's own entry stands in the history, also one in doubt.
+    pub fn entry(&self) -> Option<u64>
+        ensures { result ≡ self.now.entry }
+    {
+        self.entry
+    }
+
+    /// Where an earlier doubtful entry stands, whose doubt the act ended.
+    pub fn landed(&self) -> Option<u64>
+        ensures { result ≡ self.now.landed }
+    {
+        self.landed
+    }
+
+    /// The reading of the clock that the act was given, in milliseconds since 1970.
+    pub fn clock(&self) -> u64
+        ensures { result ≡ self.now.clock }
+    {
+        self.clock
+    }
+
+    /// The disk's moment at the act's end.
+    pub fn disk(&self) -> u64
+        ensures { result ≡ self.now.disk }
+    {
+        self.disk
+    }
+
+    /// The disk's count of faults before the act.
+    pub fn was(&self) -> u64
+        ensures { result ≡ self.now.was }
+    {
+        self.was
+    }
+
+    /// The disk's count of faults behind the act.
+    pub fn is(&self) -> u64
+        ensures { result ≡ self.now.is }
+    {
+        self.is
+    }
+}

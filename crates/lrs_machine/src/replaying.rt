@@ -1,0 +1,182 @@
+// Reading a store's frames into the fold.
+ghost use Rattle.std.specs.Prelude.{◌≡◌, ◌≤◌, ◌+◌, ◌-◌, ◌^◌, min, List, [], ℕ, true, false, length, IfOk, IfErr, IsOk, IsErrOf, OnOk};
+ghost use Rattle.std.specs.Option.{ForSome};
+ghost use Rattle.lrs_journal.specs.Journal.{IsSynced, HasCount};
+ghost use Rattle.lrs_journal.specs.Replay.{HasRead};
+ghost use Rattle.lrs_record.specs.declared.entry.Entry.{Entry};
+ghost use Rattle.lrs_machine.specs.Fold.{state_of};
+ghost use Rattle.lrs_machine.specs.Desk.{IsRefused};
+ghost use Rattle.lrs_machine.specs.Replays.{is_founding, founds, may_come, refusal_of, IsCapped, IsReplayed, HasReplayed, Takes, TakesEntry};
+ghost use Rattle.lrs_machine.specs.declared.opening.DeskRefused.TheVariants as refused;
+
+use crate::DeskRefused;
+use crate::fold::Fold;
+use crate::founding::{is_base, is_token};
+use lrs_disk::Disk;
+use lrs_journal::{Replay, ReplayRefused};
+use lrs_json::Memory;
+use lrs_record::{Caller, Command, Entry, EntryRefused, read_entry};
+use std::alloc::Global;
+
+// Whether an entry comes next, where the end gate stands at that place behind its frame.
+fn comes_next(
+    alloc: Global,
+    fold: &Fold,
+    first: bool,
+    limit: u64,
+    place: u64,
+    entry: &Entry,
+) -> Result<bool, Memory>
+    ensures { IfOk result (λ comes. comes ≡ may_come first limit place (state_of fold.now) entry.now) }
+{
+    if first {
+        return is_founding(alloc, entry);
+    }
+    if fold.said_at_once(&entry.caller, &entry.command).is_some() {
+        return Ok(false);
+    }
+    Ok(fold.last.milliseconds() <= entry.moment.milliseconds() && place < limit)
+}
+
+fn is_founding(alloc: Global, entry: &Entry) -> Result<bool, Memory>
+    ensures { IfOk result (λ founds. founds ≡ is_founding entry.now) }
+{
+    match &entry.caller {
+        Caller::Operator => {}
+        Caller::Nobody => return Ok(false),
+        Caller::Token(_) => return Ok(false),
+    }
+    if entry.draw.name != 0 || entry.draw.secret != 0 {
+        return Ok(false);
+    }
+    founds(alloc, &entry.command)
+}
+
+fn founds(alloc: Global, command: &Command) -> Result<bool, Memory>
+    ensures { IfOk result (λ fits. fits ≡ founds command.now) }
+{
+    match command {
+        Command::Found { admin, base } => {
+            if !is_token(admin) {
+                return Ok(false);
+            }
+            is_base(alloc, base)
+        }
+        Command::Put {
+            id: _,
+            statement: _,
+        } => Ok(false),
+    }
+}
+
+// Takes an entry in, of which this is the frame. Before it k frames were taken in, and behind it the end gate stands at
+// that place.
+fn take_entry(
+    alloc: Global,
+    frame: &[u8],
+    k: u64,
+    limit: u64,
+    place: u64,
+    fold: &mut Fold,
+) -> Result<(), DeskRefused>
+    ensures { TakesEntry frame.now k limit place (state_of fold.old) (state_of fold.new) result }
+{
+    let entry = match read_entry(alloc, frame) {
+        Ok(entry) => entry,
+        Err(EntryRefused::BadEntry) => return Err(DeskRefused::IllegalEntry { k }),
+        Err(EntryRefused::Memory) => return Err(DeskRefused::Memory),
+    };
+    match comes_next(alloc, fold, k == 0, limit, place, &entry) {
+        Ok(true) => {}
+        Ok(false) => return Err(DeskRefused::IllegalEntry { k }),
+        Err(_) => return Err(DeskRefused::Memory),
+    }
+    if fold.ready(&entry.command).is_err() {
+        return Err(DeskRefused::Memory);
+    }
+    fold.install(entry);
+    Ok(())
+}
+
+// Takes the next frame in, or answers false at the list's end. So far k frames were taken in, and the next gate stands at
+// that place.
+fn take_next<D: Disk>(
+    alloc: Global,
+    replay: &mut Replay<D>,
+    k: u64,
+    place: &mut u64,
+    frame: &mut Vec<u8>,
+    fold: &mut Fold,
+) -> Result<bool, DeskRefused>
+    ensures taken { ForSome (D.told replay.old.disk) (λ bytes. (h : List Entry) → length h ≡ k → IsReplayed bytes replay.old (state_of fold.old) h → IsCapped place.old replay.old.place
+        → Takes bytes replay.new place.new (state_of fold.new) h result) }
+    ensures ended { IfOk result (λ more. more ≡ false → replay.new.ended ≡ true) }
+    ensures limit { replay.new.limit ≡ replay.old.limit }
+    ensures still { D.told replay.new.disk ≡ D.told replay.old.disk }
+    ensures cause { HasCount (D.fault_count replay.old.disk) (D.fault_count replay.new.disk) (IsErrOf result refused.Failed) (IsOk result) }
+{
+    let more = match replay.next(frame) {
+        Ok(more) => more,
+        Err(unread) => return Err(refusal_of(unread)),
+    };
+    if !more {
+        return Ok(false);
+    }
+    let behind = place_behind(*place, frame);
+    *place = behind;
+    match take_entry(alloc, frame, k, replay.limit(), behind, fold) {
+        Ok(()) => Ok(true),
+        Err(refused) => Err(refused),
+    }
+}
+
+// Where the gate behind a frame stands, or the last u64 where it would stand behind that.
+fn place_behind(place: u64, frame: &[u8]) -> u64
+    ensures { result ≡ min (place + (5 + length frame.now)) (2 ^ 64 - 1) }
+{
+    place.saturating_add(5).saturating_add(frame.len() as u64)
+}
+
+fn refusal_of(unread: ReplayRefused) -> DeskRefused
+    ensures { result ≡ refusal_of unread }
+{
+    match unread {
+        ReplayRefused::Damaged { k } => DeskRefused::Damaged { k },
+        ReplayRefused::Failed => DeskRefused::Failed,
+        ReplayRefused::Memory => DeskRefused::Memory,
+    }
+}
+
+/// Where a store's first frame begins.
+const FIRST_FRAME: u64 = 17;
+
+/// Reads all frames into a fold.
+pub(crate) fn replay_all<D: Disk>(
+    alloc: Global,
+    replay: &mut Replay<D>,
+) -> Result<Fold, DeskRefused>
+    requires { replay.old.number ≡ 0 }
+    ensures replayed { IfOk result (λ fold. ForSome (D.told replay.old.disk) (λ bytes. HasRead bytes replay.old [] → (h : List Entry) × HasReplayed bytes replay.new (state_of fold) h)) }
+    ensures ended { OnOk result (replay.new.ended ≡ true) }
+    ensures refused { IfErr result (λ e. ForSome (D.told replay.old.disk) (λ bytes. HasRead bytes replay.old [] → IsRefused bytes e)) }
+    ensures limit { replay.new.limit ≡ replay.old.limit }
+    ensures still { D.told replay.new.disk ≡ D.told replay.old.disk }
+    ensures cause { HasCount (D.fault_count replay.old.disk) (D.fault_count replay.new.disk) (IsErrOf result refused.Failed) (IsOk result) }
+{
+    let mut fold = Fold::new(alloc);
+    let mut frame = Vec::new(alloc);
+    let mut place = FIRST_FRAME;
+    for k in 0..u64::MAX {
+        match take_next(alloc, replay, k, &mut place, &mut frame, &mut fold) {
+            Ok(true) => {}
+            Ok(false) => {
+                if k == 0 {
+                    return Err(DeskRefused::IllegalEntry { k });
+                }
+                return Ok(fold);
+            }
+            Err(refused) => return Err(refused),
+        }
+    }
+    Err(DeskRefused::Memory)
+}
