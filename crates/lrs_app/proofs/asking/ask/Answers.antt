@@ -1,0 +1,10 @@
+use Rattle.std.proofs.Common.{sym}
+use Rattle.lrs_app.proofs.Asked.{not_read, not_named}
+use Rattle.lrs_app.proofs.asking.ask.Goals as goal
+
+pub returns-in-Err-clause-refused : goal.returns-in-Err-clause-refused
+returns-in-Err-clause-refused c = not_read _ _ c.requires c.in-Err.ensures.refused
+
+pub returns-in-None-clause-refused : goal.returns-in-None-clause-refused
+returns-in-None-clause-refused c =
+    rw c.unnamed.ensures (not_named c.args.input.now c.in-Ok.tree c.requires c.in-Ok.ensures.read (sym c.in-None.ensures))

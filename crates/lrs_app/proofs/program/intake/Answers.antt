@@ -1,0 +1,25 @@
+use Rattle.std.proofs.Common.{refl}
+use Rattle.lrs_app.specs.declared.ending.Ending.TheVariants as ending
+use Rattle.lrs_app.proofs.Running.{intake_leaves}
+use Rattle.lrs_app.proofs.program.intake.Goals as goal
+
+pub returns-in-Ok : goal.returns-in-Ok
+returns-in-Ok g c = (
+  c.now-clock.result,
+  c.intake_disk-ending.result.0,
+  c.now-clock.ensures.read,
+  intake_leaves (g.S.Shelf.holds c.args.shelf.now) (g.S.Shelf.begins c.args.shelf.now) (g.I.Source.left c.args.input.now)
+      (g.I.Source.fault_count c.args.input.now) (g.I.Source.fault_count c.intake_disk-ending.new.input) c.args.file.now c.as_str.result.now
+      c.now-clock.result c.args.draw.now _ _ _ _ _ c.intake_disk-ending.result.0
+      c.as_str.ensures.lent c.in-Ok.ensures.told c.in-Ok.ensures.begins c.intake_disk-ending.ensures.ends c.intake_disk-ending.ensures.cause,
+  c.finish.ensures,
+)
+
+pub returns-in-Err : goal.returns-in-Err
+returns-in-Err g c = (
+  c.now-clock.result,
+  ending.DiskFault,
+  c.now-clock.ensures.read,
+  (refl, c.in-Err.ensures.cause.failed refl, record { left = refl; faults = refl }, refl),
+  c.finish-in-Err.ensures,
+)

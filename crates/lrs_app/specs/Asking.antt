@@ -1,0 +1,121 @@
+-- What an input asks of a store, and how that ends.
+use Rattle.std.specs.Prelude.{◌≡◌, ◌⊎◌, ◌<◌, ◌≤◌, ℕ, IsTrue, List, length, Option, Some, None, if◌then◌else◌}
+use Rattle.lrs_disk.specs.Faults.{Rises}
+use Rattle.lrs_json.specs.Json.{Json}
+use Rattle.lrs_json.specs.View.{view}
+use Rattle.lrs_json.specs.Refusals.{Spells, IsBad, RepeatedAt, OutOfRangeAt, is_too_deep}
+use Rattle.lrs_json.specs.declared.tree.Tree.{Tree}
+use Rattle.lrs_names.specs.declared.draw.Draw.{Draw}
+use Rattle.lrs_record.specs.declared.entry.Caller.TheVariants.{Operator}
+use Rattle.lrs_record.specs.declared.entry.Command.TheVariants.{Put}
+use Rattle.lrs_record.specs.declared.entry.Entry.{Entry}
+use Rattle.lrs_machine.specs.History.{Answer, answer, rule}
+use Rattle.lrs_machine.specs.Statement.{own_id, broken_rule, is_too_long}
+use Rattle.lrs_machine.specs.declared.answered.Rule.{Rule}
+use Rattle.lrs_machine.specs.declared.answered.Answered.{Answered}
+use Rattle.lrs_machine.specs.declared.answered.Answered.TheVariants as said
+use Rattle.lrs_app.specs.Reading.{longest}
+use Rattle.lrs_app.specs.declared.ending.Ending.{Ending}
+use Rattle.lrs_app.specs.declared.ending.Ending.TheVariants as ending
+
+-- what an input is taken for
+pub data Asked : Type 0 where
+  too_long : Asked
+  -- no JSON value as it may be, by this rule
+  no_value : Rule → Asked
+  -- a value that gives itself no id
+  unnamed : Tree → Asked
+  -- a statement to be put under the id that it gives itself
+  named : List ℕ → Tree → Asked
+
+-- The rules on JSON (J, whose letter is 74), in their order: the depth, the grammar, repeated names, the range of numbers.
+abbrev pub BreaksJson : List ℕ → Rule → Type 0
+BreaksJson input r =
+    ((r ≡ rule 74 1) × IsTrue (is_too_deep 64 input))
+    ⊎ (((r ≡ rule 74 2) × IsBad 64 input)
+    ⊎ (((r ≡ rule 74 3) × ((place : ℕ) × RepeatedAt 64 input place))
+    ⊎ ((r ≡ rule 74 4) × ((place : ℕ) × OutOfRangeAt 64 input place))))
+
+-- a value that gives itself this id, or none
+abbrev pub Names : Tree → Option (List ℕ) → Type 0
+Names t id = own_id (view t) ≡ id
+
+-- The input is taken for this. Of what spells a value, the tree is the one that is read.
+abbrev pub Asks : List ℕ → Asked → Type 0
+Asks input too_long = longest < length input
+Asks input (no_value r) = (length input ≤ longest) × BreaksJson input r
+Asks input (unnamed t) = (length input ≤ longest) × Spells 64 input (view t) × Names t None
+Asks input (named id t) = (length input ≤ longest) × Spells 64 input (view t) × Names t (Some id)
+
+-- ---- how it ends
+
+abbrev pub without_rule : Option ℕ → Ending
+without_rule None = ending.NoId
+without_rule (Some n) = ending.Refused (rule 83 n)
+
+-- a value without an id: its length, then the rules on statements (S, whose letter is 83), then that it has no id
+abbrev pub unnamed_ending : Json → Ending
+unnamed_ending j = if is_too_long j then ending.TooLong else without_rule (broken_rule j)
+
+-- What the store says to a statement of this id ends so. The operator is known, and to keep a statement is no missing thing.
+abbrev pub EndsSaying : List ℕ → Answered → Ending → Type 0
+EndsSaying id said.Kept end = end ≡ ending.Kept id
+EndsSaying id said.Same end = end ≡ ending.Kept id
+EndsSaying id (said.Conflict held) end = end ≡ ending.Conflict held
+EndsSaying id (said.Full need limit) end = end ≡ ending.Full need limit
+EndsSaying id (said.Broken r) end = end ≡ ending.Refused r
+EndsSaying id said.TooLong end = end ≡ ending.TooLong
+EndsSaying id said.Unauthorized end = ⊥
+EndsSaying id said.NotFound end = ⊥
+
+-- the abstract store's answer to the operator's put
+abbrev pub put_answer : ℕ → List Entry → ℕ → Draw → List ℕ → Tree → Answer
+put_answer limit h clock draw id t = answer limit h Operator (Put id t) clock draw
+
+-- what is asked of a store of this limit and history ends so
+abbrev pub EndsAsking : ℕ → List Entry → ℕ → Draw → Asked → Ending → Type 0
+EndsAsking limit h clock draw too_long end = end ≡ ending.TooLong
+EndsAsking limit h clock draw (no_value r) end = end ≡ ending.Refused r
+EndsAsking limit h clock draw (unnamed t) end = end ≡ unnamed_ending (view t)
+EndsAsking limit h clock draw (named id t) end = EndsSaying id (put_answer limit h clock draw id t).said end
+
+-- the entry that what is asked makes, if any
+abbrev pub entry_asked : ℕ → List Entry → ℕ → Draw → Asked → Option Entry
+entry_asked limit h clock draw too_long = None
+entry_asked limit h clock draw (no_value r) = None
+entry_asked limit h clock draw (unnamed t) = None
+entry_asked limit h clock draw (named id t) = (put_answer limit h clock draw id t).entry
+
+-- this rule on JSON is broken
+abbrev pub json_ending : ℕ → Ending
+json_ending number = ending.Refused (rule 74 number)
+
+-- why no value is read
+abbrev pub IsNoTree : List ℕ → Ending → Type 0
+IsNoTree input ending.Memory = Unit {0}
+IsNoTree input (ending.Refused r) = BreaksJson input r
+IsNoTree input other = ⊥
+
+-- what is asked is no statement to be kept, and ends so over each history
+abbrev pub EndsAnyway : List ℕ → Ending → Type 0
+EndsAnyway input end = (asked : Asked) × Asks input asked
+    × ((limit : ℕ) (h : List Entry) (clock : ℕ) (draw : Draw) → EndsAsking limit h clock draw asked end × (entry_asked limit h clock draw asked ≡ None))
+
+-- why no statement is taken from an input
+abbrev pub IsNotTaken : List ℕ → Ending → Type 0
+IsNotTaken input ending.Memory = Unit {0}
+IsNotTaken input ending.InputFault = Unit {0}
+IsNotTaken input other = EndsAnyway input other
+
+-- the same of an input that was read
+abbrev pub IsNotAsked : List ℕ → Ending → Type 0
+IsNotAsked input ending.Memory = Unit {0}
+IsNotAsked input ending.InputFault = ⊥
+IsNotAsked input ending.DiskFault = ⊥
+IsNotAsked input other = EndsAnyway input other
+
+-- a fault of the input has its cause
+abbrev pub HasInputCause : ℕ → ℕ → Ending → Type 0
+HasInputCause before now ending.InputFault = Rises before now
+HasInputCause before now ending.DiskFault = ⊥
+HasInputCause before now other = Unit {0}

@@ -1,0 +1,179 @@
+-- What a run does: the outside before it and behind it, the ending, and what it leaves on the disk.
+use Rattle.std.specs.Prelude.{◌≡◌, ◌⊎◌, ◌<◌, ◌+◌, ℕ, List, [], ◌∷◌, ◌++◌, length, map, Option, Some, None, option_map, IfSome}
+use Rattle.lrs_disk.specs.Faults.{Rises}
+use Rattle.lrs_disk.specs.Readings.{AddsReading}
+use Rattle.lrs_names.specs.declared.draw.Draw.{Draw}
+use Rattle.lrs_journal.specs.Store.{Stands}
+use Rattle.lrs_journal.specs.Create.{IsStore, IsForeign, IsOpenTo}
+use Rattle.lrs_record.specs.Entries.{written_entry}
+use Rattle.lrs_record.specs.declared.entry.Entry.{Entry}
+use Rattle.lrs_machine.specs.History.{with_entry}
+use Rattle.lrs_machine.specs.Desk.{IsStoreOf, IsRefused, founding_entry}
+use Rattle.lrs_machine.specs.declared.opening.DeskRefused.TheVariants as refused
+use Rattle.lrs_app.specs.Words.{Command, init, intake, IsCommand, base_of, limit_of}
+use Rattle.lrs_app.specs.Endings.{ending_status, ending_line}
+use Rattle.lrs_app.specs.Printing.{Prints}
+use Rattle.lrs_app.specs.Asking.{Asked, Asks, EndsAsking, entry_asked}
+use Rattle.lrs_app.specs.declared.ending.Ending.{Ending}
+use Rattle.lrs_app.specs.declared.ending.Ending.TheVariants as ending
+
+-- ---- the outside
+
+-- What the outside tells of itself at one moment, and its counts of faults.
+pub record Outside : Type 0 where
+  -- what the disk of each name reads, and the count of faults with which it is taken
+  pub holds : List ℕ → Option (List ℕ)
+  pub begins : List ℕ → ℕ
+  pub shelf_faults : ℕ
+  -- the clock's readings so far
+  pub readings : Option (List ℕ)
+  -- what is left of the input
+  pub left : Option (List ℕ)
+  pub input_faults : ℕ
+  -- what the output has taken
+  pub taken : Option (List ℕ)
+  pub output_faults : ℕ
+
+-- What a disk that was handed back tells, and its count of faults.
+pub record Seen : Type 0 where
+  pub told : Option (List ℕ)
+  pub faults : ℕ
+
+-- what a run gives: a status, a disk where one was taken, and the history's length
+pub record Outcome : Type 0 where
+  pub status : ℕ
+  pub disk : Option Seen
+  pub length : ℕ
+
+-- the ending's line is printed and its status given, as far as the output doesn't fail
+abbrev pub PrintsLine : Ending → Option (List ℕ) → Option (List ℕ) → ℕ → ℕ → ℕ → Type 0
+PrintsLine end taken_old taken_new before now status = Prints (ending_status end) (ending_line end) taken_old taken_new before now status
+
+abbrev pub PrintsEnding : Ending → Outside → Outside → ℕ → Type 0
+PrintsEnding end before after status = PrintsLine end before.taken after.taken before.output_faults after.output_faults status
+
+-- the clock was read once
+abbrev pub ReadsOnce : ℕ → Outside → Outside → Type 0
+ReadsOnce clock before after = AddsReading before.readings after.readings clock
+
+-- the input was left alone
+pub record LeavesInput (before after : Outside) : Type 0 where
+  pub left : after.left ≡ before.left
+  pub faults : after.input_faults ≡ before.input_faults
+
+-- ---- what a disk holds
+
+-- the disk tells bytes that stand, with this limit, for the history
+abbrev pub Holds : Option (List ℕ) → ℕ → List Entry → Type 0
+Holds told limit h = (bytes : List ℕ) × (told ≡ Some bytes) × Stands bytes limit (map written_entry h)
+
+-- the disk holds what it held: the same bytes, or the store of the same history (a recovery may write behind its end)
+abbrev pub HoldsAsBefore : List ℕ → Option (List ℕ) → Type 0
+HoldsAsBefore bytes told = (told ≡ Some bytes) ⊎ ((limit : ℕ) × (h : List Entry) × IsStoreOf bytes limit h × Holds told limit h)
+
+-- the disk that was handed back, by what it tells and its count
+abbrev pub seen : {D : Type 0} → (D → Option (List ℕ)) → (D → ℕ) → Option D → Option Seen
+seen told faults disk = option_map (λ d. record { told = told d; faults = faults d }) disk
+
+-- a fault is told only where the count of the object rose
+abbrev pub HasCause : ℕ → ℕ → ℕ → ℕ → Ending → Type 0
+HasCause disk_before disk_now input_before input_now ending.DiskFault = Rises disk_before disk_now
+HasCause disk_before disk_now input_before input_now ending.InputFault = Rises input_before input_now
+HasCause disk_before disk_now input_before input_now other = Unit {0}
+
+-- ---- intake
+
+-- frame k isn't whole, is no entry, or may not stand there
+abbrev pub IsDamagedAt : List ℕ → ℕ → Type 0
+IsDamagedAt bytes k = IsRefused bytes (refused.Damaged k) ⊎ IsRefused bytes (refused.IllegalEntry k)
+
+-- How intake ends on a disk of these bytes where no store is opened.
+abbrev pub EndsUnopened : List ℕ → Option (List ℕ) → Ending → Type 0
+EndsUnopened bytes told ending.NotAStore = IsRefused bytes refused.NotAStore × (told ≡ Some bytes)
+EndsUnopened bytes told (ending.Damaged k) = IsDamagedAt bytes k × (told ≡ Some bytes)
+EndsUnopened bytes told ending.Memory = told ≡ Some bytes
+EndsUnopened bytes told ending.DiskFault = HoldsAsBefore bytes told
+EndsUnopened bytes told other = ⊥
+
+-- The disk holds this history, of which there are so many entries.
+abbrev pub Leaves : ℕ → List Entry → Option (List ℕ) → ℕ → Type 0
+Leaves limit h told n = Holds told limit h × (n ≡ length h)
+
+-- The disk failed: it holds the history as it was, or the answer's entry is in doubt.
+abbrev pub LeavesDoubt : ℕ → List Entry → Option Entry → Option (List ℕ) → ℕ → Type 0
+LeavesDoubt limit h entry told n = Leaves limit h told n
+    ⊎ ((e : Entry) × (entry ≡ Some e) × (n ≡ length h + 1) × (Holds told limit h ⊎ Holds told limit (h ++ e ∷ [])))
+
+-- How intake ends on a store of this limit and history: by the abstract store's answer to what the input asks. The disk then
+-- holds the history with the answer's entry, if any.
+abbrev pub EndsOpened : ℕ → List Entry → List ℕ → ℕ → Draw → Option (List ℕ) → ℕ → Ending → Type 0
+EndsOpened limit h input clock draw told n ending.Memory = Leaves limit h told n
+EndsOpened limit h input clock draw told n ending.InputFault = Leaves limit h told n
+EndsOpened limit h input clock draw told n ending.DiskFault = (asked : Asked) × Asks input asked
+    × LeavesDoubt limit h (entry_asked limit h clock draw asked) told n
+EndsOpened limit h input clock draw told n other = (asked : Asked) × Asks input asked × EndsAsking limit h clock draw asked other
+    × Leaves limit (with_entry h (entry_asked limit h clock draw asked)) told n
+
+-- How intake ends on a disk of these bytes, over this input, at this reading of the clock, with this draw.
+abbrev pub IntakeEnds : List ℕ → List ℕ → ℕ → Draw → Option (List ℕ) → ℕ → Ending → Type 0
+IntakeEnds bytes input clock draw told n end = (EndsUnopened bytes told end × (n ≡ 0))
+    ⊎ ((limit : ℕ) × (h : List Entry) × IsStoreOf bytes limit h × EndsOpened limit h input clock draw told n end)
+
+-- what intake leaves, with the disk that it took or without one
+abbrev pub IntakeLeaves : List ℕ → ℕ → Draw → Outside → Outside → Option Seen → ℕ → Ending → Type 0
+IntakeLeaves file clock draw before after None n end =
+    (end ≡ ending.DiskFault) × Rises before.shelf_faults after.shelf_faults × LeavesInput before after × (n ≡ 0)
+IntakeLeaves file clock draw before after (Some disk) n end =
+    IfSome (before.holds file) (λ bytes. IfSome before.left (λ input. IntakeEnds bytes input clock draw disk.told n end))
+    × HasCause (before.begins file) disk.faults before.input_faults after.input_faults end
+
+-- ---- init
+
+-- How init of a store with this token, base address and limit ends on a disk of these bytes, at this reading of the clock.
+abbrev pub InitEnds : List ℕ → List ℕ → List ℕ → ℕ → ℕ → Option (List ℕ) → ℕ → Ending → Type 0
+InitEnds bytes admin base limit clock told n ending.Founded = IsOpenTo bytes × Holds told limit (founding_entry admin base clock ∷ []) × (n ≡ 1)
+InitEnds bytes admin base limit clock told n ending.AlreadyStore = IsStore bytes × (told ≡ Some bytes) × (n ≡ 0)
+InitEnds bytes admin base limit clock told n ending.NotAStore = IsForeign bytes × (told ≡ Some bytes) × (n ≡ 0)
+InitEnds bytes admin base limit clock told n (ending.Full need most) = IsOpenTo bytes
+    × (need ≡ length (written_entry (founding_entry admin base clock)) + 23) × (most ≡ limit) × (limit < need) × (told ≡ Some bytes) × (n ≡ 0)
+InitEnds bytes admin base limit clock told n ending.Memory = (told ≡ Some bytes) × (n ≡ 0)
+InitEnds bytes admin base limit clock told n ending.DiskFault = (IsStore bytes → told ≡ Some bytes) × (n ≡ 0)
+InitEnds bytes admin base limit clock told n other = ⊥
+
+-- what init leaves, with the disk that it took or without one
+abbrev pub InitLeaves : List ℕ → List ℕ → List ℕ → ℕ → ℕ → Outside → Outside → Option Seen → ℕ → Ending → Type 0
+InitLeaves file admin base limit clock before after None n end = (end ≡ ending.DiskFault) × Rises before.shelf_faults after.shelf_faults × (n ≡ 0)
+InitLeaves file admin base limit clock before after (Some disk) n end =
+    IfSome (before.holds file) (λ bytes. InitEnds bytes admin base limit clock disk.told n end)
+    × HasCause (before.begins file) disk.faults 0 0 end
+
+-- ---- the headline
+
+-- A command reads the clock once and has one ending, which says what it leaves, what is printed and which status it gives.
+abbrev pub IntakeRuns : List ℕ → Draw → Outside → Outside → Outcome → Type 0
+IntakeRuns file draw before after o = (clock : ℕ) × (end : Ending) × ReadsOnce clock before after
+    × IntakeLeaves file clock draw before after o.disk o.length end × PrintsEnding end before after o.status
+
+abbrev pub InitRuns : List ℕ → List ℕ → List ℕ → ℕ → Outside → Outside → Outcome → Type 0
+InitRuns file admin base limit before after o = (clock : ℕ) × (end : Ending) × ReadsOnce clock before after
+    × InitLeaves file admin base limit clock before after o.disk o.length end × PrintsEnding end before after o.status
+
+abbrev pub CommandRuns : Command → Draw → Outside → Outside → Outcome → Type 0
+CommandRuns (intake file) draw before after o = IntakeRuns file draw before after o
+CommandRuns (init w) draw before after o = LeavesInput before after × InitRuns w.file w.admin (base_of w) (limit_of w) before after o
+
+-- Nothing but the output was used.
+pub record IsIdle (before after : Outside) (o : Outcome) : Type 0 where
+  pub holds : (file : List ℕ) → after.holds file ≡ before.holds file
+  pub shelf : after.shelf_faults ≡ before.shelf_faults
+  pub readings : after.readings ≡ before.readings
+  pub input : LeavesInput before after
+  pub disk : o.disk ≡ None
+  pub length : o.length ≡ 0
+
+-- What a run of these words does: the command that they are, or `usage` where they are none. Want of memory for the words is free.
+abbrev pub Runs : List (List ℕ) → Draw → Outside → Outside → Outcome → Type 0
+Runs words draw before after o =
+    ((c : Command) × IsCommand words c × CommandRuns c draw before after o)
+    ⊎ ((((c : Command) → IsCommand words c → ⊥) × IsIdle before after o × PrintsEnding ending.Usage before after o.status)
+    ⊎ (IsIdle before after o × PrintsEnding ending.Memory before after o.status))

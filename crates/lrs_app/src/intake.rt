@@ -1,0 +1,131 @@
+// One statement of the input, kept in a store.
+ghost use Rattle.std.specs.Prelude.{◌≡◌, ◌≢◌, List, ℕ, IfSome, false};
+ghost use Rattle.lrs_json.specs.Fits.{IsReadable};
+ghost use Rattle.lrs_json.specs.View.{view};
+ghost use Rattle.lrs_record.specs.declared.entry.Entry.{Entry};
+ghost use Rattle.lrs_machine.specs.Desk.{StandsFor};
+ghost use Rattle.lrs_app.specs.Asking.{EndsSaying, put_answer};
+ghost use Rattle.lrs_app.specs.Steps.{Submits, TakesIn, HasPutCause, HasCauses, ending_of, ending_of_trouble};
+ghost use Rattle.lrs_app.specs.Run.{EndsOpened, IntakeEnds, HasCause};
+
+use crate::Ending;
+use crate::asking::take_statement;
+use lrs_disk::{Disk, Source};
+use lrs_json::Tree;
+use lrs_machine::{Answered, Desk, DeskRefused, Trouble};
+use lrs_names::{Draw, Id};
+use std::alloc::Global;
+
+// How a command ends to which the store says this, under this id.
+fn ending_saying(id: &Id, answered: Answered) -> Ending
+    requires known { (answered ≢ Answered.Unauthorized) × (answered ≢ Answered.NotFound) }
+    ensures said { EndsSaying id.now answered result }
+    ensures cause { (count : ℕ) → HasPutCause count count result }
+{
+    match answered {
+        Answered::Kept => Ending::Kept(*id),
+        Answered::Same => Ending::Kept(*id),
+        Answered::Conflict(held) => Ending::Conflict(held),
+        Answered::Full { need, limit } => Ending::Full { need, limit },
+        Answered::Broken(rule) => Ending::Refused(rule),
+        Answered::TooLong => Ending::TooLong,
+        Answered::Unauthorized => unreachable!(),
+        Answered::NotFound => unreachable!(),
+    }
+}
+
+// Puts a statement as the operator.
+fn submit<D: Disk>(desk: &mut Desk<D>, id: &Id, statement: Tree, clock: u64, draw: &Draw) -> Ending
+    requires settled { desk.old.doubt ≡ false }
+    requires readable { IsReadable 64 (view statement) }
+    ensures ends { (h : List Entry) → StandsFor D.told desk.old h
+        → Submits D.told h id.now (put_answer desk.old.limit h clock draw.now id.now statement) desk.new result }
+    ensures limit { desk.new.limit ≡ desk.old.limit }
+    ensures cause { HasPutCause (D.fault_count desk.old.disk) (D.fault_count desk.new.disk) result }
+{
+    match desk.put(*id, statement, clock, draw).0 {
+        Ok(answered) => ending_saying(id, answered),
+        Err(trouble) => troubled(trouble),
+    }
+}
+
+fn troubled(trouble: Trouble) -> Ending
+    ensures { result ≡ ending_of_trouble trouble }
+{
+    match trouble {
+        Trouble::Memory => Ending::Memory,
+        Trouble::Disk => Ending::DiskFault,
+    }
+}
+
+// Takes a statement in from the input.
+fn take_in<D: Disk, I: Source>(
+    alloc: Global,
+    desk: &mut Desk<D>,
+    input: &mut I,
+    clock: u64,
+    draw: &Draw,
+) -> Ending
+    requires { desk.old.doubt ≡ false }
+    ensures ends { (h : List Entry) → StandsFor D.told desk.old h
+        → IfSome (I.left input.old) (λ input. TakesIn D.told desk.old.limit h input clock draw.now desk.new result) }
+    ensures limit { desk.new.limit ≡ desk.old.limit }
+    ensures cause { HasCauses (D.fault_count desk.old.disk) (D.fault_count desk.new.disk) (I.fault_count input.old) (I.fault_count input.new) result }
+{
+    match take_statement(alloc, input) {
+        Ok((id, statement)) => submit(desk, &id, statement, clock, draw),
+        Err(ending) => ending,
+    }
+}
+
+// Takes a statement in over an open desk, and closes it.
+fn intake_opened<D: Disk, I: Source>(
+    alloc: Global,
+    desk: Desk<D>,
+    input: &mut I,
+    clock: u64,
+    draw: &Draw,
+) -> (Ending, D, u64)
+    requires { desk.doubt ≡ false }
+    ensures ends { (h : List Entry) → StandsFor D.told desk h
+        → IfSome (I.left input.old) (λ input. EndsOpened desk.limit h input clock draw.now (D.told result.1) result.2 result.0) }
+    ensures cause { HasCause (D.fault_count desk.disk) (D.fault_count result.1) (I.fault_count input.old) (I.fault_count input.new) result.0 }
+{
+    let mut desk = desk;
+    let ending = take_in(alloc, &mut desk, input, clock, draw);
+    let length = desk.length();
+    match desk.close() {
+        Ok(disk) => (ending, disk, length),
+        Err((_, disk)) => (Ending::DiskFault, disk, length),
+    }
+}
+
+// How a command ends where no store is opened.
+fn unopened(refused: DeskRefused) -> Ending
+    ensures { result ≡ ending_of refused }
+{
+    match refused {
+        DeskRefused::NotAStore => Ending::NotAStore,
+        DeskRefused::Damaged { k } => Ending::Damaged { k },
+        DeskRefused::IllegalEntry { k } => Ending::Damaged { k },
+        DeskRefused::Failed => Ending::DiskFault,
+        DeskRefused::Memory => Ending::Memory,
+    }
+}
+
+/// Takes a statement in over a disk. The number is that of the history's entries, or 0 where no store was opened.
+pub(crate) fn intake_disk<D: Disk, I: Source>(
+    alloc: Global,
+    disk: D,
+    input: &mut I,
+    clock: u64,
+    draw: &Draw,
+) -> (Ending, D, u64)
+    ensures ends { IfSome (D.told disk) (λ bytes. IfSome (I.left input.old) (λ input. IntakeEnds bytes input clock draw.now (D.told result.1) result.2 result.0)) }
+    ensures cause { HasCause (D.fault_count disk) (D.fault_count result.1) (I.fault_count input.old) (I.fault_count input.new) result.0 }
+{
+    match Desk::recover(alloc, disk) {
+        Ok(desk) => intake_opened(alloc, desk, input, clock, draw),
+        Err((refused, disk)) => (unopened(refused), disk, 0),
+    }
+}
