@@ -1,0 +1,58 @@
+#!/usr/bin/env python3
+"""Makes a store file of N statements by the formats of docs/FORMATS.md, without the program: a second hand that writes
+the journal, for measuring and for holding the program against it.
+
+    make_store.py FILE N [--limit BYTES]
+
+Statement i has the id 00000000-0000-4000-8000-<i in twelve hexadecimal digits>."""
+import argparse
+import json
+import struct
+
+MOMENT = 1_700_000_000_000
+
+
+def written(tree):
+    return json.dumps(tree, separators=(",", ":"), ensure_ascii=False).encode()
+
+
+def entry(moment, draw, command):
+    return written({"caller": "*", "moment": moment, "draw": draw, "command": command})
+
+
+def statement(i):
+    return {
+        "id": f"00000000-0000-4000-8000-{i:012x}",
+        "actor": {"objectType": "Agent", "account": {"homePage": "https://l.invalid", "name": f"u{i % 20}"}},
+        "verb": {"id": f"http://v.invalid/{i % 7}", "display": {"en": "did", "de": "tat"}},
+        "object": {
+            "objectType": "Activity",
+            "id": f"http://a.invalid/{i % 50}",
+            "definition": {"name": {"en": f"Activity {i % 50}"}, "description": {"en": "A part of a course that was made up for measuring."}},
+        },
+        "result": {"score": {"scaled": 0.80, "raw": 8, "min": 0, "max": 10}, "success": True, "completion": True, "duration": "PT12.34S"},
+        "context": {"registration": f"00000000-0000-4000-9000-{i % 100:012x}", "language": "en"},
+        "timestamp": "2023-11-14T22:13:20.000Z",
+    }
+
+
+def frame(payload):
+    return b"\x01" + struct.pack(">I", len(payload)) + payload
+
+
+def main():
+    words = argparse.ArgumentParser()
+    words.add_argument("file")
+    words.add_argument("number", type=int)
+    words.add_argument("--limit", type=int, default=268_435_456)
+    words = words.parse_args()
+    with open(words.file, "wb") as out:
+        out.write(b"\x01LRSJRNL\x01" + struct.pack(">Q", words.limit))
+        out.write(frame(entry(MOMENT, "0" * 64, {"found": {"admin": "adminadmin", "base": "http://127.0.0.1:8080/"}})))
+        for i in range(words.number):
+            put = {"put": {"id": f"00000000-0000-4000-8000-{i:012x}", "statement": statement(i)}}
+            out.write(frame(entry(MOMENT + i, f"{i:032x}{i:032x}", put)))
+        out.write(b"\x00")
+
+
+main()
