@@ -40,10 +40,7 @@ fn line_at(length: usize) -> &'static str {
 #[test]
 fn a_store_file_that_was_cut_opens_or_says_where(rt: HostRuntime) -> Result<(), Fail> {
     let mut path = env::temp_dir(&rt)?;
-    path.push(format!(in rt.alloc();
-        "kilnlime-cut-{}",
-        std::process::id(&rt.process())
-    )?.as_str())?;
+    path.push(format!(in rt.alloc(); "kilnlime-cut-{}", std::process::id(rt.process()))?.as_str())?;
     let file = path.as_path().as_str();
     let founded = printed(rt, &["init", file, "--admin", "adminadmin"], "")?;
     assert_eq!(rt; founded.as_slice(), b"founded\n".as_slice());
