@@ -1,5 +1,9 @@
 use super::*;
-use lrs_disk::MemSink;
+use lrs_disk::{MemDisk, MemSink};
+use lrs_json::read;
+use lrs_machine::{Body, Desk, Reply, is_base, is_token};
+use lrs_names::{Draw, Id};
+use lrs_record::{Caller, Command};
 use std::alloc::Global;
 use std::fs;
 use std::test::Fail;
@@ -53,5 +57,45 @@ fn a_store_file_that_was_cut_opens_or_says_where(rt: HostRuntime) -> Result<(), 
         assert_eq!(rt; line.as_slice(), line_at(length).as_bytes(), "at {length}");
     }
     fs::remove_file(&rt, file)?;
+    Ok(())
+}
+
+// What a put under one id is answered: its status, and the body.
+fn answered(alloc: Global, desk: &mut Desk<MemDisk>, text: &str) -> Result<(u16, Vec<u8>), Fail> {
+    let id = Id::read(b"11111111-1111-4111-8111-111111111111").ok_or("no id")?;
+    let statement = read(alloc, text.as_bytes())?;
+    let draw = Draw { name: 1, secret: 2 };
+    let command = Command::Put { id, statement };
+    let (reply, _receipt) = desk.act(Caller::Operator, command, 1_700_000_000_000, &draw);
+    let Reply {
+        status,
+        media: _media,
+        body,
+        through: _through,
+    } = reply;
+    let Body::Made(body) = body else {
+        return Err(Fail::from("no body"));
+    };
+    Ok((status, body.into_vec()))
+}
+
+#[test]
+fn a_desk_replies_to_commands(rt: HostRuntime) -> Result<(), Fail> {
+    let alloc = rt.alloc();
+    let admin = Text::of(alloc, "adminadmin")?;
+    let base = Text::of(alloc, "http://127.0.0.1:8080/")?;
+    assert!(rt; is_token(&admin));
+    let fits = is_base(alloc, &base)?;
+    assert!(rt; fits);
+    let disk = MemDisk::new(alloc, Vec::new(alloc), Vec::new(alloc), 99, 9_999)?;
+    let founded = Desk::found(alloc, disk, 65_536, &admin, &base, 1_700_000_000_000);
+    let mut desk = founded.ok().ok_or("not founded")?;
+    let kept = answered(alloc, &mut desk, STATEMENT)?;
+    assert_eq!(rt; kept.0, 204);
+    assert!(rt; kept.1.is_empty());
+    let other = answered(alloc, &mut desk, "{\"verb\":{\"id\":\"http://v/2\"}}")?;
+    assert_eq!(rt; other.0, 409);
+    let body = b"{\"error\":\"409\",\"id\":\"11111111-1111-4111-8111-111111111111\"}";
+    assert_eq!(rt; other.1.as_slice(), body.as_slice());
     Ok(())
 }
