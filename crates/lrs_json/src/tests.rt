@@ -97,6 +97,28 @@ fn unlawful_texts_are_bad(rt: HostRuntime) {
     }
 }
 
+#[test]
+fn control_characters_are_read_only_escaped(rt: HostRuntime) -> Result<(), Fail> {
+    let written = [
+        "\\u0000", "\\u0001", "\\u0002", "\\u0003", "\\u0004", "\\u0005", "\\u0006", "\\u0007",
+        "\\b", "\\t", "\\n", "\\u000b", "\\f", "\\r", "\\u000e", "\\u000f", "\\u0010", "\\u0011",
+        "\\u0012", "\\u0013", "\\u0014", "\\u0015", "\\u0016", "\\u0017", "\\u0018", "\\u0019",
+        "\\u001a", "\\u001b", "\\u001c", "\\u001d", "\\u001e", "\\u001f",
+    ];
+    let alloc = rt.alloc();
+    for (code, escape) in (0..32u8).zip(written) {
+        let raw = [b'"', code, b'"'];
+        assert!(rt; matches!(read(alloc, &raw), Err(ReadRefused::Bad)));
+        let escaped = format!(in alloc; "\"\\u00{code:02X}\"")?;
+        let wanted = format!(in alloc; "\"{escape}\"")?;
+        assert_eq!(rt;
+            rewritten(alloc, escaped.as_bytes())?.as_slice(),
+            wanted.as_bytes()
+        );
+    }
+    Ok(())
+}
+
 fn refusal(alloc: Global, text: &[u8]) -> Option<ReadRefused> {
     match read(alloc, text) {
         Ok(_) => None,
