@@ -2,7 +2,7 @@
 #![tactic(auto)]
 
 use lrs_app::{Ending, finish, run};
-use lrs_edge::{FileShelf, StdSink, StdSource, SystemLobby};
+use lrs_edge::{FileShelf, StdSink, StdSource, TcpLobby};
 use lrs_json::Text;
 use std::env::{self, Env};
 use std::io::ErrorKind;
@@ -43,7 +43,7 @@ fn main(rt: HostRuntime) -> ExitCode {
         return ExitCode::from(NO_RANDOM_SOURCE);
     }
     let mut shelf = FileShelf::new(rt);
-    let mut lobby = SystemLobby::new(rt);
+    let mut lobby = TcpLobby::new(rt);
     let mut input = StdSource::new(rt.stdin());
     let ended = run(
         rt.alloc(),

@@ -18,7 +18,7 @@ fn printed(rt: HostRuntime, words: &[&str], input: &str) -> Result<Vec<u8>, Fail
         texts.push(Text::of(rt.alloc(), word)?)?;
     }
     let mut shelf = FileShelf::new(rt);
-    let mut lobby = SystemLobby::new(rt);
+    let mut lobby = TcpLobby::new(rt);
     let mut input = StdSource::new(input.as_bytes());
     let mut out = MemSink::new(rt.alloc(), 64, Vec::new(rt.alloc()))?;
     let _ = run(

@@ -49,7 +49,11 @@ fn shelf(alloc: Global, bytes: &[u8], failing: &[u64]) -> Result<MemShelf, Fail>
 fn run_once(alloc: Global, words: &[&str], around: &Around) -> Result<Ran, Fail> {
     let words = texts(alloc, words)?;
     let mut shelf = shelf(alloc, around.bytes, around.disk_fails)?;
-    let mut lobby = MemLobby::new(vec![in alloc; 1_700_000_000_000]?);
+    let mut lobby = MemLobby::new(
+        Vec::new(alloc),
+        vec![in alloc; 1_700_000_000_000]?,
+        Vec::new(alloc),
+    );
     let mut input = MemSource::new(
         around.input.to_vec(alloc)?,
         Vec::new(alloc),

@@ -5,11 +5,11 @@ use Rattle.lrs_disk.specs.declared.memory.sink.MemSink.{MemSink}
 
 -- what it took
 abbrev pub taken_of : MemSink → List ℕ
-taken_of s = s.taken.items
+taken_of s = s.output.taken.items
 
 -- how many bytes more it takes
 abbrev pub room_of : MemSink → ℕ
-room_of s = s.room - length s.taken.items
+room_of s = s.output.room - length s.output.taken.items
 
 abbrev pub schedule_of : MemSink → Schedule
 schedule_of s = record { failing = s.plan.failing.items; number = s.plan.number }

@@ -5,15 +5,15 @@ use Rattle.lrs_disk.specs.declared.memory.source.MemSource.{MemSource}
 
 -- the whole input
 abbrev pub input_of : MemSource → List ℕ
-input_of s = s.bytes.items
+input_of s = s.input.bytes.items
 
 -- how much of it was read
 abbrev pub place_of : MemSource → ℕ
-place_of s = s.place
+place_of s = s.input.place
 
 -- where reads end
 abbrev pub cuts_of : MemSource → List ℕ
-cuts_of s = s.cuts.items
+cuts_of s = s.input.cuts.items
 
 -- what is left to read
 abbrev pub left_of : MemSource → List ℕ

@@ -5,15 +5,21 @@
 #![tactic(auto)]
 
 mod disk;
+mod door;
 mod failed;
+mod link;
 mod lobby;
 mod memory;
 mod shelf;
 mod streams;
 
 pub use disk::Disk;
+pub use door::{Door, Next};
 pub use failed::Failed;
-pub use lobby::Lobby;
-pub use memory::{MemDisk, MemLobby, MemShelf, MemSink, MemSource, Memory, Pending};
+pub use link::Link;
+pub use lobby::{DoorsRefused, Lobby};
+pub use memory::{
+    MemDisk, MemDoor, MemLink, MemLobby, MemShelf, MemSink, MemSource, Memory, Pending,
+};
 pub use shelf::Shelf;
 pub use streams::{Sink, Source};

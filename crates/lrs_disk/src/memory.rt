@@ -2,10 +2,15 @@
 
 mod bytes;
 mod call;
+mod clock;
 mod disk;
+mod door;
 mod history;
+mod input;
 mod ledger;
+mod link;
 mod lobby;
+mod output;
 mod plan;
 mod shelf;
 mod sink;
@@ -15,6 +20,8 @@ mod tests;
 
 pub use call::Pending;
 pub use disk::MemDisk;
+pub use door::MemDoor;
+pub use link::MemLink;
 pub use lobby::MemLobby;
 pub use shelf::MemShelf;
 pub use sink::MemSink;

@@ -1,1 +1,5 @@
 pub mod FileDisk
+pub mod Silent
+pub mod TcpDoor
+pub mod TcpLink
+pub mod TcpLobby

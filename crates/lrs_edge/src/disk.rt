@@ -39,7 +39,8 @@ impl FileDisk {
 }
 
 impl Disk for FileDisk {
-    ghost use Rattle.lrs_edge.specs.FileDisk.{moment_of, faults_of, tells_none};
+    ghost use Rattle.lrs_edge.specs.FileDisk.{moment_of, faults_of};
+    ghost use Rattle.lrs_edge.specs.Silent.{tells_none};
 
     ghost told = { λ d. None };
 

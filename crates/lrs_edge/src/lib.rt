@@ -1,11 +1,14 @@
-//! The real outside: files, standard input and output, the system's clock.
+//! The real outside: files, standard input and output, TCP connections, the system's clock.
 //!
-//! A few lines each. None tells what it holds, since no contract can say what a file or a terminal gives. Each keeps a
+//! A few lines each. None tells what it holds, since no contract can say what a file, a terminal or a socket gives. Each keeps a
 //! count of its failed calls. That a file is an honest disk is trusted.
 #![tactic(auto)]
 
+mod clock;
 mod disk;
+mod door;
 mod faults;
+mod link;
 mod lobby;
 mod shelf;
 mod streams;
@@ -13,6 +16,8 @@ mod streams;
 mod tests;
 
 pub use disk::FileDisk;
-pub use lobby::SystemLobby;
+pub use door::TcpDoor;
+pub use link::TcpLink;
+pub use lobby::TcpLobby;
 pub use shelf::FileShelf;
 pub use streams::{StdSink, StdSource};

@@ -1,37 +1,120 @@
-ghost use Rattle.std.specs.Prelude.{None};
+ghost use Rattle.std.specs.Prelude.{◌≡◌, None, All, length, map, nat_lt, IfOk};
+ghost use Rattle.std.specs.List.{list_any};
+ghost use Rattle.lrs_disk.specs.Door.{IsFresh};
+ghost use Rattle.lrs_disk.specs.Lobby.{CountsFaults};
+ghost use Rattle.lrs_edge.specs.TcpDoor.{state_of};
 
-use lrs_disk::Lobby;
-use std::time::{Clock, SystemTime};
+use crate::clock::milliseconds;
+use crate::door::TcpDoor;
+use crate::faults::Faults;
+use lrs_disk::{Door, DoorsRefused, Lobby};
+use std::alloc::Global;
+use std::net::{Net, TcpListener, TcpStream};
+use std::time::Clock;
 
-/// The system's clock.
+/// The system's clock, and its TCP addresses.
 #[derive(Drop)]
-pub struct SystemLobby<R: Clock + Drop> {
+pub struct TcpLobby<R: Clock + Net<Listener = TcpListener, Stream = TcpStream> + Copy + Send> {
     rt: R,
+    faults: Faults,
 }
 
-impl<R: Clock + Drop> SystemLobby<R> {
-    pub fn new(rt: R) -> Self {
-        SystemLobby { rt }
+impl<R: Clock + Net<Listener = TcpListener, Stream = TcpStream> + Copy + Send> TcpLobby<R> {
+    ghost use Rattle.lrs_edge.specs.TcpLobby.{faults_of};
+
+    pub fn new(rt: R) -> Self
+        ensures { faults_of result ≡ 0 }
+    {
+        TcpLobby {
+            rt,
+            faults: Faults::none(),
+        }
     }
 }
 
-impl<R: Clock + Drop> Lobby for SystemLobby<R> {
+// So many doors of one address, each with a handle of its own on the one socket.
+fn open<R: Clock + Net<Listener = TcpListener, Stream = TcpStream> + Copy>(
+    alloc: Global,
+    rt: R,
+    address: &str,
+    count: usize,
+) -> Result<Vec<TcpDoor<R>>, DoorsRefused>
+    ensures number { IfOk result (λ doors. length doors.items ≡ count) }
+    ensures fresh { IfOk result (λ doors. All (λ door. IsFresh (state_of door)) doors.items) }
+{
+    let Ok(mut doors) = Vec::with_capacity(alloc, count) else {
+        return Err(DoorsRefused::Memory);
+    };
+    let Ok(listener) = TcpListener::bind(&rt, address) else {
+        return Err(DoorsRefused::Failed);
+    };
+    for _ in 0..count {
+        let Ok(listener) = listener.try_clone() else {
+            return Err(DoorsRefused::Failed);
+        };
+        doors.push_reserved(TcpDoor::new(rt, listener));
+    }
+    Ok(doors)
+}
+
+// Whether one of these doors has failed.
+fn has_failed<R: Clock + Copy>(doors: &[TcpDoor<R>]) -> bool
+    ensures { result ≡ list_any (λ door. nat_lt 0 (state_of door).faults) doors.now }
+{
+    doors.iter().any(|door| door.faults() > 0)
+}
+
+// Counts a fault where one of these doors has failed.
+fn count_failed<R: Clock + Copy>(faults: &mut Faults, doors: &[TcpDoor<R>])
+    ensures { CountsFaults faults.old.count faults.new.count (map state_of doors.now) }
+{
+    if !has_failed(doors) {
+        return;
+    }
+    faults.rise();
+}
+
+impl<R: Clock + Net<Listener = TcpListener, Stream = TcpStream> + Copy + Send> Lobby
+    for TcpLobby<R> {
+    type Door = TcpDoor<R>;
+
+    ghost use Rattle.lrs_edge.specs.TcpLobby.{faults_of};
+
     ghost readings = { λ l. None };
 
-    ghost fault_count = { λ l. 0 };
+    ghost asked = { λ l. None };
 
-    /// A clock that can't be read is at 0, as one that shows a time before 1970.
+    ghost returned = { λ l. None };
+
+    ghost fault_count = { faults_of };
+
     fn now(&mut self) -> u64 {
-        let Ok(now) = SystemTime::now(&self.rt) else {
-            return 0;
-        };
-        match now.duration_since(SystemTime::UNIX_EPOCH) {
-            Ok(since) => since.as_millis().min(u64::MAX as u128) as u64,
-            Err(_) => 0,
+        milliseconds(&self.rt)
+    }
+
+    fn doors(
+        &mut self,
+        alloc: Global,
+        address: &str,
+        count: usize,
+    ) -> Result<Vec<TcpDoor<R>>, DoorsRefused> {
+        match open(alloc, self.rt, address, count) {
+            Ok(doors) => Ok(doors),
+            Err(DoorsRefused::Memory) => Err(DoorsRefused::Memory),
+            Err(DoorsRefused::Failed) => {
+                self.faults.rise();
+                Err(DoorsRefused::Failed)
+            }
         }
     }
 
+    fn back(&mut self, doors: Vec<TcpDoor<R>>)
+        ensures { CountsFaults (faults_of self.old) (faults_of self.new) (map state_of doors.items) }
+    {
+        count_failed(&mut self.faults, &doors);
+    }
+
     fn faults(&self) -> u64 {
-        0
+        self.faults.count
     }
 }

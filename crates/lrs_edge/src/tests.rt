@@ -1,5 +1,7 @@
-use crate::{FileShelf, StdSink, StdSource, SystemLobby};
-use lrs_disk::{Disk, Lobby, Shelf, Sink, Source};
+use crate::{FileShelf, StdSink, StdSource, TcpLobby};
+use lrs_disk::{Disk, Door, Link, Lobby, Next, Shelf, Sink, Source};
+use std::io::{Read, Write};
+use std::net::TcpStream;
 use std::test::Fail;
 use std::{env, fs};
 
@@ -45,7 +47,36 @@ fn streams_pass_bytes_on(rt: HostRuntime) -> Result<(), Fail> {
 
 #[test]
 fn the_clock_is_past_2020(rt: HostRuntime) -> Result<(), Fail> {
-    let mut lobby = SystemLobby::new(rt);
+    let mut lobby = TcpLobby::new(rt);
     assert!(rt; lobby.now() > 1_577_836_800_000);
+    Ok(())
+}
+
+#[test]
+fn a_connection_comes_in_over_loopback(rt: HostRuntime) -> Result<(), Fail> {
+    let mut lobby = TcpLobby::new(rt);
+    assert!(rt; lobby.doors(rt.alloc(), "no address", 1).is_err());
+    let mut doors = lobby.doors(rt.alloc(), "127.0.0.1:0", 2)?;
+    let Some(mut door) = doors.pop() else {
+        return Err(Fail::from("no door"));
+    };
+    let mut client = TcpStream::connect(&rt, door.listener.local_addr()?)?;
+    assert_eq!(rt; client.write(b"ask")?, 3);
+    let Next::Joined(mut link) = door.next() else {
+        return Err(Fail::from("no link"));
+    };
+    let mut piece = [0; 9];
+    assert_eq!(rt; link.read(&mut piece)?, 3);
+    assert_eq!(rt; piece, *b"ask\0\0\0\0\0\0");
+    assert_eq!(rt; link.write(b"answer")?, 6);
+    assert_eq!(rt; client.write(b"more")?, 4);
+    door.done(link);
+    assert_eq!(rt; client.read(&mut piece)?, 6);
+    assert_eq!(rt; piece, *b"answer\0\0\0");
+    assert_eq!(rt; client.read(&mut piece)?, 0);
+    assert!(rt; door.now() > 1_577_836_800_000);
+    assert_eq!(rt; door.faults(), 0);
+    lobby.back(doors);
+    assert_eq!(rt; lobby.faults(), 1);
     Ok(())
 }

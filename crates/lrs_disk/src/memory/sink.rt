@@ -1,8 +1,9 @@
-ghost use Rattle.std.specs.Prelude.{◌≡◌, ◌⊎◌, ◌<◌, ◌≤◌, ◌-◌, ◌↔◌, [], ◌++◌, Some, length, take, min, vec_capacity, IfOk, OnErr, IsErr};
+ghost use Rattle.std.specs.Prelude.{◌≡◌, ◌⊎◌, ◌<◌, ◌≤◌, ◌-◌, ◌↔◌, [], ◌++◌, Some, length, take, min, IfOk, OnErr, IsErr};
 ghost use Rattle.lrs_disk.specs.Faults.{HasCause};
 ghost use Rattle.lrs_disk.specs.Schedule.{IsDue, IsNext};
 
 use super::Memory;
+use super::output::Output;
 use super::plan::Plan;
 use crate::{Failed, Sink};
 use std::alloc::Global;
@@ -10,11 +11,8 @@ use std::alloc::Global;
 /// An output in memory, with room for so many bytes.
 #[derive(Drop)]
 pub struct MemSink {
-    taken: Vec<u8>,
-    room: usize,
+    output: Output,
     plan: Plan,
-    ghost within: { length taken.items ≤ room },
-    ghost fits: { room ≤ vec_capacity taken },
 }
 
 impl MemSink {
@@ -28,8 +26,7 @@ impl MemSink {
         ensures faults { IfOk result (λ s. faults_of s ≡ 0) }
     {
         Ok(MemSink {
-            taken: Vec::with_capacity(alloc, room)?,
-            room,
+            output: Output::new(alloc, room)?,
             plan: Plan::new(failing),
         })
     }
@@ -38,7 +35,7 @@ impl MemSink {
     pub fn taken(&self) -> &[u8]
         ensures { result.now ≡ taken_of self.now }
     {
-        &self.taken
+        &self.output.taken
     }
 }
 
@@ -64,11 +61,10 @@ impl Sink for MemSink {
         if self.plan.is_due() {
             return Err(self.plan.fail());
         }
-        let number = bytes.len().min(self.room - self.taken.len());
+        let number = self.output.write(bytes);
         if number == 0 && !bytes.is_empty() {
             return Err(self.plan.fail());
         }
-        self.taken.extend_from_slice(&bytes[..number]).unwrap();
         Ok(number)
     }
 

@@ -2,17 +2,15 @@ ghost use Rattle.std.specs.Prelude.{◌≡◌, ◌⊎◌, ◌<◌, ◌≤◌, �
 ghost use Rattle.lrs_disk.specs.Faults.{HasCause};
 ghost use Rattle.lrs_disk.specs.Schedule.{IsDue, IsNext};
 
+use super::input::Input;
 use super::plan::Plan;
 use crate::{Failed, Source};
 
 /// An input in memory. A read ends at each of some places, so that a reader can be tried on input in pieces.
 #[derive(Drop)]
 pub struct MemSource {
-    bytes: Vec<u8>,
-    place: usize,
-    cuts: Vec<usize>,
+    input: Input,
     plan: Plan,
-    ghost within: { place ≤ length bytes.items },
 }
 
 impl MemSource {
@@ -27,30 +25,10 @@ impl MemSource {
         ensures faults { faults_of result ≡ 0 }
     {
         MemSource {
-            bytes,
-            place: 0,
-            cuts,
+            input: Input::new(bytes, cuts),
             plan: Plan::new(failing),
         }
     }
-}
-
-// Where a read from a place on ends: at the next cut, or at the end.
-fn stop_after(cuts: &[usize], place: usize, end: usize) -> usize
-    requires { place ≤ end }
-    ensures within { result ≤ end }
-    ensures later { place < end → place < result }
-    ensures least { place ≤ result }
-    ensures next { All (λ cut. place < cut → result ≤ cut) cuts.now }
-    ensures stop { (result ≡ end) ⊎ Contains cuts.now result }
-{
-    let mut stop = end;
-    for cut in cuts {
-        if place < *cut && *cut < stop {
-            stop = *cut;
-        }
-    }
-    stop
 }
 
 impl Source for MemSource {
@@ -76,12 +54,7 @@ impl Source for MemSource {
         if self.plan.is_due() {
             return Err(self.plan.fail());
         }
-        let place = self.place;
-        let stop = stop_after(&self.cuts, place, self.bytes.len());
-        let number = into.len().min(stop - place);
-        into[..number].copy_from_slice(&self.bytes[place..place + number]);
-        self.place = place + number;
-        Ok(number)
+        Ok(self.input.read(into))
     }
 
     fn faults(&self) -> u64 {

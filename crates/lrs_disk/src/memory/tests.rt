@@ -1,7 +1,8 @@
 ghost use Rattle.std.specs.Prelude.{◌≡◌, ◌∷◌, [], IfOk};
+ghost use Rattle.lrs_disk.specs.MemLink.{IsUnused};
 
-use super::{MemDisk, MemLobby, MemShelf, MemSink, MemSource, Memory, Pending};
-use crate::{Disk, Failed, Lobby, Shelf, Sink, Source};
+use super::{MemDisk, MemDoor, MemLink, MemLobby, MemShelf, MemSink, MemSource, Memory, Pending};
+use crate::{Disk, Door, Failed, Link, Lobby, Next, Shelf, Sink, Source};
 use std::alloc::Global;
 use std::test::Fail;
 
@@ -108,13 +109,97 @@ fn an_output_fails_when_it_is_full(rt: HostRuntime) -> Result<(), Fail> {
 }
 
 #[test]
+fn a_connection_moves_bytes_both_ways(rt: HostRuntime) -> Result<(), Fail> {
+    let alloc = rt.alloc();
+    let cuts = [2].to_vec(alloc)?;
+    let failing = [2].to_vec(alloc)?;
+    let mut link = MemLink::new(alloc, text(alloc, b"abc")?, cuts, 3, failing)?;
+    let mut piece = [0; 9];
+    assert_eq!(rt; link.read(&mut piece), Ok(2));
+    assert_eq!(rt; link.write(b"xy"), Ok(2));
+    assert_eq!(rt; link.read(&mut piece), Err(Failed));
+    assert_eq!(rt; link.read(&mut piece), Ok(1));
+    assert_eq!(rt; piece[0], b'c');
+    assert_eq!(rt; link.write(b"zz"), Ok(1));
+    assert_eq!(rt; link.write(b"z"), Err(Failed));
+    assert_eq!(rt; link.read(&mut piece), Ok(0));
+    assert_eq!(rt; link.taken(), b"xyz".as_slice());
+    assert_eq!(rt; link.faults(), 2);
+    Ok(())
+}
+
+fn link(alloc: Global, bytes: &[u8]) -> Result<MemLink, Memory>
+    ensures { IfOk result IsUnused }
+{
+    MemLink::new(
+        alloc,
+        text(alloc, bytes)?,
+        Vec::new(alloc),
+        4,
+        Vec::new(alloc),
+    )
+}
+
+#[test]
+fn a_door_gives_its_links_and_closes(rt: HostRuntime) -> Result<(), Fail> {
+    let alloc = rt.alloc();
+    let links = one(alloc, link(alloc, b"ab")?)?;
+    let clock = [5].to_vec(alloc)?;
+    let mut door = MemDoor::new(alloc, links, clock, [1].to_vec(alloc)?)?;
+    let Next::Joined(mut link) = door.next() else {
+        return Err(Fail::from("no link"));
+    };
+    assert_eq!(rt; link.write(b"c"), Ok(1));
+    assert_eq!(rt; door.now(), 5);
+    door.done(link);
+    let answer = door.next();
+    assert!(rt; matches!(answer, Next::Failed));
+    let answer = door.next();
+    assert!(rt; matches!(answer, Next::Closed));
+    assert_eq!(rt; door.faults(), 1);
+    let [link] = door.returned() else {
+        return Err(Fail::from("not one link"));
+    };
+    assert_eq!(rt; link.taken(), b"c".as_slice());
+    Ok(())
+}
+
+#[test]
+fn a_lobby_gives_all_its_doors_once(rt: HostRuntime) -> Result<(), Fail> {
+    let alloc = rt.alloc();
+    let door = MemDoor::new(alloc, Vec::new(alloc), Vec::new(alloc), Vec::new(alloc))?;
+    let mut lobby = MemLobby::new(one(alloc, door)?, Vec::new(alloc), Vec::new(alloc));
+    assert!(rt; lobby.doors(alloc, "127.0.0.1:8080", 2).is_err());
+    let doors = lobby.doors(alloc, "127.0.0.1:8080", 1)?;
+    assert!(rt; lobby.doors(alloc, "127.0.0.1:8080", 1).is_err());
+    assert_eq!(rt; lobby.faults(), 2);
+    lobby.back(doors);
+    assert_eq!(rt; lobby.returned().len(), 1);
+    assert_eq!(rt; lobby.faults(), 2);
+    Ok(())
+}
+
+#[test]
+fn a_door_that_failed_is_counted_by_its_lobby(rt: HostRuntime) -> Result<(), Fail> {
+    let alloc = rt.alloc();
+    let mut door = MemDoor::new(alloc, Vec::new(alloc), Vec::new(alloc), [0].to_vec(alloc)?)?;
+    let answer = door.next();
+    assert!(rt; matches!(answer, Next::Failed));
+    let mut lobby = MemLobby::new(Vec::new(alloc), Vec::new(alloc), Vec::new(alloc));
+    lobby.back(one(alloc, door)?);
+    assert_eq!(rt; lobby.faults(), 1);
+    Ok(())
+}
+
+#[test]
 fn a_clock_shows_its_last_number_again(rt: HostRuntime) -> Result<(), Fail> {
     let alloc = rt.alloc();
-    let mut lobby = MemLobby::new([5, 7].to_vec(alloc)?);
+    let mut lobby = MemLobby::new(Vec::new(alloc), [5, 7].to_vec(alloc)?, Vec::new(alloc));
     for reading in [5, 7, 7] {
         assert_eq!(rt; lobby.now(), reading);
     }
-    assert_eq!(rt; MemLobby::new(Vec::new(alloc)).now(), 0);
+    let mut empty = MemLobby::new(Vec::new(alloc), Vec::new(alloc), Vec::new(alloc));
+    assert_eq!(rt; empty.now(), 0);
     assert_eq!(rt; lobby.faults(), 0);
     Ok(())
 }

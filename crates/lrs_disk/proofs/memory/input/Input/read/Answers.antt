@@ -1,7 +1,7 @@
 use Rattle.std.proofs.Common.{◌≡◌, ◌⊎◌, ◌≤◌, ◌+◌, ◌-◌, ◌++◌, ℕ, List, inl, inr, ⊎_elim, min, length, take, drop, sym, subst, ap, ◌∙◌, arith, Contains, length-take}
 use Rattle.std.proofs.lemmas.Bool.{cases_lt}
 use Rattle.std.proofs.lemmas.List.{take_at, drop-drop, take-append-drop}
-use Rattle.lrs_disk.proofs.memory.source.MemSourceSource.read.Goals as goal
+use Rattle.lrs_disk.proofs.memory.input.Input.read.Goals as goal
 
 -- what was copied stands before what is left
 given_is : (bytes given into copied : List ℕ) (place n m : ℕ) → copied ≡ take m (drop place given) → given ≡ bytes → m ≡ n → length copied ≡ n → drop place bytes ≡ take n (copied ++ drop n into) ++ drop (place + n) bytes

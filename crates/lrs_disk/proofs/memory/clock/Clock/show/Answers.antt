@@ -3,7 +3,7 @@ use Rattle.std.proofs.lemmas.Bool.{ltb-true, lt-ltb}
 use Rattle.std.proofs.lemmas.List.{get_or_read}
 use Rattle.lrs_disk.specs.Clock.{reading_at, readings, told_readings}
 use Rattle.lrs_disk.specs.Readings.{AddsReading}
-use Rattle.lrs_disk.proofs.memory.lobby.MemLobbyLobby.now.Goals as goal
+use Rattle.lrs_disk.proofs.memory.clock.Clock.show.Goals as goal
 
 told_if : (before after : List ℕ) (reading : ℕ) (was is : Bool) → (is ≡ true → was ≡ true) → (is ≡ true → after ≡ before ++ reading ∷ []) → AddsReading (if was then Some before else None) (if is then Some after else None) reading
 told_if before after reading was false told more = tt
@@ -18,5 +18,5 @@ told_more clock number later reading fits is shown = told_if (readings clock num
     ap (λ n. readings clock n) next ∙ rw add-one refl ∙ ap (λ r. readings clock number ++ r ∷ []) (sym shown))
 
 pub returns-in_default-clause-read : goal.returns-in_default-clause-read
-returns-in_default-clause-read c = told_more c.args.self.now.clock.items c.args.self.now.shown c.saturating_add-self.result c.index.result.now (omega arith) (omega arith)
-    (get_or_read c.args.self.now.clock.items c.min.result c.index.result.now (omega arith) c.index.ensures 0 ∙ ap (λ k. get_or c.args.self.now.clock.items k 0) (omega (arith, c.min.ensures, c.len.ensures)))
+returns-in_default-clause-read c = told_more c.args.self.now.numbers.items c.args.self.now.shown c.saturating_add-self.result c.index.result.now (omega arith) (omega arith)
+    (get_or_read c.args.self.now.numbers.items c.min.result c.index.result.now (omega arith) c.index.ensures 0 ∙ ap (λ k. get_or c.args.self.now.numbers.items k 0) (omega (arith, c.min.ensures, c.len.ensures)))

@@ -1,5 +1,5 @@
 use Rattle.std.proofs.Common.{◌≡◌, ◌⊎◌, ◌<◌, ◌≤◌, ℕ, get_or, Contains}
-use Rattle.lrs_disk.proofs.memory.source.stop_after.Given as goal
+use Rattle.lrs_disk.proofs.memory.input.stop_after.Given as goal
 
 abbrev pub invariant-loop-cut : goal.invariant-loop-cut
 invariant-loop-cut l = record {
