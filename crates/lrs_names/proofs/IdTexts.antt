@@ -1,8 +1,8 @@
 -- The text of an id is ASCII, and tells the id.
-use Rattle.std.proofs.Common.{◌≡◌, ℕ, ◌<◌, List, Option, Some, IsAscii, IsUtf8, if◌then◌else◌, arith, inl, refl, sym, ap, ◌∙◌}
+use Rattle.std.proofs.Common.{◌≡◌, ℕ, ◌<◌, List, Some, IsAscii, IsUtf8, arith, inl, refl, sym, ap, ◌∙◌}
 use Rattle.std.proofs.lemmas.Bool.Decides.{nat_tests}
 use Rattle.std.proofs.lemmas.Str.{IsUtf8-from_ascii}
-use Rattle.uuid.specs.Text.{hex_digit, nibble, digit_place, is_hyphen_place, hyphen, lower}
+use Rattle.uuid.specs.Text.{hex_digit, nibble, digit_place, lower}
 use Rattle.uuid.proofs.TextLemmas.{by_index_ascii, nibble_small}
 use Rattle.uuid.proofs.RoundTrips.{parses_hyphenated_text}
 use Rattle.lrs_names.specs.Ids.{IsId, id_of, id_text}
