@@ -1,0 +1,200 @@
+-- What fields say, one after the other.
+use Rattle.std.proofs.Common.{◌≡◌, ℕ, zero, suc, lit≤, ◌+◌, ◌-◌, ◌*◌, ◌^◌, ◌<◌, ◌≤◌, Bool, true, false, cond, List, [], ◌∷◌, length, take, drop, get_or, Some, None, Result, Err, refl, sym, ap, ◌∙◌, arith, rules, inl, inr, ⊎_elim, add-one, drop-cons}
+use Rattle.std.specs.Prelude.{IsTrue, ◌↔◌, map, nat_lt, ◌&&◌, ◌||◌, IsUtf8}
+use Rattle.std.specs.List.{list_all, list_any, slice_split, position_or_len}
+use Rattle.std.proofs.lemmas.List.Splits.{slice_split_first}
+use Rattle.std.specs.Str.{str_eq_ignore_ascii_case, bytes_eq, is_utf8}
+use Rattle.std.specs.Char.{to_ascii_lowercase, is_ascii_digit, digit_value}
+use Rattle.std.specs.Str.Parse.{AllDigits, digits_value}
+use Rattle.std.proofs.lemmas.Int.Digits.{digits_value_more}
+use Rattle.std.proofs.lemmas.Nat.{pow-add}
+use Rattle.std.proofs.Math.Nat.{pow-le-pow_right}
+use Rattle.std.proofs.lemmas.Slice.Eq.{bytes_eq-Decides}
+use Rattle.std.proofs.lemmas.Str.{IsUtf8-from_is_utf8}
+use Rattle.std.proofs.lemmas.Bool.{cases_Bool, cases_lt, and_parts}
+use Rattle.std.proofs.lemmas.Bool.Decides.{nat_tests}
+use Rattle.httparse.specs.declared.spans.HeaderSpan.{HeaderSpan}
+use Rattle.httparse.specs.Spans.{header_bytes}
+use Rattle.httparse.specs.Grammar.{skip_ows, is_ows}
+use Rattle.lrs_http.specs.declared.request.RequestRefused.{RequestRefused}
+use Rattle.lrs_http.specs.declared.request.RequestRefused.TheVariants as refused
+use Rattle.lrs_http.specs.Fields.{NameAndValue, is_named, first_value, count_named, is_length, is_close, is_comma, asks_to_close}
+use Rattle.lrs_http.specs.Head.{HeadParts, most_fields, announced, has_texts, body_length, method_of}
+use Rattle.lrs_http.specs.Reading.{IsNoText}
+use Rattle.lrs_http.proofs.FrontLemmas.{take_min, drop_min}
+use Rattle.std.specs.Prelude.{codes, nat_le, ◌⊎◌, min}
+use Rattle.std.specs.List.{fold}
+use Rattle.std.proofs.lemmas.List.{length-map, length-take, take_all}
+
+-- the comparison of names in any case, as a test
+pub named_is : (r : Bool) (a b : List ℕ) → (IsTrue r ↔ (map to_ascii_lowercase a ≡ map to_ascii_lowercase b)) → r ≡ str_eq_ignore_ascii_case a b
+named_is r a b same = test (map to_ascii_lowercase a) (map to_ascii_lowercase b) same
+  where
+    test : (xs ys : List ℕ) → (IsTrue r ↔ (xs ≡ ys)) → r ≡ bytes_eq xs ys
+    test xs ys h = search (rules, bytes_eq-Decides)
+
+pub first_here : (name : List ℕ) (field : NameAndValue) (fields : List NameAndValue) → is_named name field ≡ true → first_value name (field ∷ fields) ≡ Some field.1
+unfolding first_value
+first_here name field fields is = rw is refl
+
+pub first_later : (name : List ℕ) (field : NameAndValue) (fields : List NameAndValue) → is_named name field ≡ false → first_value name (field ∷ fields) ≡ first_value name fields
+unfolding first_value
+first_later name field fields is = rw is refl
+
+pub first_none : (name : List ℕ) → first_value name [] ≡ None
+unfolding first_value
+first_none name = refl
+
+-- ---- counts
+
+sum_from : (f : NameAndValue → ℕ) (a : ℕ) (xs : List NameAndValue) → fold (λ n x. n + f x) a xs ≡ a + fold (λ n x. n + f x) 0 xs
+sum_from f a [] = omega arith
+sum_from f a (x ∷ xs) = sum_from f (a + f x) xs ∙ (let more = sum_from f (0 + f x) xs in omega (arith, more))
+
+pub count_here : (name : List ℕ) (field : NameAndValue) (fields : List NameAndValue) → is_named name field ≡ true → count_named name (field ∷ fields) ≡ count_named name fields + 1
+unfolding count_named
+count_here name field fields is = rw is (sum_from (λ (f : NameAndValue). cond (is_named name f) 1 0) 1 fields ∙ omega arith)
+
+pub count_later : (name : List ℕ) (field : NameAndValue) (fields : List NameAndValue) → is_named name field ≡ false → count_named name (field ∷ fields) ≡ count_named name fields
+unfolding count_named
+count_later name field fields is = rw is refl
+
+pub count_none : (name : List ℕ) → count_named name [] ≡ 0
+unfolding count_named
+count_none name = refl
+
+-- the span of a place past the end
+abbrev pub blank_span : HeaderSpan
+blank_span = record { name = record { start = 0; end = 0 }; value = record { start = 0; end = 0 } }
+
+-- the fields from a place on
+pub fields_from : (bytes : List ℕ) (fields : List HeaderSpan) (i : ℕ) (d : HeaderSpan) → i < length fields
+    → map (header_bytes bytes) (drop i fields) ≡ header_bytes bytes (get_or fields i d) ∷ map (header_bytes bytes) (drop (i + 1) fields)
+fields_from bytes fields i d lt =
+    ap (λ (l : List HeaderSpan). map (header_bytes bytes) l) (drop-cons fields i d lt)
+    ∙ ap (λ n. header_bytes bytes (get_or fields i d) ∷ map (header_bytes bytes) (drop n fields)) (sym (add-one i))
+
+-- the comparison of a field's name
+pub named_at : (r : Bool) (a name : List ℕ) (field : NameAndValue) → (IsTrue r ↔ (map to_ascii_lowercase a ≡ map to_ascii_lowercase name)) → a ≡ field.0 → r ≡ is_named name field
+named_at r a name field same is = named_is r a name same ∙ ap (λ (l : List ℕ). str_eq_ignore_ascii_case l name) is
+
+-- ---- the number of a length
+
+digit_range : (b : ℕ) → digit_value b < 10 → (48 ≤ b) × (b ≤ 57) × (digit_value b ≡ b - 48)
+digit_range b h = grind arith
+
+test_digit : (b : ℕ) → is_ascii_digit b ≡ true → digit_value b < 10
+test_digit b h = grind arith
+
+digit_at : (ds : List ℕ) (i : ℕ) → AllDigits 10 ds → i < length ds → digit_value (get_or ds i 0) < 10
+digit_at [] i all lt = absurd (omega arith)
+digit_at (d ∷ ds) zero all lt = all.0
+digit_at (d ∷ ds) (suc i) all lt = digit_at ds i all.1 (omega arith)
+
+-- one digit more of the number that ten digits write
+pub number_step : (ds : List ℕ) (i v : ℕ) → AllDigits 10 ds → length ds ≤ 10 → i < length ds → v ≡ digits_value 10 (take i ds) → v < 10 ^ i
+    → (48 ≤ get_or ds i 0) × (v < 10 ^ 9) × (get_or ds i 0 - 48 < 10) × (v * 10 + (get_or ds i 0 - 48) ≡ digits_value 10 (take (i + 1) ds)) × (v * 10 + (get_or ds i 0 - 48) < 10 ^ (i + 1))
+number_step ds i v all few lt is small =
+    let d = digit_range (get_or ds i 0) (digit_at ds i all lt) in
+    let below : i ≤ 9 = omega arith in
+    let top : 10 ^ i ≤ 10 ^ 9 = pow-le-pow_right (lit≤ tt) below in
+    let up : 10 ^ (i + 1) ≡ 10 ^ i * 10 = pow-add 10 i 1 in
+    let more = digits_value_more 10 ds i lt in
+    (d.0, omega arith, omega arith, omega arith, omega arith)
+
+-- bytes that pass the test are digits
+pub digits_from_test : (ds : List ℕ) → list_all is_ascii_digit ds ≡ true → AllDigits 10 ds
+digits_from_test [] all = tt
+digits_from_test (d ∷ ds) all =
+    let parts = and_parts (is_ascii_digit d) (list_all is_ascii_digit ds) all in
+    (test_digit d parts.0, digits_from_test ds parts.1)
+
+pub length_parts : (value : List ℕ) → is_length value ≡ true → (length value ≤ 10) × AllDigits 10 value
+unfolding is_length
+length_parts value is =
+    let one = and_parts (nat_lt 0 (length value)) (nat_le (length value) 10 && list_all is_ascii_digit value) is in
+    let two = and_parts (nat_le (length value) 10) (list_all is_ascii_digit value) one.1 in
+    let few : length value ≤ 10 = grind (arith, nat_tests, two.0) in
+    (few, digits_from_test value two.1)
+
+pub close_is : (element word front : List ℕ) (end : ℕ) (r : Bool) → word ≡ skip_ows element → end ≡ min (length word) 5 → front ≡ take end word
+    → (IsTrue r ↔ (map to_ascii_lowercase front ≡ map to_ascii_lowercase (codes "close"))) → (r && list_all is_ows (drop end word)) ≡ is_close element
+unfolding is_close
+close_is element word front end r is bound part same =
+    let fronts : take end word ≡ take 5 word = take_min 5 end word bound in
+    let backs : drop end word ≡ drop 5 word = drop_min 5 end word bound in
+    let test : r ≡ str_eq_ignore_ascii_case front (codes "close") = named_is r front (codes "close") same in
+    let word_is : front ≡ take 5 (skip_ows element) = part ∙ fronts ∙ ap (take 5) is in
+    ap (λ (b : Bool). b && list_all is_ows (drop end word)) test
+    ∙ ap (λ (l : List ℕ). str_eq_ignore_ascii_case l (codes "close") && list_all is_ows (drop end word)) word_is
+    ∙ ap (λ (l : List ℕ). str_eq_ignore_ascii_case (take 5 (skip_ows element)) (codes "close") && list_all is_ows l) (backs ∙ ap (drop 5) is)
+
+-- ---- what a head announces
+
+pub announced_in_order : (parts : HeadParts) → length parts.fields ≤ most_fields → has_texts parts.fields ≡ true → announced parts ≡ body_length (method_of parts.method) parts.fields
+unfolding announced
+announced_in_order parts few texts = let test : nat_lt most_fields (length parts.fields) ≡ false = grind (arith, nat_tests, few) in rw (test, texts) refl
+
+pub announced_no_text : (parts : HeadParts) → length parts.fields ≤ most_fields → has_texts parts.fields ≡ false → announced parts ≡ Err (refused.Malformed 1)
+unfolding announced
+announced_no_text parts few texts = let test : nat_lt most_fields (length parts.fields) ≡ false = grind (arith, nat_tests, few) in rw (test, texts) refl
+
+pub refused_text : (parts : HeadParts) (e : RequestRefused) → length parts.fields ≤ most_fields → IsNoText (has_texts parts.fields) e → (e ≡ refused.Memory) ⊎ (announced parts ≡ Err e)
+refused_text parts e few why = ⊎_elim (λ is. inl is) (λ is. inr (announced_no_text parts few is.1 ∙ ap (λ (r : RequestRefused). let o : Result ℕ RequestRefused = Err r in o) (sym is.0))) why
+
+pub few_taken : (bytes : List ℕ) (fields : List HeaderSpan) (n : ℕ) → n ≤ most_fields → length (map (header_bytes bytes) (take n fields)) ≤ most_fields
+few_taken bytes fields n few =
+    let one = length-map (take n fields) (header_bytes bytes) in
+    let two = length-take n fields in
+    omega (arith, one, two, few)
+
+pub no_utf8 : (bytes : List ℕ) → ¬ (IsUtf8 bytes) → is_utf8 bytes ≡ false
+no_utf8 bytes not = elim (cases_Bool (is_utf8 bytes)) [
+  | inl is ↦ absurd (not (IsUtf8-from_is_utf8 bytes is))
+  | inr other ↦ other
+]
+
+-- ---- the elements of a list
+
+split_whole : (xs : List ℕ) → position_or_len is_comma xs ≡ length xs → slice_split is_comma xs ≡ xs ∷ []
+split_whole [] e = refl
+split_whole (x ∷ xs) e = elim (cases_Bool (is_comma x)) [
+  | inl is ↦ let first : 0 ≡ length (x ∷ xs) = rw is at e in absurd (omega (arith, first))
+  | inr not ↦
+      let rest : position_or_len is_comma xs ≡ length xs = let more = rw not at e in omega (arith, more) in
+      let known = split_whole xs rest in
+      rw (not, known) refl
+]
+
+pub closes_last : (xs : List ℕ) → position_or_len is_comma xs ≡ length xs → asks_to_close xs ≡ is_close xs
+unfolding asks_to_close
+closes_last xs e = rw (split_whole xs e) (or_false (is_close xs))
+  where
+    or_false : (b : Bool) → (b || false) ≡ b
+    or_false true = refl
+    or_false false = refl
+
+pub closes_first : (xs : List ℕ) (at : ℕ) → at ≡ position_or_len is_comma xs → at < length xs → asks_to_close xs ≡ (is_close (take at xs) || asks_to_close (drop (at + 1) xs))
+unfolding asks_to_close
+closes_first xs at is less =
+    let within : position_or_len is_comma xs < length xs = omega (arith, is, less) in
+    let split = slice_split_first is_comma xs 0 within in
+    ap (λ (l : List (List ℕ)). list_any is_close l) split
+    ∙ ap (λ (n : ℕ). is_close (take n xs) || list_any is_close (slice_split is_comma (drop (n + 1) xs))) (sym is)
+
+pub closes_true : (xs : List ℕ) (at : ℕ) → at ≡ position_or_len is_comma xs → at ≤ length xs → is_close (take at xs) ≡ true → asks_to_close xs ≡ true
+closes_true xs at is within close = ⊎_elim
+    (λ less. closes_first xs at is less ∙ ap (λ (b : Bool). b || asks_to_close (drop (at + 1) xs)) close)
+    (λ full.
+    let whole : take at xs ≡ xs = take_all at xs full in
+    let last : position_or_len is_comma xs ≡ length xs = omega (arith, is, within, full) in
+    closes_last xs last ∙ ap is_close (sym whole) ∙ close)
+    (cases_lt at (length xs))
+
+pub closes_none : (xs : List ℕ) (at : ℕ) → at ≡ position_or_len is_comma xs → at ≡ length xs → is_close (take at xs) ≡ false → asks_to_close xs ≡ false
+closes_none xs at is full not =
+    let whole : take at xs ≡ xs = take_all at xs (omega (arith, full)) in
+    closes_last xs (sym is ∙ full) ∙ ap is_close (sym whole) ∙ not
+
+pub closes_later : (xs : List ℕ) (at : ℕ) → at ≡ position_or_len is_comma xs → at < length xs → is_close (take at xs) ≡ false → asks_to_close xs ≡ asks_to_close (drop (at + 1) xs)
+closes_later xs at is less not = closes_first xs at is less ∙ ap (λ (b : Bool). b || asks_to_close (drop (at + 1) xs)) not

@@ -1,0 +1,6 @@
+pub mod FieldLemmas
+pub mod FrontLemmas
+pub mod ListLemmas
+pub mod NextLemmas
+pub mod ReachLemmas
+pub mod SendLemmas

@@ -1,0 +1,9 @@
+pub mod Fields
+pub mod Head
+pub mod Reach
+pub mod Reading
+pub mod Stream
+pub mod Links
+pub mod OneList
+pub mod Prospect
+pub mod Response
