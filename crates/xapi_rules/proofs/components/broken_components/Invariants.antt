@@ -1,0 +1,8 @@
+use Rattle.std.proofs.Common.{◌≡◌, drop, map}
+use Rattle.lrs_json.specs.View.{view, elements_of}
+use Rattle.lrs_names.specs.Rules.{least, lesser}
+use Rattle.xapi_rules.specs.Objects.{faults_of_components}
+use Rattle.xapi_rules.proofs.components.broken_components.Given as goal
+
+abbrev pub invariant-loop-item : goal.invariant-loop-item
+invariant-loop-item l = least (faults_of_components (elements_of (map view l.items))) ≡ lesser l.broken (least (faults_of_components (elements_of (map view (drop l.item-index l.items)))))

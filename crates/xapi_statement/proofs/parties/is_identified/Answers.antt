@@ -1,0 +1,9 @@
+use Rattle.lrs_json.specs.View.{view}
+use Rattle.lrs_names.specs.Identifiers.{identifier_of}
+use Rattle.xapi_statement.specs.Parties.{is_identified}
+use Rattle.xapi_statement.proofs.Identifying.{same_test}
+use Rattle.xapi_statement.proofs.parties.is_identified.Goals as goal
+
+pub returns : goal.returns
+unfolding is_identified
+returns c = same_test c.args.ifi.now (identifier_of (view c.args.tree.now)) c.is_of.result c.is_of.ensures

@@ -1,0 +1,97 @@
+// How long a statement's written form is.
+ghost use Rattle.std.specs.Prelude.{◌≡◌, ◌+◌, ◌<◌, false, length, MatchOption};
+ghost use Rattle.lrs_json.specs.View.{view};
+ghost use Rattle.lrs_json.specs.Written.{written_tree, list_text, object_text, text_of_member, quoted, escaped, comma_if};
+ghost use Rattle.xapi_statement.specs.Statement.{is_too_long};
+
+use lrs_json::{Member, Text, Tree};
+
+/// The longest written form that is kept, in bytes.
+const LONGEST: usize = 262_144;
+
+/// Whether the statement's written form has more bytes than are kept.
+#[tactic(auto, unfolding(crate::specs::Statement::is_too_long))]
+pub fn is_too_long(statement: &Tree) -> bool
+    ensures { result ≡ is_too_long (view statement.now) }
+{
+    room_behind(statement, LONGEST).is_none()
+}
+
+// What is left of the room behind the tree's written form.
+#[cycle(room)]
+fn room_behind(tree: &Tree, room: usize) -> Option<usize>
+    ensures { MatchOption result (room < length (written_tree tree.now)) (λ left. left + length (written_tree tree.now) ≡ room) }
+{
+    match tree {
+        Tree::Null => room.checked_sub(4),
+        Tree::Bool(true) => room.checked_sub(4),
+        Tree::Bool(false) => room.checked_sub(5),
+        Tree::Number(spelling) => room.checked_sub(spelling.as_str().len()),
+        Tree::Words(text) => room_behind_text(text, room),
+        Tree::List(items) => room_behind_items(items.as_slice(), room.checked_sub(1)?),
+        Tree::Object(members) => room_behind_members(members.as_slice(), room.checked_sub(1)?),
+    }
+}
+
+// The items and the closing bracket.
+#[cycle(room)]
+fn room_behind_items(items: &[Tree], room: usize) -> Option<usize>
+    ensures { MatchOption result (room < length (list_text false items.now)) (λ left. left + length (list_text false items.now) ≡ room) }
+{
+    let mut left = room;
+    for (i, item) in items.iter().enumerate() {
+        left = room_behind(item, room_behind_comma(i > 0, left)?)?;
+    }
+    left.checked_sub(1)
+}
+
+#[cycle(room)]
+fn room_behind_members(members: &[Member], room: usize) -> Option<usize>
+    ensures { MatchOption result (room < length (object_text false members.now)) (λ left. left + length (object_text false members.now) ≡ room) }
+{
+    let mut left = room;
+    for (i, member) in members.iter().enumerate() {
+        left = room_behind_member(member, room_behind_comma(i > 0, left)?)?;
+    }
+    left.checked_sub(1)
+}
+
+#[cycle(room)]
+fn room_behind_member(member: &Member, room: usize) -> Option<usize>
+    ensures { MatchOption result (room < length (text_of_member member.now)) (λ left. left + length (text_of_member member.now) ≡ room) }
+{
+    let left = room_behind_text(&member.name, room)?.checked_sub(1)?;
+    room_behind(&member.value, left)
+}
+
+fn room_behind_comma(later: bool, room: usize) -> Option<usize>
+    ensures { MatchOption result (room < length (comma_if later)) (λ left. left + length (comma_if later) ≡ room) }
+{
+    if later {
+        room.checked_sub(1)
+    } else {
+        Some(room)
+    }
+}
+
+fn room_behind_text(text: &Text, room: usize) -> Option<usize>
+    ensures { MatchOption result (room < length (quoted text.now)) (λ left. left + length (quoted text.now) ≡ room) }
+{
+    let mut left = room.checked_sub(2)?;
+    for byte in text.as_bytes() {
+        left = left.checked_sub(written_length(*byte))?;
+    }
+    Some(left)
+}
+
+// How many bytes stand for a byte of a text in its written form.
+#[tactic(auto, unfolding(lrs_json::specs::Written::escaped))]
+fn written_length(byte: u8) -> usize
+    ensures { result ≡ length (escaped byte) }
+{
+    match byte {
+        b'"' | b'\\' | 8 | b'\t' | b'\n' | 12 | b'\r' => 2,
+        0..32 => 6,
+        _ => 1,
+    }
+}

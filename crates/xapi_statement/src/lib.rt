@@ -1,0 +1,20 @@
+//! Statements (xAPI 1.0.3, part two, section 2): a value that breaks none of the rules and isn't too long, and what the
+//! layers above ask of one.
+#![tactic(auto)]
+
+mod activities;
+mod length;
+mod members;
+mod parties;
+mod refused;
+mod statement;
+
+pub use length::is_too_long;
+pub use lrs_json::Memory;
+pub use members::own_id;
+pub use refused::{StatementRefused, judge};
+pub use statement::Statement;
+pub use xapi_rules::{broken_rule, is_voiding};
+
+#[cfg(test)]
+mod tests;

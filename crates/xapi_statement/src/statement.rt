@@ -1,0 +1,162 @@
+ghost use Rattle.std.specs.Prelude.{◌≡◌, ◌⊎◌, ◌↔◌, None, Some, Err, IsTrue, MatchResult, option_map, MatchOption, IsSomeAnd, ℕ, List, codes, false};
+ghost use Rattle.lrs_decimal.specs.Values.{Means};
+ghost use Rattle.lrs_json.specs.View.{view};
+ghost use Rattle.xapi_rules.specs.Numbers.{is_decimal};
+ghost use Rattle.xapi_rules.specs.Rules.{is_voiding};
+ghost use Rattle.xapi_statement.specs.Parties.{has_agent, actor_of};
+ghost use Rattle.xapi_statement.specs.Statement.{is_too_long, refusal, is_statement, own_id, verb_of, registration_of, target_of, activity_of, has_context_activity, has_activity, extension_of, result_boolean, scaled_of, has_duration};
+
+use crate::refused::{StatementRefused, judge};
+use crate::{activities, members, parties};
+use lrs_decimal::Decimal;
+use lrs_json::{Text, Tree};
+use lrs_names::{Id, Ifi};
+use std::alloc::Global;
+
+/// A value that breaks none of the rules on statements and isn't too long.
+#[derive(Drop)]
+pub struct Statement {
+    /// The value as it was received.
+    pub tree: Tree,
+    pub ghost unbroken: { IsTrue (is_statement (view tree)) },
+}
+
+impl Statement {
+    /// Holds the tree against the rules, and keeps it as it is.
+    #[tactic(auto, unfolding(crate::specs::Statement::is_statement))]
+    pub fn read(alloc: Global, tree: Tree) -> Result<Statement, StatementRefused>
+        ensures read { MatchResult result (λ s. (s.tree ≡ tree) × (refusal (view tree) ≡ None)) (λ e. (refusal (view tree) ≡ Some e) ⊎ (e ≡ StatementRefused.Memory)) }
+        ensures too_long { (result ≡ Err StatementRefused.TooLong) ↔ IsTrue (is_too_long (view tree)) }
+    {
+        match judge(alloc, &tree) {
+            Ok(()) => Ok(Statement { tree }),
+            Err(refused) => Err(refused),
+        }
+    }
+
+    /// The statement that a tree is which was judged before.
+    pub fn of(tree: Tree) -> Statement
+        requires { IsTrue (is_statement (view tree)) }
+        ensures { result.tree ≡ tree }
+    {
+        Statement { tree }
+    }
+
+    /// The tree that was read.
+    pub fn received(&self) -> &Tree
+        ensures { result.now ≡ self.now.tree }
+    {
+        &self.tree
+    }
+
+    /// The id that it gives itself.
+    pub fn id(&self) -> Option<Id>
+        ensures { result ≡ own_id (view self.now.tree) }
+    {
+        members::own_id(&self.tree)
+    }
+
+    /// The id of its verb, an IRI.
+    pub fn verb(&self) -> &str
+        ensures { result.now ≡ verb_of (view self.now.tree) }
+    {
+        members::verb_of(&self.tree)
+    }
+
+    pub fn registration(&self) -> Option<Id>
+        ensures { result ≡ registration_of (view self.now.tree) }
+    {
+        members::registration_of(&self.tree)
+    }
+
+    /// Whether its verb is voided (xAPI 1.0.3, part two, section 2.3.2).
+    pub fn is_voiding(&self) -> bool
+        ensures { result ≡ is_voiding (view self.now.tree) }
+    {
+        xapi_rules::is_voiding(&self.tree)
+    }
+
+    /// The statement to which its object refers.
+    pub fn target(&self) -> Option<Id>
+        ensures { result ≡ target_of (view self.now.tree) }
+    {
+        members::target_of(&self.tree)
+    }
+
+    /// The id of the Activity that is its object, an IRI.
+    pub fn activity(&self) -> Option<&Text>
+        ensures { option_map (λ t. t.now) result ≡ activity_of (view self.now.tree) }
+    {
+        members::activity_of(&self.tree)
+    }
+
+    /// Whether its actor is the Agent of that identifier.
+    pub fn is_actor(&self, ifi: &Ifi) -> bool
+        ensures { IsTrue result ↔ (actor_of (view self.now.tree) ≡ Some ifi.now) }
+    {
+        parties::is_actor(&self.tree, ifi)
+    }
+
+    /// Whether who has that identifier takes part in it, as actor or object or as a member of one; with the related
+    /// places also as authority, instructor, team, and in a SubStatement.
+    pub fn has_agent(&self, ifi: &Ifi, related: bool) -> bool
+        ensures { result ≡ has_agent ifi.now related (view self.now.tree) }
+    {
+        parties::has_agent(&self.tree, ifi, related)
+    }
+
+    /// Whether its object is the Activity of that id; with the related places also whether its context activities, or
+    /// those places of a SubStatement, hold it.
+    pub fn has_activity(&self, id: &str, related: bool) -> bool
+        ensures { result ≡ has_activity id.now related (view self.now.tree) }
+    {
+        activities::has_activity(&self.tree, id, related)
+    }
+
+    /// Whether the category activities of its context hold the Activity of that id.
+    pub fn category(&self, id: &str) -> bool
+        ensures { result ≡ has_context_activity (codes "category") id.now (view self.now.tree) }
+    {
+        activities::has_context_activity(&self.tree, "category", id)
+    }
+
+    /// Whether the grouping activities of its context hold the Activity of that id.
+    pub fn grouping(&self, id: &str) -> bool
+        ensures { result ≡ has_context_activity (codes "grouping") id.now (view self.now.tree) }
+    {
+        activities::has_context_activity(&self.tree, "grouping", id)
+    }
+
+    /// What the extension of its context of that name holds.
+    pub fn extension(&self, id: &str) -> Option<&Tree>
+        ensures { option_map (λ t. view t.now) result ≡ extension_of id.now (view self.now.tree) }
+    {
+        members::extension_of(&self.tree, id)
+    }
+
+    /// The scaled score of its result.
+    pub fn scaled(&self) -> Option<Decimal>
+        ensures { MatchOption result ((s : List ℕ) → scaled_of (view self.now.tree) ≡ Some s → is_decimal s ≡ false) (λ d. IsSomeAnd (scaled_of (view self.now.tree)) (λ s. Means d s)) }
+    {
+        members::scaled_of(&self.tree)
+    }
+
+    pub fn success(&self) -> Option<bool>
+        ensures { result ≡ result_boolean (codes "success") (view self.now.tree) }
+    {
+        members::result_boolean(&self.tree, "success")
+    }
+
+    pub fn completion(&self) -> Option<bool>
+        ensures { result ≡ result_boolean (codes "completion") (view self.now.tree) }
+    {
+        members::result_boolean(&self.tree, "completion")
+    }
+
+    /// Whether its result has a duration.
+    pub fn has_duration(&self) -> bool
+        ensures { result ≡ has_duration (view self.now.tree) }
+    {
+        members::has_duration(&self.tree)
+    }
+}
