@@ -93,9 +93,163 @@ fn a_desk_replies_to_commands(rt: HostRuntime) -> Result<(), Fail> {
     let kept = answered(alloc, &mut desk, STATEMENT)?;
     assert_eq!(rt; kept.0, 204);
     assert!(rt; kept.1.is_empty());
-    let other = answered(alloc, &mut desk, "{\"verb\":{\"id\":\"http://v/2\"}}")?;
+    let other = answered(
+        alloc,
+        &mut desk,
+        "{\"actor\":{\"mbox\":\"mailto:a@b\"},\"verb\":{\"id\":\"http://v/2\"},\"object\":{\"id\":\"http://a/1\"}}",
+    )?;
     assert_eq!(rt; other.0, 409);
     let body = b"{\"error\":\"409\",\"id\":\"11111111-1111-4111-8111-111111111111\"}";
     assert_eq!(rt; other.1.as_slice(), body.as_slice());
+    Ok(())
+}
+
+#[test]
+fn intake_names_the_least_broken_rule(rt: HostRuntime) -> Result<(), Fail> {
+    // No statement's least broken rule is 9: an `openid` that is no IRI breaks rule 6.
+    let refused = [
+        (
+            "refused S1\n",
+            "{\"id\":\"22222222-2222-4222-8222-222222222222\",\"actor\":{\"mbox\":\"mailto:a@b\"},\"object\":{\"id\":\"http://a/1\"}}",
+        ),
+        (
+            "refused S2\n",
+            "{\"id\":\"22222222-2222-4222-8222-222222222222\",\"actor\":{\"mbox\":\"mailto:a@b\"},\"verb\":{\"id\":\"http://v/1\"},\"object\":{\"id\":\"http://a/1\"},\"note\":\"x\"}",
+        ),
+        (
+            "refused S3\n",
+            "{\"id\":\"22222222-2222-4222-8222-222222222222\",\"actor\":{\"mbox\":\"mailto:a@b\"},\"verb\":{\"id\":\"http://v/1\"},\"object\":{\"id\":\"http://a/1\"},\"result\":null}",
+        ),
+        (
+            "refused S4\n",
+            "{\"id\":\"2222\",\"actor\":{\"mbox\":\"mailto:a@b\"},\"verb\":{\"id\":\"http://v/1\"},\"object\":{\"id\":\"http://a/1\"}}",
+        ),
+        (
+            "refused S5\n",
+            "{\"id\":\"22222222-2222-4222-8222-222222222222\",\"actor\":{\"mbox\":\"mailto:a@b\"},\"verb\":{\"id\":\"http://v/1\"},\"object\":{\"id\":\"http://a/1\"},\"version\":\"2.0.0\"}",
+        ),
+        (
+            "refused S6\n",
+            "{\"id\":\"22222222-2222-4222-8222-222222222222\",\"actor\":{\"mbox\":\"mailto:a@b\"},\"verb\":{\"id\":\"no iri\"},\"object\":{\"id\":\"http://a/1\"}}",
+        ),
+        (
+            "refused S7\n",
+            "{\"id\":\"22222222-2222-4222-8222-222222222222\",\"actor\":{\"mbox\":\"mailto:a\"},\"verb\":{\"id\":\"http://v/1\"},\"object\":{\"id\":\"http://a/1\"}}",
+        ),
+        (
+            "refused S8\n",
+            "{\"id\":\"22222222-2222-4222-8222-222222222222\",\"actor\":{\"mbox_sha1sum\":\"abc\"},\"verb\":{\"id\":\"http://v/1\"},\"object\":{\"id\":\"http://a/1\"}}",
+        ),
+        (
+            "refused S6\n",
+            "{\"id\":\"22222222-2222-4222-8222-222222222222\",\"actor\":{\"openid\":\"no iri\"},\"verb\":{\"id\":\"http://v/1\"},\"object\":{\"id\":\"http://a/1\"}}",
+        ),
+        (
+            "refused S10\n",
+            "{\"id\":\"22222222-2222-4222-8222-222222222222\",\"actor\":{\"account\":{\"homePage\":\"http://h/\"}},\"verb\":{\"id\":\"http://v/1\"},\"object\":{\"id\":\"http://a/1\"}}",
+        ),
+        (
+            "refused S11\n",
+            "{\"id\":\"22222222-2222-4222-8222-222222222222\",\"actor\":{\"mbox\":\"mailto:a@b\",\"openid\":\"http://o/1\"},\"verb\":{\"id\":\"http://v/1\"},\"object\":{\"id\":\"http://a/1\"}}",
+        ),
+        (
+            "refused S12\n",
+            "{\"id\":\"22222222-2222-4222-8222-222222222222\",\"actor\":{\"objectType\":\"Group\"},\"verb\":{\"id\":\"http://v/1\"},\"object\":{\"id\":\"http://a/1\"}}",
+        ),
+        (
+            "refused S13\n",
+            "{\"id\":\"22222222-2222-4222-8222-222222222222\",\"actor\":{\"objectType\":\"Group\",\"member\":{}},\"verb\":{\"id\":\"http://v/1\"},\"object\":{\"id\":\"http://a/1\"}}",
+        ),
+        (
+            "refused S14\n",
+            "{\"id\":\"22222222-2222-4222-8222-222222222222\",\"actor\":{\"mbox\":\"mailto:a@b\"},\"verb\":{\"id\":\"http://v/1\",\"display\":{\"en\":1}},\"object\":{\"id\":\"http://a/1\"}}",
+        ),
+        (
+            "refused S15\n",
+            "{\"id\":\"22222222-2222-4222-8222-222222222222\",\"actor\":{\"objectType\":\"Activity\",\"id\":\"http://a/1\"},\"verb\":{\"id\":\"http://v/1\"},\"object\":{\"id\":\"http://a/1\"}}",
+        ),
+        (
+            "refused S16\n",
+            "{\"id\":\"22222222-2222-4222-8222-222222222222\",\"actor\":{\"mbox\":\"mailto:a@b\"},\"verb\":{\"id\":\"http://v/1\",\"name\":\"x\"},\"object\":{\"id\":\"http://a/1\"}}",
+        ),
+        (
+            "refused S17\n",
+            "{\"id\":\"22222222-2222-4222-8222-222222222222\",\"actor\":{\"mbox\":\"mailto:a@b\"},\"verb\":{\"id\":\"http://v/1\"},\"object\":{\"objectType\":\"Thing\"}}",
+        ),
+        (
+            "refused S18\n",
+            "{\"id\":\"22222222-2222-4222-8222-222222222222\",\"actor\":{\"mbox\":\"mailto:a@b\"},\"verb\":{\"id\":\"http://v/1\"},\"object\":{\"objectType\":\"Activity\"}}",
+        ),
+        (
+            "refused S19\n",
+            "{\"id\":\"22222222-2222-4222-8222-222222222222\",\"actor\":{\"mbox\":\"mailto:a@b\"},\"verb\":{\"id\":\"http://v/1\"},\"object\":{\"id\":\"http://a/1\",\"definition\":{\"title\":\"x\"}}}",
+        ),
+        (
+            "refused S20\n",
+            "{\"id\":\"22222222-2222-4222-8222-222222222222\",\"actor\":{\"mbox\":\"mailto:a@b\"},\"verb\":{\"id\":\"http://v/1\"},\"object\":{\"id\":\"http://a/1\",\"definition\":{\"interactionType\":\"guess\"}}}",
+        ),
+        (
+            "refused S21\n",
+            "{\"id\":\"22222222-2222-4222-8222-222222222222\",\"actor\":{\"mbox\":\"mailto:a@b\"},\"verb\":{\"id\":\"http://v/1\"},\"object\":{\"id\":\"http://a/1\",\"definition\":{\"interactionType\":\"choice\",\"choices\":[{\"id\":\"x\"},{\"id\":\"x\"}]}}}",
+        ),
+        (
+            "refused S22\n",
+            "{\"id\":\"22222222-2222-4222-8222-222222222222\",\"actor\":{\"mbox\":\"mailto:a@b\"},\"verb\":{\"id\":\"http://adlnet.gov/expapi/verbs/voided\"},\"object\":{\"id\":\"http://a/1\"}}",
+        ),
+        (
+            "refused S23\n",
+            "{\"id\":\"22222222-2222-4222-8222-222222222222\",\"actor\":{\"mbox\":\"mailto:a@b\"},\"verb\":{\"id\":\"http://v/1\"},\"object\":{\"objectType\":\"SubStatement\",\"actor\":{\"mbox\":\"mailto:a@b\"},\"verb\":{\"id\":\"http://v/1\"}}}",
+        ),
+        (
+            "refused S24\n",
+            "{\"id\":\"22222222-2222-4222-8222-222222222222\",\"actor\":{\"mbox\":\"mailto:a@b\"},\"verb\":{\"id\":\"http://v/1\"},\"object\":{\"id\":\"http://a/1\"},\"result\":{\"success\":\"yes\"}}",
+        ),
+        (
+            "refused S25\n",
+            "{\"id\":\"22222222-2222-4222-8222-222222222222\",\"actor\":{\"mbox\":\"mailto:a@b\"},\"verb\":{\"id\":\"http://v/1\"},\"object\":{\"id\":\"http://a/1\"},\"result\":{\"duration\":\"one hour\"}}",
+        ),
+        (
+            "refused S26\n",
+            "{\"id\":\"22222222-2222-4222-8222-222222222222\",\"actor\":{\"mbox\":\"mailto:a@b\"},\"verb\":{\"id\":\"http://v/1\"},\"object\":{\"id\":\"http://a/1\"},\"result\":{\"score\":{\"scaled\":1.01}}}",
+        ),
+        (
+            "refused S27\n",
+            "{\"id\":\"22222222-2222-4222-8222-222222222222\",\"actor\":{\"mbox\":\"mailto:a@b\"},\"verb\":{\"id\":\"http://v/1\"},\"object\":{\"id\":\"http://a/1\"},\"context\":{\"registration\":\"2222\"}}",
+        ),
+        (
+            "refused S28\n",
+            "{\"id\":\"22222222-2222-4222-8222-222222222222\",\"actor\":{\"mbox\":\"mailto:a@b\"},\"verb\":{\"id\":\"http://v/1\"},\"object\":{\"id\":\"http://a/1\"},\"context\":{\"contextActivities\":{\"parent\":1}}}",
+        ),
+        (
+            "refused S29\n",
+            "{\"id\":\"22222222-2222-4222-8222-222222222222\",\"actor\":{\"mbox\":\"mailto:a@b\"},\"verb\":{\"id\":\"http://v/1\"},\"object\":{\"objectType\":\"Agent\",\"mbox\":\"mailto:c@d\"},\"context\":{\"platform\":\"x\"}}",
+        ),
+        (
+            "refused S30\n",
+            "{\"id\":\"22222222-2222-4222-8222-222222222222\",\"actor\":{\"mbox\":\"mailto:a@b\"},\"verb\":{\"id\":\"http://v/1\"},\"object\":{\"id\":\"http://a/1\"},\"timestamp\":\"yesterday\"}",
+        ),
+        (
+            "refused S31\n",
+            "{\"id\":\"22222222-2222-4222-8222-222222222222\",\"actor\":{\"mbox\":\"mailto:a@b\"},\"verb\":{\"id\":\"http://v/1\"},\"object\":{\"id\":\"http://a/1\"},\"authority\":{\"objectType\":\"Group\",\"member\":[{\"mbox\":\"mailto:a@b\"}]}}",
+        ),
+        (
+            "refused S32\n",
+            "{\"id\":\"22222222-2222-4222-8222-222222222222\",\"actor\":{\"mbox\":\"mailto:a@b\"},\"verb\":{\"id\":\"http://v/1\"},\"object\":{\"id\":\"http://a/1\"},\"attachments\":[{\"usageType\":\"http://u/1\"}]}",
+        ),
+    ];
+    let mut path = env::temp_dir(&rt)?;
+    path.push(format!(in rt.alloc();
+        "kilnlime-rules-{}",
+        std::process::id(rt.process())
+    )?.as_str())?;
+    let file = path.as_path().as_str();
+    printed(rt, &["init", file, "--admin", "adminadmin"], "")?;
+    let founded = fs::read(&rt, file)?;
+    for (wanted, statement) in refused {
+        let line = printed(rt, &["intake", file], statement)?;
+        assert_eq!(rt; line.as_slice(), wanted.as_bytes(), "{statement}");
+    }
+    assert_eq!(rt; fs::read(&rt, file)?, founded);
+    fs::remove_file(&rt, file)?;
     Ok(())
 }

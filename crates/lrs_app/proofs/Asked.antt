@@ -3,7 +3,8 @@ use Rattle.std.proofs.Common.{ℕ, ◌≤◌, Bool, true, false, cond, List, len
 use Rattle.lrs_json.specs.View.{view}
 use Rattle.lrs_json.specs.Refusals.{Spells}
 use Rattle.lrs_json.specs.declared.tree.Tree.{Tree}
-use Rattle.lrs_machine.specs.Statement.{broken_rule, is_too_long}
+use Rattle.xapi_rules.specs.Rules.{broken_rule}
+use Rattle.xapi_statement.specs.Statement.{is_too_long}
 use Rattle.lrs_app.specs.Reading.{longest}
 use Rattle.lrs_app.specs.Asking.{no_value, unnamed, Names, without_rule, unnamed_ending, EndsAnyway, IsNoTree, IsNotAsked}
 use Rattle.lrs_app.specs.declared.ending.Ending.{Ending}

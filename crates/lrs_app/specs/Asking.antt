@@ -9,8 +9,9 @@ use Rattle.lrs_names.specs.declared.draw.Draw.{Draw}
 use Rattle.lrs_record.specs.declared.entry.Caller.TheVariants.{Operator}
 use Rattle.lrs_record.specs.declared.entry.Command.TheVariants.{Put}
 use Rattle.lrs_record.specs.declared.entry.Entry.{Entry}
+use Rattle.xapi_rules.specs.Rules.{broken_rule}
+use Rattle.xapi_statement.specs.Statement.{own_id, is_too_long}
 use Rattle.lrs_machine.specs.History.{Answer, answer, rule}
-use Rattle.lrs_machine.specs.Statement.{own_id, broken_rule, is_too_long}
 use Rattle.lrs_machine.specs.declared.answered.Rule.{Rule}
 use Rattle.lrs_machine.specs.declared.answered.Answered.{Answered}
 use Rattle.lrs_machine.specs.declared.answered.Answered.TheVariants as said

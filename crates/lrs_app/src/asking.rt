@@ -9,10 +9,11 @@ ghost use Rattle.lrs_app.specs.Asking.{named, Asks, json_ending, unnamed_ending,
 use crate::Ending;
 use crate::reading::{InputRefused, read_input};
 use lrs_disk::Source;
-use lrs_json::{ReadRefused, Tree, read};
-use lrs_machine::{Rule, broken_rule, is_too_long, own_id};
+use lrs_json::{Memory, ReadRefused, Tree, read};
+use lrs_machine::Rule;
 use lrs_names::Id;
 use std::alloc::Global;
+use xapi_statement::{broken_rule, is_too_long, own_id};
 
 // The rule on JSON with this number is broken.
 fn broken_json(number: u8) -> Ending
@@ -40,18 +41,18 @@ fn read_tree(alloc: Global, input: &[u8]) -> Result<Tree, Ending>
 }
 
 // How a value ends that gives itself no id.
-fn unnamed(tree: &Tree) -> Ending
-    ensures { result ≡ unnamed_ending (view tree.now) }
+fn unnamed(alloc: Global, tree: &Tree) -> Result<Ending, Memory>
+    ensures { IfOk result (λ ending. ending ≡ unnamed_ending (view tree.now)) }
 {
     if is_too_long(tree) {
-        return Ending::TooLong;
+        return Ok(Ending::TooLong);
     }
-    match broken_rule(tree) {
-        Some(number) => Ending::Refused(Rule {
+    match broken_rule(alloc, tree)? {
+        Some(number) => Ok(Ending::Refused(Rule {
             family: b'S',
             number,
-        }),
-        None => Ending::NoId,
+        })),
+        None => Ok(Ending::NoId),
     }
 }
 
@@ -68,7 +69,10 @@ fn ask(alloc: Global, input: &[u8]) -> Result<(Id, Tree), Ending>
     };
     match own_id(&tree) {
         Some(id) => Ok((id, tree)),
-        None => Err(unnamed(&tree)),
+        None => match unnamed(alloc, &tree) {
+            Ok(ending) => Err(ending),
+            Err(_) => Err(Ending::Memory),
+        },
     }
 }
 

@@ -3,7 +3,8 @@ use Rattle.std.proofs.Common.{◌≡◌, ◌≢◌, ◌<◌, ◌≤◌, ◌-◌,
 use Rattle.std.specs.Prelude.{◌⊎◌, if◌then◌else◌}
 use Rattle.std.specs.Str.{bytes_eq}
 use Rattle.lrs_machine.specs.Same.{same}
-use Rattle.lrs_machine.specs.Statement.{own_id, broken_rule, is_too_long}
+use Rattle.xapi_rules.specs.Rules.{broken_rule}
+use Rattle.xapi_statement.specs.Statement.{own_id, is_too_long}
 use Rattle.lrs_disk.specs.declared.failed.Failed.{Failed}
 use Rattle.lrs_journal.specs.Journal.{Held}
 use Rattle.lrs_json.specs.Json.{Json}

@@ -13,6 +13,8 @@ use Rattle.lrs_record.specs.declared.entry.Command.TheVariants.{Found, Put}
 use Rattle.lrs_record.specs.declared.entry.Entry.{Entry}
 use Rattle.lrs_record.specs.Entries.{IsLawful, written_entry}
 use Rattle.lrs_record.specs.Moments.{clamped}
+use Rattle.xapi_rules.specs.Rules.{broken_rule}
+use Rattle.xapi_statement.specs.Statement.{is_too_long, own_id}
 use Rattle.lrs_machine.specs.declared.answered.Answered.{Answered}
 use Rattle.lrs_machine.specs.declared.answered.Answered.TheVariants.{Kept, Same, Conflict, Full, Broken, TooLong, Unauthorized, NotFound}
 use Rattle.lrs_machine.specs.declared.answered.Rule.{Rule}
@@ -21,7 +23,6 @@ use Rattle.lrs_machine.specs.declared.caller.Who.TheVariants.{Unknown, Admin}
 use Rattle.lrs_machine.specs.declared.index.HeldStatement.{HeldStatement}
 use Rattle.lrs_machine.specs.Founding.{IsToken, IsBase}
 use Rattle.lrs_machine.specs.Same.{same}
-use Rattle.lrs_machine.specs.Statement.{broken_rule, is_too_long, own_id}
 
 -- ---- what the entries give
 

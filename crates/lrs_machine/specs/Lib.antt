@@ -1,5 +1,4 @@
 pub mod Same
-pub mod Statement
 pub mod Founding
 pub mod History
 pub mod Index

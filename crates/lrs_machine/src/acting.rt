@@ -39,8 +39,10 @@ pub(crate) fn act<D: Disk>(
         Ok(landed) => landed,
         Err(_) => return (Err(Trouble::Disk), None),
     };
-    if let Some(said) = fold.said_at_once(&caller, &command) {
-        return (Ok(said), landed);
+    match fold.said_at_once(alloc, &caller, &command) {
+        Ok(None) => {}
+        Ok(Some(said)) => return (Ok(said), landed),
+        Err(_) => return (Err(Trouble::Memory), landed),
     }
     let entry = Entry {
         caller,

@@ -1,18 +1,18 @@
 // What the entries so far give, kept from one entry to the next.
-ghost use Rattle.std.specs.Prelude.{◌≡◌, None, Some, OnOk, OnErr};
+ghost use Rattle.std.specs.Prelude.{◌≡◌, OnOk, IfOk};
 ghost use Rattle.lrs_json.specs.View.{view};
-ghost use Rattle.lrs_machine.specs.History.{nothing, step, who_is, said_at_once, refused_form, broken_form, other_id, repeated};
+ghost use Rattle.lrs_machine.specs.History.{nothing, step, who_is, said_at_once, put_said, held_under, refused_form, other_id, repeated};
 ghost use Rattle.lrs_machine.specs.Fold.{state_of, IsReadyFor};
 ghost use Rattle.lrs_machine.specs.Same.{same};
 ghost use Rattle.lrs_machine.specs.Steps.{IsFresh};
 
 use crate::index::Index;
-use crate::statement::{broken_rule, is_too_long, own_id};
 use crate::{Answered, Rule, Who};
 use lrs_json::{Memory, Text, Tree};
 use lrs_names::Id;
 use lrs_record::{Caller, Command, Entry, Moment};
 use std::alloc::Global;
+use xapi_statement::{broken_rule, is_too_long, own_id};
 
 #[derive(Drop)]
 pub(crate) struct Fold {
@@ -54,18 +54,32 @@ impl Fold {
     }
 
     /// What is said to a command whatever room there is, or None where it is to have an entry.
-    pub(crate) fn said_at_once(&self, caller: &Caller, command: &Command) -> Option<Answered>
-        ensures { result ≡ said_at_once (state_of self.now) caller.now command.now }
+    pub(crate) fn said_at_once(
+        &self,
+        alloc: Global,
+        caller: &Caller,
+        command: &Command,
+    ) -> Result<Option<Answered>, Memory>
+        ensures { IfOk result (λ said. said ≡ said_at_once (state_of self.now) caller.now command.now) }
     {
         match self.who(caller) {
-            Who::Unknown => Some(Answered::Unauthorized),
+            Who::Unknown => Ok(Some(Answered::Unauthorized)),
             Who::Admin => match command {
-                Command::Found { admin: _, base: _ } => Some(Answered::NotFound),
-                Command::Put { id, statement } => match refused_form(id, statement) {
-                    Some(refused) => Some(refused),
-                    None => Some(repeated(id, statement, self.statements.find(id)?)),
-                },
+                Command::Found { admin: _, base: _ } => Ok(Some(Answered::NotFound)),
+                Command::Put { id, statement } => self.put_said(alloc, id, statement),
             },
+        }
+    }
+
+    fn put_said(&self, alloc: Global, id: &Id, statement: &Tree) -> Result<Option<Answered>, Memory>
+        ensures { IfOk result (λ said. said ≡ put_said id.now (view statement.now) (refused_form id.now (view statement.now)) (held_under id.now self.now.statements.held)) }
+    {
+        if let Some(refused) = refused_form(alloc, id, statement)? {
+            return Ok(Some(refused));
+        }
+        match self.statements.find(id) {
+            Some(held) => Ok(Some(repeated(id, statement, held))),
+            None => Ok(None),
         }
     }
 
@@ -105,18 +119,18 @@ impl Fold {
 }
 
 // Why a statement isn't looked at under an id.
-fn refused_form(id: &Id, statement: &Tree) -> Option<Answered>
-    ensures { result ≡ refused_form id.now (view statement.now) }
+fn refused_form(alloc: Global, id: &Id, statement: &Tree) -> Result<Option<Answered>, Memory>
+    ensures { IfOk result (λ refused. refused ≡ refused_form id.now (view statement.now)) }
 {
     if is_too_long(statement) {
-        return Some(Answered::TooLong);
+        return Ok(Some(Answered::TooLong));
     }
-    match broken_rule(statement) {
-        Some(number) => Some(Answered::Broken(Rule {
+    match broken_rule(alloc, statement)? {
+        Some(number) => Ok(Some(Answered::Broken(Rule {
             family: b'S',
             number,
-        })),
-        None => other_id(id, own_id(statement)),
+        }))),
+        None => Ok(other_id(id, own_id(statement))),
     }
 }
 

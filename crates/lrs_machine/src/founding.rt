@@ -1,10 +1,11 @@
 // What a store may be founded with.
-ghost use Rattle.std.specs.Prelude.{◌≡◌, false, IfOk};
+ghost use Rattle.std.specs.Prelude.{◌≡◌, IfOk};
 ghost use Rattle.std.specs.List.{list_all};
 ghost use Rattle.std.specs.Char.{is_ascii_alphanumeric};
-ghost use Rattle.lrs_machine.specs.Founding.{is_token, is_base, has_base_form, is_of_the_web, is_plain, has_iri_characters, is_barred};
+ghost use Rattle.lrs_machine.specs.Founding.{is_token, is_base, has_base_form, is_of_the_web, is_plain};
 
 use lrs_json::{Memory, Text};
+use lrs_names::Iri;
 use std::alloc::Global;
 use url::{ParseError, Url};
 
@@ -30,7 +31,7 @@ fn has_letters_and_digits_alone(text: &[u8]) -> bool
 pub fn is_base(alloc: Global, text: &Text) -> Result<bool, Memory>
     ensures { IfOk result (λ fits. fits ≡ is_base text.now) }
 {
-    if !has_base_form(text.as_bytes()) {
+    if !has_base_form(text) {
         return Ok(false);
     }
     match Url::parse(alloc, text.as_str()) {
@@ -42,10 +43,11 @@ pub fn is_base(alloc: Global, text: &Text) -> Result<bool, Memory>
 }
 
 // What can be seen of an address without reading it as one.
-fn has_base_form(text: &[u8]) -> bool
+fn has_base_form(text: &Text) -> bool
     ensures { result ≡ has_base_form text.now }
 {
-    is_of_the_web(text) && text.ends_with(b"/") && is_plain(text) && has_iri_characters(text)
+    let bytes = text.as_bytes();
+    is_of_the_web(bytes) && bytes.ends_with(b"/") && is_plain(bytes) && Iri::is(text)
 }
 
 fn is_of_the_web(text: &[u8]) -> bool
@@ -58,26 +60,4 @@ fn is_plain(text: &[u8]) -> bool
     ensures { result ≡ list_all is_plain text.now }
 {
     text.iter().all(|b| *b != b'?' && *b != b'#')
-}
-
-fn has_iri_characters(text: &[u8]) -> bool
-    ensures { result ≡ has_iri_characters false text.now }
-{
-    let mut after_194 = false;
-    for b in text {
-        if is_barred(*b) || (after_194 && *b < 160) {
-            return false;
-        }
-        after_194 = *b == 194;
-    }
-    true
-}
-
-fn is_barred(b: u8) -> bool
-    ensures { result ≡ is_barred b }
-{
-    matches!(
-        b,
-        0..=32 | b'"' | b'<' | b'>' | b'\\' | b'^' | b'`' | b'{' | b'|' | b'}' | 127
-    )
 }

@@ -14,7 +14,6 @@ mod receipt;
 mod replaying;
 mod reply;
 mod saying;
-mod statement;
 
 pub use answered::{Answered, Rule};
 pub use caller::Who;
@@ -24,4 +23,3 @@ pub use index::HeldStatement;
 pub use opening::{DeskRefused, FoundRefused};
 pub use receipt::Receipt;
 pub use reply::{Body, Media, Reply, Trouble};
-pub use statement::{broken_rule, is_too_long, own_id};

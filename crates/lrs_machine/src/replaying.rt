@@ -32,7 +32,8 @@ fn comes_next(
     if first {
         return is_founding(alloc, entry);
     }
-    if fold.said_at_once(&entry.caller, &entry.command).is_some() {
+    let said = fold.said_at_once(alloc, &entry.caller, &entry.command)?;
+    if said.is_some() {
         return Ok(false);
     }
     Ok(fold.last.milliseconds() <= entry.moment.milliseconds() && place < limit)

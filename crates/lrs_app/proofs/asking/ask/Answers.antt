@@ -5,6 +5,6 @@ use Rattle.lrs_app.proofs.asking.ask.Goals as goal
 pub returns-in-Err-clause-refused : goal.returns-in-Err-clause-refused
 returns-in-Err-clause-refused c = not_read _ _ c.requires c.in-Err.ensures.refused
 
-pub returns-in-None-clause-refused : goal.returns-in-None-clause-refused
-returns-in-None-clause-refused c =
-    rw c.unnamed.ensures (not_named c.args.input.now c.in-Ok.tree c.requires c.in-Ok.ensures.read (sym c.in-None.ensures))
+pub returns-in-Ok-unnamed-clause-refused : goal.returns-in-Ok-unnamed-clause-refused
+returns-in-Ok-unnamed-clause-refused c =
+    rw c.in-Ok-unnamed.ensures (not_named c.args.input.now c.in-Ok.tree c.requires c.in-Ok.ensures.read (sym c.in-None.ensures))
