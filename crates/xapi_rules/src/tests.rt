@@ -332,7 +332,7 @@ fn rules_on_agents_verbs_and_objects_are_named(rt: HostRuntime) -> Result<(), Fa
 }
 
 // Statements that break one rule alone, of S20 to S32.
-const OTHER_RULES: [(u8, &str); 64] = [
+const OTHER_RULES: [(u8, &str); 67] = [
     (
         20,
         "{\"actor\":{\"mbox\":\"mailto:a@b\"},\"verb\":{\"id\":\"http://v/1\"},\"object\":{\"id\":\"http://a/1\",\"definition\":{\"interactionType\":\"Choice\"}}}",
@@ -396,6 +396,18 @@ const OTHER_RULES: [(u8, &str); 64] = [
     (
         22,
         "{\"actor\":{\"mbox\":\"mailto:a@b\"},\"verb\":{\"id\":\"http://v/1\"},\"object\":{\"objectType\":\"SubStatement\",\"actor\":{\"mbox\":\"mailto:a@b\"},\"verb\":{\"id\":\"http://v/1\"},\"object\":{\"objectType\":\"StatementRef\",\"id\":5}}}",
+    ),
+    (
+        23,
+        "{\"actor\":{\"mbox\":\"mailto:a@b\"},\"verb\":{\"id\":\"http://v/1\"},\"object\":{\"objectType\":\"SubStatement\",\"actor\":{\"mbox\":\"mailto:a@b\"},\"verb\":{\"id\":\"http://v/1\"}}}",
+    ),
+    (
+        23,
+        "{\"actor\":{\"mbox\":\"mailto:a@b\"},\"verb\":{\"id\":\"http://v/1\"},\"object\":{\"objectType\":\"SubStatement\",\"actor\":{\"mbox\":\"mailto:a@b\"},\"verb\":{\"id\":\"http://v/1\"},\"object\":{\"id\":\"http://a/1\"},\"id\":\"11111111-1111-4111-8111-111111111111\"}}",
+    ),
+    (
+        23,
+        "{\"actor\":{\"mbox\":\"mailto:a@b\"},\"verb\":{\"id\":\"http://v/1\"},\"object\":{\"objectType\":\"SubStatement\",\"actor\":{\"mbox\":\"mailto:a@b\"},\"verb\":{\"id\":\"http://v/1\"},\"object\":{\"objectType\":\"SubStatement\",\"actor\":{\"mbox\":\"mailto:a@b\"},\"verb\":{\"id\":\"http://v/1\"},\"object\":{\"id\":\"http://a/1\"}}}}",
     ),
     (
         23,
