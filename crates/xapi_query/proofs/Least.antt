@@ -1,0 +1,66 @@
+-- The least broken rule is found once, and tells the answer.
+use Rattle.std.proofs.Common.{◌≡◌, ℕ, ◌&&◌, Bool, true, false, List, Option, Some, None, is_some, option_and_then, Ok, Err, MatchBool, codes, arith, refl, sym, ap, ◌∙◌, subst}
+use Rattle.std.specs.Option.{option_map_or}
+use Rattle.std.proofs.lemmas.Bool.{false≢true}
+use Rattle.std.proofs.lemmas.Bool.Decides.{nat_tests}
+use Rattle.lrs_names.specs.Ids.{id_of}
+use Rattle.xapi_query.specs.Parameters.{Answers, Demands, LeastOfGet, LeastOfPut, given, is_rule}
+use Rattle.xapi_query.specs.Values.{is_id}
+use Rattle.xapi_query.specs.Wants.{id_under}
+use Rattle.xapi_query.specs.declared.pair.Pair.{Pair}
+use Rattle.xapi_query.specs.declared.refused.QueryRefused.TheVariants.{BadParameter, Memory}
+
+is_that_rule : (rule : ℕ) (found : Option ℕ) → is_rule rule found ≡ true → found ≡ Some rule
+is_that_rule rule None is = absurd (false≢true is)
+is_that_rule rule (Some n) is = let same : n ≡ rule = grind (arith, nat_tests) in ap Some same
+
+once_at : (x y : Bool) (rule : ℕ) (demand : Type 0) (a b : Option ℕ) (R S : Type 0) → is_rule rule a ≡ x → is_rule rule b ≡ y → (R → S → a ≡ b)
+    → MatchBool x (¬ demand) (demand × R) → MatchBool y (¬ demand) (demand × S) → a ≡ b
+once_at true true rule demand a b R S p q others left right = is_that_rule rule a p ∙ sym (is_that_rule rule b q)
+once_at true false rule demand a b R S p q others left right = absurd (left right.0)
+once_at false true rule demand a b R S p q others left right = absurd (right left.0)
+once_at false false rule demand a b R S p q others left right = others left.1 right.1
+
+once : (rule : ℕ) (demand : Type 0) (a b : Option ℕ) (R S : Type 0) → (R → S → a ≡ b) → Demands rule demand a R → Demands rule demand b S → a ≡ b
+once rule demand a b R S others left right = once_at (is_rule rule a) (is_rule rule b) rule demand a b R S refl refl others left right
+
+both_none : (a b : Option ℕ) → a ≡ None → b ≡ None → a ≡ b
+both_none a b p q = p ∙ sym q
+
+pub put_once : (pairs : List Pair) (a b : Option ℕ) → LeastOfPut a pairs → LeastOfPut b pairs → a ≡ b
+put_once pairs a b =
+    once 2 _ a b _ _ (once 3 _ a b _ _ (once 4 _ a b _ _ (once 5 _ a b _ _ (both_none a b))))
+
+pub get_once : (pairs : List Pair) (a b : Option ℕ) → LeastOfGet a pairs → LeastOfGet b pairs → a ≡ b
+get_once pairs a b =
+    once 2 _ a b _ _ (once 3 _ a b _ _ (once 4 _ a b _ _ (once 5 _ a b _ _ (once 6 _ a b _ _ (once 7 _ a b _ _ (once 8 _ a b _ _
+    (once 9 _ a b _ _ (once 10 _ a b _ _ (once 11 _ a b _ _ (once 12 _ a b _ _ (once 13 _ a b _ _ (both_none a b))))))))))))
+
+pub memory_answers : (T : Type 0) (found : Option ℕ) → Answers {T = T} found (Err Memory)
+memory_answers T None = tt
+memory_answers T (Some rule) = tt
+
+pub rule_answers : (T : Type 0) (found : Option ℕ) (rule : ℕ) → found ≡ Some rule → Answers {T = T} found (Err (BadParameter rule))
+rule_answers T None rule is = absurd (cc is)
+rule_answers T (Some n) rule is = let same : n ≡ rule = cc is in sym same
+
+pub value_answers : {T : Type 0} (found : Option ℕ) (value : T) → found ≡ None → Answers found (Ok value)
+value_answers None value is = tt
+value_answers (Some n) value is = absurd (cc is)
+
+pub get_at : (pairs : List Pair) (a b : Option ℕ) → a ≡ b → LeastOfGet a pairs → LeastOfGet b pairs
+get_at pairs a b is least = let P : Option ℕ → Type 0 = λ found. LeastOfGet found pairs in subst P is least
+
+-- ---- where no rule is broken, there is an id
+
+left : (p q : Bool) → (p && q) ≡ true → p ≡ true
+left true q is = refl
+left false q is = absurd (false≢true is)
+
+has_id : (value : Option (List ℕ)) → is_some value ≡ true → option_map_or is_id value true ≡ true → None ≡ option_and_then id_of value → ⊥
+has_id None some passed none = false≢true some
+has_id (Some text) some passed none = false≢true (ap is_some none ∙ passed)
+
+pub get_has_id : (pairs : List Pair) → LeastOfGet None pairs → None ≡ id_under (codes "statementId") pairs → ⊥
+get_has_id pairs least none =
+    has_id (given (codes "statementId") pairs) least.1.1.0 (left _ _ (left _ _ least.1.1.1.0)) none
