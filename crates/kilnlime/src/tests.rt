@@ -1,9 +1,5 @@
 use super::*;
-use lrs_disk::{MemDisk, MemSink};
-use lrs_json::read;
-use lrs_machine::{Body, Desk, Reply, is_base, is_token};
-use lrs_names::{Draw, Id};
-use lrs_record::{Caller, Command};
+use lrs_disk::{MemDisk, MemDoor, MemLink, MemLobby, MemShelf, MemSink, MemSource};
 use std::alloc::Global;
 use std::fs;
 use std::test::Fail;
@@ -57,50 +53,6 @@ fn a_store_file_that_was_cut_opens_or_says_where(rt: HostRuntime) -> Result<(), 
         assert_eq!(rt; line.as_slice(), line_at(length).as_bytes(), "at {length}");
     }
     fs::remove_file(&rt, file)?;
-    Ok(())
-}
-
-// What a put under one id is answered: its status, and the body.
-fn answered(alloc: Global, desk: &mut Desk<MemDisk>, text: &str) -> Result<(u16, Vec<u8>), Fail> {
-    let id = Id::read(b"11111111-1111-4111-8111-111111111111").ok_or("no id")?;
-    let statement = read(alloc, text.as_bytes())?;
-    let draw = Draw { name: 1, secret: 2 };
-    let command = Command::Put { id, statement };
-    let (reply, _receipt) = desk.act(Caller::Operator, command, 1_700_000_000_000, &draw);
-    let Reply {
-        status,
-        media: _media,
-        body,
-        through: _through,
-    } = reply;
-    let Body::Made(body) = body else {
-        return Err(Fail::from("no body"));
-    };
-    Ok((status, body.into_vec()))
-}
-
-#[test]
-fn a_desk_replies_to_commands(rt: HostRuntime) -> Result<(), Fail> {
-    let alloc = rt.alloc();
-    let admin = Text::of(alloc, "adminadmin")?;
-    let base = Text::of(alloc, "http://127.0.0.1:8080/")?;
-    assert!(rt; is_token(&admin));
-    let fits = is_base(alloc, &base)?;
-    assert!(rt; fits);
-    let disk = MemDisk::new(alloc, Vec::new(alloc), Vec::new(alloc), 99, 9_999)?;
-    let founded = Desk::found(alloc, disk, 65_536, &admin, &base, 1_700_000_000_000);
-    let mut desk = founded.ok().ok_or("not founded")?;
-    let kept = answered(alloc, &mut desk, STATEMENT)?;
-    assert_eq!(rt; kept.0, 204);
-    assert!(rt; kept.1.is_empty());
-    let other = answered(
-        alloc,
-        &mut desk,
-        "{\"actor\":{\"mbox\":\"mailto:a@b\"},\"verb\":{\"id\":\"http://v/2\"},\"object\":{\"id\":\"http://a/1\"}}",
-    )?;
-    assert_eq!(rt; other.0, 409);
-    let body = b"{\"error\":\"409\",\"id\":\"11111111-1111-4111-8111-111111111111\"}";
-    assert_eq!(rt; other.1.as_slice(), body.as_slice());
     Ok(())
 }
 
@@ -251,5 +203,334 @@ fn intake_names_the_least_broken_rule(rt: HostRuntime) -> Result<(), Fail> {
     }
     assert_eq!(rt; fs::read(&rt, file)?, founded);
     fs::remove_file(&rt, file)?;
+    Ok(())
+}
+
+const CLOCK: u64 = 1_700_000_000_000;
+
+// What came of a run over the outside in memory.
+#[derive(Drop)]
+struct Ran {
+    status: u8,
+    responses: u64,
+    printed: Vec<u8>,
+    // what the file `s` holds then
+    stored: Vec<u8>,
+    // what went out over the first connection, where one was served
+    sent: Vec<u8>,
+}
+
+// A lobby with one door, of which the calls of `next` with these numbers fail. Reads of its links end at the cuts.
+fn lobby(
+    alloc: Global,
+    streams: &[&str],
+    cuts: &[usize],
+    failing: &[u64],
+) -> Result<MemLobby, Fail> {
+    let mut links = Vec::new(alloc);
+    for stream in streams {
+        let input = stream.as_bytes().to_vec(alloc)?;
+        links.push(MemLink::new(alloc, input, cuts.to_vec(alloc)?, 4_096, Vec::new(alloc))?)?;
+    }
+    let clock = vec![in alloc; CLOCK]?;
+    let door = MemDoor::new(alloc, links, clock, failing.to_vec(alloc)?)?;
+    let doors = vec![in alloc; door]?;
+    Ok(MemLobby::new(doors, vec![in alloc; CLOCK]?, Vec::new(alloc)))
+}
+
+// A run over a file of these bytes and connections that bring these streams. The calls of the disk, and those of the door's
+// `next`, with these numbers fail.
+fn run_in_memory(
+    alloc: Global,
+    words: &[&str],
+    stored: &[u8],
+    streams: &[&str],
+    disk_fails: &[u64],
+    door_fails: &[u64],
+) -> Result<Ran, Fail> {
+    run_in_pieces(alloc, words, stored, streams, &[], disk_fails, door_fails)
+}
+
+// The same where reads of the connections end at these places.
+fn run_in_pieces(
+    alloc: Global,
+    words: &[&str],
+    stored: &[u8],
+    streams: &[&str],
+    cuts: &[usize],
+    disk_fails: &[u64],
+    door_fails: &[u64],
+) -> Result<Ran, Fail> {
+    let mut texts = Vec::new(alloc);
+    for word in words {
+        texts.push(Text::of(alloc, word)?)?;
+    }
+    let stored = stored.to_vec(alloc)?;
+    let disk = MemDisk::new(alloc, stored, disk_fails.to_vec(alloc)?, 64, 1 << 20)?;
+    let disks = vec![in alloc; (String::from_str(alloc, "s")?, disk)]?;
+    let mut shelf = MemShelf::new(disks, Vec::new(alloc), Vec::new(alloc));
+    let mut lobby = lobby(alloc, streams, cuts, door_fails)?;
+    let mut input = MemSource::new(Vec::new(alloc), Vec::new(alloc), Vec::new(alloc));
+    let mut out = MemSink::new(alloc, 64, Vec::new(alloc))?;
+    let ended = run(
+        alloc,
+        texts.as_slice(),
+        &mut shelf,
+        &mut lobby,
+        &mut input,
+        &mut out,
+        [7; 32],
+    );
+    let disk = ended.disk.ok_or("no disk")?;
+    Ok(Ran {
+        status: ended.status,
+        responses: ended.report.responses,
+        printed: out.taken().to_vec(alloc)?,
+        stored: disk.bytes().to_vec(alloc)?,
+        sent: sent(alloc, &lobby)?,
+    })
+}
+
+fn sent(alloc: Global, lobby: &MemLobby) -> Result<Vec<u8>, Fail> {
+    let Some(door) = lobby.returned().first() else {
+        return Ok(Vec::new(alloc));
+    };
+    let Some(link) = door.returned().first() else {
+        return Ok(Vec::new(alloc));
+    };
+    Ok(link.taken().to_vec(alloc)?)
+}
+
+const SERVE: &[&str] = &[
+    "serve",
+    "s",
+    "127.0.0.1:8080",
+    "--workers",
+    "1",
+    "--connections",
+    "2",
+];
+
+// The bytes of a new store with this limit.
+fn store(alloc: Global, limit: &str) -> Result<Vec<u8>, Fail> {
+    let words: &[&str] = &["init", "s", "--admin", "adminadmin", "--limit", limit];
+    Ok(run_in_memory(alloc, words, &[], &[], &[], &[])?.stored)
+}
+
+#[test]
+fn a_server_answers_to_the_byte(rt: HostRuntime) -> Result<(), Fail> {
+    let alloc = rt.alloc();
+    let stored = store(alloc, "65536")?;
+    let rows = [
+        (
+            "GET /xapi/about HTTP/1.1\r\n\r\n",
+            "HTTP/1.1 200 OK\r\nContent-Type: application/json\r\nContent-Length: 21\r\nX-Experience-API-Version: 1.0.3\r\n\r\n{\"version\":[\"1.0.3\"]}",
+        ),
+        (
+            "DELETE /xapi/about HTTP/1.1\r\n\r\n",
+            "HTTP/1.1 405 Method Not Allowed\r\nContent-Type: application/json\r\nContent-Length: 15\r\nX-Experience-API-Version: 1.0.3\r\nAllow: GET\r\n\r\n{\"error\":\"405\"}",
+        ),
+        (
+            "GET /none HTTP/1.1\r\n\r\n",
+            "HTTP/1.1 404 Not Found\r\nContent-Type: application/json\r\nContent-Length: 15\r\nX-Experience-API-Version: 1.0.3\r\n\r\n{\"error\":\"404\"}",
+        ),
+        (
+            "GET /xapi/statements?statementId=11111111-1111-4111-8111-111111111111 HTTP/1.1\r\nAuthorization: Basic adminadmin\r\n\r\n",
+            "HTTP/1.1 400 Bad Request\r\nContent-Type: application/json\r\nContent-Length: 14\r\nX-Experience-API-Version: 1.0.3\r\n\r\n{\"error\":\"V1\"}",
+        ),
+        (
+            "GET /xapi/statements?statementId=11111111-1111-4111-8111-111111111111 HTTP/1.1\r\nX-Experience-API-Version: 1.0.3\r\n\r\n",
+            "HTTP/1.1 401 Unauthorized\r\nContent-Type: application/json\r\nContent-Length: 14\r\nX-Experience-API-Version: 1.0.3\r\nWWW-Authenticate: Basic realm=\"lrs\"\r\n\r\n{\"error\":\"A1\"}",
+        ),
+    ];
+    for (request, response) in rows {
+        let ran = run_in_memory(alloc, SERVE, stored.as_slice(), &[request], &[], &[])?;
+        assert_eq!(rt; ran.sent.as_slice(), response.as_bytes(), "{request}");
+        assert_eq!(rt; ran.printed.as_slice(), b"served 1\n".as_slice());
+        assert_eq!(rt; ran.status, 0);
+        assert_eq!(rt; ran.responses, 1);
+        assert_eq!(rt; ran.stored.as_slice(), stored.as_slice());
+    }
+    Ok(())
+}
+
+const PUT: &str =
+    "PUT /xapi/statements?statementId=11111111-1111-4111-8111-111111111111 HTTP/1.1\r\nX-Experience-API-Version: 1.0.3\r\nAuthorization: Basic adminadmin\r\nContent-Length: 131\r\n\r\n{\"id\":\"11111111-1111-4111-8111-111111111111\",\"actor\":{\"mbox\":\"mailto:a@b\"},\"verb\":{\"id\":\"http://v/1\"},\"object\":{\"id\":\"http://a/1\"}}";
+
+const GET: &str =
+    "GET /xapi/statements?statementId=11111111-1111-4111-8111-111111111111 HTTP/1.1\r\nX-Experience-API-Version: 1.0.3\r\nAuthorization: Basic adminadmin\r\n\r\n";
+
+const NO_CONTENT: &str = "HTTP/1.1 204 No Content\r\nX-Experience-API-Version: 1.0.3\r\n\r\n";
+
+const SHOWN: &str =
+    "HTTP/1.1 200 OK\r\nContent-Type: application/json\r\nContent-Length: 131\r\nX-Experience-API-Version: 1.0.3\r\nX-Experience-API-Consistent-Through: 2023-11-14T22:13:20.000Z\r\n\r\n{\"id\":\"11111111-1111-4111-8111-111111111111\",\"actor\":{\"mbox\":\"mailto:a@b\"},\"verb\":{\"id\":\"http://v/1\"},\"object\":{\"id\":\"http://a/1\"}}";
+
+#[test]
+fn a_server_keeps_to_the_limit(rt: HostRuntime) -> Result<(), Fail> {
+    let alloc = rt.alloc();
+    let rows = [
+        ("542", 542, NO_CONTENT),
+        (
+            "541",
+            209,
+            "HTTP/1.1 507 Insufficient Storage\r\nContent-Type: application/json\r\nContent-Length: 38\r\nX-Experience-API-Version: 1.0.3\r\n\r\n{\"error\":\"507\",\"need\":542,\"limit\":541}",
+        ),
+    ];
+    for (limit, length, response) in rows {
+        let stored = store(alloc, limit)?;
+        let ran = run_in_memory(alloc, SERVE, stored.as_slice(), &[PUT], &[], &[])?;
+        assert_eq!(rt; ran.sent.as_slice(), response.as_bytes(), "{limit}");
+        assert_eq!(rt; ran.stored.len(), length, "{limit}");
+        assert_eq!(rt; ran.status, 0);
+    }
+    Ok(())
+}
+
+#[test]
+fn a_server_keeps_statements_for_later_connections(rt: HostRuntime) -> Result<(), Fail> {
+    let alloc = rt.alloc();
+    let stored = store(alloc, "65536")?;
+    let first = run_in_memory(alloc, SERVE, stored.as_slice(), &[PUT, GET], &[], &[])?;
+    assert_eq!(rt; first.printed.as_slice(), b"served 2\n".as_slice());
+    let second = run_in_memory(alloc, SERVE, first.stored.as_slice(), &[GET], &[], &[])?;
+    assert_eq!(rt; second.sent.as_slice(), SHOWN.as_bytes());
+    Ok(())
+}
+
+// In one read, with a read that ends at each place, and one byte a read.
+#[test]
+fn a_put_and_a_get_are_answered_alike_however_they_are_cut(rt: HostRuntime) -> Result<(), Fail> {
+    let alloc = rt.alloc();
+    let stored = store(alloc, "65536")?;
+    let stream = format!(in alloc; "{PUT}{GET}")?;
+    let answers = format!(in alloc; "{NO_CONTENT}{SHOWN}")?;
+    let streams: &[&str] = &[stream.as_str()];
+    for cut in 0..stream.len() {
+        let ran = run_in_pieces(alloc, SERVE, stored.as_slice(), streams, &[cut], &[], &[])?;
+        assert_eq!(rt; ran.sent.as_slice(), answers.as_bytes(), "{cut}");
+    }
+    let mut each = Vec::new(alloc);
+    for cut in 0..stream.len() {
+        each.push(cut)?;
+    }
+    let ran = run_in_pieces(
+        alloc,
+        SERVE,
+        stored.as_slice(),
+        streams,
+        each.as_slice(),
+        &[],
+        &[],
+    )?;
+    assert_eq!(rt; ran.sent.as_slice(), answers.as_bytes());
+    Ok(())
+}
+
+#[test]
+fn a_part_of_a_put_is_not_answered(rt: HostRuntime) -> Result<(), Fail> {
+    let alloc = rt.alloc();
+    let stored = store(alloc, "65536")?;
+    for end in 0..PUT.len() {
+        let part = PUT.get(..end).ok_or("no such part")?;
+        let ran = run_in_memory(alloc, SERVE, stored.as_slice(), &[part], &[], &[])?;
+        assert_eq!(rt; ran.sent.len(), 0, "{end}");
+        assert_eq!(rt; ran.responses, 0, "{end}");
+        assert_eq!(rt; ran.stored.as_slice(), stored.as_slice(), "{end}");
+        assert_eq!(rt; ran.printed.as_slice(), b"served 0\n".as_slice());
+    }
+    Ok(())
+}
+
+// The token's digits were computed by an independent program: the secret of the first draw of stream 1.
+const PROVIDER: &str = "d8968f3a519aade770c5c943b8f94a2b-1";
+
+#[test]
+fn a_provider_is_made_and_keeps_to_its_area(rt: HostRuntime) -> Result<(), Fail> {
+    let alloc = rt.alloc();
+    let stored = store(alloc, "65536")?;
+    let make =
+        "POST /desk/callers HTTP/1.1\r\nAuthorization: Basic adminadmin\r\nContent-Length: 14\r\n\r\n{\"name\":\"p.1\"}";
+    let made = format!(in alloc;
+        "HTTP/1.1 200 OK\r\nContent-Type: application/json\r\nContent-Length: 57\r\nX-Experience-API-Version: 1.0.3\r\n\r\n{{\"caller\":0,\"token\":\"{PROVIDER}\"}}"
+    )?;
+    let forbidden =
+        "HTTP/1.1 403 Forbidden\r\nContent-Type: application/json\r\nContent-Length: 14\r\nX-Experience-API-Version: 1.0.3\r\n\r\n{\"error\":\"A2\"}";
+    let put = PUT.replacen(alloc, "adminadmin", PROVIDER, 1)?;
+    let again = make.replacen(alloc, "adminadmin", PROVIDER, 1)?;
+    let stream = format!(in alloc; "{make}{put}{again}")?;
+    let answers = format!(in alloc; "{made}{NO_CONTENT}{forbidden}")?;
+    let ran = run_in_memory(
+        alloc,
+        SERVE,
+        stored.as_slice(),
+        &[stream.as_str()],
+        &[],
+        &[],
+    )?;
+    assert_eq!(rt; ran.sent.as_slice(), answers.as_bytes());
+    Ok(())
+}
+
+#[test]
+fn a_server_ends_by_what_fails_first(rt: HostRuntime) -> Result<(), Fail> {
+    let alloc = rt.alloc();
+    let stored = store(alloc, "65536")?;
+    let about = "GET /xapi/about HTTP/1.1\r\n\r\n";
+    // what the file holds, the call of `next` that fails, the status and the line
+    let rows: [(&[u8], u64, u8, &str); 5] = [
+        (&[], 9, 2, "not a store\n"),
+        (b"\x01LRSJRNL\x01\0\0\0\0\0\x01\0\0", 9, 3, "damaged 0\n"),
+        (stored.as_slice(), 0, 8, "lobby fault\n"),
+        (stored.as_slice(), 1, 8, "lobby fault\n"),
+        (stored.as_slice(), 2, 0, "served 2\n"),
+    ];
+    for (held, failing, status, line) in rows {
+        let ran = run_in_memory(alloc, SERVE, held, &[about, about], &[], &[failing])?;
+        assert_eq!(rt; ran.printed.as_slice(), line.as_bytes());
+        assert_eq!(rt; ran.status, status);
+        assert_eq!(rt; ran.stored.as_slice(), held);
+    }
+    Ok(())
+}
+
+const DISK: &str =
+    "HTTP/1.1 503 Service Unavailable\r\nContent-Type: application/json\r\nContent-Length: 16\r\nX-Experience-API-Version: 1.0.3\r\n\r\n{\"error\":\"disk\"}";
+
+// From some call on the disk fails for good: while the store is opened, before the entry's gate is written, behind that, or not at all.
+#[test]
+fn a_failing_disk_is_told_to_the_client_and_at_the_end(rt: HostRuntime) -> Result<(), Fail> {
+    let alloc = rt.alloc();
+    let stored = store(alloc, "65536")?;
+    let stages = [
+        ("", "disk fault\n"),
+        (DISK, "served 1\n"),
+        (DISK, "disk fault\n"),
+        (NO_CONTENT, "served 1\n"),
+    ];
+    let mut stage = 0;
+    for first in 0..40 {
+        let mut failing = Vec::new(alloc);
+        for call in first..64 {
+            failing.push(call)?;
+        }
+        let ran = run_in_memory(
+            alloc,
+            SERVE,
+            stored.as_slice(),
+            &[PUT],
+            failing.as_slice(),
+            &[],
+        )?;
+        let told = |at: usize| -> bool {
+            stages.get(at).is_some_and(|(sent, line)| {
+                ran.sent.as_slice() == sent.as_bytes() && ran.printed.as_slice() == line.as_bytes()
+            })
+        };
+        if !told(stage) {
+            stage = stage.saturating_add(1);
+        }
+        assert!(rt; told(stage), "at {first}");
+    }
+    assert_eq!(rt; stage, 3);
     Ok(())
 }

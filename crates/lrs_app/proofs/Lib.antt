@@ -1,8 +1,10 @@
 pub mod Numbers
-pub mod Spelling
+pub mod Plain
+pub mod Named
+pub mod Taken
 pub mod Pieces
 pub mod Asked
 pub mod Running
 pub mod NotFounded
 pub mod Opened
-pub mod ReadInit
+pub mod Serving

@@ -5,7 +5,7 @@ use Rattle.std.specs.Char.{is_ascii_digit}
 use Rattle.std.specs.List.{list_all}
 use Rattle.std.specs.Str.Parse.{digits_value, ParsesUnsigned}
 use Rattle.std.proofs.lemmas.Str.Parse.{IsNumeralModel, IsDigitsTest, numerals_by_value, parse_digits}
-use Rattle.lrs_app.specs.Words.{IsNumber, IsLimit}
+use Rattle.lrs_app.specs.Words.{IsNumber, IsNumberIn}
 
 digits_test : IsDigitsTest (λ ds. list_all is_ascii_digit ds ≡ true)
 digits_test = search rules
@@ -17,8 +17,9 @@ numerals = numerals_by_value _ digits_test
 pub parsed : {E : Type 0} (word : List ℕ) (r : Result ℕ E) → ParsesUnsigned 64 10 word r → IsNumber word → OkIff r ((0 < length word) × (digits_value 10 word < 2 ^ 64)) (digits_value 10 word)
 parsed word r h number = parse_digits numerals 64 word r h number.digits
 
--- a number that isn't parsed is no limit
-pub unread : {E : Type 0} (word text : List ℕ) (r : Result ℕ E) (error : E) → text ≡ word → r ≡ Err error → ParsesUnsigned 64 10 text r → IsLimit word → ⊥
-unread word text r error same failed h limit =
+-- a number that isn't parsed is of no range
+pub unread : {E : Type 0} (word text : List ℕ) (r : Result ℕ E) (error : E) (from to : ℕ) → to < 2 ^ 64 → text ≡ word → r ≡ Err error → ParsesUnsigned 64 10 text r
+    → IsNumberIn from to word → ⊥
+unread word text r error from to small same failed h limit =
     parsed word (Err error) (subst (λ t. ParsesUnsigned 64 10 t (Err error)) same (subst (λ s. ParsesUnsigned 64 10 text s) failed h)) limit.number
-    (limit.number.some, omega (arith, limit.most))
+    (limit.number.some, omega (arith, small, limit.most))

@@ -11,9 +11,11 @@ use Rattle.lrs_machine.specs.History.{Answer, with_entry}
 use Rattle.lrs_machine.specs.Desk.{StandsFor, Answers, HasCause, LeavesStore}
 use Rattle.lrs_machine.specs.declared.answered.Answered.{Answered}
 use Rattle.lrs_machine.specs.declared.answered.Answered.TheVariants as said
+use Rattle.lrs_machine.specs.declared.answered.Refusal.{Refusal}
+use Rattle.lrs_machine.specs.declared.answered.Refusal.TheVariants as refusal
 use Rattle.lrs_machine.specs.declared.reply.Trouble.{Trouble}
 use Rattle.lrs_machine.specs.declared.reply.Trouble.TheVariants as trouble
-use Rattle.lrs_app.specs.Asking.{named, Asks, EndsSaying, put_answer, entry_asked}
+use Rattle.lrs_app.specs.Asking.{named, Asks, EndsSaying, EndsRefused, put_answer, entry_asked}
 use Rattle.lrs_app.specs.Run.{Holds, Leaves, LeavesDoubt, EndsOpened}
 use Rattle.lrs_app.specs.Steps.{IsSure, IsLeft, Submits, TakesIn, HasPutCause, ending_of_trouble}
 use Rattle.lrs_app.specs.declared.ending.Ending.{Ending}
@@ -38,15 +40,20 @@ trouble_cause before now trouble.Disk cause = cause
 
 -- ---- what is taken in
 
+refused_no_input_fault : (r : Refusal) → EndsRefused r ending.InputFault → ⊥
+refused_no_input_fault (refusal.Conflict held) e = cc
+refused_no_input_fault (refusal.Full need limit) e = cc
+refused_no_input_fault (refusal.Broken rule) e = cc
+refused_no_input_fault refusal.TooLong e = cc
+refused_no_input_fault refusal.Unauthorized e = absurd e
+refused_no_input_fault (refusal.Forbidden rule) e = absurd e
+refused_no_input_fault refusal.NotFound e = absurd e
+
 no_input_fault : (id : List ℕ) (s : Answered) → EndsSaying id s ending.InputFault → ⊥
 no_input_fault id said.Kept e = cc
 no_input_fault id said.Same e = cc
-no_input_fault id (said.Conflict held) e = cc
-no_input_fault id (said.Full need limit) e = cc
-no_input_fault id (said.Broken r) e = cc
-no_input_fault id said.TooLong e = cc
-no_input_fault id said.Unauthorized e = absurd e
-no_input_fault id said.NotFound e = absurd e
+no_input_fault id (said.Shown text through) e = absurd e
+no_input_fault id (said.Refused r) e = refused_no_input_fault r e
 
 module _ {D : Type 0} (told : D → Option (List ℕ)) (limit : ℕ) (h : List Entry) (clock : ℕ) (draw : Draw) where
   taken : (id : List ℕ) (t : Tree) (new : Held D) (end : Ending) (input : List ℕ) → Asks input (named id t)
@@ -57,6 +64,8 @@ module _ {D : Type 0} (told : D → Option (List ℕ)) (limit : ℕ) (h : List E
   taken id t new ending.Founded input asks s = (named id t, asks, s.0, s.1)
   taken id t new (ending.Kept k) input asks s = (named id t, asks, s.0, s.1)
   taken id t new ending.Usage input asks s = (named id t, asks, s.0, s.1)
+  taken id t new (ending.Served responses) input asks s = (named id t, asks, s.0, s.1)
+  taken id t new ending.LobbyFault input asks s = (named id t, asks, s.0, s.1)
   taken id t new ending.NotAStore input asks s = (named id t, asks, s.0, s.1)
   taken id t new (ending.Damaged k) input asks s = (named id t, asks, s.0, s.1)
   taken id t new ending.AlreadyStore input asks s = (named id t, asks, s.0, s.1)
@@ -92,6 +101,8 @@ module _ {D : Type 0} (told : D → Option (List ℕ)) (limit : ℕ) (h : List E
   closed_one mid disk n ending.Founded input leaves s = (s.0, s.1, s.2, leaves _ s.3.1)
   closed_one mid disk n (ending.Kept k) input leaves s = (s.0, s.1, s.2, leaves _ s.3.1)
   closed_one mid disk n ending.Usage input leaves s = (s.0, s.1, s.2, leaves _ s.3.1)
+  closed_one mid disk n (ending.Served responses) input leaves s = (s.0, s.1, s.2, leaves _ s.3.1)
+  closed_one mid disk n ending.LobbyFault input leaves s = (s.0, s.1, s.2, leaves _ s.3.1)
   closed_one mid disk n ending.NotAStore input leaves s = (s.0, s.1, s.2, leaves _ s.3.1)
   closed_one mid disk n (ending.Damaged k) input leaves s = (s.0, s.1, s.2, leaves _ s.3.1)
   closed_one mid disk n ending.AlreadyStore input leaves s = (s.0, s.1, s.2, leaves _ s.3.1)
@@ -153,6 +164,8 @@ module _ {D : Type 0} (told : D → Option (List ℕ)) (limit : ℕ) (h : List E
   failed_one ending.Founded input s = unsure _ s.3
   failed_one (ending.Kept k) input s = unsure _ s.3
   failed_one ending.Usage input s = unsure _ s.3
+  failed_one (ending.Served responses) input s = unsure _ s.3
+  failed_one ending.LobbyFault input s = unsure _ s.3
   failed_one ending.NotAStore input s = unsure _ s.3
   failed_one (ending.Damaged k) input s = unsure _ s.3
   failed_one ending.AlreadyStore input s = unsure _ s.3

@@ -12,9 +12,11 @@ use Rattle.lrs_record.specs.declared.entry.Entry.{Entry}
 use Rattle.xapi_rules.specs.Rules.{broken_rule}
 use Rattle.xapi_statement.specs.Statement.{own_id, is_too_long}
 use Rattle.lrs_machine.specs.History.{Answer, answer, rule}
-use Rattle.lrs_machine.specs.declared.answered.Rule.{Rule}
+use Rattle.lrs_record.specs.declared.rule.Rule.{Rule}
 use Rattle.lrs_machine.specs.declared.answered.Answered.{Answered}
 use Rattle.lrs_machine.specs.declared.answered.Answered.TheVariants as said
+use Rattle.lrs_machine.specs.declared.answered.Refusal.{Refusal}
+use Rattle.lrs_machine.specs.declared.answered.Refusal.TheVariants as refusal
 use Rattle.lrs_app.specs.Reading.{longest}
 use Rattle.lrs_app.specs.declared.ending.Ending.{Ending}
 use Rattle.lrs_app.specs.declared.ending.Ending.TheVariants as ending
@@ -58,16 +60,22 @@ without_rule (Some n) = ending.Refused (rule 83 n)
 abbrev pub unnamed_ending : Json → Ending
 unnamed_ending j = if is_too_long j then ending.TooLong else without_rule (broken_rule j)
 
--- What the store says to a statement of this id ends so. The operator is known, and to keep a statement is no missing thing.
+-- A statement that is refused ends so. The operator is let in, and to keep a statement is no missing thing.
+abbrev pub EndsRefused : Refusal → Ending → Type 0
+EndsRefused (refusal.Conflict held) end = end ≡ ending.Conflict held
+EndsRefused (refusal.Full need limit) end = end ≡ ending.Full need limit
+EndsRefused (refusal.Broken r) end = end ≡ ending.Refused r
+EndsRefused refusal.TooLong end = end ≡ ending.TooLong
+EndsRefused refusal.Unauthorized end = ⊥
+EndsRefused (refusal.Forbidden r) end = ⊥
+EndsRefused refusal.NotFound end = ⊥
+
+-- What the store says to a statement of this id ends so. It shows no text.
 abbrev pub EndsSaying : List ℕ → Answered → Ending → Type 0
 EndsSaying id said.Kept end = end ≡ ending.Kept id
 EndsSaying id said.Same end = end ≡ ending.Kept id
-EndsSaying id (said.Conflict held) end = end ≡ ending.Conflict held
-EndsSaying id (said.Full need limit) end = end ≡ ending.Full need limit
-EndsSaying id (said.Broken r) end = end ≡ ending.Refused r
-EndsSaying id said.TooLong end = end ≡ ending.TooLong
-EndsSaying id said.Unauthorized end = ⊥
-EndsSaying id said.NotFound end = ⊥
+EndsSaying id (said.Shown text through) end = ⊥
+EndsSaying id (said.Refused r) end = EndsRefused r end
 
 -- the abstract store's answer to the operator's put
 abbrev pub put_answer : ℕ → List Entry → ℕ → Draw → List ℕ → Tree → Answer

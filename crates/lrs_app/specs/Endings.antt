@@ -2,18 +2,20 @@
 use Rattle.std.specs.Prelude.{ℕ, List, ◌∷◌, ◌++◌, codes}
 use Rattle.std.specs.Fmt.{decimal}
 use Rattle.lrs_names.specs.Ids.{id_text}
-use Rattle.lrs_machine.specs.declared.answered.Rule.{Rule}
+use Rattle.lrs_record.specs.declared.rule.Rule.{Rule}
 use Rattle.lrs_app.specs.declared.ending.Ending.{Ending}
 use Rattle.lrs_app.specs.declared.ending.Ending.TheVariants as ending
 
 abbrev pub ending_status : Ending → ℕ
 ending_status ending.Founded = 0
 ending_status (ending.Kept id) = 0
+ending_status (ending.Served responses) = 0
 ending_status ending.Usage = 1
 ending_status ending.NotAStore = 2
 ending_status (ending.Damaged k) = 3
 ending_status ending.AlreadyStore = 4
 ending_status ending.DiskFault = 5
+ending_status ending.LobbyFault = 8
 ending_status ending.Memory = 6
 ending_status (ending.Refused rule) = 10
 ending_status ending.NoId = 10
@@ -29,11 +31,13 @@ rule_text rule = rule.family ∷ decimal rule.number
 abbrev pub ending_text : Ending → List ℕ
 ending_text ending.Founded = codes "founded"
 ending_text (ending.Kept id) = id_text id
+ending_text (ending.Served responses) = codes "served " ++ decimal responses
 ending_text ending.Usage = codes "usage"
 ending_text ending.NotAStore = codes "not a store"
 ending_text (ending.Damaged k) = codes "damaged " ++ decimal k
 ending_text ending.AlreadyStore = codes "already a store"
 ending_text ending.DiskFault = codes "disk fault"
+ending_text ending.LobbyFault = codes "lobby fault"
 ending_text ending.Memory = codes "memory"
 ending_text (ending.Refused rule) = codes "refused " ++ rule_text rule
 ending_text ending.NoId = codes "refused no id"

@@ -6,3 +6,5 @@ pub mod Reading
 pub mod Asking
 pub mod Run
 pub mod Steps
+pub mod Service
+pub mod ServeSteps

@@ -1,5 +1,6 @@
 -- What a run does: the outside before it and behind it, the ending, and what it leaves on the disk.
 use Rattle.std.specs.Prelude.{◌≡◌, ◌⊎◌, ◌<◌, ◌+◌, ℕ, List, [], ◌∷◌, ◌++◌, length, map, Option, Some, None, option_map, IfSome}
+use Rattle.lrs_disk.specs.Door.{Returned}
 use Rattle.lrs_disk.specs.Faults.{Rises}
 use Rattle.lrs_disk.specs.Readings.{AddsReading}
 use Rattle.lrs_names.specs.declared.draw.Draw.{Draw}
@@ -9,8 +10,13 @@ use Rattle.lrs_record.specs.Entries.{written_entry}
 use Rattle.lrs_record.specs.declared.entry.Entry.{Entry}
 use Rattle.lrs_machine.specs.History.{with_entry}
 use Rattle.lrs_machine.specs.Desk.{IsStoreOf, IsRefused, founding_entry}
+use Rattle.lrs_machine.specs.declared.opening.DeskRefused.{DeskRefused}
 use Rattle.lrs_machine.specs.declared.opening.DeskRefused.TheVariants as refused
-use Rattle.lrs_app.specs.Words.{Command, init, intake, IsCommand, base_of, limit_of}
+use Rattle.lrs_hall.specs.Draws.{draw_at, start_of}
+use Rattle.lrs_hall.specs.Talks.{Told}
+use Rattle.lrs_app.specs.Service.{Doors, HasNoDoor, ServesDoor, HoldsServed, responses_of}
+use Rattle.lrs_app.specs.Steps.{ending_of}
+use Rattle.lrs_app.specs.Words.{Command, init, intake, serve, IsCommand, base_of, limit_of, connections_of}
 use Rattle.lrs_app.specs.Endings.{ending_status, ending_line}
 use Rattle.lrs_app.specs.Printing.{Prints}
 use Rattle.lrs_app.specs.Asking.{Asked, Asks, EndsAsking, entry_asked}
@@ -27,6 +33,7 @@ pub record Outside : Type 0 where
   pub shelf_faults : ℕ
   -- the clock's readings so far
   pub readings : Option (List ℕ)
+  pub lobby : Doors
   -- what is left of the input
   pub left : Option (List ℕ)
   pub input_faults : ℕ
@@ -39,11 +46,17 @@ pub record Seen : Type 0 where
   pub told : Option (List ℕ)
   pub faults : ℕ
 
--- what a run gives: a status, a disk where one was taken, and the history's length
+-- what a run gives: a status, a disk where one was taken, the history's length, the talks and the number of their responses
 pub record Outcome : Type 0 where
   pub status : ℕ
   pub disk : Option Seen
   pub length : ℕ
+  pub talks : List Told
+  pub responses : ℕ
+
+-- no connection was served
+abbrev pub IsSilent : Outcome → Type 0
+IsSilent o = (o.talks ≡ []) × (o.responses ≡ 0)
 
 -- the ending's line is printed and its status given, as far as the output doesn't fail
 abbrev pub PrintsLine : Ending → Option (List ℕ) → Option (List ℕ) → ℕ → ℕ → ℕ → Type 0
@@ -60,6 +73,10 @@ ReadsOnce clock before after = AddsReading before.readings after.readings clock
 pub record LeavesInput (before after : Outside) : Type 0 where
   pub left : after.left ≡ before.left
   pub faults : after.input_faults ≡ before.input_faults
+
+-- no door was asked for or given back
+abbrev pub LeavesDoors : Outside → Outside → Type 0
+LeavesDoors before after = after.lobby ≡ before.lobby
 
 -- ---- what a disk holds
 
@@ -147,20 +164,68 @@ InitLeaves file admin base limit clock before after (Some disk) n end =
     IfSome (before.holds file) (λ bytes. InitEnds bytes admin base limit clock disk.told n end)
     × HasCause (before.begins file) disk.faults 0 0 end
 
+-- ---- serve
+
+-- No store was opened, and no door was asked for.
+pub record ServesUnopened (held : Option (List ℕ)) (before after : Doors) (disk : Seen) (talks : List Told) (n : ℕ) (end : Ending) : Type 0 where
+  pub why : DeskRefused
+  pub ended : end ≡ ending_of why
+  pub left : IfSome held (λ bytes. EndsUnopened bytes disk.told end)
+  pub lobby : after ≡ before
+  pub silent : talks ≡ []
+  pub counts : n ≡ 0
+
+-- No door was had: the store stays as it was.
+pub record ServesDoorless (held : Option (List ℕ)) (address : List ℕ) (before after : Doors) (disk : Seen) (talks : List Told) (n : ℕ) (end : Ending) : Type 0 where
+  pub none : HasNoDoor address before after end
+  pub left : IfSome held (λ bytes. (limit : ℕ) × (h : List Entry) × IsStoreOf bytes limit h × Leaves limit h disk.told n)
+  pub silent : talks ≡ []
+
+-- The connections of a door were served: each response is the abstract store's reply over the one history that the disk finally holds.
+pub record ServesLinks (held : Option (List ℕ)) (address : List ℕ) (connections : ℕ) (seed : List ℕ) (before after : Doors) (disk : Seen) (talks : List Told) (n : ℕ) (end : Ending) : Type 0 where
+  pub links : List Returned
+  pub door : ServesDoor address connections before after links talks disk.faults end
+  pub history : IfSome held (λ bytes. (limit : ℕ) × (h : List Entry) × IsStoreOf bytes limit h × HoldsServed limit h seed links talks disk.told n end)
+
+-- the lobby's fault is told only where its count rose
+abbrev pub HasLobbyCause : Doors → Doors → Ending → Type 0
+HasLobbyCause before after end = end ≡ ending.LobbyFault → Rises before.faults after.faults
+
+-- what serve does over a disk that held this
+abbrev pub Serves : Option (List ℕ) → List ℕ → ℕ → List ℕ → Doors → Doors → Seen → List Told → ℕ → Ending → Type 0
+Serves held address connections seed before after disk talks n end = HasLobbyCause before after end
+    × (ServesUnopened held before after disk talks n end
+    ⊎ (ServesDoorless held address before after disk talks n end ⊎ ServesLinks held address connections seed before after disk talks n end))
+
+-- what serve leaves, with the disk that it took or without one
+abbrev pub ServeLeaves : List ℕ → List ℕ → ℕ → List ℕ → Outside → Outside → Option Seen → List Told → ℕ → Ending → Type 0
+ServeLeaves file address connections seed before after None talks n end =
+    (end ≡ ending.DiskFault) × Rises before.shelf_faults after.shelf_faults × LeavesDoors before after × (talks ≡ []) × (n ≡ 0)
+ServeLeaves file address connections seed before after (Some disk) talks n end =
+    HasCause (before.begins file) disk.faults 0 0 end × Serves (before.holds file) address connections seed before.lobby after.lobby disk talks n end
+
 -- ---- the headline
 
 -- A command reads the clock once and has one ending, which says what it leaves, what is printed and which status it gives.
 abbrev pub IntakeRuns : List ℕ → Draw → Outside → Outside → Outcome → Type 0
-IntakeRuns file draw before after o = (clock : ℕ) × (end : Ending) × ReadsOnce clock before after
+IntakeRuns file draw before after o = (clock : ℕ) × (end : Ending) × ReadsOnce clock before after × LeavesDoors before after × IsSilent o
     × IntakeLeaves file clock draw before after o.disk o.length end × PrintsEnding end before after o.status
 
 abbrev pub InitRuns : List ℕ → List ℕ → List ℕ → ℕ → Outside → Outside → Outcome → Type 0
-InitRuns file admin base limit before after o = (clock : ℕ) × (end : Ending) × ReadsOnce clock before after
+InitRuns file admin base limit before after o = (clock : ℕ) × (end : Ending) × ReadsOnce clock before after × LeavesDoors before after × IsSilent o
     × InitLeaves file admin base limit clock before after o.disk o.length end × PrintsEnding end before after o.status
 
-abbrev pub CommandRuns : Command → Draw → Outside → Outside → Outcome → Type 0
-CommandRuns (intake file) draw before after o = IntakeRuns file draw before after o
-CommandRuns (init w) draw before after o = LeavesInput before after × InitRuns w.file w.admin (base_of w) (limit_of w) before after o
+-- serve reads no clock but that of its door
+abbrev pub ServeRuns : List ℕ → List ℕ → ℕ → List ℕ → Outside → Outside → Outcome → Type 0
+ServeRuns file address connections seed before after o = (end : Ending) × (after.readings ≡ before.readings) × (o.responses ≡ responses_of o.talks)
+    × ServeLeaves file address connections seed before after o.disk o.talks o.length end × PrintsEnding end before after o.status
+
+-- the one draw of intake is the first of stream 0
+abbrev pub CommandRuns : Command → List ℕ → Outside → Outside → Outcome → Type 0
+CommandRuns (intake file) seed before after o = IntakeRuns file (draw_at (start_of seed 0)) before after o
+CommandRuns (init w) seed before after o = LeavesInput before after × InitRuns w.file w.admin (base_of w) (limit_of w) before after o
+CommandRuns (serve w) seed before after o =
+    LeavesInput before after × ServeRuns w.file w.address (connections_of w) seed before after o
 
 -- Nothing but the output was used.
 pub record IsIdle (before after : Outside) (o : Outcome) : Type 0 where
@@ -168,12 +233,14 @@ pub record IsIdle (before after : Outside) (o : Outcome) : Type 0 where
   pub shelf : after.shelf_faults ≡ before.shelf_faults
   pub readings : after.readings ≡ before.readings
   pub input : LeavesInput before after
+  pub doors : LeavesDoors before after
   pub disk : o.disk ≡ None
   pub length : o.length ≡ 0
+  pub silent : IsSilent o
 
 -- What a run of these words does: the command that they are, or `usage` where they are none. Want of memory for the words is free.
-abbrev pub Runs : List (List ℕ) → Draw → Outside → Outside → Outcome → Type 0
-Runs words draw before after o =
-    ((c : Command) × IsCommand words c × CommandRuns c draw before after o)
+abbrev pub Runs : List (List ℕ) → List ℕ → Outside → Outside → Outcome → Type 0
+Runs words seed before after o =
+    ((c : Command) × IsCommand words c × CommandRuns c seed before after o)
     ⊎ ((((c : Command) → IsCommand words c → ⊥) × IsIdle before after o × PrintsEnding ending.Usage before after o.status)
     ⊎ (IsIdle before after o × PrintsEnding ending.Memory before after o.status))

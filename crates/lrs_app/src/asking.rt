@@ -10,8 +10,8 @@ use crate::Ending;
 use crate::reading::{InputRefused, read_input};
 use lrs_disk::Source;
 use lrs_json::{Memory, ReadRefused, Tree, read};
-use lrs_machine::Rule;
 use lrs_names::Id;
+use lrs_record::Rule;
 use std::alloc::Global;
 use xapi_statement::{broken_rule, is_too_long, own_id};
 

@@ -6,8 +6,8 @@ ghost use Rattle.lrs_app.specs.Endings.{ending_status, ending_text, ending_line,
 
 use arrayvec::ArrayVec;
 use itoa::Buffer;
-use lrs_machine::Rule;
 use lrs_names::Id;
+use lrs_record::Rule;
 
 /// How a command ends. Each ending has its status and its line.
 #[derive(Clone, Copy, PartialEq, Eq)]
@@ -16,6 +16,8 @@ pub enum Ending {
     Founded,
     /// The statement under this id is kept.
     Kept(Id),
+    /// The connections are served, with this number of responses.
+    Served(u64),
     /// The words are no command.
     Usage,
     /// The file is no store.
@@ -26,6 +28,8 @@ pub enum Ending {
     AlreadyStore,
     /// A call of the disk or of the shelf failed.
     DiskFault,
+    /// No door could be had, or the door failed before its number of connections.
+    LobbyFault,
     /// Memory is wanting.
     Memory,
     /// The input breaks this rule.
@@ -70,13 +74,14 @@ impl Ending {
         ensures { result ≡ ending_status self.now }
     {
         match self {
-            Ending::Founded | Ending::Kept(_) => 0,
+            Ending::Founded | Ending::Kept(_) | Ending::Served(_) => 0,
             Ending::Usage => 1,
             Ending::NotAStore => 2,
             Ending::Damaged { .. } => 3,
             Ending::AlreadyStore => 4,
             Ending::DiskFault => 5,
             Ending::Memory => 6,
+            Ending::LobbyFault => 8,
             Ending::Refused(_) | Ending::NoId | Ending::TooLong | Ending::Conflict(_) => 10,
             Ending::InputFault => 11,
             Ending::Full { .. } => 12,
@@ -99,11 +104,13 @@ impl Ending {
         match self {
             Ending::Founded => word(b"founded"),
             Ending::Kept(id) => word(&id.text()),
+            Ending::Served(responses) => with_number(b"served ", *responses),
             Ending::Usage => word(b"usage"),
             Ending::NotAStore => word(b"not a store"),
             Ending::Damaged { k } => with_number(b"damaged ", *k),
             Ending::AlreadyStore => word(b"already a store"),
             Ending::DiskFault => word(b"disk fault"),
+            Ending::LobbyFault => word(b"lobby fault"),
             Ending::Memory => word(b"memory"),
             Ending::Refused(rule) => refused(*rule),
             Ending::NoId => word(b"refused no id"),

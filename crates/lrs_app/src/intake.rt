@@ -3,8 +3,8 @@ ghost use Rattle.std.specs.Prelude.{◌≡◌, ◌≢◌, List, ℕ, IfSome, fal
 ghost use Rattle.lrs_json.specs.Fits.{IsReadable};
 ghost use Rattle.lrs_json.specs.View.{view};
 ghost use Rattle.lrs_record.specs.declared.entry.Entry.{Entry};
-ghost use Rattle.lrs_machine.specs.Desk.{StandsFor};
-ghost use Rattle.lrs_app.specs.Asking.{EndsSaying, put_answer};
+ghost use Rattle.lrs_machine.specs.Desk.{StandsFor, IsOfPut, MayRefusePut};
+ghost use Rattle.lrs_app.specs.Asking.{EndsSaying, EndsRefused, put_answer};
 ghost use Rattle.lrs_app.specs.Steps.{Submits, TakesIn, HasPutCause, HasCauses, ending_of, ending_of_trouble};
 ghost use Rattle.lrs_app.specs.Run.{EndsOpened, IntakeEnds, HasCause};
 
@@ -12,25 +12,40 @@ use crate::Ending;
 use crate::asking::take_statement;
 use lrs_disk::{Disk, Source};
 use lrs_json::Tree;
-use lrs_machine::{Answered, Desk, DeskRefused, Trouble};
+use lrs_machine::{Answered, Desk, DeskRefused, Refusal, Trouble};
 use lrs_names::{Draw, Id};
 use std::alloc::Global;
 
 // How a command ends to which the store says this, under this id.
 fn ending_saying(id: &Id, answered: Answered) -> Ending
-    requires known { (answered ≢ Answered.Unauthorized) × (answered ≢ Answered.NotFound) }
+    requires { IsOfPut answered }
     ensures said { EndsSaying id.now answered result }
     ensures cause { (count : ℕ) → HasPutCause count count result }
 {
     match answered {
         Answered::Kept => Ending::Kept(*id),
         Answered::Same => Ending::Kept(*id),
-        Answered::Conflict(held) => Ending::Conflict(held),
-        Answered::Full { need, limit } => Ending::Full { need, limit },
-        Answered::Broken(rule) => Ending::Refused(rule),
-        Answered::TooLong => Ending::TooLong,
-        Answered::Unauthorized => unreachable!(),
-        Answered::NotFound => unreachable!(),
+        Answered::Shown {
+            text: _,
+            through: _,
+        } => unreachable!(),
+        Answered::Refused(refusal) => ending_refused(refusal),
+    }
+}
+
+fn ending_refused(refusal: Refusal) -> Ending
+    requires { MayRefusePut refusal }
+    ensures said { EndsRefused refusal result }
+    ensures cause { (count : ℕ) → HasPutCause count count result }
+{
+    match refusal {
+        Refusal::Conflict(held) => Ending::Conflict(held),
+        Refusal::Full { need, limit } => Ending::Full { need, limit },
+        Refusal::Broken(rule) => Ending::Refused(rule),
+        Refusal::TooLong => Ending::TooLong,
+        Refusal::Unauthorized => unreachable!(),
+        Refusal::Forbidden(_) => unreachable!(),
+        Refusal::NotFound => unreachable!(),
     }
 }
 
@@ -100,8 +115,8 @@ fn intake_opened<D: Disk, I: Source>(
     }
 }
 
-// How a command ends where no store is opened.
-fn unopened(refused: DeskRefused) -> Ending
+/// How a command ends where no store is opened.
+pub(crate) fn unopened(refused: DeskRefused) -> Ending
     ensures { result ≡ ending_of refused }
 {
     match refused {

@@ -8,6 +8,7 @@ mod intake;
 mod printing;
 mod program;
 mod reading;
+mod serve;
 mod words;
 
 pub use ending::Ending;

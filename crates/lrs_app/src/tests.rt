@@ -203,14 +203,37 @@ fn other_files_are_refused(rt: HostRuntime) -> Result<(), Fail> {
 #[test]
 fn other_words_are_a_usage_fault(rt: HostRuntime) -> Result<(), Fail> {
     let alloc = rt.alloc();
-    let rows: [&[&str]; 16] = [
+    let rows: [&[&str]; 21] = [
         &[],
         &["intake"],
-        &["intake", ""],
+        &["intake", "s", ""],
         &["intake", "--help"],
         &["intake", "s", "t"],
         &["--help"],
         &["serve", "s"],
+        &["serve", "s", "a", "--workers", "1"],
+        &["serve", "s", "a", "--workers", "2", "--connections", "1"],
+        &["serve", "s", "a", "--workers", "1", "--connections", "0"],
+        &[
+            "serve",
+            "s",
+            "a",
+            "--workers",
+            "1",
+            "--connections",
+            "10001",
+        ],
+        &["serve", "s", "-a", "--workers", "1", "--connections", "1"],
+        &[
+            "serve",
+            "s",
+            "a",
+            "--workers",
+            "1",
+            "--connections",
+            "1",
+            "t",
+        ],
         &["init", "s"],
         &["init", "s", "--admin"],
         &["init", "s", "--admin", "short"],
@@ -233,16 +256,6 @@ fn other_words_are_a_usage_fault(rt: HostRuntime) -> Result<(), Fail> {
             "1073741825",
         ],
         &["init", "s", "--admin", "adminadmin", "--base", "http://a"],
-        &[
-            "init",
-            "s",
-            "--admin",
-            "adminadmin",
-            "--limit",
-            "512",
-            "--base",
-            "http://a/",
-        ],
     ];
     for words in rows {
         let ran = run_once(alloc, words, &calm(&[], ""))?;

@@ -1,22 +1,28 @@
 -- From the fields to the history.
-use Rattle.std.proofs.Common.{◌≡◌, ◌<◌, ◌≤◌, ◌+◌, ◌-◌, ◌^◌, ℕ, zero, suc, min, max, List, [], ◌∷◌, ◌++◌, length, map, refl, sym, ◌∙◌, ap, subst, inl, inr, arith, length-append, Option, Some, None, Bool, true, false, nat_lt, Result, Ok, Err}
-use Rattle.std.specs.Prelude.{option_map, IsSome, ◌⊎◌, if◌then◌else◌}
+use Rattle.std.proofs.Common.{◌≡◌, ◌<◌, ◌≤◌, ◌+◌, ◌-◌, ◌^◌, ℕ, min, max, List, [], ◌∷◌, ◌++◌, length, map, refl, sym, ◌∙◌, ap, subst, inl, inr, arith, length-append, Option, Some, None, Bool, true, false, nat_lt, Result, Ok, Err, IsErr, IsErrOf}
+use Rattle.std.specs.Prelude.{option_map, if◌then◌else◌}
 use Rattle.std.proofs.lemmas.Grind.{common_steps}
-use Rattle.std.proofs.lemmas.List.{length-map}
 use Rattle.lrs_names.specs.declared.draw.Draw.{Draw}
 use Rattle.lrs_journal.specs.Store.{store}
-use Rattle.lrs_journal.specs.Journal.{Held, frames_of, IsJournal, IsHolding, IsUnchanged, IsAppended}
+use Rattle.lrs_journal.specs.declared.journal.AppendRefused.{AppendRefused}
+use Rattle.lrs_journal.specs.declared.journal.AppendRefused.TheVariants as append
+use Rattle.lrs_journal.specs.Journal.{need_of, Held, frames_of, IsJournal, IsUnchanged, IsAppended}
 use Rattle.lrs_record.specs.declared.entry.Caller.{Caller}
 use Rattle.lrs_record.specs.declared.entry.Command.{Command}
+use Rattle.lrs_record.specs.declared.entry.Command.TheVariants.{Put}
 use Rattle.lrs_record.specs.declared.entry.Entry.{Entry}
+use Rattle.lrs_json.specs.Json.{Json}
+use Rattle.lrs_json.specs.View.{view}
 use Rattle.lrs_record.specs.Entries.{IsLawful, written_entry}
 use Rattle.lrs_record.specs.Moments.{clamped, latest}
 use Rattle.lrs_machine.specs.declared.answered.Answered.{Answered}
-use Rattle.lrs_machine.specs.declared.answered.Answered.TheVariants as said
+use Rattle.lrs_machine.specs.declared.answered.Refusal.{Refusal}
+use Rattle.lrs_machine.specs.declared.answered.Refusal.TheVariants as refusal
+use Rattle.lrs_machine.specs.declared.index.HeldStatement.{HeldStatement}
 use Rattle.lrs_machine.specs.declared.reply.Trouble.{Trouble}
 use Rattle.lrs_machine.specs.declared.reply.Trouble.TheVariants as trouble
-use Rattle.lrs_machine.specs.History.{State, state, step, nothing, Answer, answer, answer_by, kept, said_at_once, entry_at, need, end_place, with_entry, IsLegal, ComesNext}
-use Rattle.lrs_machine.specs.Steps.{IsTied, HasFold, Still, Grows, IsFull, KeepsBy, Keeps, SaysBy, Acts}
+use Rattle.lrs_machine.specs.History.{State, state, step, nothing, Answer, answer, answer_by, kept, thanks, refused, area_of, barred, unless_barred, who_is, said_at_once, put_said, refused_form, held_under, entry_at, need, end_place, IsLegal, ComesNext}
+use Rattle.lrs_machine.specs.Steps.{IsTied, HasFold, IsFresh, Still, Grows, IsFull, SaysBy, Acts}
 use Rattle.lrs_machine.specs.Desk.{StandsFor, Answers}
 use Rattle.lrs_machine.proofs.Histories.{state_from-more, map-more, legal_with, one_history}
 
@@ -29,28 +35,28 @@ next_of limit [] e legal is = absurd (no legal.0)
 next_of limit (x ∷ h) e legal is = is
 
 abbrev pub no_room : ℕ → ℕ → Entry → Answer
-no_room limit place e = record { said = said.Full (min (need place e) (2 ^ 64 - 1)) limit; entry = None }
+no_room limit place e = record { said = refused (refusal.Full (min (need place e) (2 ^ 64 - 1)) limit); entry = None }
 
-abbrev pub kept_answer : Entry → Answer
-kept_answer e = record { said = said.Kept; entry = Some e }
+abbrev pub kept_answer : Answered → Entry → Answer
+kept_answer t e = record { said = t; entry = Some e }
 
-room_is : (limit place : ℕ) (e : Entry) → need place e ≤ limit → kept limit place e ≡ kept_answer e
-room_is limit place e fits = by_test (nat_lt limit (need place e)) refl
+room_is : (limit place : ℕ) (t : Answered) (e : Entry) → need place e ≤ limit → kept limit place t e ≡ kept_answer t e
+room_is limit place t e fits = by_test (nat_lt limit (need place e)) refl
   where
     no : nat_lt limit (need place e) ≡ true → ⊥
     no is = grind (arith, common_steps)
 
-    by_test : (b : Bool) → nat_lt limit (need place e) ≡ b → (if b then no_room limit place e else kept_answer e) ≡ kept_answer e
+    by_test : (b : Bool) → nat_lt limit (need place e) ≡ b → (if b then no_room limit place e else kept_answer t e) ≡ kept_answer t e
     by_test true is = absurd (no is)
     by_test false is = refl
 
-full_is : (limit place : ℕ) (e : Entry) → limit < need place e → kept limit place e ≡ no_room limit place e
-full_is limit place e exceeds = by_test (nat_lt limit (need place e)) refl
+full_is : (limit place : ℕ) (t : Answered) (e : Entry) → limit < need place e → kept limit place t e ≡ no_room limit place e
+full_is limit place t e exceeds = by_test (nat_lt limit (need place e)) refl
   where
     no : nat_lt limit (need place e) ≡ false → ⊥
     no is = grind (arith, common_steps)
 
-    by_test : (b : Bool) → nat_lt limit (need place e) ≡ b → (if b then no_room limit place e else kept_answer e) ≡ no_room limit place e
+    by_test : (b : Bool) → nat_lt limit (need place e) ≡ b → (if b then no_room limit place e else kept_answer t e) ≡ no_room limit place e
     by_test true is = refl
     by_test false is = absurd (no is)
 
@@ -59,8 +65,8 @@ abbrev pub entry_for : List Entry → Caller → Command → ℕ → Draw → En
 entry_for h caller command clock draw = entry_at caller command (max (clamped clock) (state h).last) draw
 
 answer_at_once : (limit : ℕ) (h : List Entry) (caller : Caller) (command : Command) (clock : ℕ) (draw : Draw) (o : Option Answered) → said_at_once (state h) caller command ≡ o
-    → answer limit h caller command clock draw ≡ answer_by o limit (end_place limit h) (entry_for h caller command clock draw)
-answer_at_once limit h caller command clock draw o is = ap (λ o. answer_by o limit (end_place limit h) (entry_for h caller command clock draw)) is
+    → answer limit h caller command clock draw ≡ answer_by o limit (end_place limit h) (thanks (state h) command draw) (entry_for h caller command clock draw)
+answer_at_once limit h caller command clock draw o is = ap (λ o. answer_by o limit (end_place limit h) (thanks (state h) command draw) (entry_for h caller command clock draw)) is
 
 -- asked again at its own moment, a kept entry is kept
 pub kept_again : (limit : ℕ) (h : List Entry) (caller : Caller) (command : Command) (clock : ℕ) (draw : Draw) → IsLegal limit h → said_at_once (state h) caller command ≡ None
@@ -68,8 +74,8 @@ pub kept_again : (limit : ℕ) (h : List Entry) (caller : Caller) (command : Com
 kept_again limit h caller command clock draw legal at_once fits early =
     next_of limit h (entry_for h caller command clock draw) legal
     (ap (λ a. a.entry) (answer_at_once limit h caller command (max (clamped clock) (state h).last) draw None at_once
-    ∙ ap (λ m. kept limit (end_place limit h) (entry_at caller command m draw)) same
-    ∙ room_is limit (end_place limit h) (entry_for h caller command clock draw) fits))
+    ∙ ap (λ m. kept limit (end_place limit h) (thanks (state h) command draw) (entry_at caller command m draw)) same
+    ∙ room_is limit (end_place limit h) (thanks (state h) command draw) (entry_for h caller command clock draw) fits))
   where
     same : max (clamped (max (clamped clock) (state h).last)) (state h).last ≡ max (clamped clock) (state h).last
     same = again clock (state h).last early
@@ -138,14 +144,8 @@ act_ties told image old new caller command clock draw st su r tied sound acts = 
   where
     by_said : (o : Option Answered) (s : Answered) → said_at_once st caller command ≡ o → SaysBy told old new st su (entry_in st caller command clock draw) o s → IsTied told image new su
     by_said (Some t) s is k = still_tied told image old new st su tied sound k.1
-    by_said None said.Kept is k = grown_tied told image old new caller command clock draw st su tied sound is k
-    by_said None (said.Full n l) is k = still_tied told image old new st su tied sound k.1
-    by_said None said.Same is k = absurd k
-    by_said None (said.Conflict id) is k = absurd k
-    by_said None (said.Broken rule) is k = absurd k
-    by_said None said.TooLong is k = absurd k
-    by_said None said.Unauthorized is k = absurd k
-    by_said None said.NotFound is k = absurd k
+    by_said None s is (inl k) = grown_tied told image old new caller command clock draw st su tied sound is k.1
+    by_said None s is (inr k) = still_tied told image old new st su tied sound k.4
 
     by_result : (r : Result Answered Trouble) → Acts told old new st su (entry_in st caller command clock draw) r → IsTied told image new su
     by_result (Ok s) k = by_said (said_at_once st caller command) s refl k.1
@@ -189,9 +189,9 @@ act_answers told image old new caller command clock draw st su r h tied acts sta
     place = (tied.sound.holds (map written_entry h) stands.frames).place
 
     kept_is : said_at_once (state h) caller command ≡ None → need old.end (entry_for h caller command clock draw) ≤ old.limit
-        → answer old.limit h caller command clock draw ≡ kept_answer (entry_for h caller command clock draw)
+        → answer old.limit h caller command clock draw ≡ kept_answer (thanks (state h) command draw) (entry_for h caller command clock draw)
     kept_is is fits = answer_at_once old.limit h caller command clock draw None is
-        ∙ room_is old.limit (end_place old.limit h) (entry_for h caller command clock draw) (subst (λ p. need p (entry_for h caller command clock draw) ≤ old.limit) place fits)
+        ∙ room_is old.limit (end_place old.limit h) (thanks (state h) command draw) (entry_for h caller command clock draw) (subst (λ p. need p (entry_for h caller command clock draw) ≤ old.limit) place fits)
 
     more : said_at_once (state h) caller command ≡ None → Grows told old new (state h) su (entry_for h caller command clock draw) → StandsFor told new (h ++ entry_for h caller command clock draw ∷ [])
     more is g = stands_more told old new h (entry_for h caller command clock draw) stands g.appended g.lawful
@@ -201,21 +201,15 @@ act_answers told image old new caller command clock draw st su r h tied acts sta
         → Answers told (answer old.limit h caller command clock draw) h old new (Ok s)
     by_said (Some t) s is doubt k = subst (λ a. Answers told a h old new (Ok s)) (sym (answer_at_once old.limit h caller command clock draw (Some t) is))
         (k.0, doubt, stands_still told old new h stands k.1.0)
-    by_said None said.Kept is doubt k = subst (λ a. Answers told a h old new (Ok said.Kept)) (sym (kept_is is k.room)) (refl, doubt, more is k)
-    by_said None (said.Full n l) is doubt k =
-        subst (λ a. Answers told a h old new (Ok (said.Full n l))) (sym (answer_at_once old.limit h caller command clock draw None is
-        ∙ full_is old.limit (end_place old.limit h) (entry_for h caller command clock draw) (subst (λ p. old.limit < need p (entry_for h caller command clock draw)) place k.0.exceeds)))
-        (number n l k.0.need_is k.0.limit_is, doubt, stands_still told old new h stands k.1.0)
+    by_said None s is doubt (inl k) = subst (λ a. Answers told a h old new (Ok s)) (sym (kept_is is k.1.room)) (k.0, doubt, more is k.1)
+    by_said None s is doubt (inr k) =
+        subst (λ a. Answers told a h old new (Ok s)) (sym (answer_at_once old.limit h caller command clock draw None is
+        ∙ full_is old.limit (end_place old.limit h) (thanks (state h) command draw) (entry_for h caller command clock draw) (subst (λ p. old.limit < need p (entry_for h caller command clock draw)) place k.3.exceeds)))
+        (k.2 ∙ number k.0 k.1 k.3.need_is k.3.limit_is, doubt, stands_still told old new h stands k.4.0)
       where
         number : (n l : ℕ) → n ≡ min (need old.end (entry_for h caller command clock draw)) (2 ^ 64 - 1) → l ≡ old.limit
-            → said.Full n l ≡ said.Full (min (need (end_place old.limit h) (entry_for h caller command clock draw)) (2 ^ 64 - 1)) old.limit
-        number n l is of = rw (is, of) (ap (λ p. said.Full (min (need p (entry_for h caller command clock draw)) (2 ^ 64 - 1)) old.limit) place)
-    by_said None said.Same is doubt k = absurd k
-    by_said None (said.Conflict id) is doubt k = absurd k
-    by_said None (said.Broken rule) is doubt k = absurd k
-    by_said None said.TooLong is doubt k = absurd k
-    by_said None said.Unauthorized is doubt k = absurd k
-    by_said None said.NotFound is doubt k = absurd k
+            → refused (refusal.Full n l) ≡ refused (refusal.Full (min (need (end_place old.limit h) (entry_for h caller command clock draw)) (2 ^ 64 - 1)) old.limit)
+        number n l is of = rw (is, of) (ap (λ p. refused (refusal.Full (min (need p (entry_for h caller command clock draw)) (2 ^ 64 - 1)) old.limit)) place)
 
     by_result : (r : Result Answered Trouble) → Acts told old new (state h) su (entry_for h caller command clock draw) r → Answers told (answer old.limit h caller command clock draw) h old new r
     by_result (Ok s) k = by_said (said_at_once (state h) caller command) s refl k.0 k.1
@@ -244,30 +238,78 @@ grows_then told old mid new st su e a b = record {
   folded = b.folded;
 }
 
--- an act that keeps or finds no room, behind the settling
+-- an act behind the settling
 pub settled_then : {D : Type 0} (told : D → Option (List ℕ)) (old mid new : Held D) (st su : State) (e : Entry) (r : Result Answered Trouble)
-    → IsUnchanged told old mid → said_at_once st e.caller e.command ≡ None → Keeps told mid new st su e r → Acts told old new st su e r
-settled_then told old mid new st su e r settled at_once keeps = by_result r keeps
+    → IsUnchanged told old mid → mid.doubt ≡ false → Acts told mid new st su e r → Acts told old new st su e r
+settled_then told old mid new st su e r same settled acts = by_result r acts
   where
-    by_said : (s : Answered) → KeepsBy told mid new st su e s → KeepsBy told old new st su e s
-    by_said said.Kept k = grows_then told old mid new st su e settled k
-    by_said (said.Full n l) k = (
-      record {
-        exceeds = subst (λ m. m < need old.end e) settled.limit (subst (λ p. mid.limit < need p e) settled.end k.0.exceeds);
-        need_is = k.0.need_is ∙ ap (λ p. min (need p e) (2 ^ 64 - 1)) settled.end;
-        limit_is = k.0.limit_is ∙ settled.limit;
-      },
-      still_then told old mid new st su settled k.1,
-    )
-    by_said said.Same k = absurd k
-    by_said (said.Conflict id) k = absurd k
-    by_said (said.Broken rule) k = absurd k
-    by_said said.TooLong k = absurd k
-    by_said said.Unauthorized k = absurd k
-    by_said said.NotFound k = absurd k
+    full : (n l : ℕ) → IsFull mid e n l → IsFull old e n l
+    full n l k = record {
+      exceeds = subst (λ m. m < need old.end e) same.limit (subst (λ p. mid.limit < need p e) same.end k.exceeds);
+      need_is = k.need_is ∙ ap (λ p. min (need p e) (2 ^ 64 - 1)) same.end;
+      limit_is = k.limit_is ∙ same.limit;
+    }
 
-    by_result : (r : Result Answered Trouble) → Keeps told mid new st su e r → Acts told old new st su e r
-    by_result (Ok s) k = (k.0, subst (λ o. SaysBy told old new st su e o s) (sym at_once) (by_said s k.1))
-    by_result (Err trouble.Memory) k = (k.0, still_then told old mid new st su settled k.1)
-    by_result (Err trouble.Disk) (inl k) = inl ((λ _. k.0), still_then told old mid new st su settled k.1)
-    by_result (Err trouble.Disk) (inr k) = inr (k.0, at_once, grows_then told old mid new st su e settled k.1)
+    by_said : (o : Option Answered) (s : Answered) → SaysBy told mid new st su e o s → SaysBy told old new st su e o s
+    by_said (Some t) s k = (k.0, still_then told old mid new st su same k.1)
+    by_said None s (inl k) = inl (k.0, grows_then told old mid new st su e same k.1)
+    by_said None s (inr k) = inr (k.0, k.1, k.2, full k.0 k.1 k.3, still_then told old mid new st su same k.4)
+
+    by_result : (r : Result Answered Trouble) → Acts told mid new st su e r → Acts told old new st su e r
+    by_result (Ok s) k = (k.0, by_said (said_at_once st e.caller e.command) s k.1)
+    by_result (Err trouble.Memory) k = (k.0, still_then told old mid new st su same k.1)
+    by_result (Err trouble.Disk) (inl k) = inl ((λ _. k.0 settled), still_then told old mid new st su same k.1)
+    by_result (Err trouble.Disk) (inr k) = inr (k.0, k.1, grows_then told old mid new st su e same k.2)
+
+-- ---- what comes of an entry that was to be kept
+
+-- the journal said that there was no room
+pub full_kept : {D : Type 0} (told : D → Option (List ℕ)) (old new : Held D) (st su : State) (e : Entry) (payload : List ℕ) (r : Result ℕ AppendRefused) (n l : ℕ) → r ≡ Err (append.Full n l)
+    → (old.limit < need_of old payload → (r ≡ Err (append.Full (min (need_of old payload) (2 ^ 64 - 1)) old.limit)) × (new ≡ old))
+    → (need_of old payload ≤ old.limit → IsErr r → IsErrOf r append.Failed) → payload ≡ written_entry e → old.doubt ≡ false → su ≡ st
+    → (new.doubt ≡ false) × (IsFull old e n l × (IsUnchanged told old new × (su ≡ st)))
+full_kept told old new st su e payload r n l is full fits text settled same = by_test (nat_lt old.limit (need_of old payload)) refl
+  where
+    fitting : nat_lt old.limit (need_of old payload) ≡ false → ⊥
+    fitting test = let k : need_of old payload ≤ old.limit = grind (arith, common_steps) in other (subst (λ q. IsErrOf q append.Failed) is (fits k (subst (λ q. IsErr q) (sym is) refl)))
+      where
+        other : IsErrOf {T = ℕ} (Err (append.Full n l)) append.Failed → ⊥
+        other k = cc k
+
+    numbers : (a b c d : ℕ) → ◌≡◌ {A = Result ℕ AppendRefused} (Err (append.Full a b)) (Err (append.Full c d)) → (a ≡ c) × (b ≡ d)
+    numbers a b c d k = (cc k, cc k)
+
+    by_test : (b : Bool) → nat_lt old.limit (need_of old payload) ≡ b → (new.doubt ≡ false) × (IsFull old e n l × (IsUnchanged told old new × (su ≡ st)))
+    by_test false test = absurd (fitting test)
+    by_test true test =
+        let exceeds : old.limit < need_of old payload = grind (arith, common_steps) in
+        let k = full exceeds in
+        let said = numbers n l (min (need_of old payload) (2 ^ 64 - 1)) old.limit (sym is ∙ k.0) in (
+          ap (λ j. j.doubt) k.1 ∙ settled,
+          (
+            record {
+              exceeds = subst (λ f. old.limit < old.end + 6 + length f) text exceeds;
+              need_is = said.0 ∙ ap (λ f. min (old.end + 6 + length f) (2 ^ 64 - 1)) text;
+              limit_is = said.1;
+            },
+            (record { frames = ap (λ j. frames_of told j) k.1; number = ap (λ j. j.number) k.1; end = ap (λ j. j.end) k.1; limit = ap (λ j. j.limit) k.1 }, same),
+          ),
+        )
+
+-- ---- what may be kept
+
+unbarred : (o : Option Refusal) (s : Option Answered) → unless_barred o s ≡ None → s ≡ None
+unbarred None s is = is
+unbarred (Some r) s is = cc is
+
+fresh_put : (id : List ℕ) (j : Json) (refused : Option Refusal) (held : Option HeldStatement) → put_said id j refused held ≡ None → held ≡ None
+fresh_put id j (Some r) held is = cc is
+fresh_put id j None (Some h) is = cc is
+fresh_put id j None None is = refl
+
+-- a statement that may be kept has an id that isn't held
+pub fresh_unsaid : (st : State) (caller : Caller) (command : Command) → said_at_once st caller command ≡ None → IsFresh st command
+fresh_unsaid st caller (Put id statement) none =
+    fresh_put id (view statement) (refused_form id (view statement)) (held_under id st.statements)
+    (unbarred (barred (area_of (Put id statement)) (who_is st.admin st.callers caller)) (put_said id (view statement) (refused_form id (view statement)) (held_under id st.statements)) none)
+fresh_unsaid st caller other none = tt

@@ -1,10 +1,10 @@
 -- Histories: one entry more, and at most one history for a list of frames.
-use Rattle.std.proofs.Common.{◌≡◌, ◌<◌, ℕ, List, [], ◌∷◌, ◌++◌, length, map, refl, sym, ◌∙◌, ap, subst, append_assoc, arith, length-append, Option, Some, None}
+use Rattle.std.proofs.Common.{◌≡◌, ℕ, List, [], ◌∷◌, ◌++◌, map, refl, sym, ap, subst, append_assoc, arith, length-append}
 use Rattle.std.proofs.lemmas.List.{append-nil}
 use Rattle.lrs_record.specs.declared.entry.Entry.{Entry}
 use Rattle.lrs_record.specs.Entries.{IsLawful, written_entry}
 use Rattle.lrs_record.proofs.Told.{written_entry_injective}
-use Rattle.lrs_machine.specs.History.{State, state_from, step, nothing, IsLegal, IsLegalFrom, ComesNext}
+use Rattle.lrs_machine.specs.History.{State, state_from, step, IsLegal, IsLegalFrom, ComesNext}
 
 pub state_from-more : (st : State) (h : List Entry) (e : Entry) → state_from st (h ++ e ∷ []) ≡ step (state_from st h) e
 state_from-more st [] e = refl

@@ -1,81 +1,81 @@
--- An index with one statement more.
-use Rattle.std.proofs.Common.{◌≡◌, ◌<◌, ℕ, List, [], ◌∷◌, ◌++◌, length, refl, sym, ◌∙◌, ap, subst, arith, Option, Some, None, Bool, true, false, length-append, slice_get, IfSome, cond}
-use Rattle.std.specs.Prelude.{option_and_then, option_map, if◌then◌else◌, IsSome}
+-- An index with one item more.
+use Rattle.std.proofs.Common.{◌≡◌, ℕ, List, [], ◌∷◌, ◌++◌, length, refl, sym, ◌∙◌, ap, subst, Option, Some, None, Bool, true, false, cond}
+use Rattle.std.specs.Prelude.{option_and_then, is_some, position, ◌^◌}
 use Rattle.std.specs.Str.{bytes_eq}
 use Rattle.std.specs.BTreeMap.{is_at, get, BTreeMap}
 use Rattle.std.specs.Cmp.Lexicographic.{slice_cmp}
 use Rattle.std.specs.Ordering.{nat_cmp}
 use Rattle.std.proofs.lemmas.Map.Text.{is_eq-slice_cmp}
 use Rattle.std.proofs.lemmas.Slice.Eq.{bytes_eq-Decides}
-use Rattle.std.proofs.lemmas.Option.{slice_get-get_or}
-use Rattle.std.proofs.Math.ListN.{get_or-append}
-use Rattle.std.proofs.Math.Seq.{get_or-append_seam}
-use Rattle.lrs_json.specs.declared.tree.Tree.{Tree}
-use Rattle.lrs_machine.specs.History.{held_under}
-use Rattle.lrs_machine.specs.declared.index.HeldStatement.{HeldStatement}
-use Rattle.lrs_machine.specs.Index.{IsIndex, place_of, received_at}
+use Rattle.lrs_machine.specs.declared.callers.HeldCaller.{HeldCaller}
+use Rattle.lrs_machine.specs.History.{place_of_token}
+use Rattle.lrs_machine.specs.Index.{IsIndex, IsRegister, place_of}
+use Rattle.lrs_machine.proofs.Places.{earlier, earlier-None, position-push}
 
-pub bytes_eq-same : (xs : List ℕ) → bytes_eq xs xs ≡ true
+bytes_eq-same : (xs : List ℕ) → bytes_eq xs xs ≡ true
 bytes_eq-same xs = (bytes_eq-Decides xs xs).1 refl
 
-abbrev under : List ℕ → Tree → HeldStatement
-under id t = record { id = id; received = t }
+module _ {A : Type 0} (key : A → List ℕ) where
+  -- the first place of a key
+  abbrev at : List ℕ → List A → Option ℕ
+  at k xs = position (λ x. bytes_eq (key x) k) xs
 
-here_by : (b : Bool) (x t : Tree) (old new : Option Tree) → (if b then Some x else old) ≡ None → (old ≡ None → new ≡ Some t) → (if b then Some x else new) ≡ Some t
-here_by true x t old new is go = cc
-here_by false x t old new is go = go is
+  at-own : (held : List A) (s : A) → at (key s) (held ++ s ∷ []) ≡ earlier (at (key s) held) (Some (length held))
+  at-own held s =
+      position-push (λ x. bytes_eq (key x) (key s)) held s ∙ ap (λ b. earlier (at (key s) held) (cond b (Some (length held)) None)) (bytes_eq-same (key s))
 
-pub held_under-here : (held : List HeldStatement) (id : List ℕ) (t : Tree) → held_under id held ≡ None → held_under id (held ++ under id t ∷ []) ≡ Some t
-held_under-here [] id t none = rw (bytes_eq-same id) refl
-held_under-here (x ∷ held) id t none = here_by (bytes_eq x.id id) x.received t (held_under id held) (held_under id (held ++ under id t ∷ [])) none (λ is. held_under-here held id t is)
+  at-other : (held : List A) (s : A) (k : List ℕ) → bytes_eq (key s) k ≡ false → at k (held ++ s ∷ []) ≡ at k held
+  at-other held s k apart =
+      position-push (λ x. bytes_eq (key x) k) held s
+      ∙ (ap (λ b. earlier (at k held) (cond b (Some (length held)) None)) apart ∙ earlier-None (at k held))
 
-held_under-apart : (held : List HeldStatement) (id other : List ℕ) (t : Tree) → bytes_eq id other ≡ false → held_under other (held ++ under id t ∷ []) ≡ held_under other held
-held_under-apart [] id other t apart = rw apart refl
-held_under-apart (x ∷ held) id other t apart = ap (λ o. if bytes_eq x.id other then Some x.received else o) (held_under-apart held id other t apart)
+  -- an item under a new key, which gets its place
+  pub index-more : (m n : BTreeMap (List ℕ) (Option ℕ)) (held : List A) (s : A) (ready : Option (List ℕ)) (l c most j d top : ℕ)
+      → place_of n (key s) ≡ Some (length held) → ((q : List ℕ) → bytes_eq (key s) q ≡ false → place_of n q ≡ place_of m q)
+      → IsIndex key m held ready l c most → at (key s) held ≡ None → IsIndex key n (held ++ s ∷ []) None j d top
+  index-more m n held s ready l c most j d top here others is fresh = record { found = λ q. by_key q (bytes_eq (key s) q) refl; room = tt }
+    where
+      by_key : (q : List ℕ) (b : Bool) → bytes_eq (key s) q ≡ b → place_of n q ≡ at q (held ++ s ∷ [])
+      by_key q true equal = subst (λ k. place_of n k ≡ at k (held ++ s ∷ [])) ((bytes_eq-Decides (key s) q).0 equal)
+          (here ∙ sym (at-own held s ∙ ap (λ o. earlier o (Some (length held))) fresh))
+      by_key q false apart = others q apart ∙ (is.found q ∙ sym (at-other held s q apart))
 
-get-here : (held : List HeldStatement) (s : HeldStatement) → slice_get (held ++ s ∷ []) (length held) ≡ Some s
-get-here held s = slice_get-get_or (held ++ s ∷ []) (length held) s (omega (arith, length-append held (s ∷ []))) ∙ ap (λ x. Some x) (get_or-append_seam held s [] s)
+  -- an item under a key that is held already
+  pub index-again : (m : BTreeMap (List ℕ) (Option ℕ)) (held : List A) (s : A) (place : ℕ) (ready : Option (List ℕ)) (l c most j d top : ℕ)
+      → IsIndex key m held ready l c most → at (key s) held ≡ Some place → IsIndex key m (held ++ s ∷ []) None j d top
+  index-again m held s place ready l c most j d top is there = record { found = λ q. by_key q (bytes_eq (key s) q) refl; room = tt }
+    where
+      by_key : (q : List ℕ) (b : Bool) → bytes_eq (key s) q ≡ b → place_of m q ≡ at q (held ++ s ∷ [])
+      by_key q true equal = subst (λ k. place_of m k ≡ at k (held ++ s ∷ [])) ((bytes_eq-Decides (key s) q).0 equal)
+          (is.found (key s) ∙ (there ∙ sym (at-own held s ∙ ap (λ o. earlier o (Some (length held))) there)))
+      by_key q false apart = is.found q ∙ sym (at-other held s q apart)
 
-get-before : (held : List HeldStatement) (s : HeldStatement) (k : ℕ) → k < length held → slice_get (held ++ s ∷ []) k ≡ slice_get held k
-get-before held s k below = slice_get-get_or (held ++ s ∷ []) k s (omega (arith, below, length-append held (s ∷ []))) ∙ (ap (λ x. Some x) (get_or-append held (s ∷ []) s k below) ∙ sym (slice_get-get_or held k s below))
+pub one_some : {A : Type 0} (a b : A) → Some a ≡ Some b → a ≡ b
+one_some a b is = cc is
 
-by_place : (o : Option ℕ) (held : List HeldStatement) (s : HeldStatement) → ((k : ℕ) → o ≡ Some k → k < length held) → option_and_then (received_at (held ++ s ∷ [])) o ≡ option_and_then (received_at held) o
-by_place None held s within = refl
-by_place (Some k) held s within = ap (λ o. option_map (λ s. s.received) o) (get-before held s k (within k refl))
+abbrev token_of : HeldCaller → List ℕ
+token_of caller = caller.token
 
-pub index-more : (m n : BTreeMap (List ℕ) (Option ℕ)) (held : List HeldStatement) (id : List ℕ) (t : Tree) (ready : Option (List ℕ)) (l c j d : ℕ)
-    → place_of n id ≡ Some (length held) → ((q : List ℕ) → bytes_eq id q ≡ false → place_of n q ≡ place_of m q)
-    → IsIndex m held ready l c → held_under id held ≡ None → IsIndex n (held ++ record { id = id; received = t } ∷ []) None j d
-index-more m n held id t ready l c j d here others is fresh = record {
-  found = λ q. found_at q (bytes_eq id q) refl;
-  within = λ q k there. within_at q k (bytes_eq id q) refl there;
-  room = tt;
-}
+-- a provider under a new token, and one under a token that is held already
+pub register-more : (m n : BTreeMap (List ℕ) (Option ℕ)) (held : List HeldCaller) (s : HeldCaller) (key token : Option (List ℕ)) (l most j d : ℕ)
+    → place_of n s.token ≡ Some (length held) → ((q : List ℕ) → bytes_eq s.token q ≡ false → place_of n q ≡ place_of m q) → IsRegister m held key token l most
+    → is_some (place_of_token s.token held) ≡ false → IsRegister n (held ++ s ∷ []) None None j d
+register-more m n held s key token l most j d here others is fresh = record { indexed = by_place (place_of_token s.token held) refl fresh; same = refl }
   where
-    found_at : (q : List ℕ) (b : Bool) → bytes_eq id q ≡ b → option_and_then (received_at (held ++ under id t ∷ [])) (place_of n q) ≡ held_under q (held ++ under id t ∷ [])
-    found_at q true equal = subst (λ i. option_and_then (received_at (held ++ under id t ∷ [])) (place_of n i) ≡ held_under i (held ++ under id t ∷ [])) ((bytes_eq-Decides id q).0 equal)
-        (rw here (ap (λ o. option_map (λ s. s.received) o) (get-here held (under id t)) ∙ sym (held_under-here held id t fresh)))
-    found_at q false apart = rw (others q apart) (by_place (place_of m q) held (under id t) (is.within q) ∙ (is.found q ∙ sym (held_under-apart held id q t apart)))
+    by_place : (o : Option ℕ) → place_of_token s.token held ≡ o → is_some o ≡ false → IsIndex token_of n (held ++ s ∷ []) None j d (2 ^ 32)
+    by_place None e k = index-more token_of m n held s key l most (2 ^ 32) j d (2 ^ 32) here others is.indexed e
+    by_place (Some p) e k = cc k
 
-    within_at : (q : List ℕ) (k : ℕ) (b : Bool) → bytes_eq id q ≡ b → place_of n q ≡ Some k → k < length (held ++ under id t ∷ [])
-    within_at q k true equal there =
-        let e : Some (length held) ≡ Some k = sym here ∙ (ap (λ i. place_of n i) ((bytes_eq-Decides id q).0 equal) ∙ there) in
-        let p : length held ≡ k = ap (λ o. elim o [ None ↦ 0 | (Some x) ↦ x ]) e in
-        omega (arith, p, length-append held (under id t ∷ []))
-    within_at q k false apart there = omega (arith, is.within q k (sym (others q apart) ∙ there), length-append held (under id t ∷ []))
+pub register-again : (m : BTreeMap (List ℕ) (Option ℕ)) (held : List HeldCaller) (s : HeldCaller) (key token : Option (List ℕ)) (l most j d : ℕ) → IsRegister m held key token l most
+    → is_some (place_of_token s.token held) ≡ true → IsRegister m (held ++ s ∷ []) None None j d
+register-again m held s key token l most j d is there = record { indexed = by_place (place_of_token s.token held) refl there; same = refl }
+  where
+    by_place : (o : Option ℕ) → place_of_token s.token held ≡ o → is_some o ≡ true → IsIndex token_of m (held ++ s ∷ []) None j d (2 ^ 32)
+    by_place (Some p) e k = index-again token_of m held s p key l most (2 ^ 32) j d (2 ^ 32) is.indexed e
+    by_place None e k = cc k
 
 pub is_at-apart : (a b : List ℕ) → bytes_eq a b ≡ false → is_at (slice_cmp nat_cmp a) b ≡ false
 is_at-apart a b apart = is_eq-slice_cmp a b ∙ apart
-
--- other places, with the same meaning
-pub index-same : (m n : BTreeMap (List ℕ) (Option ℕ)) (held : List HeldStatement) (ready now : Option (List ℕ)) (l c j d : ℕ)
-    → ((q : List ℕ) → place_of n q ≡ place_of m q) → IfSome now (λ id. IsSome (get (slice_cmp nat_cmp) n id) × (j < d))
-    → IsIndex m held ready l c → IsIndex n held now j d
-index-same m n held ready now l c j d places room is = record {
-  found = λ q. ap (λ o. option_and_then (received_at held) o) (places q) ∙ is.found q;
-  within = λ q k there. is.within q k (sym (places q) ∙ there);
-  room = room;
-}
 
 -- an empty place changes no meaning
 pub place_of-empty : (m n : BTreeMap (List ℕ) (Option ℕ)) (id : List ℕ) → get (slice_cmp nat_cmp) m id ≡ None

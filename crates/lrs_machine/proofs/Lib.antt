@@ -1,4 +1,6 @@
+pub mod Places
 pub mod Indexes
+pub mod Ids
 pub mod Equal
 pub mod Histories
 pub mod ActLemmas

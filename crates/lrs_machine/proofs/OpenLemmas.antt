@@ -1,10 +1,10 @@
 -- A desk that is made or opened is tied to its journal.
-use Rattle.std.proofs.Common.{◌≡◌, ◌≢◌, ◌<◌, ◌≤◌, ◌+◌, ℕ, List, [], ◌∷◌, ◌++◌, length, map, refl, sym, ◌∙◌, ap, subst, inl, inr, arith, Option, Some, None, Bool, true, false, Result, Ok, Err}
-use Rattle.std.specs.Prelude.{option_map, ◌⊎◌}
+use Rattle.std.proofs.Common.{◌≡◌, ◌<◌, ◌+◌, ℕ, List, [], ◌∷◌, length, map, refl, sym, ◌∙◌, ap, subst, arith, Option, Some, None, Bool}
+use Rattle.std.specs.Prelude.{option_map}
 use Rattle.std.specs.Option.{ForSome}
 use Rattle.std.proofs.lemmas.List.{length-map}
-use Rattle.lrs_journal.specs.Store.{HasHeader, Stands, IsDamaged}
-use Rattle.lrs_journal.specs.Journal.{Held, frames_of, IsJournal, IsHolding, TellsAlike, StandsFor as JournalStandsFor}
+use Rattle.lrs_journal.specs.Store.{HasHeader, Stands}
+use Rattle.lrs_journal.specs.Journal.{Held, frames_of, IsJournal, TellsAlike, StandsFor as JournalStandsFor}
 use Rattle.lrs_journal.specs.Replay.{Reading, HasRead}
 use Rattle.lrs_record.specs.declared.entry.Entry.{Entry}
 use Rattle.lrs_record.specs.Entries.{IsLawful, written_entry}

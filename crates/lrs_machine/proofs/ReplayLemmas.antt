@@ -1,11 +1,11 @@
 -- Whether an entry may come next is seen by the fold alone, and what a frame more makes of a replay.
-use Rattle.std.proofs.Common.{◌≡◌, ◌<◌, ◌≤◌, ◌+◌, ◌-◌, ◌^◌, ℕ, zero, suc, min, max, List, [], ◌∷◌, ◌++◌, length, map, drop, refl, sym, ◌∙◌, ap, subst, inl, inr, arith, append_assoc, length-append, Option, Some, None, Bool, true, false, not, nat_lt, nat_le, Result, Ok, Err}
-use Rattle.std.specs.Prelude.{IsSome, ◌==◌, ◌&&◌, is_none, if◌then◌else◌}
+use Rattle.std.proofs.Common.{◌≡◌, ◌<◌, ◌≤◌, ◌+◌, ◌-◌, ◌^◌, ℕ, min, max, List, [], ◌∷◌, ◌++◌, length, map, drop, refl, sym, ◌∙◌, ap, subst, inl, inr, arith, append_assoc, length-append, Option, Some, None, Bool, true, false, nat_lt, nat_le, Err}
+use Rattle.std.specs.Prelude.{◌==◌, ◌&&◌, is_none, if◌then◌else◌}
 use Rattle.std.specs.Bool.{Decides}
 use Rattle.std.proofs.lemmas.Grind.{common_steps}
 use Rattle.std.proofs.lemmas.List.{length-map, append-nil}
 use Rattle.lrs_names.specs.declared.draw.Draw.{Draw}
-use Rattle.lrs_journal.specs.Store.{store, header, frames, body, HasHeader, Stands, IsDamaged}
+use Rattle.lrs_journal.specs.Store.{store, header, frames, body, Stands, IsDamaged}
 use Rattle.lrs_journal.specs.Replay.{Reading, HasReadTo, HasRead, IsSamePlace}
 use Rattle.lrs_record.specs.declared.entry.Caller.{Caller}
 use Rattle.lrs_record.specs.declared.entry.Caller.TheVariants.{Nobody, Operator, Token}
@@ -15,24 +15,18 @@ use Rattle.lrs_record.specs.declared.entry.Entry.{Entry}
 use Rattle.lrs_record.specs.Entries.{IsLawful, written_entry}
 use Rattle.lrs_record.specs.Moments.{clamped, latest}
 use Rattle.lrs_machine.specs.declared.answered.Answered.{Answered}
-use Rattle.lrs_machine.specs.declared.answered.Answered.TheVariants as said
 use Rattle.lrs_machine.specs.declared.opening.DeskRefused.{DeskRefused}
 use Rattle.lrs_machine.specs.declared.opening.DeskRefused.TheVariants as desk
-use Rattle.lrs_machine.specs.Founding.{is_token, is_base, IsToken, IsBase}
-use Rattle.lrs_json.specs.Json.{Json}
-use Rattle.lrs_json.specs.View.{view}
-use Rattle.lrs_json.specs.declared.tree.Tree.{Tree}
-use Rattle.lrs_machine.specs.declared.caller.Who.{Who}
-use Rattle.lrs_machine.specs.declared.caller.Who.TheVariants.{Unknown, Admin}
-use Rattle.lrs_machine.specs.History.{who_is, said_to, put_said, refused_form, held_under, State, state, step, nothing, Answer, answer, answer_by, kept, said_at_once, entry_at, need, end_place, IsLegalFrom, ComesNext, IsFounding, Founds}
-use Rattle.lrs_machine.specs.Desk.{BeginsWith, HasLegalFrames, IsIllegalBehind, IsRefused}
+use Rattle.lrs_machine.specs.Founding.{is_token, is_base}
+use Rattle.lrs_machine.specs.History.{State, state, step, thanks, nothing, Answer, answer_by, kept, said_at_once, entry_at, need, end_place, IsLegalFrom, ComesNext, IsFounding, Founds}
+use Rattle.lrs_machine.specs.Desk.{BeginsWith, HasLegalFrames, IsRefused}
 use Rattle.lrs_machine.specs.Steps.{IsFresh}
 use Rattle.lrs_journal.specs.declared.replay.ReplayRefused.{ReplayRefused}
 use Rattle.lrs_journal.specs.declared.replay.ReplayRefused.TheVariants as replay
-use Rattle.lrs_machine.specs.Replays.{is_operator, is_zero, founds, is_founding, may_come, refusal_of, IsReplayed, Takes, TakesEntry, HasReplayed}
+use Rattle.lrs_machine.specs.Replays.{is_operator, is_zero, founds, is_founding, may_come, refusal_of, IsReplayed, TakesEntry}
 use Rattle.lrs_journal.proofs.Unique.{store_length}
 use Rattle.lrs_machine.proofs.Histories.{state_from-more, map-more, legal-more}
-use Rattle.lrs_machine.proofs.ActLemmas.{no_room, kept_answer}
+use Rattle.lrs_machine.proofs.ActLemmas.{no_room, kept_answer, fresh_unsaid}
 
 -- ---- tests
 
@@ -59,9 +53,6 @@ none_is (Some s) is = cc is
 is_nat : (m n : ℕ) → (m == n) ≡ true → m ≡ n
 is_nat m n is = grind (arith, common_steps)
 
-nat_is : (m n : ℕ) → m ≡ n → (m == n) ≡ true
-nat_is m n is = grind (arith, common_steps)
-
 -- ---- founding
 
 operator_is : (c : Caller) → is_operator c ≡ true → c ≡ Operator
@@ -71,11 +62,11 @@ operator_is (Token token) is = cc is
 
 founds_is : (c : Command) → founds c ≡ true → Founds c
 founds_is (Found admin base) is = (first (is_token admin) (is_base base) is, second (is_token admin) (is_base base) is)
-founds_is (Put id statement) is = cc is
+founds_is other is = cc is
 
 is_founds : (c : Command) → Founds c → founds c ≡ true
 is_founds (Found admin base) is = both (is_token admin) (is_base base) is.0 is.1
-is_founds (Put id statement) is = absurd is
+is_founds other is = absurd is
 
 abbrev drawn : ℕ → ℕ → Draw
 drawn name secret = record { name = name; secret = secret }
@@ -114,10 +105,10 @@ abbrev later : ℕ → ℕ → State → Entry → Bool
 later limit place st e = may_come false limit place st e
 
 later_forth : (limit place : ℕ) (st : State) (e : Entry) → e.moment ≤ latest → later limit (place + (5 + length (written_entry e))) st e ≡ true
-    → (answer_by (said_at_once st e.caller e.command) limit place (entry_at e.caller e.command (max (clamped e.moment) st.last) e.draw)).entry ≡ Some e
+    → (answer_by (said_at_once st e.caller e.command) limit place (thanks st e.command e.draw) (entry_at e.caller e.command (max (clamped e.moment) st.last) e.draw)).entry ≡ Some e
 later_forth limit place st e early is =
-    ap (λ o. (answer_by o limit place (entry_at e.caller e.command (max (clamped e.moment) st.last) e.draw)).entry) at_once
-    ∙ (ap (λ m. (kept limit place (entry_at e.caller e.command m e.draw)).entry) same ∙ by_test (nat_lt limit (need place e)) refl)
+    ap (λ o. (answer_by o limit place (thanks st e.command e.draw) (entry_at e.caller e.command (max (clamped e.moment) st.last) e.draw)).entry) at_once
+    ∙ (ap (λ m. (kept limit place (thanks st e.command e.draw) (entry_at e.caller e.command m e.draw)).entry) same ∙ by_test (nat_lt limit (need place e)) refl)
   where
     two : is_none (said_at_once st e.caller e.command) && nat_le st.last e.moment ≡ true
     two = first (is_none (said_at_once st e.caller e.command) && nat_le st.last e.moment) (nat_lt (place + (5 + length (written_entry e))) limit) is
@@ -140,11 +131,11 @@ later_forth limit place st e early is =
     roomy : (p n l : ℕ) → nat_lt (p + (5 + n)) l ≡ true → nat_lt l (p + 6 + n) ≡ true → ⊥
     roomy p n l a b = let below : p + (5 + n) < l = grind (arith, common_steps) in let above : l < p + 6 + n = grind (arith, common_steps) in omega (arith, below, above)
 
-    by_test : (b : Bool) → nat_lt limit (need place e) ≡ b → entry_of (if b then no_room limit place e else kept_answer e) ≡ Some e
+    by_test : (b : Bool) → nat_lt limit (need place e) ≡ b → entry_of (if b then no_room limit place e else kept_answer (thanks st e.command e.draw) e) ≡ Some e
     by_test true is = absurd (roomy place (length (written_entry e)) limit lt is)
     by_test false is = refl
 
-later_back : (limit place : ℕ) (st : State) (e : Entry) (o : Option Answered) → (answer_by o limit place (entry_at e.caller e.command (max (clamped e.moment) st.last) e.draw)).entry ≡ Some e
+later_back : (limit place : ℕ) (st : State) (e : Entry) (o : Option Answered) → (answer_by o limit place (thanks st e.command e.draw) (entry_at e.caller e.command (max (clamped e.moment) st.last) e.draw)).entry ≡ Some e
     → is_none o && nat_le st.last e.moment && nat_lt (place + (5 + length (written_entry e))) limit ≡ true
 later_back limit place st e (Some s) is = cc is
 later_back limit place st e None is = by_test (nat_lt limit (need place (entry_at e.caller e.command (max (clamped e.moment) st.last) e.draw))) refl is
@@ -159,7 +150,7 @@ later_back limit place st e None is = by_test (nat_lt limit (need place (entry_a
     roomy p n l a = let fits : p + 6 + n ≤ l = grind (arith, common_steps) in let below : p + (5 + n) < l = omega (arith, fits) in grind (arith, common_steps)
 
     by_test : (b : Bool) → nat_lt limit (need place (entry_at e.caller e.command (max (clamped e.moment) st.last) e.draw)) ≡ b
-        → entry_of (if b then no_room limit place (entry_at e.caller e.command (max (clamped e.moment) st.last) e.draw) else kept_answer (entry_at e.caller e.command (max (clamped e.moment) st.last) e.draw)) ≡ Some e
+        → entry_of (if b then no_room limit place (entry_at e.caller e.command (max (clamped e.moment) st.last) e.draw) else kept_answer (thanks st e.command e.draw) (entry_at e.caller e.command (max (clamped e.moment) st.last) e.draw)) ≡ Some e
         → true && nat_le st.last e.moment && nat_lt (place + (5 + length (written_entry e))) limit ≡ true
     by_test true full is = cc is
     by_test false room is =
@@ -257,30 +248,15 @@ pub taken_damaged : {D : Type 0} (bytes : List ℕ) (old : Reading D) (st : Stat
 taken_damaged bytes old st h j k long so_far is damaged =
     (old.limit, h, legal_frames bytes old st h j (sym (length-map h written_entry) ∙ (sym so_far.frames.counts ∙ sym is)) so_far, damaged)
 
-pub taken_end : {D : Type 0} (bytes : List ℕ) (old new : Reading D) (st : State) (h : List Entry) → new.limit ≡ old.limit → IsSamePlace old new → IsReplayed bytes old st h → Stands bytes old.limit (map written_entry h)
-    → IsReplayed bytes new st h × Stands bytes new.limit (map written_entry h)
-taken_end bytes old new st h limit same so_far stands =
-    (replayed_same bytes old new st h limit same so_far, subst (λ l. Stands bytes l (map written_entry h)) (sym limit) stands)
-
 -- ---- what may come is fresh
 
-fresh_put : (id : List ℕ) (j : Json) (refused : Option Answered) (held : Option Tree) → put_said id j refused held ≡ None → held ≡ None
-fresh_put id j (Some r) held is = cc is
-fresh_put id j None (Some h) is = cc is
-fresh_put id j None None is = refl
-
-fresh_to : (w : Who) (st : State) (c : Command) → said_to w st.statements c ≡ None → IsFresh st c
-fresh_to Unknown st c is = cc is
-fresh_to Admin st (Found admin base) is = tt
-fresh_to Admin st (Put id statement) is = fresh_put id (view statement) (refused_form id (view statement)) (held_under id st.statements) is
-
 fresh_founds : (st : State) (c : Command) → founds c ≡ true → IsFresh st c
-fresh_founds st (Found admin base) is = tt
 fresh_founds st (Put id statement) is = cc is
+fresh_founds st other is = tt
 
 pub fresh_may : (b : Bool) (limit place : ℕ) (st : State) (e : Entry) → may_come b limit place st e ≡ true → IsFresh st e.command
 fresh_may true limit place st e is = fresh_founds st e.command (second (is_operator e.caller && is_zero e.draw) (founds e.command) is)
-fresh_may false limit place st e is = fresh_to (who_is st.admin e.caller) st e.command (none_is (said_at_once st e.caller e.command)
+fresh_may false limit place st e is = fresh_unsaid st e.caller e.command (none_is (said_at_once st e.caller e.command)
     (first (is_none (said_at_once st e.caller e.command)) (nat_le st.last e.moment)
     (first (is_none (said_at_once st e.caller e.command) && nat_le st.last e.moment) (nat_lt place limit) is)))
 

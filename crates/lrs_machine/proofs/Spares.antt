@@ -1,12 +1,11 @@
 -- The store of a legal history is refused only for a fault or for want of memory.
-use Rattle.std.proofs.Common.{◌≡◌, ◌≢◌, ℕ, ◌<◌, ◌^◌, List, [], ◌∷◌, ◌++◌, length, map, take, drop, refl, sym, ◌∙◌, ap, subst, inl, inr, arith, append_assoc, Option, Result, Ok, Err, IfErr}
+use Rattle.std.proofs.Common.{◌≡◌, ℕ, ◌<◌, ◌^◌, List, [], ◌∷◌, ◌++◌, length, map, take, drop, refl, sym, ◌∙◌, ap, subst, inl, inr, arith, append_assoc}
 use Rattle.std.specs.Prelude.{◌⊎◌}
-use Rattle.std.specs.Option.{ForSome}
 use Rattle.std.specs.List.{AllByRecursion}
 use Rattle.std.specs.Int.{w32, to_be_bytes, from_be_bytes}
 use Rattle.std.proofs.lemmas.List.{take_at, drop_at, length-map, append-nil}
 use Rattle.std.proofs.lemmas.Nat.{from_be_bytes-to_be_bytes_4}
-use Rattle.lrs_journal.specs.Store.{frames, body, IsEnd, IsPayload, HasHeader, Stands, IsDamaged}
+use Rattle.lrs_journal.specs.Store.{frames, body, IsEnd, IsPayload, Stands}
 use Rattle.lrs_journal.proofs.Unique.{stands_once, stands_header, stands_whole, header_once}
 use Rattle.lrs_record.specs.declared.entry.Entry.{Entry}
 use Rattle.lrs_record.specs.Entries.{IsLawful, written_entry}
@@ -74,8 +73,3 @@ spares bytes (desk.IllegalEntry k) refused = λ m h is. by_cases m h is.0 is.1 r
         omega (arith, legal.0, sym (length-map h written_entry) ∙ ap (λ (z : List (List ℕ)). length z) none)
 spares bytes desk.Failed refused = λ m h is. tt
 spares bytes desk.Memory refused = λ m h is. tt
-
--- of each disk that isn't opened
-pub spares_legal : {T D : Type 0} (o : Option (List ℕ)) (r : Result T (DeskRefused × D)) → IfErr r (λ e. ForSome o (λ bytes. IsRefused bytes e.0)) → IfErr r (λ e. ForSome o (λ bytes. SparesLegal bytes e.0))
-spares_legal o (Ok x) refused = tt
-spares_legal o (Err e) refused = λ bytes there. spares bytes e.0 (refused bytes there)

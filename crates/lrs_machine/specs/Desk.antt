@@ -1,17 +1,20 @@
 -- What the desk's calls promise. A desk is seen as its journal.
 use Rattle.std.specs.Prelude.{◌≡◌, ◌⊎◌, ◌<◌, ◌≤◌, ◌+◌, ◌-◌, ℕ, List, [], ◌∷◌, ◌++◌, length, map, take, Option, Some, None, IsSome, Bool, true, false, ◌&&◌, not, if◌then◌else◌, nat_lt, Result, Ok, Err}
 use Rattle.lrs_disk.specs.Faults.{Rises}
-use Rattle.lrs_names.specs.declared.draw.Draw.{Draw}
 use Rattle.std.specs.List.{AllByRecursion}
 use Rattle.lrs_journal.specs.Store.{store, HasHeader, IsPayload, Stands, IsDamaged}
 use Rattle.lrs_journal.specs.Journal.{Held, frames_of, StandsFor as JournalStandsFor}
 use Rattle.lrs_record.specs.declared.entry.Caller.TheVariants.{Operator}
-use Rattle.lrs_record.specs.declared.entry.Command.TheVariants.{Found}
+use Rattle.lrs_record.specs.declared.entry.Command.{Command}
+use Rattle.lrs_record.specs.declared.entry.Command.TheVariants.{Found, Put}
 use Rattle.lrs_record.specs.declared.entry.Entry.{Entry}
-use Rattle.lrs_record.specs.Entries.{IsLawful, written_entry}
+use Rattle.lrs_json.specs.View.{view}
+use Rattle.lrs_record.specs.Entries.{IsLawful, IsLawfulTree, written_entry}
 use Rattle.lrs_record.specs.Moments.{clamped}
 use Rattle.lrs_machine.specs.declared.answered.Answered.{Answered}
-use Rattle.lrs_machine.specs.declared.answered.Answered.TheVariants.{Unauthorized, NotFound}
+use Rattle.lrs_machine.specs.declared.answered.Answered.TheVariants.{Shown, Refused}
+use Rattle.lrs_machine.specs.declared.answered.Refusal.{Refusal}
+use Rattle.lrs_machine.specs.declared.answered.Refusal.TheVariants.{Unauthorized, Forbidden, NotFound}
 use Rattle.lrs_machine.specs.declared.reply.Reply.{Reply}
 use Rattle.lrs_machine.specs.declared.reply.Trouble.{Trouble}
 use Rattle.lrs_machine.specs.declared.reply.Trouble.TheVariants.{Memory, Disk}
@@ -45,6 +48,11 @@ HoldsPrefix limit least h bytes = (n : ℕ) × (least ≤ n) × (n ≤ length h)
 
 -- ---- acts
 
+-- The trees of a command are such as reading gives.
+abbrev pub HasReadTrees : Command → Type 0
+HasReadTrees (Put id statement) = IsLawfulTree (view statement)
+HasReadTrees other = Unit {0}
+
 -- What comes of an act that answers by a over the history h. In trouble with the disk the answer's entry may be in doubt, and no other comes into doubt.
 abbrev pub Answers : {D : Type 0} → (D → Option (List ℕ)) → Answer → List Entry → Held D → Held D → Result Answered Trouble → Type 0
 Answers told a h old new (Ok said) = (said ≡ a.said) × (new.doubt ≡ false) × StandsFor told new (with_entry h a.entry)
@@ -58,10 +66,17 @@ HasCause before now (Ok said) = now ≡ before
 HasCause before now (Err Memory) = now ≡ before
 HasCause before now (Err Disk) = (before ≤ now) × Rises before now
 
--- what the program's own put may be answered: anything but that its caller or its command isn't known
+-- why the program's own put may be refused: not since its caller isn't let in, or something is missing
+abbrev pub MayRefusePut : Refusal → Type 0
+MayRefusePut Unauthorized = ⊥
+MayRefusePut (Forbidden rule) = ⊥
+MayRefusePut NotFound = ⊥
+MayRefusePut other = Unit {0}
+
+-- what the program's own put may be answered: it shows no text
 abbrev pub IsOfPut : Answered → Type 0
-IsOfPut Unauthorized = ⊥
-IsOfPut NotFound = ⊥
+IsOfPut (Shown text through) = ⊥
+IsOfPut (Refused refusal) = MayRefusePut refusal
 IsOfPut other = Unit {0}
 
 -- What a receipt tells of an act.

@@ -1,28 +1,37 @@
 -- The store as a plain list of entries: what it holds, what it answers, and which lists can have come about.
-use Rattle.std.specs.Prelude.{◌≡◌, ◌<◌, ◌+◌, ◌-◌, ◌^◌, ℕ, min, max, List, [], ◌∷◌, ◌++◌, length, map, Option, Some, None, Bool, is_some, if◌then◌else◌, nat_lt}
+use Rattle.std.specs.Prelude.{◌≡◌, ◌<◌, ◌+◌, ◌-◌, ◌^◌, ◌==◌, ℕ, min, max, List, [], ◌∷◌, ◌++◌, length, map, find, position, Option, Some, None, Bool, true, false, is_some, option_map, if◌then◌else◌, nat_lt}
 use Rattle.std.specs.Str.{bytes_eq}
 use Rattle.lrs_json.specs.View.{view}
 use Rattle.lrs_json.specs.Json.{Json}
-use Rattle.lrs_json.specs.declared.tree.Tree.{Tree}
+use Rattle.lrs_json.specs.Written.{written}
 use Rattle.lrs_names.specs.declared.draw.Draw.{Draw}
+use Rattle.xapi_rules.specs.Rules.{broken_rule}
+use Rattle.xapi_statement.specs.Statement.{is_too_long, own_id}
+use Rattle.xapi_query.specs.declared.wanted.Wanted.{Wanted}
+use Rattle.xapi_query.specs.declared.wanted.Wanted.TheVariants.{One}
 use Rattle.lrs_journal.specs.Store.{store}
 use Rattle.lrs_record.specs.declared.entry.Caller.{Caller}
 use Rattle.lrs_record.specs.declared.entry.Caller.TheVariants.{Nobody, Operator, Token}
 use Rattle.lrs_record.specs.declared.entry.Command.{Command}
-use Rattle.lrs_record.specs.declared.entry.Command.TheVariants.{Found, Put}
+use Rattle.lrs_record.specs.declared.entry.Command.TheVariants.{Found, Provider, Put, Get, About, Refused}
 use Rattle.lrs_record.specs.declared.entry.Entry.{Entry}
+use Rattle.lrs_record.specs.declared.rule.Area.{Area}
+use Rattle.lrs_record.specs.declared.rule.Area.TheVariants.{Free, Store, Desk}
+use Rattle.lrs_record.specs.declared.rule.Rule.{Rule}
+use Rattle.lrs_record.specs.declared.who.Who.{Who}
+use Rattle.lrs_record.specs.declared.who.Who.TheVariants as who
 use Rattle.lrs_record.specs.Entries.{IsLawful, written_entry}
 use Rattle.lrs_record.specs.Moments.{clamped}
-use Rattle.xapi_rules.specs.Rules.{broken_rule}
-use Rattle.xapi_statement.specs.Statement.{is_too_long, own_id}
 use Rattle.lrs_machine.specs.declared.answered.Answered.{Answered}
-use Rattle.lrs_machine.specs.declared.answered.Answered.TheVariants.{Kept, Same, Conflict, Full, Broken, TooLong, Unauthorized, NotFound}
-use Rattle.lrs_machine.specs.declared.answered.Rule.{Rule}
-use Rattle.lrs_machine.specs.declared.caller.Who.{Who}
-use Rattle.lrs_machine.specs.declared.caller.Who.TheVariants.{Unknown, Admin}
+use Rattle.lrs_machine.specs.declared.answered.Answered.TheVariants.{Kept, Same, Shown}
+use Rattle.lrs_machine.specs.declared.answered.Answered.TheVariants as answered
+use Rattle.lrs_machine.specs.declared.answered.Refusal.{Refusal}
+use Rattle.lrs_machine.specs.declared.answered.Refusal.TheVariants.{Conflict, Full, Broken, TooLong, Unauthorized, Forbidden, NotFound}
+use Rattle.lrs_machine.specs.declared.callers.HeldCaller.{HeldCaller}
 use Rattle.lrs_machine.specs.declared.index.HeldStatement.{HeldStatement}
 use Rattle.lrs_machine.specs.Founding.{IsToken, IsBase}
 use Rattle.lrs_machine.specs.Same.{same}
+use Rattle.lrs_machine.specs.Texts.{is_name, token_text, caller_body, versions_body, with_id}
 
 -- ---- what the entries give
 
@@ -30,49 +39,178 @@ use Rattle.lrs_machine.specs.Same.{same}
 pub record State : Type 0 where
   -- the token that the store was founded with
   pub admin : Option (List ℕ)
-  -- the statements in the order in which they were accepted, each under an id of its own
+  -- the providers in the order in which they were made, each with its name and its token
+  pub callers : List HeldCaller
+  -- the statements in the order in which they were accepted, each under an id of its own, with who gave it
   pub statements : List HeldStatement
+  -- how many entries there are
+  pub length : ℕ
   -- the last entry's moment
   pub last : ℕ
 
--- the statement that is held under an id
-abbrev pub held_under : List ℕ → List HeldStatement → Option Tree
-held_under id [] = None
-held_under id (s ∷ statements) = if bytes_eq s.id id then Some s.received else held_under id statements
+-- ---- who a caller is
+
+abbrev pub is_admin : Option (List ℕ) → List ℕ → Bool
+is_admin None token = false
+is_admin (Some admin) token = bytes_eq admin token
+
+-- the provider of that place in their order
+abbrev pub provider_at : Option ℕ → Who
+provider_at None = who.Unknown
+provider_at (Some k) = who.Provider k
+
+-- the first provider with the token
+abbrev pub place_of_token : List ℕ → List HeldCaller → Option ℕ
+place_of_token token callers = position (λ c. bytes_eq c.token token) callers
+
+-- what a store of this admin's token and these providers makes of a caller
+abbrev pub who_is : Option (List ℕ) → List HeldCaller → Caller → Who
+who_is admin callers Nobody = who.Unknown
+who_is admin callers Operator = who.Admin
+who_is admin callers (Token token) = if is_admin admin token then who.Admin else provider_at (place_of_token token callers)
+
+-- ---- what an entry adds
 
 -- the first founding counts
 abbrev pub admin_after : Option (List ℕ) → Command → Option (List ℕ)
 admin_after None (Found admin base) = Some admin
-admin_after (Some token) (Found admin base) = Some token
-admin_after token (Put id statement) = token
+admin_after admin command = admin
+
+-- a provider's token tells the place of its entry
+abbrev pub new_caller : List ℕ → ℕ → Draw → HeldCaller
+new_caller name place draw = record { name = name; token = token_text place draw.secret }
+
+abbrev pub callers_after : List HeldCaller → ℕ → Command → Draw → List HeldCaller
+callers_after callers place (Provider name) draw = callers ++ new_caller name place draw ∷ []
+callers_after callers place command draw = callers
+
+-- the statement that is held under an id
+abbrev pub held_under : List ℕ → List HeldStatement → Option HeldStatement
+held_under id statements = find (λ s. bytes_eq s.id id) statements
 
 -- the first statement of an id counts
-abbrev pub statements_after : List HeldStatement → Command → List HeldStatement
-statements_after statements (Found admin base) = statements
-statements_after statements (Put id statement) =
-    if is_some (held_under id statements) then statements else statements ++ record { id = id; received = statement } ∷ []
+abbrev pub statements_after : List HeldStatement → Who → Command → List HeldStatement
+statements_after statements by (Put id statement) =
+    if is_some (held_under id statements) then statements else statements ++ record { id = id; received = statement; by = by } ∷ []
+statements_after statements by command = statements
 
 abbrev pub step : State → Entry → State
-step st e = record { admin = admin_after st.admin e.command; statements = statements_after st.statements e.command; last = e.moment }
+step st e = record {
+  admin = admin_after st.admin e.command;
+  callers = callers_after st.callers st.length e.command e.draw;
+  statements = statements_after st.statements (who_is st.admin st.callers e.caller) e.command;
+  length = st.length + 1;
+  last = e.moment;
+}
 
 abbrev pub state_from : State → List Entry → State
 state_from st [] = st
 state_from st (e ∷ entries) = state_from (step st e) entries
 
 abbrev pub nothing : State
-nothing = record { admin = None; statements = []; last = 0 }
+nothing = record { admin = None; callers = []; statements = []; length = 0; last = 0 }
 
 abbrev pub state : List Entry → State
 state entries = state_from nothing entries
 
--- ---- who a caller is
+-- ---- what is said whatever room there is
 
--- what a store of this admin's token makes of a caller
-abbrev pub who_is : Option (List ℕ) → Caller → Who
-who_is admin Nobody = Unknown
-who_is admin Operator = Admin
-who_is None (Token token) = Unknown
-who_is (Some admin) (Token token) = if bytes_eq admin token then Admin else Unknown
+abbrev pub refused : Refusal → Answered
+refused refusal = answered.Refused refusal
+
+-- rule n of the family of this letter
+abbrev pub rule : ℕ → ℕ → Rule
+rule family n = record { family = family; number = n }
+
+-- where a command goes, by what it asks of its caller
+abbrev pub area_of : Command → Area
+area_of (Found admin base) = Desk
+area_of (Provider name) = Desk
+area_of (Put id statement) = Store
+area_of (Get wanted) = Store
+area_of About = Free
+area_of (Refused area status rule) = area
+
+-- Why a caller isn't let in: no caller of the history (A1), or another than an admin at the desk (A2).
+abbrev pub barred : Area → Who → Option Refusal
+barred Free by = None
+barred Store who.Unknown = Some Unauthorized
+barred Store who.Admin = None
+barred Store (who.Provider k) = None
+barred Desk who.Unknown = Some Unauthorized
+barred Desk who.Admin = None
+barred Desk (who.Provider k) = Some (Forbidden (rule 65 2))
+
+-- what a form that was refused is told by its status
+abbrev pub refused_with : ℕ → Rule → Refusal
+refused_with status rule = if status == 404 then NotFound else (if status == 413 then TooLong else Broken rule)
+
+-- a provider's name is out of form: B2
+abbrev pub refused_name : List ℕ → Option Refusal
+refused_name name = if is_name name then None else Some (Broken (rule 66 2))
+
+-- what a statement's own id breaks, where it goes under another: P15
+abbrev pub other_id : List ℕ → Option (List ℕ) → Option Refusal
+other_id id None = None
+other_id id (Some own) = if bytes_eq own id then None else Some (Broken (rule 80 15))
+
+abbrev pub broken_form : List ℕ → Json → Option ℕ → Option Refusal
+broken_form id j None = other_id id (own_id j)
+broken_form id j (Some n) = Some (Broken (rule 83 n))
+
+-- Why a statement isn't looked at under an id: its length, then the rules S on statements, then P15.
+abbrev pub refused_form : List ℕ → Json → Option Refusal
+refused_form id j = if is_too_long j then Some TooLong else broken_form id j (broken_rule j)
+
+-- what a held statement makes of one that comes under its id
+abbrev pub repeated : List ℕ → Json → HeldStatement → Answered
+repeated id j held = if same (view held.received) j then Same else refused (Conflict id)
+
+abbrev pub put_said : List ℕ → Json → Option Refusal → Option HeldStatement → Option Answered
+put_said id j (Some refusal) held = Some (refused refusal)
+put_said id j None (Some held) = Some (repeated id j held)
+put_said id j None None = None
+
+-- who sees a statement: an admin each, a provider what its own entries gave
+abbrev pub is_seen : Who → Who → Bool
+is_seen who.Admin by = true
+is_seen (who.Provider k) (who.Provider j) = j == k
+is_seen (who.Provider k) other = false
+is_seen who.Unknown by = false
+
+-- a statement as it was received, its id put last where it had none
+abbrev pub statement_body : HeldStatement → List ℕ
+statement_body held = written (with_id held.id (view held.received))
+
+-- the statement that is wanted, where it is held and seen, consistent up to the last entry
+abbrev pub one_said : Who → ℕ → Option HeldStatement → Answered
+one_said by last None = refused NotFound
+one_said by last (Some held) = if is_seen by held.by then Shown (statement_body held) (Some last) else refused NotFound
+
+abbrev pub wanted_said : State → Who → Wanted → Answered
+wanted_said st by (One id format) = one_said by st.last (held_under id st.statements)
+
+-- What a caller who is let in is told at once, or None where the command is to have an entry. A `found` command is no
+-- command of a founded store.
+abbrev pub said_inside : State → Who → Command → Option Answered
+said_inside st by (Found admin base) = Some (refused NotFound)
+said_inside st by (Provider name) = option_map refused (refused_name name)
+said_inside st by (Put id statement) = put_said id (view statement) (refused_form id (view statement)) (held_under id st.statements)
+said_inside st by (Get wanted) = Some (wanted_said st by wanted)
+said_inside st by About = Some (Shown versions_body None)
+said_inside st by (Refused area status rule) = Some (refused (refused_with status rule))
+
+abbrev pub unless_barred : Option Refusal → Option Answered → Option Answered
+unless_barred None said = said
+unless_barred (Some refusal) said = Some (refused refusal)
+
+abbrev pub said_to : State → Who → Command → Option Answered
+said_to st by command = unless_barred (barred (area_of command) by) (said_inside st by command)
+
+-- What is said whatever room there is, or None where the command is to have an entry. The order: the caller (A1, A2), a
+-- refused form, what is missing, a held id.
+abbrev pub said_at_once : State → Caller → Command → Option Answered
+said_at_once st caller command = said_to st (who_is st.admin st.callers caller) command
 
 -- ---- the answer
 
@@ -81,41 +219,10 @@ pub record Answer : Type 0 where
   pub said : Answered
   pub entry : Option Entry
 
--- rule n of the family of this letter
-abbrev pub rule : ℕ → ℕ → Rule
-rule family n = record { family = family; number = n }
-
--- what a statement's own id breaks, where it goes under another: P15
-abbrev pub other_id : List ℕ → Option (List ℕ) → Option Answered
-other_id id None = None
-other_id id (Some own) = if bytes_eq own id then None else Some (Broken (rule 80 15))
-
-abbrev pub broken_form : List ℕ → Json → Option ℕ → Option Answered
-broken_form id j None = other_id id (own_id j)
-broken_form id j (Some n) = Some (Broken (rule 83 n))
-
--- Why a statement isn't looked at under an id: its length, then the rules S on statements, then P15.
-abbrev pub refused_form : List ℕ → Json → Option Answered
-refused_form id j = if is_too_long j then Some TooLong else broken_form id j (broken_rule j)
-
--- what a held statement makes of one that comes under its id
-abbrev pub repeated : List ℕ → Json → Tree → Answered
-repeated id j held = if same (view held) j then Same else Conflict id
-
-abbrev pub put_said : List ℕ → Json → Option Answered → Option Tree → Option Answered
-put_said id j (Some refused) held = Some refused
-put_said id j None (Some held) = Some (repeated id j held)
-put_said id j None None = None
-
-abbrev pub said_to : Who → List HeldStatement → Command → Option Answered
-said_to Unknown statements command = Some Unauthorized
-said_to Admin statements (Found admin base) = Some NotFound
-said_to Admin statements (Put id statement) = put_said id (view statement) (refused_form id (view statement)) (held_under id statements)
-
--- What is said whatever room there is, or None where the command is to have an entry. The order: the caller (A1), a
--- refused form, a held id. A `found` command is no command of a founded store.
-abbrev pub said_at_once : State → Caller → Command → Option Answered
-said_at_once st caller command = said_to (who_is st.admin caller) st.statements command
+-- what is told of an entry that is kept: of a provider its place and its token
+abbrev pub thanks : State → Command → Draw → Answered
+thanks st (Provider name) draw = Shown (caller_body (length st.callers) (token_text st.length draw.secret)) None
+thanks st command draw = Kept
 
 -- where the end gate stands behind a history's frames
 abbrev pub end_place : ℕ → List Entry → ℕ
@@ -126,13 +233,13 @@ abbrev pub need : ℕ → Entry → ℕ
 need place e = place + 6 + length (written_entry e)
 
 -- where there is room for its entry, the command is accepted
-abbrev pub kept : ℕ → ℕ → Entry → Answer
-kept limit place e = if nat_lt limit (need place e) then record { said = Full (min (need place e) (2 ^ 64 - 1)) limit; entry = None }
-    else record { said = Kept; entry = Some e }
+abbrev pub kept : ℕ → ℕ → Answered → Entry → Answer
+kept limit place thanks e = if nat_lt limit (need place e) then record { said = refused (Full (min (need place e) (2 ^ 64 - 1)) limit); entry = None }
+    else record { said = thanks; entry = Some e }
 
-abbrev pub answer_by : Option Answered → ℕ → ℕ → Entry → Answer
-answer_by (Some said) limit place e = record { said = said; entry = None }
-answer_by None limit place e = kept limit place e
+abbrev pub answer_by : Option Answered → ℕ → ℕ → Answered → Entry → Answer
+answer_by (Some said) limit place thanks e = record { said = said; entry = None }
+answer_by None limit place thanks e = kept limit place thanks e
 
 abbrev pub entry_at : Caller → Command → ℕ → Draw → Entry
 entry_at caller command moment draw = record { caller = caller; command = command; moment = moment; draw = draw }
@@ -140,7 +247,7 @@ entry_at caller command moment draw = record { caller = caller; command = comman
 -- the answer over a store of this limit whose end gate stands there
 abbrev pub answer_in : ℕ → ℕ → State → Caller → Command → ℕ → Draw → Answer
 answer_in limit place st caller command clock draw =
-    answer_by (said_at_once st caller command) limit place (entry_at caller command (max (clamped clock) st.last) draw)
+    answer_by (said_at_once st caller command) limit place (thanks st command draw) (entry_at caller command (max (clamped clock) st.last) draw)
 
 -- The abstract store: what it answers a command over a history.
 abbrev pub answer : ℕ → List Entry → Caller → Command → ℕ → Draw → Answer
@@ -155,7 +262,7 @@ with_entry entries (Some e) = entries ++ e ∷ []
 
 abbrev pub Founds : Command → Type 0
 Founds (Found admin base) = IsToken admin × IsBase base
-Founds (Put id statement) = ⊥
+Founds command = ⊥
 
 -- the operator's founding entry, with draw 0
 pub record IsFounding (e : Entry) : Type 0 where

@@ -1,5 +1,6 @@
 pub mod Same
 pub mod Founding
+pub mod Texts
 pub mod History
 pub mod Index
 pub mod Replies

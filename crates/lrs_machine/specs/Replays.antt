@@ -14,7 +14,7 @@ use Rattle.lrs_machine.specs.declared.opening.FoundRefused.TheVariants as found
 use Rattle.lrs_record.specs.declared.entry.Caller.{Caller}
 use Rattle.lrs_record.specs.declared.entry.Caller.TheVariants.{Nobody, Operator, Token}
 use Rattle.lrs_record.specs.declared.entry.Command.{Command}
-use Rattle.lrs_record.specs.declared.entry.Command.TheVariants.{Found, Put}
+use Rattle.lrs_record.specs.declared.entry.Command.TheVariants.{Found}
 use Rattle.lrs_record.specs.declared.entry.Entry.{Entry}
 use Rattle.lrs_record.specs.Entries.{IsLawful, written_entry}
 use Rattle.lrs_machine.specs.declared.opening.DeskRefused.{DeskRefused}
@@ -33,7 +33,7 @@ is_zero draw = (draw.name == 0) && (draw.secret == 0)
 
 abbrev pub founds : Command → Bool
 founds (Found admin base) = is_token admin && is_base base
-founds (Put id statement) = false
+founds command = false
 
 abbrev pub is_founding : Entry → Bool
 is_founding e = is_operator e.caller && is_zero e.draw && founds e.command

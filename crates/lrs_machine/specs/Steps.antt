@@ -1,19 +1,22 @@
 -- What the desk's private functions say, over the journal and the fold.
-use Rattle.std.specs.Prelude.{◌≡◌, ◌⊎◌, ◌<◌, ◌≤◌, ◌-◌, ◌^◌, ℕ, min, List, length, map, take, Option, Some, None, Bool, true, false, Result, Ok, Err}
+use Rattle.std.specs.Prelude.{◌≡◌, ◌⊎◌, ◌<◌, ◌≤◌, ◌-◌, ◌^◌, ℕ, min, List, length, map, take, Option, Some, None, true, false, Result, Ok, Err}
 use Rattle.std.specs.Option.{ForSome}
-use Rattle.lrs_journal.specs.Store.{store, Stands}
+use Rattle.lrs_disk.specs.Faults.{Rises}
+use Rattle.lrs_journal.specs.Store.{Stands}
 use Rattle.lrs_journal.specs.Journal.{Held, frames_of, IsJournal, IsUnchanged, IsAppended}
 use Rattle.lrs_record.specs.declared.entry.Caller.{Caller}
 use Rattle.lrs_record.specs.declared.entry.Caller.TheVariants.{Nobody, Operator, Token}
 use Rattle.lrs_record.specs.declared.entry.Command.{Command}
-use Rattle.lrs_record.specs.declared.entry.Command.TheVariants.{Found, Put}
+use Rattle.lrs_record.specs.declared.entry.Command.TheVariants.{Put}
 use Rattle.lrs_record.specs.declared.entry.Entry.{Entry}
 use Rattle.lrs_record.specs.Entries.{IsLawful, written_entry}
 use Rattle.lrs_machine.specs.declared.answered.Answered.{Answered}
-use Rattle.lrs_machine.specs.declared.answered.Answered.TheVariants.{Kept, Full}
+use Rattle.lrs_machine.specs.declared.answered.Refusal.TheVariants.{Full}
+use Rattle.lrs_machine.specs.declared.keeping.Keeping.{Keeping}
+use Rattle.lrs_machine.specs.declared.keeping.Keeping.TheVariants.{Added, NoRoom}
 use Rattle.lrs_machine.specs.declared.reply.Trouble.{Trouble}
 use Rattle.lrs_machine.specs.declared.reply.Trouble.TheVariants.{Memory, Disk}
-use Rattle.lrs_machine.specs.History.{State, state, step, said_at_once, held_under, need, IsLegal}
+use Rattle.lrs_machine.specs.History.{State, state, step, said_at_once, thanks, refused, held_under, need, IsLegal}
 
 -- The frames are those of a history that can have come about, whose fold this is.
 abbrev pub HasFold : ℕ → State → List (List ℕ) → Type 0
@@ -26,8 +29,8 @@ pub record IsTied {D : Type 0} (told : D → Option (List ℕ)) (image : D → L
 
 -- the command's statement has an id that isn't held
 abbrev pub IsFresh : State → Command → Type 0
-IsFresh st (Found admin base) = Unit {0}
 IsFresh st (Put id statement) = held_under id st.statements ≡ None
+IsFresh st other = Unit {0}
 
 -- nothing has changed
 abbrev pub Still : {D : Type 0} → (D → Option (List ℕ)) → Held D → Held D → State → State → Type 0
@@ -47,20 +50,33 @@ pub record IsFull {D : Type 0} (journal : Held D) (e : Entry) (n limit : ℕ) : 
   pub limit_is : limit ≡ journal.limit
 
 -- an entry that may be kept was kept, or there was no room
-abbrev pub KeepsBy : {D : Type 0} → (D → Option (List ℕ)) → Held D → Held D → State → State → Entry → Answered → Type 0
-KeepsBy told old new st su e Kept = Grows told old new st su e
-KeepsBy told old new st su e (Full n limit) = IsFull old e n limit × Still told old new st su
-KeepsBy told old new st su e other = ⊥
+abbrev pub KeepsBy : {D : Type 0} → (D → Option (List ℕ)) → Held D → Held D → State → State → Entry → Keeping → Type 0
+KeepsBy told old new st su e Added = Grows told old new st su e
+KeepsBy told old new st su e (NoRoom n limit) = IsFull old e n limit × Still told old new st su
 
-abbrev pub Keeps : {D : Type 0} → (D → Option (List ℕ)) → Held D → Held D → State → State → Entry → Result Answered Trouble → Type 0
-Keeps told old new st su e (Ok said) = (new.doubt ≡ false) × KeepsBy told old new st su e said
+abbrev pub Keeps : {D : Type 0} → (D → Option (List ℕ)) → Held D → Held D → State → State → Entry → Result Keeping Trouble → Type 0
+Keeps told old new st su e (Ok keeping) = (new.doubt ≡ false) × KeepsBy told old new st su e keeping
 Keeps told old new st su e (Err Memory) = (new.doubt ≡ false) × Still told old new st su
 Keeps told old new st su e (Err Disk) = ((new.doubt ≡ false) × Still told old new st su) ⊎ ((new.doubt ≡ true) × Grows told old new st su e)
+
+-- trouble of the disk has its cause
+abbrev pub HasKeepingCause : ℕ → ℕ → Result Keeping Trouble → Type 0
+HasKeepingCause before now (Ok keeping) = now ≡ before
+HasKeepingCause before now (Err Memory) = now ≡ before
+HasKeepingCause before now (Err Disk) = (before ≤ now) × Rises before now
+
+-- the entry was kept, and its caller is thanked for it
+abbrev pub Thanks : {D : Type 0} → (D → Option (List ℕ)) → Held D → Held D → State → State → Entry → Answered → Type 0
+Thanks told old new st su e said = (said ≡ thanks st e.command e.draw) × Grows told old new st su e
+
+-- the caller is told that there was no room
+abbrev pub TellsFull : {D : Type 0} → (D → Option (List ℕ)) → Held D → Held D → State → State → Entry → Answered → Type 0
+TellsFull told old new st su e said = (n : ℕ) × (limit : ℕ) × (said ≡ refused (Full n limit)) × IsFull old e n limit × Still told old new st su
 
 -- what an act without trouble does, by what is said at once
 abbrev pub SaysBy : {D : Type 0} → (D → Option (List ℕ)) → Held D → Held D → State → State → Entry → Option Answered → Answered → Type 0
 SaysBy told old new st su e (Some at_once) said = (said ≡ at_once) × Still told old new st su
-SaysBy told old new st su e None said = KeepsBy told old new st su e said
+SaysBy told old new st su e None said = Thanks told old new st su e said ⊎ TellsFull told old new st su e said
 
 -- what an act does to the journal and the fold, where e is the entry that its command may have
 abbrev pub Acts : {D : Type 0} → (D → Option (List ℕ)) → Held D → Held D → State → State → Entry → Result Answered Trouble → Type 0
@@ -72,7 +88,7 @@ Acts told old new st su e (Err Disk) = ((old.doubt ≡ false → new.doubt ≡ f
 -- a put of the program itself
 abbrev pub IsPut : Caller → Command → Type 0
 IsPut Operator (Put id statement) = Unit {0}
-IsPut Operator (Found admin base) = ⊥
+IsPut Operator other = ⊥
 IsPut Nobody command = ⊥
 IsPut (Token token) command = ⊥
 

@@ -1,19 +1,26 @@
+use lrs_json::Items;
 use lrs_names::Id;
-
-/// A rule that a command's arguments break, such as S4: the capital letter of its family, and its number.
-#[derive(Clone, Copy, Debug, PartialEq, Eq)]
-pub struct Rule {
-    pub family: u8,
-    pub number: u8,
-}
+use lrs_record::{Moment, Rule};
 
 /// What the store says to a command.
-#[derive(Clone, Copy, PartialEq, Eq)]
+#[derive(Drop)]
 pub enum Answered {
-    /// The statement is kept: the command has its entry.
+    /// The command is kept: it has its entry.
     Kept,
     /// The same statement is held under that id. Nothing changes.
     Same,
+    /// What was asked for or made, as a JSON text. Of statements also the moment up to which it is consistent.
+    Shown {
+        text: Items<u8>,
+        through: Option<Moment>,
+    },
+    /// Nothing changes.
+    Refused(Refusal),
+}
+
+/// Why a command is refused.
+#[derive(Clone, Copy, PartialEq, Eq)]
+pub enum Refusal {
     /// Another statement is held under that id.
     Conflict(Id),
     /// The journal's file would have more bytes than it may.
@@ -24,6 +31,8 @@ pub enum Answered {
     TooLong,
     /// The history knows no such caller.
     Unauthorized,
+    /// The caller may not ask that, by this rule.
+    Forbidden(Rule),
     /// What is asked for isn't there.
     NotFound,
 }

@@ -4,12 +4,12 @@ ghost use Rattle.lrs_disk.specs.Faults.{Rises};
 ghost use Rattle.lrs_record.specs.declared.entry.Entry.{Entry};
 ghost use Rattle.lrs_record.specs.declared.entry.Caller.TheVariants.{Operator};
 ghost use Rattle.lrs_record.specs.declared.entry.Command.TheVariants.{Put};
-ghost use Rattle.lrs_record.specs.Entries.{IsLawfulCaller, IsLawfulCommand, IsLawfulTree};
+ghost use Rattle.lrs_record.specs.Entries.{IsLawfulCaller, IsLawfulTree};
 ghost use Rattle.lrs_json.specs.View.{view};
 ghost use Rattle.lrs_machine.specs.History.{answer};
 ghost use Rattle.lrs_machine.specs.Replies.{status_in};
 ghost use Rattle.lrs_machine.specs.Steps.{IsPut};
-ghost use Rattle.lrs_machine.specs.Desk.{StandsFor, IsOnDisk, IsOfPut, Answers, HasCause, account_of, landed_place, LeavesStore, Replies};
+ghost use Rattle.lrs_machine.specs.Desk.{StandsFor, IsOnDisk, IsOfPut, Answers, HasCause, HasReadTrees, account_of, landed_place, LeavesStore, Replies};
 
 use crate::acting::act;
 use crate::fold::Fold;
@@ -73,7 +73,7 @@ impl<D: Disk> Desk<D> {
         draw: &Draw,
     ) -> (Result<Answered, Trouble>, Option<u64>)
         requires caller { IsLawfulCaller caller }
-        requires command { IsLawfulCommand command }
+        requires command { HasReadTrees command }
         ensures answered { (h : List Entry) → StandsFor D.told self.old h → Answers D.told (answer self.old.limit h caller command clock draw.now) h self.old self.new result.0 }
         ensures cause { HasCause (D.fault_count self.old.disk) (D.fault_count self.new.disk) result.0 }
         ensures known { IsPut caller command → IfOk result.0 IsOfPut }
@@ -151,7 +151,7 @@ impl<D: Disk> Desk<D> {
         draw: &Draw,
     ) -> (Reply, Receipt)
         requires caller { IsLawfulCaller caller }
-        requires command { IsLawfulCommand command }
+        requires command { HasReadTrees command }
         ensures replied { Replies D.told D.fault_count self.old self.new (λ h. answer self.old.limit h caller command clock draw.now) result.0 }
         ensures limit { self.new.limit ≡ self.old.limit }
         ensures durable { (h : List Entry) → StandsFor D.told self.new h → IsOnDisk D.image self.new h }

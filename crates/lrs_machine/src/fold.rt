@@ -1,23 +1,29 @@
 // What the entries so far give, kept from one entry to the next.
 ghost use Rattle.std.specs.Prelude.{◌≡◌, OnOk, IfOk};
 ghost use Rattle.lrs_json.specs.View.{view};
-ghost use Rattle.lrs_machine.specs.History.{nothing, step, who_is, said_at_once, put_said, held_under, refused_form, other_id, repeated};
+ghost use Rattle.lrs_machine.specs.History.{nothing, step, who_is, is_admin, thanks, put_said, refused_form, held_under, wanted_said, said_inside, said_at_once};
 ghost use Rattle.lrs_machine.specs.Fold.{state_of, IsReadyFor};
-ghost use Rattle.lrs_machine.specs.Same.{same};
 ghost use Rattle.lrs_machine.specs.Steps.{IsFresh};
 
+use crate::callers::Callers;
 use crate::index::Index;
-use crate::{Answered, Rule, Who};
-use lrs_json::{Memory, Text, Tree};
-use lrs_names::Id;
-use lrs_record::{Caller, Command, Entry, Moment};
+use crate::judging::{
+    area_of, barred, is_seen, refused_form, refused_name, refused_with, repeated,
+};
+use crate::showing::{caller_text, statement_text, token_text, versions_text};
+use crate::{Answered, Refusal};
+use lrs_json::{Items, Memory, Text, Tree};
+use lrs_names::{Draw, Id};
+use lrs_record::{Caller, Command, Entry, Moment, Who};
 use std::alloc::Global;
-use xapi_statement::{broken_rule, is_too_long, own_id};
+use xapi_query::Wanted;
 
 #[derive(Drop)]
 pub(crate) struct Fold {
     admin: Option<Text>,
+    callers: Callers,
     statements: Index,
+    length: u64,
     pub(crate) last: Moment,
 }
 
@@ -28,28 +34,38 @@ impl Fold {
     {
         Fold {
             admin: None,
+            callers: Callers::new(alloc),
             statements: Index::new(alloc),
+            length: 0,
             last: Moment::clamp(0),
         }
     }
 
     // What the history makes of a caller.
     fn who(&self, caller: &Caller) -> Who
-        ensures { result ≡ who_is self.now.admin caller.now }
+        ensures { result ≡ who_is self.now.admin self.now.callers.held caller.now }
     {
         match caller {
             Caller::Nobody => Who::Unknown,
             Caller::Operator => Who::Admin,
-            Caller::Token(token) => match &self.admin {
-                Some(admin) => {
-                    if admin == token {
-                        Who::Admin
-                    } else {
-                        Who::Unknown
-                    }
+            Caller::Token(token) => {
+                if self.is_admin(token) {
+                    return Who::Admin;
                 }
-                None => Who::Unknown,
-            },
+                match self.callers.find(token) {
+                    Some(k) => Who::Provider(k),
+                    None => Who::Unknown,
+                }
+            }
+        }
+    }
+
+    fn is_admin(&self, token: &Text) -> bool
+        ensures { result ≡ is_admin self.now.admin token.now }
+    {
+        match &self.admin {
+            Some(admin) => admin == token,
+            None => false,
         }
     }
 
@@ -62,20 +78,47 @@ impl Fold {
     ) -> Result<Option<Answered>, Memory>
         ensures { IfOk result (λ said. said ≡ said_at_once (state_of self.now) caller.now command.now) }
     {
-        match self.who(caller) {
-            Who::Unknown => Ok(Some(Answered::Unauthorized)),
-            Who::Admin => match command {
-                Command::Found { admin: _, base: _ } => Ok(Some(Answered::NotFound)),
-                Command::Put { id, statement } => self.put_said(alloc, id, statement),
+        let who = self.who(caller);
+        match barred(area_of(command), who) {
+            Some(refusal) => Ok(Some(Answered::Refused(refusal))),
+            None => self.said_inside(alloc, who, command),
+        }
+    }
+
+    // What a caller who is let in is told.
+    fn said_inside(
+        &self,
+        alloc: Global,
+        who: Who,
+        command: &Command,
+    ) -> Result<Option<Answered>, Memory>
+        ensures { IfOk result (λ said. said ≡ said_inside (state_of self.now) who command.now) }
+    {
+        match command {
+            Command::Found { admin: _, base: _ } => Ok(Some(Answered::Refused(Refusal::NotFound))),
+            Command::Provider { name } => match refused_name(name) {
+                Some(refusal) => Ok(Some(Answered::Refused(refusal))),
+                None => Ok(None),
             },
+            Command::Put { id, statement } => self.put_said(alloc, id, statement),
+            Command::Get(wanted) => Ok(Some(self.wanted_said(alloc, who, wanted)?)),
+            Command::About => Ok(Some(Answered::Shown {
+                text: Items::from_vec(versions_text(alloc)?),
+                through: None,
+            })),
+            Command::Refused {
+                area: _,
+                status,
+                rule,
+            } => Ok(Some(Answered::Refused(refused_with(*status, *rule)))),
         }
     }
 
     fn put_said(&self, alloc: Global, id: &Id, statement: &Tree) -> Result<Option<Answered>, Memory>
         ensures { IfOk result (λ said. said ≡ put_said id.now (view statement.now) (refused_form id.now (view statement.now)) (held_under id.now self.now.statements.held)) }
     {
-        if let Some(refused) = refused_form(alloc, id, statement)? {
-            return Ok(Some(refused));
+        if let Some(refusal) = refused_form(alloc, id, statement)? {
+            return Ok(Some(Answered::Refused(refusal)));
         }
         match self.statements.find(id) {
             Some(held) => Ok(Some(repeated(id, statement, held))),
@@ -83,23 +126,73 @@ impl Fold {
         }
     }
 
-    /// Makes room for what a command is to add.
-    pub(crate) fn ready(&mut self, command: &Command) -> Result<(), Memory>
-        ensures same { state_of self.new ≡ state_of self.old }
-        ensures ready { OnOk result (IsReadyFor command.now self.new) }
+    fn wanted_said(&self, alloc: Global, who: Who, wanted: &Wanted) -> Result<Answered, Memory>
+        ensures { IfOk result (λ said. said ≡ wanted_said (state_of self.now) who wanted.now) }
+    {
+        let Wanted::One(id, _format) = wanted;
+        let Some(held) = self.statements.find(id) else {
+            return Ok(Answered::Refused(Refusal::NotFound));
+        };
+        if !is_seen(who, held.by) {
+            return Ok(Answered::Refused(Refusal::NotFound));
+        }
+        Ok(Answered::Shown {
+            text: Items::from_vec(statement_text(alloc, held)?),
+            through: Some(self.last),
+        })
+    }
+
+    /// What is told of a command's entry once it is kept.
+    pub(crate) fn thanks(
+        &self,
+        alloc: Global,
+        command: &Command,
+        draw: &Draw,
+    ) -> Result<Answered, Memory>
+        ensures { IfOk result (λ said. said ≡ thanks (state_of self.now) command.now draw.now) }
     {
         match command {
-            Command::Found { admin: _, base: _ } => Ok(()),
+            Command::Provider { name: _ } => {
+                let token = token_text(alloc, self.length, draw.secret)?;
+                Ok(Answered::Shown {
+                    text: Items::from_vec(caller_text(alloc, self.callers.len(), &token)?),
+                    through: None,
+                })
+            }
+            Command::Found { .. }
+            | Command::Put { .. }
+            | Command::Get(_)
+            | Command::About
+            | Command::Refused { .. } => Ok(Answered::Kept),
+        }
+    }
+
+    /// Makes room for what an entry is to add. A store whose entries can't be counted any more has no room.
+    pub(crate) fn ready(&mut self, alloc: Global, entry: &Entry) -> Result<(), Memory>
+        ensures same { state_of self.new ≡ state_of self.old }
+        ensures ready { OnOk result (IsReadyFor entry.now.command entry.now.draw self.new) }
+    {
+        if self.length == u64::MAX {
+            return Err(Memory);
+        }
+        match &entry.command {
+            Command::Provider { name } => {
+                let token = token_text(alloc, self.length, entry.draw.secret)?;
+                self.callers.ready(name, token)
+            }
             Command::Put { id, statement: _ } => self.statements.ready(*id),
+            Command::Found { .. } | Command::Get(_) | Command::About | Command::Refused { .. } =>
+                Ok(()),
         }
     }
 
     /// Takes an entry in for which there is room. It takes no memory.
     pub(crate) fn install(&mut self, entry: Entry)
-        requires ready { IsReadyFor entry.command self.old }
+        requires ready { IsReadyFor entry.command entry.draw self.old }
         requires fresh { IsFresh (state_of self.old) entry.command }
         ensures { state_of self.new ≡ step (state_of self.old) entry }
     {
+        let who = self.who(&entry.caller);
         let Entry {
             caller: _caller,
             command,
@@ -112,55 +205,11 @@ impl Fold {
                     self.admin = Some(admin);
                 }
             }
-            Command::Put { id, statement } => self.statements.install(id, statement),
+            Command::Provider { name: _name } => self.callers.install(),
+            Command::Put { id, statement } => self.statements.install(id, statement, who),
+            Command::Get(_) | Command::About | Command::Refused { .. } => {}
         }
+        self.length += 1;
         self.last = moment;
     }
-}
-
-// Why a statement isn't looked at under an id.
-fn refused_form(alloc: Global, id: &Id, statement: &Tree) -> Result<Option<Answered>, Memory>
-    ensures { IfOk result (λ refused. refused ≡ refused_form id.now (view statement.now)) }
-{
-    if is_too_long(statement) {
-        return Ok(Some(Answered::TooLong));
-    }
-    match broken_rule(alloc, statement)? {
-        Some(number) => Ok(Some(Answered::Broken(Rule {
-            family: b'S',
-            number,
-        }))),
-        None => Ok(other_id(id, own_id(statement))),
-    }
-}
-
-// Why a statement that gives itself an id doesn't go under another.
-fn other_id(id: &Id, own: Option<Id>) -> Option<Answered>
-    ensures { result ≡ other_id id.now own }
-{
-    if own? == *id {
-        None
-    } else {
-        Some(Answered::Broken(Rule {
-            family: b'P',
-            number: 15,
-        }))
-    }
-}
-
-// What a held statement makes of one that comes under its id.
-fn repeated(id: &Id, statement: &Tree, held: &Tree) -> Answered
-    ensures { result ≡ repeated id.now (view statement.now) held.now }
-{
-    if is_same(held, statement) {
-        Answered::Same
-    } else {
-        Answered::Conflict(*id)
-    }
-}
-
-fn is_same(held: &Tree, statement: &Tree) -> bool
-    ensures { result ≡ same (view held.now) (view statement.now) }
-{
-    held.same(statement)
 }

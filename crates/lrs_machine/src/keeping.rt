@@ -1,17 +1,23 @@
 // Adding an entry to the journal and the fold.
-ghost use Rattle.std.specs.Prelude.{◌≡◌, ◌≤◌, ◌⊎◌, List, ℕ, false, OnOk, OnErr};
-ghost use Rattle.lrs_journal.specs.Journal.{Held, IsJournal};
+ghost use Rattle.std.specs.Prelude.{◌≡◌, false};
+ghost use Rattle.lrs_journal.specs.Journal.{IsJournal};
 ghost use Rattle.lrs_record.specs.Entries.{IsLawfulCaller, IsLawfulCommand};
-ghost use Rattle.lrs_machine.specs.Desk.{HasCause};
 ghost use Rattle.lrs_machine.specs.Fold.{state_of};
-ghost use Rattle.lrs_machine.specs.Steps.{IsFresh, Keeps};
+ghost use Rattle.lrs_machine.specs.Steps.{IsFresh, Keeps, HasKeepingCause};
 
+use crate::Trouble;
 use crate::fold::Fold;
-use crate::{Answered, Trouble};
 use lrs_disk::Disk;
 use lrs_journal::{AppendRefused, Journal};
 use lrs_record::{Entry, write_entry};
 use std::alloc::Global;
+
+/// What became of an entry that was to be kept.
+pub(crate) enum Keeping {
+    Added,
+    /// The file would have more bytes than it may.
+    NoRoom { need: u64, limit: u64 },
+}
 
 /// Keeps the entry of a command that is to have one. All memory is taken before the frame is written.
 pub(crate) fn keep<D: Disk>(
@@ -19,7 +25,7 @@ pub(crate) fn keep<D: Disk>(
     journal: &mut Journal<D>,
     fold: &mut Fold,
     entry: Entry,
-) -> Result<Answered, Trouble>
+) -> Result<Keeping, Trouble>
     requires settled { journal.old.doubt ≡ false }
     requires sound { IsJournal D.told D.image journal.old }
     requires fresh { IsFresh (state_of fold.old) entry.command }
@@ -27,17 +33,17 @@ pub(crate) fn keep<D: Disk>(
     requires command { IsLawfulCommand entry.command }
     ensures kept { Keeps D.told journal.old journal.new (state_of fold.old) (state_of fold.new) entry result }
     ensures sound { IsJournal D.told D.image journal.new }
-    ensures cause { HasCause (D.fault_count journal.old.disk) (D.fault_count journal.new.disk) result }
+    ensures cause { HasKeepingCause (D.fault_count journal.old.disk) (D.fault_count journal.new.disk) result }
 {
     let mut frame = Vec::new(alloc);
     write_entry(&entry, &mut frame)?;
-    fold.ready(&entry.command)?;
+    fold.ready(alloc, &entry)?;
     match journal.append(&frame) {
         Ok(_) => {
             fold.install(entry);
-            Ok(Answered::Kept)
+            Ok(Keeping::Added)
         }
-        Err(AppendRefused::Full { need, limit }) => Ok(Answered::Full { need, limit }),
+        Err(AppendRefused::Full { need, limit }) => Ok(Keeping::NoRoom { need, limit }),
         Err(AppendRefused::Failed) => {
             if journal.in_doubt() {
                 fold.install(entry);

@@ -3,20 +3,22 @@
 
 mod acting;
 mod answered;
-mod caller;
+mod callers;
 mod desk;
 mod fold;
 mod founding;
 mod index;
+mod judging;
 mod keeping;
 mod opening;
 mod receipt;
 mod replaying;
 mod reply;
 mod saying;
+mod showing;
 
-pub use answered::{Answered, Rule};
-pub use caller::Who;
+pub use answered::{Answered, Refusal};
+pub use callers::HeldCaller;
 pub use desk::Desk;
 pub use founding::{is_base, is_token};
 pub use index::HeldStatement;

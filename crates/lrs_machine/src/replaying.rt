@@ -63,10 +63,11 @@ fn founds(alloc: Global, command: &Command) -> Result<bool, Memory>
             }
             is_base(alloc, base)
         }
-        Command::Put {
-            id: _,
-            statement: _,
-        } => Ok(false),
+        Command::Provider { .. }
+        | Command::Put { .. }
+        | Command::Get(_)
+        | Command::About
+        | Command::Refused { .. } => Ok(false),
     }
 }
 
@@ -92,7 +93,7 @@ fn take_entry(
         Ok(false) => return Err(DeskRefused::IllegalEntry { k }),
         Err(_) => return Err(DeskRefused::Memory),
     }
-    if fold.ready(&entry.command).is_err() {
+    if fold.ready(alloc, &entry).is_err() {
         return Err(DeskRefused::Memory);
     }
     fold.install(entry);

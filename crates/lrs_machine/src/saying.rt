@@ -2,11 +2,12 @@
 ghost use Rattle.std.specs.Prelude.{◌≡◌, ◌++◌, [], codes, IfOk, Ok, Err};
 ghost use Rattle.std.specs.Fmt.{decimal};
 ghost use Rattle.lrs_names.specs.Ids.{id_text};
-ghost use Rattle.lrs_machine.specs.Replies.{Says, IsReplyTo, status_of, status_in, media_of, body_of, error_body, rule_text};
+ghost use Rattle.lrs_machine.specs.Replies.{Says, IsReplyTo, status_of, status_in, refusal_status, refusal_body, error_body, rule_text};
 
-use crate::{Answered, Body, Media, Reply, Rule, Trouble};
+use crate::{Answered, Body, Media, Refusal, Reply, Trouble};
 use lrs_json::{Items, Memory};
 use lrs_names::Id;
+use lrs_record::Rule;
 use std::alloc::Global;
 
 impl Answered {
@@ -16,40 +17,47 @@ impl Answered {
     {
         match self {
             Answered::Kept | Answered::Same => 204,
-            Answered::Conflict(_) => 409,
-            Answered::Full { need: _, limit: _ } => 507,
-            Answered::Broken(_) => 400,
-            Answered::TooLong => 413,
-            Answered::Unauthorized => 401,
-            Answered::NotFound => 404,
-        }
-    }
-
-    fn media(&self) -> Media
-        ensures { result ≡ media_of self.now }
-    {
-        match self {
-            Answered::Kept | Answered::Same => Media::Empty,
-            _ => Media::Json,
-        }
-    }
-
-    fn body(&self, alloc: Global) -> Result<Vec<u8>, Memory>
-        ensures { IfOk result (λ body. body.items ≡ body_of self.now) }
-    {
-        match self {
-            Answered::Kept | Answered::Same => Ok(Vec::new(alloc)),
-            Answered::Conflict(id) => conflict_body(alloc, id),
-            Answered::Full { need, limit } => full_body(alloc, *need, *limit),
-            Answered::Broken(rule) => broken_body(alloc, *rule),
-            Answered::TooLong => refusal_body(alloc, b"413", &[]),
-            Answered::Unauthorized => refusal_body(alloc, b"A1", &[]),
-            Answered::NotFound => refusal_body(alloc, b"404", &[]),
+            Answered::Shown {
+                text: _,
+                through: _,
+            } => 200,
+            Answered::Refused(refusal) => refusal.status(),
         }
     }
 }
 
-fn refusal_body(alloc: Global, error: &[u8], more: &[u8]) -> Result<Vec<u8>, Memory>
+impl Refusal {
+    /// The status of the reply.
+    pub fn status(&self) -> u16
+        ensures { result ≡ refusal_status self.now }
+    {
+        match self {
+            Refusal::Conflict(_) => 409,
+            Refusal::Full { need: _, limit: _ } => 507,
+            Refusal::Broken(_) => 400,
+            Refusal::TooLong => 413,
+            Refusal::Unauthorized => 401,
+            Refusal::Forbidden(_) => 403,
+            Refusal::NotFound => 404,
+        }
+    }
+
+    fn body(&self, alloc: Global) -> Result<Vec<u8>, Memory>
+        ensures { IfOk result (λ body. body.items ≡ refusal_body self.now) }
+    {
+        match self {
+            Refusal::Conflict(id) => conflict_body(alloc, id),
+            Refusal::Full { need, limit } => full_body(alloc, *need, *limit),
+            Refusal::Broken(rule) => rule_body(alloc, *rule),
+            Refusal::TooLong => error_body(alloc, b"413", &[]),
+            Refusal::Unauthorized => error_body(alloc, b"A1", &[]),
+            Refusal::Forbidden(rule) => rule_body(alloc, *rule),
+            Refusal::NotFound => error_body(alloc, b"404", &[]),
+        }
+    }
+}
+
+fn error_body(alloc: Global, error: &[u8], more: &[u8]) -> Result<Vec<u8>, Memory>
     ensures { IfOk result (λ body. body.items ≡ error_body error.now more.now) }
 {
     let mut body = b"{\"error\":\"".to_vec(alloc)?;
@@ -66,7 +74,7 @@ fn conflict_body(alloc: Global, id: &Id) -> Result<Vec<u8>, Memory>
     let mut more = b",\"id\":\"".to_vec(alloc)?;
     more.extend_from_slice(&id.text())?;
     more.extend_from_slice(b"\"")?;
-    refusal_body(alloc, b"409", &more)
+    error_body(alloc, b"409", &more)
 }
 
 fn full_body(alloc: Global, need: u64, limit: u64) -> Result<Vec<u8>, Memory>
@@ -78,35 +86,36 @@ fn full_body(alloc: Global, need: u64, limit: u64) -> Result<Vec<u8>, Memory>
     more.extend_from_slice(need.as_bytes())?;
     more.extend_from_slice(b",\"limit\":")?;
     more.extend_from_slice(limit.as_bytes())?;
-    refusal_body(alloc, b"507", &more)
+    error_body(alloc, b"507", &more)
 }
 
-fn broken_body(alloc: Global, rule: Rule) -> Result<Vec<u8>, Memory>
+fn rule_body(alloc: Global, rule: Rule) -> Result<Vec<u8>, Memory>
     ensures { IfOk result (λ body. body.items ≡ error_body (rule_text rule) []) }
 {
     let number = rule.number;
     let digits = format!(in alloc; "{number}")?;
     let mut error = vec![in alloc; rule.family]?;
     error.extend_from_slice(digits.as_bytes())?;
-    refusal_body(alloc, &error, &[])
+    error_body(alloc, &error, &[])
 }
 
 impl Reply {
-    /// The reply that says this.
-    pub(crate) fn saying(alloc: Global, said: Answered) -> Result<Reply, Memory>
-        ensures { IfOk result (Says (Ok said)) }
+    // The reply that says why a command is refused.
+    fn refusing(alloc: Global, refusal: Refusal) -> Result<Reply, Memory>
+        ensures { IfOk result (Says (Ok (Answered.Refused refusal))) }
     {
         Ok(Reply {
-            status: said.status(),
-            media: said.media(),
-            body: Body::Made(Items::from_vec(said.body(alloc)?)),
+            status: refusal.status(),
+            media: Media::Json,
+            body: Body::Made(Items::from_vec(refusal.body(alloc)?)),
             through: None,
         })
     }
 
-    /// The reply to a command that is kept, which takes no memory.
-    pub(crate) fn kept(alloc: Global) -> Reply
-        ensures { Says (Ok Answered.Kept) result }
+    // The reply with no body, which takes no memory.
+    fn without_body(alloc: Global) -> Reply
+        ensures kept { Says (Ok Answered.Kept) result }
+        ensures same { Says (Ok Answered.Same) result }
     {
         Reply {
             status: 204,
@@ -116,8 +125,8 @@ impl Reply {
         }
     }
 
-    /// The reply that the store can't say anything.
-    pub(crate) fn troubled(trouble: Trouble) -> Reply
+    // The reply that the store can't say anything.
+    fn troubled(trouble: Trouble) -> Reply
         ensures { Says (Err trouble) result }
     {
         let body = match trouble {
@@ -143,13 +152,19 @@ pub(crate) fn status_in(said: &Result<Answered, Trouble>) -> u16
     }
 }
 
-/// The reply that says this. Where memory is wanting for its body, it says that.
+/// The reply that says this. Only a refusal takes memory for its body; where that is wanting, the reply says so.
 pub(crate) fn reply_to(alloc: Global, said: Result<Answered, Trouble>) -> Reply
     ensures { IsReplyTo said result }
 {
     match said {
-        Ok(Answered::Kept) => Reply::kept(alloc),
-        Ok(said) => match Reply::saying(alloc, said) {
+        Ok(Answered::Kept | Answered::Same) => Reply::without_body(alloc),
+        Ok(Answered::Shown { text, through }) => Reply {
+            status: 200,
+            media: Media::Json,
+            body: Body::Made(text),
+            through,
+        },
+        Ok(Answered::Refused(refusal)) => match Reply::refusing(alloc, refusal) {
             Ok(reply) => reply,
             Err(_) => Reply::troubled(Trouble::Memory),
         },

@@ -10,4 +10,5 @@ pub mod Readable
 pub mod Escapes
 pub mod ValueKinds
 pub mod SameWritten
+pub mod Commands
 pub mod Told

@@ -10,7 +10,7 @@ use Rattle.lrs_record.specs.Entries.{HoldsCaller, HoldsCommand, IsLawful, IsLawf
 use Rattle.lrs_record.specs.declared.entry.Caller.{Caller}
 use Rattle.lrs_record.specs.declared.entry.Caller.TheVariants.{Nobody, Operator, Token}
 use Rattle.lrs_record.specs.declared.entry.Command.{Command}
-use Rattle.lrs_record.specs.declared.entry.Command.TheVariants.{Found, Put}
+use Rattle.lrs_record.specs.declared.entry.Command.TheVariants.{Found, Provider, Put, Get, About, Refused}
 use Rattle.lrs_record.specs.declared.entry.Entry.{Entry}
 use Rattle.lrs_record.proofs.Decimals.{Fits-moment}
 use Rattle.lrs_record.proofs.Words.{IsUtf8-draw_text, IsUtf8-small}
@@ -27,17 +27,30 @@ Fits-command (Found admin base) lawful holds = (
   (IsUtf8-small (codes "admin") refl, refl, holds.0, (IsUtf8-small (codes "base") refl, refl, holds.1, tt)),
   tt,
 )
+Fits-command (Provider name) lawful holds = (
+  IsUtf8-small (codes "provider") refl,
+  refl,
+  (IsUtf8-small (codes "name") refl, refl, holds, tt),
+  tt,
+)
 Fits-command (Put id statement) lawful holds = (
   IsUtf8-small (codes "put") refl,
   refl,
   (IsUtf8-small (codes "id") refl, refl, IsUtf8-id_text id, (IsUtf8-small (codes "statement") refl, refl, lawful.0, tt)),
   tt,
 )
+Fits-command (Get wanted) lawful holds = absurd lawful
+Fits-command About lawful holds = absurd lawful
+Fits-command (Refused area status rule) lawful holds = absurd lawful
 
 -- two levels above a statement
 shallow_command : (command : Command) → IsLawfulCommand command → depth (command_json command) ≤ 66
 shallow_command (Found admin base) lawful = omega arith
+shallow_command (Provider name) lawful = omega arith
 shallow_command (Put id statement) lawful = omega (arith, lawful.1)
+shallow_command (Get wanted) lawful = absurd lawful
+shallow_command About lawful = absurd lawful
+shallow_command (Refused area status rule) lawful = absurd lawful
 
 pub readable : (entry : Entry) → IsLawful entry → IsReadable 68 (entry_json entry)
 unfolding entry_json

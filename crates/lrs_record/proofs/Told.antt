@@ -1,5 +1,5 @@
 -- The text of a lawful entry tells the entry.
-use Rattle.std.proofs.Common.{◌≡◌, ◌<◌, ◌^◌, ℕ, List, Result, Ok, codes, arith, refl, sym, ap, ◌∙◌}
+use Rattle.std.proofs.Common.{◌≡◌, ◌<◌, ◌^◌, ℕ, List, Result, Ok, codes, arith, refl, sym, ap, ◌∙◌, subst}
 use Rattle.std.specs.Fmt.{decimal}
 use Rattle.std.specs.Int.{to_be_bytes, w128}
 use Rattle.std.proofs.lemmas.Fmt.{decimal_injective}
@@ -8,17 +8,19 @@ use Rattle.hex.specs.declared.error.FromHexError.{FromHexError}
 use Rattle.hex.proofs.HexLemmas.{decode_of-encode_lower}
 use Rattle.lrs_json.specs.Json.{number, string}
 use Rattle.lrs_json.specs.View.{view}
+use Rattle.lrs_json.specs.declared.tree.Tree.{Tree}
 use Rattle.lrs_json.proofs.Back.{same_tree}
-use Rattle.lrs_names.specs.Ids.{id_text}
+use Rattle.lrs_names.specs.Ids.{IsId, id_text}
 use Rattle.lrs_names.specs.declared.draw.Draw.{Draw}
 use Rattle.lrs_names.proofs.IdTexts.{same_id}
 use Rattle.lrs_names.proofs.WordBytes.{same_word, small_word_bytes}
-use Rattle.lrs_record.specs.Entries.{HoldsCommand, HoldsDraw, IsLawful, IsLawfulCaller, caller_text, command_args, command_json, command_name, draw_text, entry_json, fields, word_text, written_entry}
+use Rattle.lrs_record.specs.Entries.{HoldsCommand, HoldsDraw, IsLawful, IsLawfulCaller, IsLawfulCommand, caller_text, command_args, command_json, command_name, draw_text, entry_json, fields, word_text, written_entry}
 use Rattle.lrs_record.specs.declared.entry.Caller.{Caller}
 use Rattle.lrs_record.specs.declared.entry.Caller.TheVariants.{Nobody, Operator, Token}
 use Rattle.lrs_record.specs.declared.entry.Command.{Command}
-use Rattle.lrs_record.specs.declared.entry.Command.TheVariants.{Found, Put}
+use Rattle.lrs_record.specs.declared.entry.Command.TheVariants.{Found, Provider, Put, Get, About, Refused}
 use Rattle.lrs_record.specs.declared.entry.Entry.{Entry}
+use Rattle.lrs_record.proofs.Commands.{admin_in, base_in, id_in, name_in, of_name, statement_in}
 use Rattle.lrs_record.proofs.EntryParts.{member_texts}
 use Rattle.lrs_record.proofs.Readable.{readable}
 use Rattle.lrs_record.proofs.SameParts.{one_part, two_parts}
@@ -60,21 +62,45 @@ same_string a b e = cc e
 same_spelling : (a b : List ℕ) → number a ≡ number b → a ≡ b
 same_spelling a b e = cc e
 
-same_command : (a b : Command) → HoldsCommand a → HoldsCommand b → command_json a ≡ command_json b → a ≡ b
-same_command (Found admin base) (Found token address) x y e =
+-- Of two commands of one sort, the texts that are kept tell what they hold.
+
+same_found : (admin base token address : List ℕ) → command_json (Found admin base) ≡ command_json (Found token address) → Found admin base ≡ Found token address
+same_found admin base token address e =
     let args = (same_args (Found admin base) (Found token address) e).1 in
     let parts = two_parts _ (codes "admin", string admin) (codes "base", string base) (codes "admin", string token) (codes "base", string address) refl args in
     let first : admin ≡ token = same_string _ _ (ap (λ pair. pair.1) parts.0) in
     let second : base ≡ address = same_string _ _ (ap (λ pair. pair.1) parts.1) in
     rw (first, second) refl
-same_command (Found admin base) (Put id statement) x y e = absurd (cc (same_args (Found admin base) (Put id statement) e).0)
-same_command (Put id statement) (Found admin base) x y e = absurd (cc (same_args (Put id statement) (Found admin base) e).0)
-same_command (Put id statement) (Put key tree) x y e =
+
+same_provider : (name other : List ℕ) → command_json (Provider name) ≡ command_json (Provider other) → Provider name ≡ Provider other
+same_provider name other e =
+    let args = (same_args (Provider name) (Provider other) e).1 in
+    let part = one_part _ (codes "name", string name) (codes "name", string other) refl args in
+    ap Provider (same_string _ _ (ap (λ pair. pair.1) part))
+
+same_put : (id key : List ℕ) (statement tree : Tree) → IsId id → IsId key → command_json (Put id statement) ≡ command_json (Put key tree) → Put id statement ≡ Put key tree
+same_put id key statement tree x y e =
     let args = (same_args (Put id statement) (Put key tree) e).1 in
     let parts = two_parts _ (codes "id", string (id_text id)) (codes "statement", view statement) (codes "id", string (id_text key)) (codes "statement", view tree) refl args in
     let first : id ≡ key = same_id id key x y (same_string _ _ (ap (λ pair. pair.1) parts.0)) in
     let second : statement ≡ tree = same_tree statement tree (ap (λ pair. pair.1) parts.1) in
     rw (first, second) refl
+
+-- The names are compared first, so that the other is of the same sort.
+same_command : (a b : Command) → IsLawfulCommand a → HoldsCommand a → HoldsCommand b → command_json a ≡ command_json b → a ≡ b
+same_command (Found admin base) b lawful x y e =
+    let is : b ≡ Found (admin_in b) (base_in b) = of_name b (codes "found") (sym (same_args (Found admin base) b e).0) in
+    same_found admin base (admin_in b) (base_in b) (e ∙ ap command_json is) ∙ sym is
+same_command (Provider name) b lawful x y e =
+    let is : b ≡ Provider (name_in b) = of_name b (codes "provider") (sym (same_args (Provider name) b e).0) in
+    same_provider name (name_in b) (e ∙ ap command_json is) ∙ sym is
+same_command (Put id statement) b lawful x y e =
+    let is : b ≡ Put (id_in b) (statement_in b) = of_name b (codes "put") (sym (same_args (Put id statement) b e).0) in
+    let key : IsId (id_in b) = subst HoldsCommand is y in
+    same_put id (id_in b) statement (statement_in b) x key (e ∙ ap command_json is) ∙ sym is
+same_command (Get wanted) b lawful x y e = absurd lawful
+same_command About b lawful x y e = absurd lawful
+same_command (Refused area status rule) b lawful x y e = absurd lawful
 
 told_by_json : (a b : Entry) → IsLawful a → IsLawful b → entry_json a ≡ entry_json b → a ≡ b
 unfolding entry_json
@@ -85,7 +111,7 @@ told_by_json a b x y e =
     let digits : decimal a.moment ≡ decimal b.moment = same_spelling _ _ (ap (λ pair. pair.1) parts.moment) in
     let moment : a.moment ≡ b.moment = decimal_injective a.moment b.moment (omega (arith, x.values.moment)) (omega (arith, y.values.moment)) digits in
     let draw : a.draw ≡ b.draw = told_draw a.draw b.draw x.values.draw y.values.draw (same_string _ _ (ap (λ pair. pair.1) parts.draw)) in
-    let command : a.command ≡ b.command = same_command a.command b.command x.values.command y.values.command (ap (λ pair. pair.1) parts.command) in
+    let command : a.command ≡ b.command = same_command a.command b.command x.command x.values.command y.values.command (ap (λ pair. pair.1) parts.command) in
     rw (caller, moment, draw, command) refl
 
 pub written_entry_injective : (a b : Entry) → IsLawful a → IsLawful b → written_entry a ≡ written_entry b → a ≡ b

@@ -12,7 +12,7 @@ use Rattle.lrs_names.specs.declared.draw.Draw.{Draw}
 use Rattle.lrs_record.specs.declared.entry.Caller.{Caller}
 use Rattle.lrs_record.specs.declared.entry.Caller.TheVariants.{Nobody, Operator, Token}
 use Rattle.lrs_record.specs.declared.entry.Command.{Command}
-use Rattle.lrs_record.specs.declared.entry.Command.TheVariants.{Found, Put}
+use Rattle.lrs_record.specs.declared.entry.Command.TheVariants.{Found, Provider, Put, Get, About, Refused}
 use Rattle.lrs_record.specs.declared.entry.Entry.{Entry}
 use Rattle.lrs_record.specs.Moments.{latest}
 
@@ -34,19 +34,31 @@ word_text word = encode_lower (to_be_bytes w128 word)
 abbrev pub draw_text : Draw → List ℕ
 draw_text draw = word_text draw.name ++ word_text draw.secret
 
+-- The name under which a command is kept. What is never kept has none.
 abbrev pub command_name : Command → List ℕ
 command_name (Found admin base) = codes "found"
+command_name (Provider name) = codes "provider"
 command_name (Put id statement) = codes "put"
+command_name (Get wanted) = []
+command_name About = []
+command_name (Refused area status rule) = []
 
 abbrev pub found_args : List ℕ → List ℕ → List (List ℕ × Json)
 found_args admin base = (codes "admin", string admin) ∷ (codes "base", string base) ∷ []
+
+abbrev pub provider_args : List ℕ → List (List ℕ × Json)
+provider_args name = (codes "name", string name) ∷ []
 
 abbrev pub put_args : List ℕ → Json → List (List ℕ × Json)
 put_args id statement = (codes "id", string (id_text id)) ∷ (codes "statement", statement) ∷ []
 
 abbrev pub command_args : Command → List (List ℕ × Json)
 command_args (Found admin base) = found_args admin base
+command_args (Provider name) = provider_args name
 command_args (Put id statement) = put_args id (view statement)
+command_args (Get wanted) = []
+command_args About = []
+command_args (Refused area status rule) = []
 
 abbrev pub command_json : Command → Json
 command_json command = fields ((command_name command, fields (command_args command)) ∷ [])
@@ -69,10 +81,14 @@ IsLawfulCaller (Token token) = (token ≢ []) × (token ≢ codes "*")
 abbrev pub IsLawfulTree : Json → Type 0
 IsLawfulTree tree = IsReadable 64 tree
 
--- Its trees are such as reading gives.
+-- It is one that is kept, and its trees are such as reading gives.
 abbrev pub IsLawfulCommand : Command → Type 0
 IsLawfulCommand (Found admin base) = Unit {0}
+IsLawfulCommand (Provider name) = Unit {0}
 IsLawfulCommand (Put id statement) = IsLawfulTree (view statement)
+IsLawfulCommand (Get wanted) = ⊥
+IsLawfulCommand About = ⊥
+IsLawfulCommand (Refused area status rule) = ⊥
 
 -- Each text is UTF-8.
 abbrev pub HoldsCaller : Caller → Type 0
@@ -80,10 +96,14 @@ HoldsCaller Nobody = Unit {0}
 HoldsCaller Operator = Unit {0}
 HoldsCaller (Token token) = IsUtf8 token
 
--- Each text is UTF-8, and each id has its sixteen bytes.
+-- Each text that is kept is UTF-8, and each id has its sixteen bytes.
 abbrev pub HoldsCommand : Command → Type 0
 HoldsCommand (Found admin base) = IsUtf8 admin × IsUtf8 base
+HoldsCommand (Provider name) = IsUtf8 name
 HoldsCommand (Put id statement) = IsId id
+HoldsCommand (Get wanted) = Unit {0}
+HoldsCommand About = Unit {0}
+HoldsCommand (Refused area status rule) = Unit {0}
 
 -- two words of 128 bits
 abbrev pub HoldsDraw : Draw → Type 0

@@ -1,9 +1,10 @@
 ghost use Rattle.std.specs.Prelude.{◌≡◌};
 ghost use Rattle.lrs_record.specs.Entries.{HoldsCaller, caller_text, command_name};
 
-use crate::Moment;
+use crate::{Area, Moment, Rule};
 use lrs_json::{Text, Tree};
 use lrs_names::{Draw, Id};
+use xapi_query::Wanted;
 
 /// What is presented for a command.
 #[derive(Drop)]
@@ -16,13 +17,21 @@ pub enum Caller {
     Token(Text),
 }
 
-/// What a caller asks to be kept.
+/// What a caller asks: first what is kept where it is accepted, then what is only answered.
 #[derive(Drop)]
 pub enum Command {
     /// Begins a store: the token of its first admin, and the address under which it is reached.
     Found { admin: Text, base: Text },
+    /// Makes a provider of that name, and its token.
+    Provider { name: Text },
     /// Keeps a statement under an id.
     Put { id: Id, statement: Tree },
+    /// Asks for statements.
+    Get(Wanted),
+    /// Asks for the versions of xAPI that are spoken.
+    About,
+    /// A request whose form is refused with that status and that rule, once its caller has been looked at.
+    Refused { area: Area, status: u16, rule: Rule },
 }
 
 /// An accepted command, as the journal keeps it: with its caller, the moment at which it was accepted and what was
@@ -36,13 +45,15 @@ pub struct Entry {
 }
 
 impl Command {
-    /// The name under which the journal keeps the command.
+    /// The name under which the journal keeps the command; empty for what is never kept.
     pub fn name(&self) -> &'static str
         ensures { result.now ≡ command_name self.now }
     {
         match self {
             Command::Found { .. } => "found",
+            Command::Provider { .. } => "provider",
             Command::Put { .. } => "put",
+            Command::Get(_) | Command::About | Command::Refused { .. } => "",
         }
     }
 }

@@ -6,16 +6,19 @@ mod depth;
 mod digits;
 mod entry;
 mod members;
-mod moment;
 mod parts;
 mod reading;
 mod refused;
+mod rule;
+mod who;
 mod writing;
 
 pub use entry::{Caller, Command, Entry};
-pub use moment::Moment;
+pub use lrs_time::Moment;
 pub use reading::read_entry;
 pub use refused::EntryRefused;
+pub use rule::{Area, Rule};
+pub use who::Who;
 pub use writing::write_entry;
 
 #[cfg(test)]
@@ -71,6 +74,19 @@ mod tests {
         Ok(())
     }
 
+    #[test]
+    fn reads_a_provider_back(rt: HostRuntime) -> Result<(), Fail> {
+        let alloc = rt.alloc();
+        let text =
+            b"{\"caller\":\"adminadmin\",\"moment\":1700000000000,\"draw\":\"0000000000000000000000000000000000000000000000000000000000000005\",\"command\":{\"provider\":{\"name\":\"p.1\"}}}";
+        let entry = read_entry(alloc, text)?;
+        assert!(rt; matches!(&entry.command, Command::Provider { name } if name.as_str() == "p.1"));
+        let mut again = Vec::new(alloc);
+        write_entry(&entry, &mut again)?;
+        assert_eq!(rt; again.as_slice(), text.as_slice());
+        Ok(())
+    }
+
     // The founding entry with one place changed.
     #[test]
     fn refuses_other_spellings(rt: HostRuntime) -> Result<(), Fail> {
@@ -88,6 +104,14 @@ mod tests {
             ("}}}", "},\"more\":{}}}"),
             ("}}}", "}},\"more\":{}}"),
             ("\"found\"", "\"founded\""),
+            (
+                "\"found\":{\"admin\":\"adminadmin\",\"base\":\"http://127.0.0.1:8080/\"}",
+                "\"\":{}",
+            ),
+            (
+                "\"found\":{\"admin\":\"adminadmin\",\"base\":\"http://127.0.0.1:8080/\"}",
+                "\"provider\":{\"name\":\"p.1\",\"more\":\"\"}",
+            ),
             ("1700000000000", "01700000000000"),
             ("1700000000000", "1700000000000.0"),
             ("1700000000000", "17e11"),

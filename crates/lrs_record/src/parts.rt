@@ -5,7 +5,7 @@ ghost use Rattle.lrs_json.specs.Json.{number};
 ghost use Rattle.lrs_json.specs.View.{member_view, view};
 ghost use Rattle.lrs_json.specs.declared.tree.Tree.{Tree as SpecTree};
 ghost use Rattle.lrs_names.specs.Ids.{IsId};
-ghost use Rattle.lrs_record.specs.Entries.{HoldsCommand, IsLawful, IsLawfulCaller, IsLawfulCommand, IsLawfulTree, caller_text, command_json, entry_json, fields, found_args, put_args};
+ghost use Rattle.lrs_record.specs.Entries.{HoldsCommand, IsLawful, IsLawfulCaller, IsLawfulCommand, IsLawfulTree, caller_text, command_json, entry_json, fields, found_args, provider_args, put_args};
 ghost use Rattle.lrs_record.specs.Moments.{latest};
 ghost use Rattle.lrs_record.specs.declared.entry.Caller.{Caller as SpecCaller};
 ghost use Rattle.lrs_record.specs.declared.entry.Command.{Command as SpecCommand};
@@ -68,6 +68,7 @@ fn command_of(member: Member) -> Option<Command>
     let Member { name, value } = one(named(member, "command")?)?;
     match name.as_str() {
         "found" => found_of(value),
+        "provider" => provider_of(value),
         "put" => put_of(value),
         _ => None,
     }
@@ -81,6 +82,15 @@ fn found_of(args: Tree) -> Option<Command>
     Some(Command::Found {
         admin: text(admin, "admin")?,
         base: text(base, "base")?,
+    })
+}
+
+fn provider_of(args: Tree) -> Option<Command>
+    ensures lawful { IfSome result IsLawfulCommand }
+    ensures all { (name : List ℕ) → view args ≡ fields (provider_args name) → result ≡ Some (Command.Provider name) }
+{
+    Some(Command::Provider {
+        name: text(one(args)?, "name")?,
     })
 }
 

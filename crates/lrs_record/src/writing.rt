@@ -85,12 +85,14 @@ fn put_args(command: &Command, into: &mut Vec<u8>) -> Result<(), Memory>
             put_text(false, "admin", admin.as_str(), into)?;
             put_text(true, "base", base.as_str(), into)
         }
+        Command::Provider { name } => put_text(false, "name", name.as_str(), into),
         Command::Put { id, statement } => {
             let id = id.text();
             put_text(false, "id", ascii(&id), into)?;
             put_name(true, "statement", into)?;
             put_tree(statement, into)
         }
+        Command::Get(_) | Command::About | Command::Refused { .. } => Ok(()),
     }
 }
 

@@ -1,4 +1,4 @@
-use Rattle.std.proofs.Common.{◌≡◌, ◌++◌, ◌∷◌, [], sym, subst, refl, true, false, ◌∙◌, Ok, arith, length-append}
+use Rattle.std.proofs.Common.{◌++◌, ◌∷◌, [], sym, subst, refl, true, false, ◌∙◌, Ok, arith, length-append}
 use Rattle.lrs_machine.specs.Desk.{IsRefused}
 use Rattle.lrs_machine.specs.Fold.{state_of}
 use Rattle.lrs_machine.specs.Replays.{Takes}

@@ -1,4 +1,4 @@
-use Rattle.std.proofs.Common.{◌≡◌, ℕ, List, [], length}
+use Rattle.std.proofs.Common.{◌≡◌, List, [], length}
 use Rattle.std.specs.Option.{ForSome}
 use Rattle.lrs_journal.specs.Replay.{HasRead}
 use Rattle.lrs_record.specs.declared.entry.Entry.{Entry}

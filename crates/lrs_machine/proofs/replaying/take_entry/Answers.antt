@@ -1,4 +1,4 @@
-use Rattle.std.proofs.Common.{◌≡◌, sym, subst, refl, true, false, ◌∙◌}
+use Rattle.std.proofs.Common.{◌≡◌, sym, subst, refl, false, ◌∙◌}
 use Rattle.std.specs.Prelude.{◌==◌}
 use Rattle.lrs_machine.specs.Fold.{state_of}
 use Rattle.lrs_machine.specs.Steps.{IsFresh}

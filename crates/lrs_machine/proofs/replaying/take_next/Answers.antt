@@ -3,7 +3,7 @@ use Rattle.std.specs.Prelude.{◌==◌}
 use Rattle.lrs_record.specs.Entries.{written_entry}
 use Rattle.lrs_machine.specs.Desk.{IsRefused}
 use Rattle.lrs_machine.specs.Fold.{state_of}
-use Rattle.lrs_machine.specs.Replays.{may_come, IsCapped, TakesEntry}
+use Rattle.lrs_machine.specs.Replays.{may_come, TakesEntry}
 use Rattle.lrs_machine.proofs.ReplayLemmas.{taken_more, taken_unread, taken_refused, capped_more, may_capped, most_of}
 use Rattle.lrs_machine.proofs.replaying.take_next.Goals as goal
 

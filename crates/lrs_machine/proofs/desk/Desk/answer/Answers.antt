@@ -1,7 +1,8 @@
-use Rattle.std.proofs.Common.{◌≡◌, subst, sym, ◌∙◌}
+use Rattle.std.proofs.Common.{◌≡◌, max, subst, sym}
 use Rattle.lrs_machine.specs.Fold.{state_of}
 use Rattle.lrs_machine.specs.Desk.{StandsFor, Answers}
-use Rattle.lrs_machine.specs.History.{answer}
+use Rattle.lrs_record.specs.Moments.{clamped}
+use Rattle.lrs_machine.specs.History.{answer, entry_at}
 use Rattle.lrs_machine.proofs.ActLemmas.{act_ties, act_answers}
 use Rattle.lrs_machine.proofs.DeskLemmas.{act_limit, act_put}
 use Rattle.lrs_machine.proofs.OpenLemmas.{on_disk}
@@ -23,7 +24,7 @@ returns-clause-known g c = λ put. act_put g.D.Disk.told c.self.inside.journal c
 
 pub returns-clause-limit : goal.returns-clause-limit
 returns-clause-limit g c = subst (λ o. c.act.new.journal.limit ≡ o.limit) c.self.view_is
-    (act_limit g.D.Disk.told c.self.inside.journal c.act.new.journal (state_of c.self.inside.fold) (state_of c.act.new.fold) _ c.act.result.0 c.act.ensures.acted)
+    (act_limit g.D.Disk.told c.self.inside.journal c.act.new.journal (state_of c.self.inside.fold) (state_of c.act.new.fold) (entry_at c.args.caller c.args.command (max (clamped c.args.clock) c.self.inside.fold.last) c.args.draw.now) c.act.result.0 c.act.ensures.acted)
 
 pub returns-clause-durable : goal.returns-clause-durable
 returns-clause-durable g c = λ h stands. on_disk g.D.Disk.told g.D.Disk.image c.act.new.journal h c.act.ensures.sound stands

@@ -1,0 +1,7 @@
+use Rattle.std.proofs.Common.{All}
+use Rattle.lrs_disk.specs.MemLink.{IsUnused}
+use Rattle.kilnlime.proofs.tests.lobby.Given as goal
+
+-- no link was used so far
+abbrev pub invariant-loop-stream : goal.invariant-loop-stream
+invariant-loop-stream l = All IsUnused l.links.items

@@ -1,0 +1,18 @@
+use Rattle.std.proofs.Common.{map, inr, ap, ◌∙◌}
+use Rattle.lrs_app.specs.Service.{ending_of_serving}
+use Rattle.lrs_app.proofs.Serving.{gives_back}
+use Rattle.lrs_app.proofs.serve.serve_desk.Goals as goal
+
+pub returns-in-Ok-clause-served : goal.returns-in-Ok-clause-served
+returns-in-Ok-clause-served g c =
+    let doors = map g.B.Door.Door.state c.serve_door-desk.result.1.items in
+    inr (record {
+      doors = doors;
+      why = c.serve_door-desk.result.3;
+      one = c.serve_door-desk.ensures.served;
+      back = λ door one. gives_back c.as_str.result.now c.args.address.now (g.B.Lobby.asked c.args.lobby.now) (g.B.Lobby.asked c.doors.new.self) (g.B.Lobby.asked c.back.new.self)
+          (g.B.Lobby.returned c.args.lobby.now) (g.B.Lobby.returned c.doors.new.self) (g.B.Lobby.returned c.back.new.self)
+          (g.B.Lobby.fault_count c.args.lobby.now) (g.B.Lobby.fault_count c.doors.new.self) (g.B.Lobby.fault_count c.back.new.self) doors door
+          c.as_str.ensures.lent c.in-Ok.ensures.asked c.back.ensures.asked_kept c.in-Ok.ensures.returned_kept c.back.ensures.returned c.in-Ok.ensures.cause c.back.ensures.cause one;
+      ended = c.served-ending.ensures ∙ ap (ending_of_serving c.serve_door-desk.result.3) c.as_slice.ensures;
+    })

@@ -1,0 +1,19 @@
+use Rattle.lrs_app.proofs.Serving.{closed, failed, rises_later}
+use Rattle.lrs_hall.specs.Serving.{all_receipts}
+use Rattle.lrs_app.proofs.serve.serve_opened.Goals as goal
+
+pub returns-in-Ok-clause-served : goal.returns-in-Ok-clause-served
+returns-in-Ok-clause-served g c =
+    closed g.D.Disk.told g.D.Disk.fault_count c.args.desk c.serve_desk-desk.result.0 c.in-Ok.disk c.args.address.now c.args.connections c.args.seed _ _ c.serve_desk-desk.result.1
+    c.length-length.result c.serve_desk-desk.result.2 c.requires c.serve_desk-desk.ensures.limit c.length-length.ensures c.in-Ok.ensures.closed c.serve_desk-desk.ensures.served
+
+pub returns-in-Err-clause-served : goal.returns-in-Err-clause-served
+returns-in-Err-clause-served g c =
+    failed g.D.Disk.told g.D.Disk.fault_count c.args.desk c.serve_desk-desk.result.0 c.in-Err.disk c.args.address.now c.args.connections c.args.seed _ _ c.serve_desk-desk.result.1
+    c.length-length.result c.serve_desk-desk.result.2 c.requires c.serve_desk-desk.ensures.limit c.length-length.ensures c.in-Err.ensures.failed c.serve_desk-desk.ensures.counts
+    c.in-Err.ensures.cause.1 c.serve_desk-desk.ensures.served
+
+pub returns-in-Err-clause-cause : goal.returns-in-Err-clause-cause
+returns-in-Err-clause-cause g c =
+    rises_later (g.D.Disk.fault_count c.args.desk.disk) (all_receipts c.serve_desk-desk.result.1) (g.D.Disk.fault_count c.serve_desk-desk.result.0.disk) _
+    c.serve_desk-desk.ensures.counts c.in-Err.ensures.cause.1

@@ -1,0 +1,10 @@
+pub mod Writing
+pub mod ActLemmas
+pub mod Refusing
+pub mod Goes
+pub mod Translating
+pub mod Conversing
+pub mod Doors
+pub mod Workers
+pub mod OneText
+pub mod OneStream

@@ -1,0 +1,381 @@
+-- One stream is answered in one way.
+use Rattle.std.proofs.Common.{arith, ◌≡◌, ◌≢◌, ◌⊎◌, ◌+◌, ◌<◌, ◌≤◌, ℕ, List, [], ◌∷◌, ◌++◌, length, take, Bool, true, false, Option, Some, None, Result, Ok, Err, subst, sym, ◌∙◌, ap, refl, inl, inr, append_assoc, append-nil, length-append}
+use Rattle.std.specs.List.{AllByRecursion}
+use Rattle.std.specs.Prelude.{is_some, slice_get, if◌then◌else◌, ◌||◌, ◌==◌, ◌-◌}
+use Rattle.std.proofs.lemmas.List.{length_push}
+use Rattle.std.proofs.Math.Seq.{take-append_seam, get_or-append_seam}
+use Rattle.std.proofs.lemmas.Option.{slice_get_past, slice_get-get_or}
+use Rattle.lrs_http.proofs.ListLemmas.{one_item}
+use Rattle.lrs_http.specs.declared.request.Request.{Request}
+use Rattle.lrs_http.specs.declared.request.RequestRefused.{RequestRefused}
+use Rattle.lrs_http.specs.declared.request.RequestRefused.TheVariants as request
+use Rattle.lrs_http.specs.Links.{GivesNext}
+use Rattle.lrs_http.specs.Response.{response_of}
+use Rattle.lrs_http.specs.Stream.{Item, IsItem}
+use Rattle.lrs_machine.specs.declared.answered.Answered.{Answered}
+use Rattle.lrs_machine.specs.declared.reply.Reply.{Reply}
+use Rattle.lrs_machine.specs.declared.reply.Trouble.{Trouble}
+use Rattle.lrs_machine.specs.declared.reply.Trouble.TheVariants.{Memory, Disk}
+use Rattle.lrs_machine.specs.Desk.{Account, plain_account}
+use Rattle.lrs_machine.specs.History.{Answer, answer, with_entry}
+use Rattle.lrs_machine.specs.Replies.{Says, body_bytes, status_of, media_of, body_of, through_of}
+use Rattle.lrs_names.specs.declared.draw.Draw.{Draw}
+use Rattle.lrs_record.specs.declared.entry.Caller.{Caller}
+use Rattle.lrs_record.specs.declared.entry.Command.{Command}
+use Rattle.lrs_record.specs.declared.entry.Entry.{Entry}
+use Rattle.lrs_routes.specs.Asked.{Agree, IsAsked}
+use Rattle.lrs_routes.specs.declared.asked.Asked.{Asked}
+use Rattle.lrs_routes.specs.declared.asked.RouteRefused.{RouteRefused}
+use Rattle.lrs_routes.specs.declared.asked.RouteRefused.TheVariants as refused
+use Rattle.lrs_hall.specs.declared.talk.Finish.{Finish}
+use Rattle.lrs_hall.specs.declared.talk.Finish.TheVariants as finish
+use Rattle.lrs_hall.specs.Acts.{ActsIn, BeginsWith, Reach, HasAt, TellsEntry, place_where, reach_behind}
+use Rattle.lrs_hall.specs.Conversation.{ActOn, Worker, Phase, going, over, Serves, Answers, closes_behind, phase_behind, Responds, RespondsIn, Converses, EndsOpen, EndsIn, Sends}
+use Rattle.lrs_hall.specs.Draws.{Place, draw_at, place_behind}
+use Rattle.lrs_hall.specs.Laws.{OneAsked, OneText, IsFrontOf}
+use Rattle.lrs_hall.specs.Responses.{Fixed, fixed_text, IsFixed, IsFraming, IsReplyText, IsThrough, framing_response, media_text, route_response}
+use Rattle.lrs_hall.specs.Serving.{clocks}
+
+front_is : (h history : List Entry) → BeginsWith h history → take (length h) history ≡ h
+front_is h history begins = ap (take (length h)) (sym begins.1) ∙ take-append_seam h begins.0
+
+seam_is : (h rest : List Entry) (e : Entry) → slice_get (h ++ e ∷ rest) (length h) ≡ Some e
+seam_is h rest e =
+    let within : length h < length (h ++ e ∷ rest) = omega (arith, length-append h (e ∷ rest)) in
+    slice_get-get_or (h ++ e ∷ rest) (length h) e within ∙ ap Some (get_or-append_seam h e rest e)
+
+-- ---- what was heard
+
+abbrev pub Known : List ℕ → Result Request RequestRefused → Option (List ℕ) → Type 0
+Known stream (Ok q) after = (rest : List ℕ) × IsItem stream (Ok (q, rest)) × (after ≡ Some rest)
+Known stream (Err e) after = IsItem stream (Err e)
+
+pub known : {X : Type 0} (acts : ActOn X) (stream : List ℕ) (heard : Result Request RequestRefused) (after : Option (List ℕ)) (closes : Bool) (r : Account) (text : List ℕ) (old new : Worker X)
+    → GivesNext (Some stream) heard after → Answers acts closes heard r text old new → r.status ≢ 503 → Known stream heard after
+known acts stream (Ok q) after closes r text old new next answers calm = next
+known acts stream (Err request.LinkFault) after closes r text old new next answers calm = absurd answers.0
+known acts stream (Err request.Memory) after closes r text old new next answers calm = absurd (calm (ap (λ (a : Account). a.status) answers.0.0))
+known acts stream (Err e) after closes r text old new next answers calm = next
+
+after_free : (most : ℕ) (e : RequestRefused) (a b : Option (List ℕ)) → phase_behind most (Err e) a ≡ phase_behind most (Err e) b
+after_free most request.Memory a b = refl
+after_free most e a b = refl
+
+pub same_heard : (stream : List ℕ) (most : ℕ) (x y : Result Request RequestRefused) (a b : Option (List ℕ)) → Known stream x a → Known stream y b → (x ≡ y) × (phase_behind most x a ≡ phase_behind most y b)
+same_heard stream most (Ok q) (Ok p) a b k l =
+    let e : ◌≡◌ {A = Item} (Ok (q, k.0)) (Ok (p, l.0)) = one_item stream (Ok (q, k.0)) (Ok (p, l.0)) k.1 l.1 in
+    let pair : ◌≡◌ {A = Request × List ℕ} (q, k.0) (p, l.0) = cc e in (
+      ap (λ (z : Request × List ℕ). Ok z.0) pair,
+      ap (phase_behind most (Ok q)) k.2 ∙ ap (λ (z : Request × List ℕ). phase_behind most (Ok z.0) (Some z.1)) pair ∙ ap (phase_behind most (Ok p)) (sym l.2),
+    )
+same_heard stream most (Ok q) (Err f) a b k l =
+    let e : ◌≡◌ {A = Item} (Ok (q, k.0)) (Err f) = one_item stream (Ok (q, k.0)) (Err f) k.1 l in
+    let no : ⊥ = cc e in
+    absurd no
+same_heard stream most (Err e) (Ok p) a b k l =
+    let e : ◌≡◌ {A = Item} (Ok (p, l.0)) (Err e) = one_item stream (Ok (p, l.0)) (Err e) l.1 k in
+    let no : ⊥ = cc e in
+    absurd no
+same_heard stream most (Err e) (Err f) a b k l =
+    let both : ◌≡◌ {A = Item} (Err e) (Err f) = one_item stream (Err e) (Err f) k l in
+    let same : e ≡ f = cc both in
+    (ap (λ (z : RequestRefused). Err z) same, ap (λ (z : RequestRefused). phase_behind most (Err z) a) same ∙ after_free most f a b)
+
+-- ---- what was said
+
+said_ok : (said : Result Answered Trouble) (reply : Reply) → Says said reply → reply.status ≢ 503 → (s : Answered) × (said ≡ Ok s)
+said_ok (Ok s) reply says calm = (s, refl)
+said_ok (Err Memory) reply says calm = absurd (calm says.0)
+said_ok (Err Disk) reply says calm = absurd (calm says.0)
+
+begins_next : (g history : List Entry) (n : ℕ) (o : Option Entry) → n ≡ length g → BeginsWith g history → HasAt history n o → BeginsWith (with_entry g o) history
+begins_next g history n None at begins has = begins
+begins_next g history n (Some e) at (([]), whole) has =
+    let none : slice_get history n ≡ None = ap (λ k. slice_get history k) at ∙ slice_get_past history (length g) (let long : length history ≡ length g = ap length (sym whole) ∙ ap length (append-nil g) in omega arith) in
+    let both : None ≡ Some e = sym none ∙ has in
+    let no : ⊥ = cc both in
+    absurd no
+begins_next g history n (Some e) at ((x ∷ xs), whole) has =
+    let there : slice_get history n ≡ Some x = ap (λ k. slice_get history k) at ∙ ap (λ (l : List Entry). slice_get l (length g)) (sym whole) ∙ seam_is g xs x in
+    let both : Some x ≡ Some e = sym there ∙ has in
+    let same : x ≡ e = cc both in
+    (xs, append_assoc g (e ∷ []) xs ∙ ap (λ (z : Entry). g ++ z ∷ xs) (sym same) ∙ whole)
+
+entries_next : (g : List Entry) (n : ℕ) (o : Option Entry) (own : Option ℕ) (doubt : Bool) → n ≡ length g → own ≡ place_where (is_some o) n → (reach_behind own doubt n).entries ≡ length (with_entry g o)
+entries_next g n None own doubt at is = ap (λ (w : Option ℕ). (reach_behind w doubt n).entries) is ∙ at
+entries_next g n (Some e) own doubt at is = ap (λ (w : Option ℕ). (reach_behind w doubt n).entries) is ∙ ap (λ k. k + 1) at ∙ sym (length_push g e)
+
+-- what an act says that had no trouble, and how far the history comes by it
+abbrev pub Said : ℕ → List Entry → List Entry → Caller → Command → ℕ → Draw → Reply → Reach → Type 0
+Said limit history g caller command clock draw reply new =
+    Says (Ok (answer limit g caller command clock draw).said) reply
+    × BeginsWith (with_entry g (answer limit g caller command clock draw).entry) history
+    × (new.entries ≡ length (with_entry g (answer limit g caller command clock draw).entry))
+
+pub act_says : (limit : ℕ) (history g : List Entry) (caller : Caller) (command : Command) (draw : Draw) (reply : Reply) (r : Account) (old new : Reach)
+    → ActsIn limit history caller command draw reply r old new → BeginsWith g history → old.entries ≡ length g → r.status ≢ 503
+    → Said limit history g caller command r.clock draw reply new
+act_says limit history g caller command draw reply r old new act begins at calm =
+    let a : Answer = answer limit g caller command r.clock draw in
+    let ok = said_ok act.said reply act.says (λ e. calm (act.status ∙ e)) in
+    let front : take r.point history ≡ g = ap (λ n. take n history) (act.point ∙ at) ∙ front_is g history begins in
+    let tells : TellsEntry a history old (Ok ok.0) r.entry new.doubt =
+    subst (λ s. TellsEntry a history old s r.entry new.doubt) ok.1
+    (subst (λ l. TellsEntry (answer limit l caller command r.clock draw) history old act.said r.entry new.doubt) front act.entry) in (
+      subst (λ s. Says (Ok s) reply) tells.0 (subst (λ s. Says s reply) ok.1 act.says),
+      begins_next g history old.entries a.entry at begins tells.2,
+      ap (λ (w : Reach). w.entries) act.reach ∙ entries_next g old.entries a.entry r.entry new.doubt at tells.1,
+    )
+
+same_reply : (p q : Reply) → p.status ≡ q.status → p.media ≡ q.media → p.body ≡ q.body → p.through ≡ q.through → p ≡ q
+same_reply p q a b c d = λ i. record { status = a i; media = b i; body = c i; through = d i }
+
+pub one_reply : (s : Answered) (p q : Reply) → Says (Ok s) p → Says (Ok s) q → p ≡ q
+one_reply s p q x y = same_reply p q (x.0 ∙ sym y.0) (x.1 ∙ sym y.1) (x.2 ∙ sym y.2) (x.3 ∙ sym y.3)
+
+one_through : OneText → (o : Option ℕ) (x y : Option (List ℕ)) → IsThrough o x → IsThrough o y → x ≡ y
+one_through one_text None None None a b = refl
+one_through one_text None None (Some y) a b = absurd b
+one_through one_text None (Some x) y a b = absurd a
+one_through one_text (Some m) None y a b = absurd a
+one_through one_text (Some m) (Some x) None a b = absurd b
+one_through one_text (Some m) (Some x) (Some y) a b = ap Some (one_text m x y a b)
+
+one_reply_text : OneText → (p q : Reply) (closes : Bool) (t u : List ℕ) → p ≡ q → IsReplyText p closes t → IsReplyText q closes u → t ≡ u
+one_reply_text one_text p q closes t u same x y =
+    let z : IsReplyText q closes t = subst (λ r. IsReplyText r closes t) same x in
+    z.2 ∙ ap (λ o. response_of q.status (media_text q.media) (body_bytes q.body) o [] closes) (one_through one_text q.through z.0 y.0 z.1 y.1) ∙ sym y.2
+
+-- ---- one response of each
+
+-- both went on alike, to a history with which both begin
+pub record Alike (ha hb : List Entry) (r s : Account) (t u : List ℕ) (new_a new_b : Worker Reach) : Type 0 where
+  pub text : t ≡ u
+  pub acted : r.acted ≡ s.acted
+  pub draws : new_a.draws ≡ new_b.draws
+  pub later : List Entry
+  pub begins_a : BeginsWith later ha
+  pub begins_b : BeginsWith later hb
+  pub at_a : new_a.store.entries ≡ length later
+  pub at_b : new_b.store.entries ≡ length later
+
+-- both stand at one history
+pub record Together (ha hb g : List Entry) (a b : Worker Reach) : Type 0 where
+  pub draws : a.draws ≡ b.draws
+  pub begins_a : BeginsWith g ha
+  pub begins_b : BeginsWith g hb
+  pub at_a : a.store.entries ≡ length g
+  pub at_b : b.store.entries ≡ length g
+
+fixed_alike : (ha hb g : List Entry) (f : Fixed) (closes : Bool) (r s : Account) (t u : List ℕ) (a b new_a new_b : Worker Reach)
+    → Together ha hb g a b → IsFixed f closes r t → IsFixed f closes s u → new_a ≡ a → new_b ≡ b → Alike ha hb r s t u new_a new_b
+fixed_alike ha hb g f closes r s t u a b new_a new_b so x y same_a same_b = record {
+  text = x.1 ∙ sym y.1;
+  acted = ap (λ (z : Account). z.acted) x.0 ∙ sym (ap (λ (z : Account). z.acted) y.0);
+  draws = ap (λ (w : Worker Reach). w.draws) same_a ∙ so.draws ∙ sym (ap (λ (w : Worker Reach). w.draws) same_b);
+  later = g;
+  begins_a = so.begins_a;
+  begins_b = so.begins_b;
+  at_a = ap (λ (w : Worker Reach). w.store.entries) same_a ∙ so.at_a;
+  at_b = ap (λ (w : Worker Reach). w.store.entries) same_b ∙ so.at_b;
+}
+
+framed_alike : (ha hb g : List Entry) (f : Option Fixed) (r s : Account) (t u : List ℕ) (a b new_a new_b : Worker Reach)
+    → Together ha hb g a b → IsFraming f r t → IsFraming f s u → new_a ≡ a → new_b ≡ b → Alike ha hb r s t u new_a new_b
+framed_alike ha hb g None r s t u a b new_a new_b so x y same_a same_b = absurd x
+framed_alike ha hb g (Some f) r s t u a b new_a new_b so x y same_a same_b = fixed_alike ha hb g f true r s t u a b new_a new_b so x y same_a same_b
+
+served_alike : OneText → (limit : ℕ) (ha hb g : List Entry) (closes : Bool) (asked : Result Asked RouteRefused) (r s : Account) (t u : List ℕ) (a b new_a new_b : Worker Reach)
+    → Together ha hb g a b → Serves (ActsIn limit ha) closes asked r t a new_a → Serves (ActsIn limit hb) closes asked s u b new_b → r.status ≢ 503 → s.status ≢ 503
+    → (r.acted ≡ true → s.acted ≡ true → r.clock ≡ s.clock) → Alike ha hb r s t u new_a new_b
+served_alike one_text limit ha hb g closes (Err e) r s t u a b new_a new_b so x y calm quiet clock = fixed_alike ha hb g (route_response e) closes r s t u a b new_a new_b so x.0 y.0 x.1 y.1
+served_alike one_text limit ha hb g closes (Ok asked) r s t u a b new_a new_b so x y calm quiet clock =
+    let says_a = act_says limit ha g asked.caller asked.command (draw_at a.draws) x.0 r a.store new_a.store x.1 so.begins_a so.at_a calm in
+    let says_b = act_says limit hb g asked.caller asked.command (draw_at b.draws) y.0 s b.store new_b.store y.1 so.begins_b so.at_b quiet in
+    let time : r.clock ≡ s.clock = clock x.1.acted y.1.acted in
+    let Q : ℕ → Draw → Type 0 = λ k d. Said limit hb g asked.caller asked.command k d y.0 new_b.store in
+    let mine : Q r.clock (draw_at a.draws) = subst (λ k. Q k (draw_at a.draws)) (sym time) (subst (λ d. Q s.clock (draw_at d)) (sym so.draws) says_b) in
+    let answered : Answer = answer limit g asked.caller asked.command r.clock (draw_at a.draws) in
+    record {
+      text = one_reply_text one_text x.0 y.0 closes t u (one_reply answered.said x.0 y.0 says_a.0 mine.0) x.3 y.3;
+      acted = x.1.acted ∙ sym y.1.acted;
+      draws = x.2 ∙ ap place_behind so.draws ∙ sym y.2;
+      later = with_entry g answered.entry;
+      begins_a = says_a.1;
+      begins_b = mine.1;
+      at_a = says_a.2;
+      at_b = mine.2;
+    }
+
+-- want of memory is answered 503
+memory_calm : (acts : ActOn Reach) (closes : Bool) (asked : Result Asked RouteRefused) (r : Account) (t : List ℕ) (a new_a : Worker Reach) → Serves acts closes asked r t a new_a → r.status ≢ 503 → asked ≡ Err refused.Memory → ⊥
+memory_calm acts closes asked r t a new_a serves calm is =
+    let wanting : Serves acts closes (Err refused.Memory) r t a new_a = subst (λ z. Serves acts closes z r t a new_a) is serves in
+    calm (ap (λ (z : Account). z.status) wanting.0.0)
+
+answered_alike : OneAsked → OneText → (limit : ℕ) (ha hb g : List Entry) (closes : Bool) (heard : Result Request RequestRefused) (r s : Account) (t u : List ℕ) (a b new_a new_b : Worker Reach)
+    → Together ha hb g a b → Answers (ActsIn limit ha) closes heard r t a new_a → Answers (ActsIn limit hb) closes heard s u b new_b → r.status ≢ 503 → s.status ≢ 503
+    → (r.acted ≡ true → s.acted ≡ true → r.clock ≡ s.clock) → Alike ha hb r s t u new_a new_b
+answered_alike one_asked one_text limit ha hb g closes (Ok q) r s t u a b new_a new_b so x y calm quiet clock = elim (one_asked q x.0 y.0 x.1 y.1) [
+  | inl same ↦ served_alike one_text limit ha hb g closes y.0 r s t u a b new_a new_b so (subst (λ z. Serves (ActsIn limit ha) closes z r t a new_a) same x.2) y.2 calm quiet clock
+  | inr wanting ↦ elim wanting [
+    | inl mine ↦ absurd (memory_calm (ActsIn limit ha) closes x.0 r t a new_a x.2 calm mine)
+    | inr other ↦ absurd (memory_calm (ActsIn limit hb) closes y.0 s u b new_b y.2 quiet other)
+  ]
+]
+answered_alike one_asked one_text limit ha hb g closes (Err e) r s t u a b new_a new_b so x y calm quiet clock = framed_alike ha hb g (framing_response e) r s t u a b new_a new_b so x.0 y.0 x.1 y.1
+
+-- ---- the phases
+
+-- what is left of the stream is told
+abbrev pub IsKnown : Phase → Type 0
+IsKnown (going most None) = ⊥
+IsKnown (going most (Some stream)) = Unit {0}
+IsKnown (over f) = Unit {0}
+
+closed_or : (closes : Bool) (most : ℕ) (after : Option (List ℕ)) (rest : List ℕ) → after ≡ Some rest → IsKnown (if closes then over finish.Closed else going most after)
+closed_or true most after rest is = tt
+closed_or false most after rest is = subst (λ o. IsKnown (going most o)) (sym is) tt
+
+known_behind : (stream : List ℕ) (most : ℕ) (heard : Result Request RequestRefused) (after : Option (List ℕ)) → Known stream heard after → IsKnown (phase_behind most heard after)
+known_behind stream most (Ok q) after k = closed_or (q.closes || most == 1) (most - 1) after k.0 k.2
+known_behind stream most (Err request.Memory) after k = tt
+known_behind stream most (Err e) after k = tt
+
+cut_off : {X : Type 0} (acts : ActOn X) (rs : List Account) (out : List ℕ) (f : Finish) (old new : Worker X) → Converses acts (over finish.LinkFault) rs out f old new → f ≡ finish.LinkFault
+cut_off acts [] out f old new talks = talks.1
+cut_off acts (r ∷ rs) out f old new talks = absurd talks.5
+
+went_whole : {X : Type 0} (acts : ActOn X) (text front : List ℕ) (due phase : Phase) (rs : List Account) (out : List ℕ) (f : Finish) (old new : Worker X)
+    → Sends text due front phase → Converses acts phase rs out f old new → f ≢ finish.LinkFault → (front ≡ text) × (phase ≡ due)
+went_whole acts text front due phase rs out f old new (inl whole) talks smooth = whole
+went_whole acts text front due phase rs out f old new (inr cut) talks smooth =
+    absurd (smooth (cut_off acts rs out f old new (subst (λ p. Converses acts p rs out f old new) cut.1 talks)))
+
+-- ---- the clock
+
+clocks_step : (x y : Bool) (c d : ℕ) (xs ys readings : List ℕ) → IsFrontOf ((if x then c ∷ [] else []) ++ xs) readings → IsFrontOf ((if y then d ∷ [] else []) ++ ys) readings
+    → (x ≡ true → y ≡ true → c ≡ d) × (x ≡ y → (later : List ℕ) × IsFrontOf xs later × IsFrontOf ys later)
+clocks_step true true c d xs ys readings a b =
+    let both : c ∷ (xs ++ a.0) ≡ d ∷ (ys ++ b.0) = a.1 ∙ sym b.1 in
+    let first : c ≡ d = cc both in
+    let rest : xs ++ a.0 ≡ ys ++ b.0 = cc both in
+    (λ p q. first, λ same. (xs ++ a.0, (a.0, refl), (b.0, sym rest)))
+clocks_step false false c d xs ys readings a b = (
+  λ p q.
+      let no : ⊥ = cc p in
+      absurd no,
+  λ same. (readings, a, b),
+)
+clocks_step true false c d xs ys readings a b = (
+  λ p q.
+      let no : ⊥ = cc q in
+      absurd no,
+  λ same.
+      let no : ⊥ = cc same in
+      absurd no,
+)
+clocks_step false true c d xs ys readings a b = (
+  λ p q.
+      let no : ⊥ = cc p in
+      absurd no,
+  λ same.
+      let no : ⊥ = cc same in
+      absurd no,
+)
+
+-- ---- the ends
+
+-- a talk that ended without memory wanting and a fault of the link
+abbrev pub IsCalm : Finish → Type 0
+IsCalm f = (f ≢ finish.Memory) × (f ≢ finish.LinkFault)
+
+-- the item at which it ended
+end_item : (stream : List ℕ) (f : Finish) → EndsOpen (Some stream) f → IsCalm f → (IsItem stream (Err request.End) × (f ≡ finish.Ended)) ⊎ (IsItem stream (Err request.Cut) × (f ≡ finish.Cut))
+end_item stream finish.Ended ends calm = inl (ends, refl)
+end_item stream finish.Cut ends calm = inr (ends, refl)
+end_item stream finish.Closed ends calm = absurd ends
+end_item stream finish.LinkFault ends calm = absurd (calm.1 refl)
+end_item stream finish.Memory ends calm = absurd (calm.0 refl)
+
+ends_alike : (stream : List ℕ) (f k : Finish) → EndsOpen (Some stream) f → EndsOpen (Some stream) k → IsCalm f → IsCalm k → f ≡ k
+ends_alike stream f k x y calm quiet = elim (end_item stream f x calm) [
+  | inl a ↦ elim (end_item stream k y quiet) [
+    | inl b ↦ a.1 ∙ sym b.1
+    | inr b ↦
+        let e : ◌≡◌ {A = Item} (Err request.End) (Err request.Cut) = one_item stream (Err request.End) (Err request.Cut) a.0 b.0 in
+        let no : ⊥ = cc e in
+        absurd no
+  ]
+  | inr a ↦ elim (end_item stream k y quiet) [
+    | inl b ↦
+        let e : ◌≡◌ {A = Item} (Err request.Cut) (Err request.End) = one_item stream (Err request.Cut) (Err request.End) a.0 b.0 in
+        let no : ⊥ = cc e in
+        absurd no
+    | inr b ↦ a.1 ∙ sym b.1
+  ]
+]
+
+heard_end : (stream : List ℕ) (heard : Result Request RequestRefused) (after : Option (List ℕ)) (e : RequestRefused) → Known stream heard after → IsItem stream (Err e) → heard ≡ Err e
+heard_end stream (Ok q) after e k item =
+    let both : ◌≡◌ {A = Item} (Ok (q, k.0)) (Err e) = one_item stream (Ok (q, k.0)) (Err e) k.1 item in
+    let no : ⊥ = cc both in
+    absurd no
+heard_end stream (Err d) after e k item =
+    let both : ◌≡◌ {A = Item} (Err d) (Err e) = one_item stream (Err d) (Err e) k item in
+    let same : d ≡ e = cc both in
+    ap (λ (z : RequestRefused). Err z) same
+
+end_unanswered : (acts : ActOn Reach) (closes : Bool) (e : RequestRefused) (r : Account) (text : List ℕ) (old new : Worker Reach) → Answers acts closes (Err e) r text old new → framing_response e ≡ None → ⊥
+end_unanswered acts closes e r text old new answers none = subst (λ f. IsFraming f r text) none answers.0
+
+-- where the stream ends, there is no response
+unanswered : (acts : ActOn Reach) (stream : List ℕ) (most : ℕ) (f : Finish) (r : Account) (front : List ℕ) (old new : Worker Reach) (phase : Phase)
+    → EndsOpen (Some stream) f → IsCalm f → Responds acts most (Some stream) r front old new phase → r.status ≢ 503 → ⊥
+unanswered acts stream most f r front old new phase ends calm responds quiet =
+    let k = known acts stream responds.heard responds.after (closes_behind most responds.heard) r responds.text old new responds.next responds.answered quiet in
+    elim (end_item stream f ends calm) [
+      | inl a ↦ end_unanswered acts (closes_behind most responds.heard) request.End r responds.text old new
+          (subst (λ h. Answers acts (closes_behind most responds.heard) h r responds.text old new) (heard_end stream responds.heard responds.after request.End k a.0) responds.answered) refl
+      | inr a ↦ end_unanswered acts (closes_behind most responds.heard) request.Cut r responds.text old new
+          (subst (λ h. Answers acts (closes_behind most responds.heard) h r responds.text old new) (heard_end stream responds.heard responds.after request.Cut k a.0) responds.answered) refl
+    ]
+
+-- ---- whole talks
+
+abbrev pub AreCalm : List Account → Type 0
+AreCalm receipts = AllByRecursion (λ (receipt : Account). receipt.status ≢ 503) receipts
+
+pub agree : OneAsked → OneText → (limit : ℕ) (ha hb g : List Entry) (phase : Phase) (xs ys : List Account) (out_x out_y : List ℕ) (f k : Finish) (a b end_a end_b : Worker Reach) (readings : List ℕ)
+    → Together ha hb g a b → IsKnown phase → IsFrontOf (clocks xs) readings → IsFrontOf (clocks ys) readings
+    → Converses (ActsIn limit ha) phase xs out_x f a end_a → Converses (ActsIn limit hb) phase ys out_y k b end_b
+    → AreCalm xs → AreCalm ys → IsCalm f → IsCalm k → (out_x ≡ out_y) × (f ≡ k)
+agree one_asked one_text limit ha hb g (going most None) xs ys out_x out_y f k a b end_a end_b readings so told fx fy x y cx cy calm quiet = absurd told
+agree one_asked one_text limit ha hb g (over h) [] [] out_x out_y f k a b end_a end_b readings so told fx fy x y cx cy calm quiet = (x.0 ∙ sym y.0, x.1 ∙ sym y.1)
+agree one_asked one_text limit ha hb g (over h) (r ∷ rs) ys out_x out_y f k a b end_a end_b readings so told fx fy x y cx cy calm quiet = absurd x.5
+agree one_asked one_text limit ha hb g (over h) [] (s ∷ ss) out_x out_y f k a b end_a end_b readings so told fx fy x y cx cy calm quiet = absurd y.5
+agree one_asked one_text limit ha hb g (going most (Some stream)) [] [] out_x out_y f k a b end_a end_b readings so told fx fy x y cx cy calm quiet =
+    (x.0 ∙ sym y.0, ends_alike stream f k x.1 y.1 calm quiet)
+agree one_asked one_text limit ha hb g (going most (Some stream)) [] (s ∷ ss) out_x out_y f k a b end_a end_b readings so told fx fy x y cx cy calm quiet =
+    absurd (unanswered (ActsIn limit hb) stream most f s y.0 b y.3 y.2 x.1 calm y.5 cy.0)
+agree one_asked one_text limit ha hb g (going most (Some stream)) (r ∷ rs) [] out_x out_y f k a b end_a end_b readings so told fx fy x y cx cy calm quiet =
+    absurd (unanswered (ActsIn limit ha) stream most k r x.0 a x.3 x.2 y.1 quiet x.5 cx.0)
+agree one_asked one_text limit ha hb g (going most (Some stream)) (r ∷ rs) (s ∷ ss) out_x out_y f k a b end_a end_b readings so told fx fy x y cx cy calm quiet =
+    let p = x.5 in
+    let q = y.5 in
+    let known_x = known (ActsIn limit ha) stream p.heard p.after (closes_behind most p.heard) r p.text a x.3 p.next p.answered cx.0 in
+    let known_y = known (ActsIn limit hb) stream q.heard q.after (closes_behind most q.heard) s q.text b y.3 q.next q.answered cy.0 in
+    let same = same_heard stream most p.heard q.heard p.after q.after known_x known_y in
+    let clock = clocks_step r.acted s.acted r.clock s.clock (clocks rs) (clocks ss) readings fx fy in
+    let alike = answered_alike one_asked one_text limit ha hb g (closes_behind most q.heard) q.heard r s p.text q.text a b x.3 y.3 so
+    (subst (λ h. Answers (ActsIn limit ha) (closes_behind most h) h r p.text a x.3) same.0 p.answered) q.answered cx.0 cy.0 clock.0 in
+    let whole_x = went_whole (ActsIn limit ha) p.text x.0 (phase_behind most p.heard p.after) x.2 rs x.1 f x.3 end_a p.sent x.6 calm.1 in
+    let whole_y = went_whole (ActsIn limit hb) q.text y.0 (phase_behind most q.heard q.after) y.2 ss y.1 k y.3 end_b q.sent y.6 quiet.1 in
+    let fronts = clock.1 alike.acted in
+    let so_on : Together ha hb alike.later x.3 y.3 = record { draws = alike.draws; begins_a = alike.begins_a; begins_b = alike.begins_b; at_a = alike.at_a; at_b = alike.at_b } in
+    let more = agree one_asked one_text limit ha hb alike.later (phase_behind most q.heard q.after) rs ss x.1 y.1 f k x.3 y.3 end_a end_b fronts.0 so_on
+    (known_behind stream most q.heard q.after known_y) fronts.1 fronts.2
+    (subst (λ z. Converses (ActsIn limit ha) z rs x.1 f x.3 end_a) (whole_x.1 ∙ same.1) x.6)
+    (subst (λ z. Converses (ActsIn limit hb) z ss y.1 k y.3 end_b) whole_y.1 y.6)
+    cx.1 cy.1 calm quiet in
+    (x.4 ∙ ap (λ l. l ++ x.1) (whole_x.0 ∙ alike.text ∙ sym whole_y.0) ∙ ap (λ l. y.0 ++ l) more.0 ∙ sym y.4, more.1)

@@ -1,0 +1,119 @@
+-- What the private parts of a conversation say.
+use Rattle.std.specs.Prelude.{◌≡◌, ◌≢◌, ◌≤◌, ◌-◌, ℕ, List, [], ◌∷◌, ◌++◌, length, Bool, true, false, Option, Some, None, IsNone, option_map, Result, Ok, Err}
+use Rattle.lrs_disk.specs.Door.{DoorState, Returned}
+use Rattle.lrs_disk.specs.Faults.{Rises}
+use Rattle.lrs_http.specs.declared.request.RequestRefused.{RequestRefused}
+use Rattle.lrs_http.specs.declared.request.RequestRefused.TheVariants as request
+use Rattle.lrs_http.specs.Response.{IsStatus}
+use Rattle.lrs_journal.specs.Journal.{Held}
+use Rattle.lrs_machine.specs.Replies.{error_body}
+use Rattle.lrs_hall.specs.Acts.{DeskAndClock}
+use Rattle.lrs_hall.specs.Conversation.{ActOn, Worker, Phase, going, over, Responds, EndsOpen}
+use Rattle.lrs_hall.specs.Conversation.{Sends as SendsIn}
+use Rattle.lrs_machine.specs.Desk.{Account}
+use Rattle.lrs_hall.specs.Draws.{Place}
+use Rattle.lrs_hall.specs.Serving.{AreOver, BringsOne, EndsServing, Passes}
+use Rattle.lrs_hall.specs.Talks.{Told}
+use Rattle.lrs_hall.specs.declared.serving.ServeEnd.{ServeEnd}
+use Rattle.lrs_hall.specs.declared.serving.ServeEnd.TheVariants as serve
+use Rattle.lrs_hall.specs.Responses.{Fixed, IsFraming, framing_response}
+use Rattle.lrs_hall.specs.declared.answering.FixedResponse.{FixedResponse}
+use Rattle.lrs_hall.specs.declared.exchange.Exchanged.{Exchanged}
+use Rattle.lrs_hall.specs.declared.exchange.Exchanged.TheVariants.{Next, Last, Silent}
+use Rattle.lrs_hall.specs.declared.talk.Finish.{Finish}
+use Rattle.lrs_hall.specs.declared.talk.Finish.TheVariants as finish
+
+-- a worker whose acts are those of a desk
+abbrev pub worker : {D : Type 0} → Place → Held D → Option (List ℕ) → Worker (DeskAndClock D)
+worker draws held readings = record { draws = draws; store = record { held = held; readings = readings } }
+
+-- a response with a body may have this status, and allow these methods
+abbrev pub IsSayable : ℕ → List ℕ → Type 0
+IsSayable status allow = IsStatus status × (status ≢ 204) × (status ≢ 405 → allow ≡ [])
+
+-- the response can be written, and is the one that is fixed
+pub record IsResponse (response : FixedResponse) (f : Fixed) : Type 0 where
+  pub status : response.status ≡ f.status
+  pub body : response.body.now ≡ error_body f.error []
+  pub allow : response.allow.now ≡ f.allow
+  pub sayable : IsSayable response.status response.allow.now
+
+abbrev pub AreResponses : Option FixedResponse → Option Fixed → Type 0
+AreResponses None None = Unit {0}
+AreResponses None (Some f) = ⊥
+AreResponses (Some response) None = ⊥
+AreResponses (Some response) (Some f) = IsResponse response f
+
+-- the text was written to a link, or a front of it where the link failed
+abbrev pub Wrote : {T E : Type 0} → List ℕ → Result T E → Option (List ℕ) → Option (List ℕ) → Type 0
+Wrote text (Ok value) before now = now ≡ option_map (λ taken. taken ++ text) before
+Wrote text (Err fault) before now =
+    (front : List ℕ) × ((rest : List ℕ) × (front ++ rest ≡ text)) × (now ≡ option_map (λ taken. taken ++ front) before)
+
+-- how a conversation ends behind a response to what is no request, or without one
+abbrev pub finish_behind : RequestRefused → Finish
+finish_behind request.End = finish.Ended
+finish_behind request.Cut = finish.Cut
+finish_behind request.LinkFault = finish.LinkFault
+finish_behind request.Memory = finish.Memory
+finish_behind other = finish.Closed
+
+-- a conversation ends for a fault of the link only where its count rose
+abbrev pub HasFinishCause : ℕ → ℕ → Finish → Type 0
+HasFinishCause before now finish.LinkFault = Rises before now × (before ≤ now)
+HasFinishCause before now other = now ≡ before
+
+-- One turn of a conversation: a response with more to come, the last response, or the end without one. Beside it: what the link took, and what is left of the stream.
+abbrev pub Exchanges : {X : Type 0} → ActOn X → ℕ → Option (List ℕ) → Option (List ℕ) → Option (List ℕ) → Option (List ℕ) → Worker X → Worker X → Exchanged → Type 0
+Exchanges acts most stream after before now old new (Next receipt) =
+    (front : List ℕ) × Responds acts most stream receipt front old new (going (most - 1) after) × (now ≡ option_map (λ taken. taken ++ front) before) × (most ≢ 1)
+Exchanges acts most stream after before now old new (Last receipt f) =
+    (front : List ℕ) × Responds acts most stream receipt front old new (over f) × (now ≡ option_map (λ taken. taken ++ front) before)
+Exchanges acts most stream after before now old new (Silent f) = EndsOpen stream f × (new ≡ old) × (now ≡ before)
+
+abbrev pub HasExchangeCause : ℕ → ℕ → Exchanged → Type 0
+HasExchangeCause before now (Next receipt) = now ≡ before
+HasExchangeCause before now (Last receipt f) = HasFinishCause before now f
+HasExchangeCause before now (Silent f) = HasFinishCause before now f
+
+-- what a turn was by how its response was sent
+abbrev pub exchanged_of : {T E : Type 0} → Account → Result T E → Bool → Finish → Exchanged
+exchanged_of receipt (Err fault) closes due = Last receipt finish.LinkFault
+exchanged_of receipt (Ok value) true due = Last receipt due
+exchanged_of receipt (Ok value) false due = Next receipt
+
+-- what is no request was answered, whole or in part, or there is no response to it
+abbrev pub Refuses : RequestRefused → Option (List ℕ) → Option (List ℕ) → Exchanged → Type 0
+Refuses refusal before now (Next receipt) = ⊥
+Refuses refusal before now (Last receipt f) =
+    (front : List ℕ) × (text : List ℕ) × IsFraming (framing_response refusal) receipt text × SendsIn text (over (finish_behind refusal)) front (over f)
+    × (now ≡ option_map (λ taken. taken ++ front) before)
+Refuses refusal before now (Silent f) = (f ≡ finish_behind refusal) × IsNone (framing_response refusal) × (now ≡ before)
+
+-- the count of a link on which what is no request was answered
+abbrev pub IsRefusalCause : RequestRefused → ℕ → ℕ → Exchanged → Type 0
+IsRefusalCause refusal before now (Next receipt) = ⊥
+IsRefusalCause refusal before now (Last receipt f) = HasFinishCause before now f
+IsRefusalCause refusal before now (Silent f) = now ≡ before
+
+-- One link came through a door and was given back.
+pub record PassesOne (old new : DoorState) (link : Returned) : Type 0 where
+  pub out : new.out ≡ None
+  pub returned : new.returned ≡ option_map (λ (so_far : List Returned). so_far ++ link ∷ []) old.returned
+  pub streams : BringsOne link.stream old.streams new.streams
+  pub faults : new.faults ≡ old.faults
+
+-- Talks over the links of a door, and why no more.
+pub record Served {X : Type 0} (acts : ActOn X) (connections : ℕ) (old new : Worker X) (before behind : DoorState) (talks : List Told) (end : ServeEnd) : Type 0 where
+  pub links : List Returned
+  pub over : AreOver acts talks links old new
+  pub passes : Passes before behind links
+  pub why : EndsServing connections (length talks) before behind end
+
+-- No link came through a door, and why.
+pub record EndsTurn (old new : DoorState) (end : ServeEnd) : Type 0 where
+  pub out : new.out ≡ None
+  pub returned : new.returned ≡ old.returned
+  pub streams : new.streams ≡ old.streams
+  pub why : EndsServing 1 0 old new end
+  pub not_memory : end ≢ serve.Memory

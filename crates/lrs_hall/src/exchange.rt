@@ -1,0 +1,145 @@
+//! One request of a conversation, and its response.
+ghost use Rattle.std.specs.Prelude.{◌≡◌, ◌≢◌, List, ℕ, Ok};
+ghost use Rattle.lrs_disk.specs.Faults.{Rises};
+ghost use Rattle.lrs_http.specs.Links.{stream_left, HasWriteCause, IsCause};
+ghost use Rattle.lrs_hall.specs.Acts.{ActsOn};
+ghost use Rattle.lrs_hall.specs.Conversation.{Answers};
+ghost use Rattle.lrs_hall.specs.Serving.{IsDurable};
+ghost use Rattle.lrs_hall.specs.Steps.{worker, Wrote, Exchanges, HasExchangeCause, finish_behind, exchanged_of, Refuses, IsRefusalCause};
+
+use crate::answering::{framing_response, route_response, write_fixed, write_reply};
+use crate::{Draws, Finish};
+use lrs_disk::{Disk, Door, Link};
+use lrs_http::{LinkFault, Request, RequestRefused, read_request};
+use lrs_machine::{Desk, Receipt};
+use lrs_routes::{Asked, Routes};
+use std::alloc::Global;
+
+/// What came of one turn of a conversation.
+#[derive(Drop)]
+pub(crate) enum Exchanged {
+    /// A response, and more may come.
+    Next(Receipt),
+    /// The last response.
+    Last(Receipt, Finish),
+    /// There is no response any more.
+    Silent(Finish),
+}
+
+// Answers a request, and says whether the response went out whole.
+fn serve<D: Disk, O: Door>(
+    alloc: Global,
+    desk: &mut Desk<D>,
+    door: &mut O,
+    link: &mut O::Link,
+    routes: &Routes,
+    draws: &mut Draws,
+    request: Request,
+    closes: bool,
+) -> (Receipt, Result<(), LinkFault>)
+    ensures served { (text : List ℕ) × Answers (ActsOn D.told D.time D.fault_count) closes (Ok request) result.0 text (worker draws.old desk.old (O.state door.old).readings) (worker draws.new desk.new (O.state door.new).readings)
+        × Wrote text result.1 (O.Link.taken link.old) (O.Link.taken link.new) }
+    ensures durable { IsDurable D.told D.image desk.old → IsDurable D.told D.image desk.new }
+    ensures limit { desk.new.limit ≡ desk.old.limit }
+    ensures door { O.state door.new ≡ record (O.state door.old) { readings = (O.state door.new).readings } }
+    ensures left_kept { O.Link.left link.new ≡ O.Link.left link.old }
+    ensures stream_kept { O.Link.stream link.new ≡ O.Link.stream link.old }
+    ensures name_kept { O.Link.name link.new ≡ O.Link.name link.old }
+    ensures cause { HasWriteCause (O.Link.fault_count link.old) (O.Link.fault_count link.new) result.1 }
+{
+    match routes.command_of(alloc, request) {
+        Ok(Asked { caller, command }) => {
+            let clock = door.now();
+            let draw = draws.next();
+            let (reply, receipt) = desk.act(caller, command, clock, &draw);
+            let sent = write_reply(link, &reply, closes);
+            (receipt, sent)
+        }
+        Err(refused) => {
+            let response = route_response(refused);
+            let sent = write_fixed(link, &response, closes);
+            (Receipt::plain(response.status), sent)
+        }
+    }
+}
+
+// What a turn was that ended with a response.
+fn answered(receipt: Receipt, sent: Result<(), LinkFault>, closes: bool, due: Finish) -> Exchanged
+    ensures { result ≡ exchanged_of receipt sent closes due }
+{
+    match sent {
+        Err(LinkFault) => Exchanged::Last(receipt, Finish::LinkFault),
+        Ok(()) => {
+            if closes {
+                Exchanged::Last(receipt, due)
+            } else {
+                Exchanged::Next(receipt)
+            }
+        }
+    }
+}
+
+// How a conversation ends where no request is read.
+fn finish_behind(refused: RequestRefused) -> Finish
+    ensures { result ≡ finish_behind refused }
+{
+    match refused {
+        RequestRefused::End => Finish::Ended,
+        RequestRefused::Cut => Finish::Cut,
+        RequestRefused::LinkFault => Finish::LinkFault,
+        RequestRefused::Memory => Finish::Memory,
+        RequestRefused::Malformed { rule: _ }
+        | RequestRefused::HeadTooLong
+        | RequestRefused::Coded
+        | RequestRefused::NoLength
+        | RequestRefused::BodyTooLong => Finish::Closed,
+    }
+}
+
+// Answers what is no request, where it gets a response.
+fn refuse<L: Link>(link: &mut L, refused: RequestRefused) -> Exchanged
+    ensures refused { Refuses refused (L.taken link.old) (L.taken link.new) result }
+    ensures left_kept { L.left link.new ≡ L.left link.old }
+    ensures stream_kept { L.stream link.new ≡ L.stream link.old }
+    ensures name_kept { L.name link.new ≡ L.name link.old }
+    ensures cause { IsRefusalCause refused (L.fault_count link.old) (L.fault_count link.new) result }
+{
+    let due = finish_behind(refused);
+    match framing_response(refused) {
+        Some(response) => {
+            let sent = write_fixed(link, &response, true);
+            answered(Receipt::plain(response.status), sent, true, due)
+        }
+        None => Exchanged::Silent(due),
+    }
+}
+
+/// Reads one request and answers it, or ends the conversation. `most` is how many requests may still come.
+pub(crate) fn exchange<D: Disk, O: Door>(
+    alloc: Global,
+    desk: &mut Desk<D>,
+    door: &mut O,
+    link: &mut O::Link,
+    kept: &mut Vec<u8>,
+    routes: &Routes,
+    draws: &mut Draws,
+    most: u16,
+) -> Exchanged
+    ensures exchanged { Exchanges (ActsOn D.told D.time D.fault_count) most (stream_left kept.old.items (O.Link.left link.old)) (stream_left kept.new.items (O.Link.left link.new)) (O.Link.taken link.old) (O.Link.taken link.new)
+        (worker draws.old desk.old (O.state door.old).readings) (worker draws.new desk.new (O.state door.new).readings) result }
+    ensures durable { IsDurable D.told D.image desk.old → IsDurable D.told D.image desk.new }
+    ensures limit { desk.new.limit ≡ desk.old.limit }
+    ensures door { O.state door.new ≡ record (O.state door.old) { readings = (O.state door.new).readings } }
+    ensures stream_kept { O.Link.stream link.new ≡ O.Link.stream link.old }
+    ensures name_kept { O.Link.name link.new ≡ O.Link.name link.old }
+    ensures cause { HasExchangeCause (O.Link.fault_count link.old) (O.Link.fault_count link.new) result }
+{
+    match read_request(alloc, link, kept) {
+        Ok(request) => {
+            let closes = request.closes || most == 1;
+            let (receipt, sent) = serve(alloc, desk, door, link, routes, draws, request, closes);
+            answered(receipt, sent, closes, Finish::Closed)
+        }
+        Err(refused) => refuse(link, refused),
+    }
+}

@@ -1,0 +1,145 @@
+-- The route that the router finds is the one that the path fits.
+use Rattle.std.proofs.Common.{◌≡◌, ◌⊎◌, ℕ, Bool, true, false, List, [], ◌∷◌, length, map, Some, None, refl, sym, ap, ◌∙◌, subst, inl, inr, arith}
+use Rattle.std.specs.Prelude.{◌==◌, ltb, ◌&&◌, ◌||◌, not, slice_index, drop}
+use Rattle.std.proofs.lemmas.Bool.{false≢true, and_parts}
+use Rattle.std.proofs.lemmas.Bool.Decides.{nat_tests}
+use Rattle.matchit.specs.Rows.{RowsOf}
+use Rattle.matchit.specs.Router.{RouteOf}
+use Rattle.matchit.specs.Seek.{first}
+use Rattle.lrs_routes.specs.Paths.{Fits}
+use Rattle.lrs_routes.specs.Table.{patterns, row_of, routes}
+use Rattle.lrs_routes.specs.declared.table.Route.{Route}
+use Rattle.lrs_routes.specs.declared.table.Route.TheVariants as route
+use Rattle.lrs_routes.proofs.Neat.{Has, Neat}
+use Rattle.lrs_routes.proofs.Sound.{sound}
+use Rattle.lrs_routes.proofs.Complete.{AllNeat, complete}
+
+-- ---- rows with a value each
+
+abbrev Rows : Type 0
+Rows = RowsOf (RouteOf Route)
+
+abbrev key : List ℕ × RouteOf Route → List ℕ × Route
+key row = (row.0, row.1.value)
+
+has_key : (rs : Rows) (t : List ℕ) (e : RouteOf Route) → Has rs t e → Has (map key rs) t e.value
+has_key [] t e h = absurd h
+has_key (row ∷ rs) t e h = elim h [
+  | inl here ↦ inl (here.0, ap (λ (r : RouteOf Route). r.value) here.1)
+  | inr later ↦ inr (has_key rs t e later)
+]
+
+key_has : (rs : Rows) (t : List ℕ) (k : Route) → Has (map key rs) t k → (e : RouteOf Route) × Has rs t e
+key_has [] t k h = absurd h
+key_has (row ∷ rs) t k h = elim h [
+  | inl here ↦ (row.1, inl (here.0, refl))
+  | inr later ↦ let more = key_has rs t k later in (more.0, inr more.1)
+]
+
+-- ---- the table
+
+-- a pattern of the table is that of its route
+pattern_is : (ks : List Route) (t : List ℕ) (k : Route) → Has (map (λ (r : Route). ((row_of r).pattern, r)) ks) t k → (row_of k).pattern ≡ t
+pattern_is [] t k h = absurd h
+pattern_is (r ∷ ks) t k h = elim h [
+  | inl here ↦ ap (λ (x : Route). (row_of x).pattern) (sym here.1) ∙ here.0
+  | inr later ↦ pattern_is ks t k later
+]
+
+-- each route is in the table
+in_table : (k : Route) → Has patterns (row_of k).pattern k
+in_table route.Callers = inl (refl, refl)
+in_table route.About = inr (inl (refl, refl))
+in_table route.Statements = inr (inr (inl (refl, refl)))
+
+abbrev ends_part : List ℕ → Bool
+ends_part [] = true
+ends_part (x ∷ t) = x == 47
+
+abbrev is_neat : List ℕ → Bool
+is_neat [] = true
+is_neat (x ∷ t) = (not (x == 256) || ends_part t) && (not (x == 257) && is_neat t)
+
+part_ends : (t : List ℕ) → ends_part t ≡ true → (t ≡ []) ⊎ ((r : List ℕ) × (t ≡ 47 ∷ r))
+part_ends [] e = inl refl
+part_ends (x ∷ t) e = let slash : x ≡ 47 = grind (arith, nat_tests, e) in inr (t, ap (λ (y : ℕ). y ∷ t) slash)
+
+neat_from : (t : List ℕ) → is_neat t ≡ true → Neat t
+neat_from [] e = tt
+neat_from (x ∷ t) e =
+    let parts = and_parts (not (x == 256) || ends_part t) (not (x == 257) && is_neat t) e in
+    let more = and_parts (not (x == 257)) (is_neat t) parts.1 in
+    (λ is. part_ends t (grind (arith, nat_tests, parts.0, is)), λ is. grind (arith, nat_tests, more.0, is), neat_from t more.1)
+
+neat_route : (k : Route) → Neat (row_of k).pattern
+neat_route route.Callers = neat_from (row_of route.Callers).pattern refl
+neat_route route.About = neat_from (row_of route.About).pattern refl
+neat_route route.Statements = neat_from (row_of route.Statements).pattern refl
+
+all_neat : (rs : Rows) → map key rs ≡ patterns → AllNeat rs
+all_neat rs whole t e h =
+    let known = pattern_is routes t e.value (subst (λ (ps : List (List ℕ × Route)). Has ps t e.value) whole (has_key rs t e h)) in
+    subst Neat known (neat_route e.value)
+
+-- ---- what the router answers
+
+pub found_fits : (rs : Rows) (path : List ℕ) (e : RouteOf Route) → map key rs ≡ patterns → first rs path ≡ Some e → Fits (row_of e.value).pattern path
+found_fits rs path e whole found =
+    let row = sound rs path e found in
+    let known = pattern_is routes row.0 e.value (subst (λ (ps : List (List ℕ × Route)). Has ps row.0 e.value) whole (has_key rs row.0 e row.1)) in
+    subst (λ (t : List ℕ). Fits t path) (sym known) row.2
+
+pub missing_fits : (rs : Rows) (path : List ℕ) → map key rs ≡ patterns → first rs path ≡ None → (k : Route) → Fits (row_of k).pattern path → ⊥
+missing_fits rs path whole none k fits =
+    let row = key_has rs (row_of k).pattern k (subst (λ (ps : List (List ℕ × Route)). Has ps (row_of k).pattern k) (sym whole) (in_table k)) in
+    let found = complete rs path (row_of k).pattern row.0 (all_neat rs whole) row.1 fits in
+    cc (sym none ∙ found.1)
+
+-- ---- no path fits two routes
+
+abbrev is_byte : ℕ → Bool
+is_byte x = ltb x 256
+
+-- patterns that differ, with bytes alone before the place where they do
+abbrev apart : List ℕ → List ℕ → Bool
+apart [] [] = false
+apart [] (y ∷ q) = is_byte y
+apart (x ∷ p) [] = is_byte x
+apart (x ∷ p) (y ∷ q) = is_byte x && (is_byte y && (not (x == y) || apart p q))
+
+byte_first : (x : ℕ) (p path : List ℕ) → is_byte x ≡ true → Fits (x ∷ p) path → (rest : List ℕ) × (path ≡ x ∷ rest) × Fits p rest
+byte_first x p path byte f = elim f [
+  | inl here ↦ here
+  | inr other ↦ elim other [
+    | inl param ↦ let is = param.0 in absurd (grind (arith, nat_tests, byte, is))
+    | inr all ↦ let is = all.0 in absurd (grind (arith, nat_tests, byte, is))
+  ]
+]
+
+not_empty : (x : ℕ) (rest : List ℕ) → [] ≡ x ∷ rest → ⊥
+not_empty x rest e = let bad : 0 ≡ length (x ∷ rest) = ap (λ (xs : List ℕ). length xs) e in omega arith
+
+none_fits : (p q path : List ℕ) → apart p q ≡ true → Fits p path → Fits q path → ⊥
+none_fits [] [] path e f g = false≢true e
+none_fits [] (y ∷ q) path e f g = let h = byte_first y q path e g in not_empty y h.0 (sym f ∙ h.1)
+none_fits (x ∷ p) [] path e f g = let h = byte_first x p path e f in not_empty x h.0 (sym g ∙ h.1)
+none_fits (x ∷ p) (y ∷ q) path e f g =
+    let one = and_parts (is_byte x) (is_byte y && (not (x == y) || apart p q)) e in
+    let two = and_parts (is_byte y) (not (x == y) || apart p q) one.1 in
+    let h = byte_first x p path one.0 f in
+    let i = byte_first y q path two.0 g in
+    let heads : x ≡ y = ap (λ (xs : List ℕ). slice_index xs 0) (sym h.1 ∙ i.1) in
+    let tails : h.0 ≡ i.0 = ap (λ (xs : List ℕ). drop 1 xs) (sym h.1 ∙ i.1) in
+    let more : apart p q ≡ true = grind (arith, nat_tests, two.1, heads) in
+    none_fits p q i.0 more (subst (λ (xs : List ℕ). Fits p xs) tails h.2) i.2
+
+pub one_route : (path : List ℕ) (a b : Route) → Fits (row_of a).pattern path → Fits (row_of b).pattern path → a ≡ b
+one_route path route.Callers route.Callers f g = refl
+one_route path route.Callers route.About f g = absurd (none_fits (row_of route.Callers).pattern (row_of route.About).pattern path refl f g)
+one_route path route.Callers route.Statements f g = absurd (none_fits (row_of route.Callers).pattern (row_of route.Statements).pattern path refl f g)
+one_route path route.About route.Callers f g = absurd (none_fits (row_of route.About).pattern (row_of route.Callers).pattern path refl f g)
+one_route path route.About route.About f g = refl
+one_route path route.About route.Statements f g = absurd (none_fits (row_of route.About).pattern (row_of route.Statements).pattern path refl f g)
+one_route path route.Statements route.Callers f g = absurd (none_fits (row_of route.Statements).pattern (row_of route.Callers).pattern path refl f g)
+one_route path route.Statements route.About f g = absurd (none_fits (row_of route.Statements).pattern (row_of route.About).pattern path refl f g)
+one_route path route.Statements route.Statements f g = refl

@@ -1,0 +1,11 @@
+pub mod Neat
+pub mod Sound
+pub mod Complete
+pub mod Leads
+pub mod Stages
+pub mod Readings
+pub mod Looks
+pub mod Alone
+pub mod OneJson
+pub mod OneAsked
+pub mod Media

@@ -1,0 +1,69 @@
+-- What the fields of a request say: the version, the credential, the media type of the body.
+use Rattle.std.specs.Prelude.{ℕ, ◌==◌, ◌&&◌, ◌||◌, Bool, true, false, List, [], ◌∷◌, take, drop, length, Option, Some, None, if◌then◌else◌, nat_eq, nat_lt, codes}
+use Rattle.std.specs.List.{after_first, before_first, list_all, position_or_len, starts_with}
+use Rattle.std.specs.Str.{bytes_eq, str_eq_ignore_ascii_case}
+use Rattle.lrs_record.specs.declared.entry.Caller.{Caller}
+use Rattle.lrs_record.specs.declared.entry.Caller.TheVariants.{Nobody, Token}
+use Rattle.lrs_record.specs.declared.rule.Area.{Area}
+use Rattle.lrs_record.specs.declared.rule.Area.TheVariants.{Free, Store, Desk}
+
+-- ---- the version (xAPI 1.0.3, part three, section 3.3)
+
+-- 1.0, or what begins with 1.0.
+abbrev pub is_version : List ℕ → Bool
+is_version version = bytes_eq version (codes "1.0") || starts_with nat_eq version (codes "1.0.")
+
+abbrev pub speaks : Option (List ℕ) → Bool
+speaks None = false
+speaks (Some version) = is_version version
+
+-- ---- the credential (RFC 9110, section 11.4)
+
+abbrev pub is_space : ℕ → Bool
+is_space b = b == 32
+
+-- the scheme, a space, and what stands behind it
+abbrev pub has_token : List ℕ → Bool
+has_token credential =
+    nat_lt (position_or_len is_space credential) (length credential) && str_eq_ignore_ascii_case (before_first is_space credential) (codes "Basic")
+
+-- Nobody is meant by an empty token, and by the one that the journal has for the program itself.
+abbrev pub caller_of_token : List ℕ → Caller
+caller_of_token token = if bytes_eq token [] || bytes_eq token (codes "*") then Nobody else Token token
+
+abbrev pub presented : Option (List ℕ) → Caller
+presented None = Nobody
+presented (Some credential) = if has_token credential then caller_of_token (after_first is_space credential) else Nobody
+
+-- where anyone may ask, nothing is presented
+abbrev pub caller_of : Area → Option (List ℕ) → Caller
+caller_of Free credential = Nobody
+caller_of Store credential = presented credential
+caller_of Desk credential = presented credential
+
+-- ---- the media type (RFC 9110, section 8.3.1)
+
+abbrev pub is_semicolon : ℕ → Bool
+is_semicolon b = b == 59
+
+-- a space or a tab
+abbrev pub is_white : ℕ → Bool
+is_white b = b == 32 || b == 9
+
+abbrev pub skip_white : List ℕ → List ℕ
+skip_white [] = []
+skip_white (b ∷ rest) = if is_white b then skip_white rest else b ∷ rest
+
+-- the word in any case, with nothing but white space round it
+abbrev pub is_json_name : List ℕ → Bool
+is_json_name name =
+    str_eq_ignore_ascii_case (take 16 (skip_white name)) (codes "application/json") && list_all is_white (drop 16 (skip_white name))
+
+-- JSON with or without parameters
+abbrev pub is_json : List ℕ → Bool
+is_json media = is_json_name (before_first is_semicolon media)
+
+-- a type that isn't given, or JSON
+abbrev pub allows_json : Option (List ℕ) → Bool
+allows_json None = true
+allows_json (Some media) = is_json media

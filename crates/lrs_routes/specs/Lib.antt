@@ -1,0 +1,7 @@
+pub mod Paths
+pub mod Table
+pub mod Fields
+pub mod Faults
+pub mod Forms
+pub mod Parts
+pub mod Asked

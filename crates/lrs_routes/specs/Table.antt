@@ -1,0 +1,66 @@
+-- The routes: a row for each, with its path, what it asks of every request, and what each of its methods is for.
+use Rattle.std.specs.Prelude.{ℕ, List, [], ◌∷◌, ◌++◌, Bool, true, false, Option, Some, None, if◌then◌else◌, map, codes}
+use Rattle.std.specs.Str.{bytes_eq}
+use Rattle.lrs_http.specs.declared.request.Method.{Method}
+use Rattle.lrs_http.specs.declared.request.Method.TheVariants.{Get, Put, Post, Delete, Other}
+use Rattle.lrs_record.specs.declared.rule.Area.{Area}
+use Rattle.lrs_record.specs.declared.rule.Area.TheVariants as area
+use Rattle.lrs_routes.specs.declared.table.Allow.{Allow}
+use Rattle.lrs_routes.specs.declared.table.Allow.TheVariants as allow
+use Rattle.lrs_routes.specs.declared.table.Operation.{Operation}
+use Rattle.lrs_routes.specs.declared.table.Operation.TheVariants as operation
+use Rattle.lrs_routes.specs.declared.table.Route.{Route}
+use Rattle.lrs_routes.specs.declared.table.Route.TheVariants as route
+
+pub record Row : Type 0 where
+  -- the path, where a parameter stands for a part of it
+  pub pattern : List ℕ
+  -- whom it answers; where anyone may ask, no credential is looked at
+  pub area : Area
+  -- it asks for the version of xAPI
+  pub versioned : Bool
+  -- in the order in which a refusal lists them
+  pub methods : List (Method × Operation)
+
+abbrev row : List ℕ → Area → Bool → List (Method × Operation) → Row
+row pattern area versioned methods = record { pattern = pattern; area = area; versioned = versioned; methods = methods }
+
+abbrev pub row_of : Route → Row
+row_of route.Callers = row (codes "/desk/callers") area.Desk false ((Post, operation.MakeProvider) ∷ [])
+row_of route.About = row (codes "/xapi/about") area.Free false ((Get, operation.TellVersions) ∷ [])
+row_of route.Statements = row (codes "/xapi/statements") area.Store true ((Get, operation.GetStatements) ∷ (Put, operation.PutStatement) ∷ [])
+
+-- each route, in the order of the paths
+abbrev pub routes : List Route
+routes = route.Callers ∷ route.About ∷ route.Statements ∷ []
+
+-- the routes' patterns, as the router has them
+abbrev pub patterns : List (List ℕ × Route)
+patterns = map (λ route. ((row_of route).pattern, route)) routes
+
+-- ---- methods
+
+abbrev pub method_name : Method → List ℕ
+method_name Get = codes "GET"
+method_name Put = codes "PUT"
+method_name Post = codes "POST"
+method_name Delete = codes "DELETE"
+method_name Other = []
+
+-- what the method is for
+abbrev pub operation_of : List (Method × Operation) → Method → Option Operation
+operation_of [] method = None
+operation_of (first ∷ methods) method =
+    if bytes_eq (method_name first.0) (method_name method) then Some first.1 else operation_of methods method
+
+-- the methods that a refusal lists
+abbrev pub methods_of : Allow → List Method
+methods_of allow.Get = Get ∷ []
+methods_of allow.GetPut = Get ∷ Put ∷ []
+methods_of allow.Post = Post ∷ []
+
+-- their names, with a comma and a space between them (RFC 9110, section 10.2.1)
+abbrev pub listed : List Method → List ℕ
+listed [] = []
+listed (method ∷ []) = method_name method
+listed (method ∷ next ∷ methods) = method_name method ++ codes ", " ++ listed (next ∷ methods)

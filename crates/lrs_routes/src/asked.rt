@@ -1,0 +1,34 @@
+use crate::Allow;
+use lrs_json::Memory;
+use lrs_record::{Caller, Command};
+
+/// What a request asks: who asks, and what for.
+#[derive(Drop)]
+pub struct Asked {
+    pub caller: Caller,
+    pub command: Command,
+}
+
+/// Why a request asks for nothing.
+#[derive(Clone, Copy, Debug, PartialEq, Eq)]
+pub enum RouteRefused {
+    /// No route has the path: 404.
+    NoRoute,
+    /// The path's route doesn't have the method, but these: 405.
+    NoMethod { allow: Allow },
+    /// The version of xAPI isn't named, or another one is: 400, rule V1.
+    NoVersion,
+    /// Want of memory.
+    Memory,
+}
+
+impl From<Memory> for RouteRefused {
+    ghost use Rattle.std.specs.Prelude.{◌≡◌};
+    ghost use Rattle.lrs_routes.specs.declared.asked.RouteRefused.TheVariants as refused;
+
+    ghost from_gives = { λ _ e. e ≡ refused.Memory };
+
+    fn from(_: Memory) -> RouteRefused {
+        RouteRefused::Memory
+    }
+}

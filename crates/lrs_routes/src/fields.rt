@@ -1,0 +1,113 @@
+// What the fields of a request say.
+ghost use Rattle.std.specs.Prelude.{◌≡◌, IfOk, Some};
+ghost use Rattle.std.specs.List.{list_all};
+ghost use Rattle.lrs_record.specs.Entries.{IsLawfulCaller};
+ghost use Rattle.lrs_routes.specs.Fields.{allows_json, caller_of, caller_of_token, is_json, is_json_name, is_version, is_white, presented, skip_white, speaks};
+
+use lrs_json::{Memory, Text};
+use lrs_record::{Area, Caller};
+use std::alloc::Global;
+
+/// Whether the version is 1.0 or one of 1.0.x (xAPI 1.0.3, part three, section 3.3).
+pub fn speaks(version: &Option<Text>) -> bool
+    ensures { result ≡ speaks version.now }
+{
+    match version {
+        Some(version) => is_version(version.as_str()),
+        None => false,
+    }
+}
+
+fn is_version(version: &str) -> bool
+    ensures { result ≡ is_version version.now }
+{
+    version == "1.0" || version.starts_with("1.0.")
+}
+
+/// Who asks, by the credential; nobody where the area lets anyone ask.
+pub fn caller_of(alloc: Global, area: Area, credential: &Option<Text>) -> Result<Caller, Memory>
+    ensures is { IfOk result (λ caller. caller ≡ caller_of area credential.now) }
+    ensures lawful { IfOk result IsLawfulCaller }
+{
+    match (area, credential) {
+        (Area::Free, _) | (_, None) => Ok(Caller::Nobody),
+        (_, Some(credential)) => presented(alloc, credential.as_str()),
+    }
+}
+
+fn presented(alloc: Global, credential: &str) -> Result<Caller, Memory>
+    ensures is { IfOk result (λ caller. caller ≡ presented (Some credential.now)) }
+    ensures lawful { IfOk result IsLawfulCaller }
+{
+    match credential.split_once(' ') {
+        Some((scheme, token)) => {
+            if scheme.eq_ignore_ascii_case("Basic") {
+                caller_of_token(alloc, token)
+            } else {
+                Ok(Caller::Nobody)
+            }
+        }
+        None => Ok(Caller::Nobody),
+    }
+}
+
+fn caller_of_token(alloc: Global, token: &str) -> Result<Caller, Memory>
+    ensures is { IfOk result (λ caller. caller ≡ caller_of_token token.now) }
+    ensures lawful { IfOk result IsLawfulCaller }
+{
+    if token == "" || token == "*" {
+        Ok(Caller::Nobody)
+    } else {
+        Ok(Caller::Token(Text::of(alloc, token)?))
+    }
+}
+
+/// Whether a body of this media type, or of none, is taken as JSON. The type is compared in any case (RFC 9110,
+/// section 8.3.1), and its parameters aren't looked at.
+pub fn allows_json(media: &Option<Text>) -> bool
+    ensures { result ≡ allows_json media.now }
+{
+    match media {
+        Some(media) => is_json(media.as_str()),
+        None => true,
+    }
+}
+
+fn is_json(media: &str) -> bool
+    ensures { result ≡ is_json media.now }
+{
+    match media.split_once(';') {
+        Some((name, _)) => is_json_name(name.as_bytes()),
+        None => is_json_name(media.as_bytes()),
+    }
+}
+
+fn is_json_name(name: &[u8]) -> bool
+    ensures { result ≡ is_json_name name.now }
+{
+    let word = skip_white(name);
+    let end = word.len().min(16);
+    word[..end].eq_ignore_ascii_case(b"application/json") && all_white(&word[end..])
+}
+
+fn is_white(byte: u8) -> bool
+    ensures { result ≡ is_white byte }
+{
+    byte == b' ' || byte == b'\t'
+}
+
+fn skip_white(bytes: &[u8]) -> &[u8]
+    ensures { result.now ≡ skip_white bytes.now }
+{
+    let mut at = 0;
+    while at < bytes.len() && is_white(bytes[at]) {
+        at += 1;
+    }
+    &bytes[at..]
+}
+
+fn all_white(bytes: &[u8]) -> bool
+    ensures { result ≡ list_all is_white bytes.now }
+{
+    bytes.iter().all(|b| is_white(*b))
+}

@@ -1,0 +1,18 @@
+//! From a request to what it asks: the route of its path, who asks, and the command that its parameters and its
+//! body mean.
+#![tactic(auto)]
+
+mod asked;
+mod bodies;
+mod fault;
+mod fields;
+mod forms;
+mod routes;
+mod table;
+
+pub use asked::{Asked, RouteRefused};
+pub use routes::Routes;
+pub use table::Allow;
+
+#[cfg(test)]
+mod tests;

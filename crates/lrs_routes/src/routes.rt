@@ -1,0 +1,105 @@
+ghost use Rattle.std.specs.Prelude.{◌≡◌, ◌≢◌, ◌⊎◌, IfOk, Err, Result, MatchOption, MatchResult, map};
+ghost use Rattle.lrs_record.specs.Entries.{IsLawfulCaller};
+ghost use Rattle.lrs_routes.specs.Asked.{Agree, IsAsked, IsRefused, IsRouted};
+ghost use Rattle.lrs_routes.specs.Parts.{HasFormRule, HasReadTrees};
+ghost use Rattle.lrs_routes.specs.Paths.{Fits};
+ghost use Rattle.lrs_routes.specs.Table.{patterns, row_of};
+ghost use Rattle.lrs_routes.specs.declared.asked.Asked.{Asked as SpecAsked};
+ghost use Rattle.lrs_routes.specs.declared.asked.RouteRefused.{RouteRefused as SpecRefused};
+ghost use Rattle.lrs_routes.specs.declared.table.Route.{Route as SpecRoute};
+
+use crate::fields::{caller_of, speaks};
+use crate::forms::command;
+use crate::table::{Operation, Route};
+use crate::{Asked, RouteRefused};
+use lrs_http::{Method, Request};
+use lrs_json::{Memory, Text};
+use matchit::{InsertError, Router};
+use std::alloc::Global;
+
+/// The table of routes, made once by each worker.
+#[derive(Drop)]
+pub struct Routes {
+    router: Router<Route>,
+    ghost whole: { map (λ row. (row.0, row.1.value)) router ≡ patterns },
+}
+
+impl Routes {
+    pub fn new(alloc: Global) -> Result<Routes, Memory> {
+        match router(alloc) {
+            Ok(router) => Ok(Routes { router }),
+            Err(_) => Err(Memory),
+        }
+    }
+
+    /// What a request asks, looked at in this order: its route, its method, the version of xAPI, who asks, and then
+    /// its form, a broken rule of which is a command too: the store looks at its caller before it answers the rule.
+    pub fn command_of(&self, alloc: Global, request: Request) -> Result<Asked, RouteRefused>
+        ensures asked { IsAsked request result }
+
+        // No other account of the request holds.
+        ensures alone { (other : Result SpecAsked SpecRefused) → IsAsked request other → Agree result other }
+        ensures lawful { IfOk result (λ asked. IsLawfulCaller asked.caller) }
+        ensures trees { IfOk result (λ asked. HasReadTrees asked.command) }
+        ensures rules { IfOk result (λ asked. HasFormRule asked.command) }
+    {
+        let (route, operation) = self.operation_of(
+            request.path.as_str(),
+            request.method,
+            &request.version,
+        )?;
+        let caller = caller_of(alloc, route.area(), &request.credential)?;
+        let command = command(alloc, route.area(), operation, &request)?;
+        Ok(Asked { caller, command })
+    }
+
+    // What the request's method is for on its route.
+    fn operation_of(
+        &self,
+        path: &str,
+        method: Method,
+        version: &Option<Text>,
+    ) -> Result<(Route, Operation), RouteRefused>
+        ensures { MatchResult result (λ found. IsRouted path.now method version.now found.0 found.1) (IsRefused path.now method version.now) }
+    {
+        let Some(route) = self.route_of(path) else {
+            return Err(RouteRefused::NoRoute);
+        };
+        match route.operation(method) {
+            Ok(operation) => {
+                if route.is_versioned() && !speaks(version) {
+                    Err(RouteRefused::NoVersion)
+                } else {
+                    Ok((route, operation))
+                }
+            }
+            Err(allow) => Err(RouteRefused::NoMethod { allow }),
+        }
+    }
+
+    // The route that the path fits.
+    fn route_of(&self, path: &str) -> Option<Route>
+        ensures { MatchOption result ((route : SpecRoute) → ¬ Fits (row_of route).pattern path.now) (λ route. Fits (row_of route).pattern path.now) }
+    {
+        match self.router.at(path) {
+            Ok(found) => Some(copied(found.value)),
+            Err(_) => None,
+        }
+    }
+}
+
+fn copied(route: &Route) -> Route
+    ensures { result ≡ route.now }
+{
+    *route
+}
+
+fn router(alloc: Global) -> Result<Router<Route>, InsertError>
+    ensures { IfOk result (λ r. map (λ row. (row.0, row.1.value)) r ≡ patterns) }
+{
+    let mut router = Router::new(alloc);
+    router.insert("/desk/callers", Route::Callers)?;
+    router.insert("/xapi/about", Route::About)?;
+    router.insert("/xapi/statements", Route::Statements)?;
+    Ok(router)
+}

@@ -1,0 +1,85 @@
+ghost use Rattle.std.specs.Prelude.{◌≡◌, map, Some, MatchResult};
+ghost use Rattle.lrs_routes.specs.Table.{listed, methods_of, operation_of, row_of};
+
+use lrs_http::Method;
+use lrs_record::Area;
+
+/// A row of the table of routes.
+#[derive(Clone, Copy, Debug, PartialEq, Eq)]
+pub(crate) enum Route {
+    Callers,
+    About,
+    Statements,
+}
+
+/// What a method of a route is for.
+#[derive(Clone, Copy, Debug, PartialEq, Eq)]
+pub(crate) enum Operation {
+    /// Gives the versions of xAPI that are spoken.
+    TellVersions,
+    /// Gives statements.
+    GetStatements,
+    /// Keeps a statement under an id.
+    PutStatement,
+    /// Makes a provider and its token.
+    MakeProvider,
+}
+
+/// The methods of a route, for the field `Allow` (RFC 9110, section 10.2.1).
+#[derive(Clone, Copy, Debug, PartialEq, Eq)]
+pub enum Allow {
+    Get,
+    GetPut,
+    Post,
+}
+
+impl Allow {
+    /// The methods' names, as in `GET, PUT`.
+    pub fn text(&self) -> &'static str
+        ensures { result.now ≡ listed (methods_of self.now) }
+    {
+        match self {
+            Allow::Get => "GET",
+            Allow::GetPut => "GET, PUT",
+            Allow::Post => "POST",
+        }
+    }
+}
+
+impl Route {
+    /// Whom the route answers.
+    pub(crate) fn area(self) -> Area
+        ensures { result ≡ (row_of self).area }
+    {
+        match self {
+            Route::Callers => Area::Desk,
+            Route::About => Area::Free,
+            Route::Statements => Area::Store,
+        }
+    }
+
+    /// Whether the route asks for the version of xAPI.
+    pub(crate) fn is_versioned(self) -> bool
+        ensures { result ≡ (row_of self).versioned }
+    {
+        match self {
+            Route::Statements => true,
+            Route::Callers | Route::About => false,
+        }
+    }
+
+    /// What the method is for, or the methods that the route has.
+    pub(crate) fn operation(self, method: Method) -> Result<Operation, Allow>
+        ensures { MatchResult result (λ operation. operation_of (row_of self).methods method ≡ Some operation) (λ allow. (operation_of (row_of self).methods method ≡ None) × (methods_of allow ≡ map (λ m. m.0) (row_of self).methods)) }
+    {
+        match (self, method) {
+            (Route::Callers, Method::Post) => Ok(Operation::MakeProvider),
+            (Route::Callers, _) => Err(Allow::Post),
+            (Route::About, Method::Get) => Ok(Operation::TellVersions),
+            (Route::About, _) => Err(Allow::Get),
+            (Route::Statements, Method::Get) => Ok(Operation::GetStatements),
+            (Route::Statements, Method::Put) => Ok(Operation::PutStatement),
+            (Route::Statements, _) => Err(Allow::GetPut),
+        }
+    }
+}
