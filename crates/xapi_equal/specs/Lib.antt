@@ -1,0 +1,6 @@
+pub mod Places
+pub mod Normal
+pub mod Alike
+pub mod Steps
+pub mod Ranks
+pub mod Same
