@@ -1,5 +1,5 @@
 -- Who takes part in a statement, by their identifiers (xAPI 1.0.3, part two, section 2.4.2.3; part three, section 2.1.3).
-use Rattle.std.specs.Prelude.{ℕ, List, Bool, true, false, ◌&&◌, ◌||◌, Option, Some, None, option_and_then, codes, if◌then◌else◌}
+use Rattle.std.specs.Prelude.{Bool, true, false, ◌&&◌, ◌||◌, Option, None, option_and_then, codes, if◌then◌else◌}
 use Rattle.std.specs.Option.{option_map_or}
 use Rattle.std.specs.Str.{bytes_eq}
 use Rattle.lrs_json.specs.Json.{Json, Elements, no_elements, element}
@@ -10,7 +10,6 @@ use Rattle.lrs_names.specs.declared.identifiers.Ifi.{Ifi}
 use Rattle.lrs_names.specs.declared.identifiers.Ifi.TheVariants.{Mbox, MboxSha1, OpenId, Account}
 use Rattle.xapi_rules.specs.Kinds.{kind_of}
 use Rattle.xapi_rules.specs.declared.kinds.Kind.{Kind}
-use Rattle.xapi_rules.specs.declared.kinds.Kind.TheVariants as Kind
 use Rattle.xapi_statement.specs.Statement.{is_nested}
 
 -- the same kind, with the same texts

@@ -9,7 +9,6 @@ use Rattle.xapi_rules.specs.Kinds.{kind_of}
 use Rattle.xapi_rules.specs.Numbers.{member_number}
 use Rattle.xapi_rules.specs.Rules.{broken_rule, is_about_activity, is_about_reference}
 use Rattle.xapi_rules.specs.declared.kinds.Kind.{Kind}
-use Rattle.xapi_rules.specs.declared.kinds.Kind.TheVariants as Kind
 use Rattle.xapi_statement.specs.declared.refused.StatementRefused.{StatementRefused}
 use Rattle.xapi_statement.specs.declared.refused.StatementRefused.TheVariants.{TooLong, Broken}
 

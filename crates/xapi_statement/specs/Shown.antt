@@ -1,0 +1,35 @@
+-- How a statement is shown, in the form that is asked for, and who takes part in it as the store keeps it.
+use Rattle.std.specs.Prelude.{ℕ, List, Bool, ◌&&◌, ◌||◌, codes}
+use Rattle.lrs_json.specs.Json.{Json}
+use Rattle.lrs_json.specs.View.{view}
+use Rattle.lrs_json.specs.Written.{written}
+use Rattle.lrs_names.specs.Members.{has_member_that}
+use Rattle.lrs_names.specs.declared.identifiers.Ifi.{Ifi}
+use Rattle.xapi_statement.specs.Authorities.{authority_json}
+use Rattle.xapi_statement.specs.Completed.{HeldStatement, completed_form}
+use Rattle.xapi_statement.specs.Parties.{has_context_agent, has_direct_agent, is_party, nested_has_agent}
+use Rattle.xapi_statement.specs.Reduced.{reduced}
+use Rattle.xapi_statement.specs.declared.format.Format.{Format}
+use Rattle.xapi_statement.specs.declared.format.Format.TheVariants.{Exact, Ids}
+
+-- ---- forms
+
+abbrev pub shown_form : Format → HeldStatement → Json
+shown_form Exact held = completed_form held
+shown_form Ids held = reduced (completed_form held)
+
+-- its text
+abbrev pub shown_text : Format → HeldStatement → List ℕ
+shown_text format held = written (shown_form format held)
+
+-- ---- who takes part
+
+-- At one of the related places: the authority that the store gave it, the context, and those places of a SubStatement.
+abbrev pub related_in : Ifi → HeldStatement → Bool
+related_in ifi held =
+    is_party ifi (authority_json held.authority) || has_context_agent ifi (view held.received)
+    || has_member_that (codes "object") (nested_has_agent ifi) (view held.received)
+
+-- The same as of a statement that was received, but that its authority is the one that the store gave it.
+abbrev pub takes_part : Ifi → Bool → HeldStatement → Bool
+takes_part ifi related held = has_direct_agent ifi (view held.received) || (related && related_in ifi held)
