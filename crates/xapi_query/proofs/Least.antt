@@ -1,14 +1,14 @@
 -- The least broken rule is found once, and tells the answer.
-use Rattle.std.proofs.Common.{◌≡◌, ℕ, ◌&&◌, Bool, true, false, List, Option, Some, None, is_some, option_and_then, Ok, Err, MatchBool, codes, arith, refl, sym, ap, ◌∙◌, subst}
+use Rattle.std.proofs.Common.{◌≡◌, ℕ, ◌&&◌, ◌||◌, Bool, true, false, List, Option, Some, None, is_some, option_and_then, Ok, Err, MatchBool, codes, arith, refl, sym, ap, ◌∙◌, subst, nat_lt}
 use Rattle.std.specs.Option.{option_map_or}
 use Rattle.std.proofs.lemmas.Bool.{false≢true}
 use Rattle.std.proofs.lemmas.Bool.Decides.{nat_tests}
 use Rattle.lrs_names.specs.Ids.{id_of}
-use Rattle.xapi_query.specs.Parameters.{Answers, Demands, LeastOfGet, LeastOfPut, given, is_rule}
+use Rattle.xapi_query.specs.Parameters.{Answers, Demands, LeastOfGet, LeastOfLink, LeastOfPut, given, has, has_place, is_rule, number_under}
 use Rattle.xapi_query.specs.Values.{is_id}
-use Rattle.xapi_query.specs.Wants.{id_under}
+use Rattle.xapi_query.specs.Queries.{AreFilters, id_under}
 use Rattle.xapi_query.specs.declared.pair.Pair.{Pair}
-use Rattle.xapi_query.specs.declared.refused.QueryRefused.TheVariants.{BadParameter, Memory}
+use Rattle.xapi_query.specs.declared.refused.QueryRefused.TheVariants.{BadLink, BadParameter, Memory}
 
 is_that_rule : (rule : ℕ) (found : Option ℕ) → is_rule rule found ≡ true → found ≡ Some rule
 is_that_rule rule None is = absurd (false≢true is)
@@ -33,8 +33,13 @@ put_once pairs a b =
 
 pub get_once : (pairs : List Pair) (a b : Option ℕ) → LeastOfGet a pairs → LeastOfGet b pairs → a ≡ b
 get_once pairs a b =
-    once 2 _ a b _ _ (once 3 _ a b _ _ (once 4 _ a b _ _ (once 5 _ a b _ _ (once 6 _ a b _ _ (once 7 _ a b _ _ (once 8 _ a b _ _
-    (once 9 _ a b _ _ (once 10 _ a b _ _ (once 11 _ a b _ _ (once 12 _ a b _ _ (once 13 _ a b _ _ (both_none a b))))))))))))
+    once 2 _ a b _ _ (once 3 _ a b _ _ (once 5 _ a b _ _ (once 6 _ a b _ _ (once 7 _ a b _ _ (once 8 _ a b _ _
+    (once 9 _ a b _ _ (once 10 _ a b _ _ (once 11 _ a b _ _ (once 12 _ a b _ _ (once 13 _ a b _ _ (both_none a b)))))))))))
+
+pub link_once : (pairs : List Pair) (a b : Option ℕ) → LeastOfLink a pairs → LeastOfLink b pairs → a ≡ b
+link_once pairs a b =
+    once 2 _ a b _ _ (once 3 _ a b _ _ (once 5 _ a b _ _ (once 6 _ a b _ _ (once 7 _ a b _ _ (once 8 _ a b _ _
+    (once 9 _ a b _ _ (once 10 _ a b _ _ (once 11 _ a b _ _ (once 14 _ a b _ _ (both_none a b))))))))))
 
 pub memory_answers : (T : Type 0) (found : Option ℕ) → Answers {T = T} found (Err Memory)
 memory_answers T None = tt
@@ -48,19 +53,50 @@ pub value_answers : {T : Type 0} (found : Option ℕ) (value : T) → found ≡ 
 value_answers None value is = tt
 value_answers (Some n) value is = absurd (cc is)
 
+pub bad_link_answers : (T : Type 0) (found : Option ℕ) → found ≡ Some 14 → Answers {T = T} found (Err BadLink)
+bad_link_answers T None is = absurd (cc is)
+bad_link_answers T (Some n) is = cc is
+
 pub get_at : (pairs : List Pair) (a b : Option ℕ) → a ≡ b → LeastOfGet a pairs → LeastOfGet b pairs
 get_at pairs a b is least = let P : Option ℕ → Type 0 = λ found. LeastOfGet found pairs in subst P is least
 
--- ---- where no rule is broken, there is an id
+pub link_at : (pairs : List Pair) (a b : Option ℕ) → a ≡ b → LeastOfLink a pairs → LeastOfLink b pairs
+link_at pairs a b is least = let P : Option ℕ → Type 0 = λ found. LeastOfLink found pairs in subst P is least
+
+-- ---- where no rule is broken
+
+pub get_filters : (pairs : List Pair) → LeastOfGet None pairs → AreFilters pairs
+get_filters pairs least = record { actor = least.1.1.1.0; iris = least.1.1.1.1.0; limit = least.1.1.1.1.1.1.1.0 }
+
+pub link_filters : (pairs : List Pair) → LeastOfLink None pairs → AreFilters pairs
+link_filters pairs least = record { actor = least.1.1.1.0; iris = least.1.1.1.1.0; limit = least.1.1.1.1.1.1.1.0 }
 
 left : (p q : Bool) → (p && q) ≡ true → p ≡ true
 left true q is = refl
 left false q is = absurd (false≢true is)
 
-has_id : (value : Option (List ℕ)) → is_some value ≡ true → option_map_or is_id value true ≡ true → None ≡ option_and_then id_of value → ⊥
-has_id None some passed none = false≢true some
-has_id (Some text) some passed none = false≢true (ap is_some none ∙ passed)
+right : (p q : Bool) → (p && q) ≡ true → q ≡ true
+right true q is = is
+right false q is = absurd (false≢true is)
 
-pub get_has_id : (pairs : List Pair) → LeastOfGet None pairs → None ≡ id_under (codes "statementId") pairs → ⊥
-get_has_id pairs least none =
-    has_id (given (codes "statementId") pairs) least.1.1.0 (left _ _ (left _ _ least.1.1.1.0)) none
+-- the two places, and that they are in order
+pub link_places : (pairs : List Pair) → LeastOfLink None pairs
+    → (has_place (codes "asof") pairs ≡ true) × (has_place (codes "after") pairs ≡ true)
+    × (nat_lt (number_under (codes "after") pairs) (number_under (codes "asof") pairs) ≡ true)
+link_places pairs least =
+    let places = least.1.1.1.1.1.1.1.1.1.0 in
+    let two = left _ _ places in
+    (left _ _ two, right _ _ two, right _ _ places)
+
+not_given : (value : Option (List ℕ)) → option_map_or is_id value true ≡ true → None ≡ option_and_then id_of value → is_some value ≡ false
+not_given None passed none = refl
+not_given (Some text) passed none = absurd (false≢true (ap is_some none ∙ passed))
+
+-- without an id a list is asked for
+pub asks_for_many : (pairs : List Pair) → LeastOfGet None pairs → None ≡ id_under (codes "statementId") pairs → None ≡ id_under (codes "voidedStatementId") pairs
+    → (has (codes "statementId") pairs || has (codes "voidedStatementId") pairs) ≡ false
+asks_for_many pairs least none neither =
+    let ids = left _ _ least.1.1.0 in
+    let one = not_given (given (codes "statementId") pairs) (left _ _ ids) none in
+    let other = not_given (given (codes "voidedStatementId") pairs) (right _ _ ids) neither in
+    rw (one, other) refl

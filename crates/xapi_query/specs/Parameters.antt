@@ -1,13 +1,14 @@
--- The rules P2 to P13 on the parameters of a request, by their numbers.
-use Rattle.std.specs.Prelude.{◌≡◌, ℕ, Bool, true, false, not, ◌&&◌, ◌||◌, ◌==◌, List, [], ◌∷◌, Option, Some, None, is_some, codes, IsTrue, MatchBool, MatchOption, Result, Ok, Err, if◌then◌else◌}
+-- The rules P2 to P14 on the parameters of a request, by their numbers; P1 is that they are texts.
+use Rattle.std.specs.Prelude.{◌≡◌, ℕ, nat_lt, Bool, true, false, not, ◌&&◌, ◌||◌, ◌==◌, List, [], ◌∷◌, Option, Some, None, is_some, codes, IsTrue, MatchBool, MatchOption, Result, Ok, Err, if◌then◌else◌}
 use Rattle.std.specs.Option.{option_map_or}
 use Rattle.std.specs.Str.{bytes_eq}
+use Rattle.std.specs.Str.Parse.{digits_value}
 use Rattle.lrs_names.specs.Iris.{is_iri}
 use Rattle.lrs_names.specs.Members.{is_one_of}
 use Rattle.xapi_query.specs.declared.pair.Pair.{Pair}
 use Rattle.xapi_query.specs.declared.refused.QueryRefused.{QueryRefused}
-use Rattle.xapi_query.specs.declared.refused.QueryRefused.TheVariants.{BadParameter, Memory}
-use Rattle.xapi_query.specs.Values.{IsActor, is_format, is_id, is_limit, is_no, is_timestamp, is_truth}
+use Rattle.xapi_query.specs.declared.refused.QueryRefused.TheVariants.{BadLink, BadParameter, Memory}
+use Rattle.xapi_query.specs.Values.{IsActor, is_format, is_id, is_limit, is_no, is_place, is_timestamp, is_truth}
 
 -- ---- the names of parameters
 
@@ -21,6 +22,12 @@ get_names =
     codes "statementId" ∷ codes "voidedStatementId" ∷ codes "agent" ∷ codes "verb" ∷ codes "activity" ∷ codes "registration"
     ∷ codes "related_activities" ∷ codes "related_agents" ∷ codes "since" ∷ codes "until" ∷ codes "limit" ∷ codes "ascending"
     ∷ codes "format" ∷ codes "attachments" ∷ []
+
+-- of a more link
+abbrev pub link_names : List (List ℕ)
+link_names =
+    codes "asof" ∷ codes "after" ∷ codes "agent" ∷ codes "verb" ∷ codes "activity" ∷ codes "registration" ∷ codes "related_activities"
+    ∷ codes "related_agents" ∷ codes "since" ∷ codes "until" ∷ codes "limit" ∷ codes "ascending" ∷ codes "format" ∷ []
 
 -- of a GET of one statement
 abbrev pub one_names : List (List ℕ)
@@ -72,6 +79,19 @@ asks_for_one pairs =
     not (has (codes "statementId") pairs || has (codes "voidedStatementId") pairs)
     || (not (has (codes "statementId") pairs && has (codes "voidedStatementId") pairs) && are_among one_names pairs)
 
+-- the number that is given under a name; 0 where none is
+abbrev pub number_under : List ℕ → List Pair → ℕ
+number_under name pairs = option_map_or (digits_value 10) (given name pairs) 0
+
+abbrev pub has_place : List ℕ → List Pair → Bool
+has_place name pairs = option_map_or is_place (given name pairs) false
+
+-- It tells how many statements there were, and the position of one of them.
+abbrev pub has_places : List Pair → Bool
+has_places pairs =
+    has_place (codes "asof") pairs && has_place (codes "after") pairs
+    && nat_lt (number_under (codes "after") pairs) (number_under (codes "asof") pairs)
+
 -- ---- the rules
 
 abbrev pub is_rule : ℕ → Option ℕ → Bool
@@ -97,7 +117,6 @@ abbrev pub LeastOfGet : Option ℕ → List Pair → Type 0
 LeastOfGet found pairs =
     Demands 2 (IsTrue (are_among get_names pairs)) found
     (Demands 3 (IsTrue (are_distinct pairs)) found
-    (Demands 4 (IsTrue (has (codes "statementId") pairs)) found
     (Demands 5 (IsTrue (has_ids pairs)) found
     (Demands 6 (Passes IsActor (codes "agent") pairs) found
     (Demands 7 (IsTrue (has_iris pairs)) found
@@ -107,15 +126,34 @@ LeastOfGet found pairs =
     (Demands 11 (IsTrue (passes is_format (codes "format") pairs)) found
     (Demands 12 (IsTrue (passes is_no (codes "attachments") pairs)) found
     (Demands 13 (IsTrue (asks_for_one pairs)) found
-    (found ≡ None))))))))))))
+    (found ≡ None)))))))))))
+
+-- The least rule that the parameters of a more link break, None where they break none. Its names leave nothing for P12 and
+-- P13.
+abbrev pub LeastOfLink : Option ℕ → List Pair → Type 0
+LeastOfLink found pairs =
+    Demands 2 (IsTrue (are_among link_names pairs)) found
+    (Demands 3 (IsTrue (are_distinct pairs)) found
+    (Demands 5 (IsTrue (has_ids pairs)) found
+    (Demands 6 (Passes IsActor (codes "agent") pairs) found
+    (Demands 7 (IsTrue (has_iris pairs)) found
+    (Demands 8 (IsTrue (has_truths pairs)) found
+    (Demands 9 (IsTrue (has_timestamps pairs)) found
+    (Demands 10 (IsTrue (passes is_limit (codes "limit") pairs)) found
+    (Demands 11 (IsTrue (passes is_format (codes "format") pairs)) found
+    (Demands 14 (IsTrue (has_places pairs)) found
+    (found ≡ None))))))))))
 
 -- ---- answers
 
--- It is the answer where that rule, or none, is the least that is broken: want of memory alone is free.
+-- It is the answer where that rule, or none, is the least that is broken: want of memory alone is free. A link out of form
+-- breaks rule 14.
 abbrev pub Answers : {T : Type 0} → Option ℕ → Result T QueryRefused → Type 0
 Answers None (Ok value) = Unit {0}
 Answers None (Err (BadParameter number)) = ⊥
+Answers None (Err BadLink) = ⊥
 Answers None (Err Memory) = Unit {0}
 Answers (Some rule) (Ok value) = ⊥
 Answers (Some rule) (Err (BadParameter number)) = number ≡ rule
+Answers (Some rule) (Err BadLink) = rule ≡ 14
 Answers (Some rule) (Err Memory) = Unit {0}

@@ -35,7 +35,11 @@ abbrev pub is_limit : List ℕ → Bool
 is_limit text = nat_le 1 (length text) && nat_le (length text) 9 && list_all is_ascii_digit text
 
 abbrev pub is_format : List ℕ → Bool
-is_format text = bytes_eq text (codes "exact")
+is_format text = bytes_eq text (codes "exact") || bytes_eq text (codes "ids")
 
 abbrev pub is_no : List ℕ → Bool
 is_no text = bytes_eq text (codes "false")
+
+-- a place of a more link: one to eighteen digits
+abbrev pub is_place : List ℕ → Bool
+is_place text = nat_le 1 (length text) && nat_le (length text) 18 && list_all is_ascii_digit text

@@ -6,6 +6,8 @@ use std::alloc::AllocError;
 pub enum QueryRefused {
     /// The parameters break this rule of P1 to P13, and none of a lesser number.
     BadParameter { number: u8 },
+    /// Those of a more link break P14, and none of a lesser number.
+    BadLink,
     /// Want of memory.
     Memory,
 }

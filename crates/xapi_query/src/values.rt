@@ -44,8 +44,8 @@ pub fn has_actor(alloc: Global, pairs: &[Pair]) -> Result<bool, Memory>
     }
 }
 
-// The identifier of the agent, or of the group, whose JSON the text is.
-fn actor(alloc: Global, text: &Text) -> Result<Option<Ifi>, Memory>
+/// The identifier of the agent, or of the group, whose JSON the text is.
+pub fn actor(alloc: Global, text: &Text) -> Result<Option<Ifi>, Memory>
     ensures { IfOk result (λ found. MatchOption found (¬ IsActor text.now) (IsActorOf text.now)) }
 {
     match json(alloc, text.as_bytes())? {
@@ -137,7 +137,7 @@ fn is_limit(digits: &[u8]) -> bool
     1 <= digits.len() && digits.len() <= 9 && are_digits(digits)
 }
 
-fn are_digits(digits: &[u8]) -> bool
+pub fn are_digits(digits: &[u8]) -> bool
     ensures { result ≡ list_all is_ascii_digit digits.now }
 {
     digits.iter().all(|digit| digit.is_ascii_digit())
@@ -148,7 +148,7 @@ pub fn has_format(pairs: &[Pair]) -> bool
     ensures { result ≡ passes is_format (codes "format") pairs.now }
 {
     match given(pairs, "format") {
-        Some(text) => text.as_str() == "exact",
+        Some(text) => text.as_str() == "exact" || text.as_str() == "ids",
         None => true,
     }
 }

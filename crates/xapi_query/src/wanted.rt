@@ -1,33 +1,33 @@
 ghost use Rattle.std.specs.Prelude.{◌≡◌, ◌≢◌, [], ℕ, Option, None, Some, IfOk, IfErr, MatchResult, codes};
-ghost use Rattle.xapi_query.specs.Parameters.{Answers, LeastOfGet, LeastOfPut, are_among, asks_for_one, get_names};
-ghost use Rattle.xapi_query.specs.Wants.{IsWanted, id_under};
+ghost use Rattle.xapi_query.specs.Parameters.{Answers, LeastOfGet, LeastOfPut, are_among, asks_for_one, get_names, has};
+ghost use Rattle.xapi_query.specs.Queries.{id_under};
+ghost use Rattle.xapi_query.specs.Wants.{IsWanted};
 
-use crate::parameters::{are_among, are_distinct, given, has};
+use crate::asked::{format_under, id_under};
+use crate::parameters::{are_among, are_distinct, has};
 use crate::values::{
     has_actor, has_format, has_ids, has_iris, has_limit, has_no_attachments, has_timestamps,
     has_truths, passes_id,
 };
-use crate::{Pair, QueryRefused};
+use crate::{Pair, Query, QueryRefused};
 use lrs_json::Memory;
 use lrs_names::Id;
 use std::alloc::Global;
-
-/// In which form statements are given (xAPI 1.0.3, part three, section 2.1.3).
-#[derive(Clone, Copy, Debug, PartialEq, Eq)]
-pub enum Format {
-    /// As they were received, with what the store adds.
-    Exact,
-}
+use xapi_statement::Format;
 
 /// What a GET of statements asks for.
 #[derive(Drop)]
 pub enum Wanted {
-    /// The statement of that id, in that form.
+    /// The statement of that id, in that form, where it isn't voided.
     One(Id, Format),
+    /// The same, where it is voided.
+    Voided(Id, Format),
+    /// The first page of a list.
+    Many(Query),
 }
 
 impl Wanted {
-    ghost use Rattle.std.specs.Prelude.{◌≡◌, ℕ, Option, None, Some, IfOk};
+    ghost use Rattle.std.specs.Prelude.{◌≡◌, ◌≢◌, ℕ, Option, None, Some, Err, IfOk};
     ghost use Rattle.xapi_query.specs.Parameters.{Answers, LeastOfGet};
     ghost use Rattle.xapi_query.specs.Wants.{IsWanted};
 
@@ -37,15 +37,28 @@ impl Wanted {
 
         // The least broken rule, and a refusal by a rule only where one is broken.
         ensures broken { (rule : ℕ) → result ≡ Err (QueryRefused.BadParameter rule) → LeastOfGet (Some rule) pairs.now }
+        ensures plain { result ≢ Err QueryRefused.BadLink }
         ensures always { (found : Option ℕ) → LeastOfGet found pairs.now → Answers found result }
     {
         match broken_by_get(alloc, pairs)? {
             Some(number) => Err(QueryRefused::BadParameter { number }),
-            None => match id_under(pairs, "statementId") {
-                Some(id) => Ok(Wanted::One(id, Format::Exact)),
-                None => unreachable!(),
-            },
+            None => Ok(wanted_by(alloc, pairs)?),
         }
+    }
+}
+
+// What pairs ask for that break no rule.
+fn wanted_by(alloc: Global, pairs: &[Pair]) -> Result<Wanted, Memory>
+    requires { LeastOfGet None pairs.now }
+    ensures { IfOk result (IsWanted pairs.now) }
+{
+    let format = format_under(pairs);
+    if let Some(id) = id_under(pairs, "statementId") {
+        return Ok(Wanted::One(id, format));
+    }
+    match id_under(pairs, "voidedStatementId") {
+        Some(id) => Ok(Wanted::Voided(id, format)),
+        None => Ok(Wanted::Many(Query::of(alloc, pairs)?)),
     }
 }
 
@@ -77,12 +90,6 @@ pub fn no_parameters(pairs: &[Pair]) -> Result<(), QueryRefused>
     }
 }
 
-fn id_under(pairs: &[Pair], name: &str) -> Option<Id>
-    ensures { result ≡ id_under name.now pairs.now }
-{
-    Id::read(given(pairs, name)?.as_bytes())
-}
-
 fn broken_by_put(pairs: &[Pair]) -> Option<u8>
     ensures { LeastOfPut result pairs.now }
 {
@@ -106,8 +113,6 @@ fn broken_by_get(alloc: Global, pairs: &[Pair]) -> Result<Option<u8>, Memory>
         Ok(Some(2))
     } else if !are_distinct(pairs) {
         Ok(Some(3))
-    } else if !has(pairs, "statementId") {
-        Ok(Some(4))
     } else if !has_ids(pairs) {
         Ok(Some(5))
     } else if !has_actor(alloc, pairs)? {

@@ -1,9 +1,6 @@
-use Rattle.std.proofs.Common.{◌≡◌, Some, None, sym, ap, ◌∙◌}
-use Rattle.xapi_query.proofs.Least.{get_at, get_has_id, get_once, rule_answers, value_answers}
+use Rattle.std.proofs.Common.{◌≡◌, Some, None, ap, ◌∙◌}
+use Rattle.xapi_query.proofs.Least.{get_at, get_once, rule_answers, value_answers}
 use Rattle.xapi_query.proofs.wanted.Wanted.read.Goals as goal
-
-pub unreachable-requires : goal.unreachable-requires
-unreachable-requires c = get_has_id c.args.pairs.now (get_at c.args.pairs.now _ _ c.in-None.is c.in_ok-number.ensures) c.in-None-id_under.ensures
 
 pub returns-in-Some-clause-broken : goal.returns-in-Some-clause-broken
 returns-in-Some-clause-broken c = λ rule is.
@@ -14,9 +11,12 @@ returns-in-Some-clause-always c = λ found least.
     rule_answers _ found c.in-Some.number
     (get_once c.args.pairs.now found (Some c.in-Some.number) least (get_at c.args.pairs.now _ _ c.in-Some.is c.in_ok-number.ensures))
 
-pub returns-in-Some-id_under-clause-wanted : goal.returns-in-Some-id_under-clause-wanted
-returns-in-Some-id_under-clause-wanted c = (get_at c.args.pairs.now _ _ c.in-None.is c.in_ok-number.ensures, sym c.in-Some-id_under.ensures)
+pub wanted_by-requires : goal.wanted_by-requires
+wanted_by-requires c = get_at c.args.pairs.now _ _ c.in-None.is c.in_ok-number.ensures
 
-pub returns-in-Some-id_under-clause-always : goal.returns-in-Some-id_under-clause-always
-returns-in-Some-id_under-clause-always c = λ found least.
+pub returns-in_ok-wanted_by-in-None-clause-always : goal.returns-in_ok-wanted_by-in-None-clause-always
+returns-in_ok-wanted_by-in-None-clause-always c = λ found least.
     value_answers found _ (get_once c.args.pairs.now found None least (get_at c.args.pairs.now _ _ c.in-None.is c.in_ok-number.ensures))
+
+pub returns-in_ok-wanted_by-in-None-clause-wanted : goal.returns-in_ok-wanted_by-in-None-clause-wanted
+returns-in_ok-wanted_by-in-None-clause-wanted c = (get_at c.args.pairs.now _ _ c.in-None.is c.in_ok-number.ensures, c.in_ok-wanted_by-in-None.ensures)

@@ -1,0 +1,7 @@
+use Rattle.std.proofs.Common.{codes}
+use Rattle.xapi_query.specs.Parameters.{given}
+use Rattle.xapi_query.proofs.Numbers.{limit_digits}
+use Rattle.xapi_query.proofs.asked.page_under.Goals as goal
+
+pub number-requires-clause-digits : goal.number-requires-clause-digits
+number-requires-clause-digits c = limit_digits (given (codes "limit") c.args.pairs.now) c.in-Some.text.now c.as_bytes.result.now c.in-Some.ensures c.as_bytes.ensures.lent c.requires
