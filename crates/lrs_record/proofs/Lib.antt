@@ -11,4 +11,5 @@ pub mod Escapes
 pub mod ValueKinds
 pub mod SameWritten
 pub mod Commands
+pub mod ManyTrees
 pub mod Told

@@ -10,9 +10,10 @@ use Rattle.lrs_record.specs.Entries.{HoldsCaller, HoldsCommand, IsLawful, IsLawf
 use Rattle.lrs_record.specs.declared.entry.Caller.{Caller}
 use Rattle.lrs_record.specs.declared.entry.Caller.TheVariants.{Nobody, Operator, Token}
 use Rattle.lrs_record.specs.declared.entry.Command.{Command}
-use Rattle.lrs_record.specs.declared.entry.Command.TheVariants.{Found, Provider, Put, Get, About, Refused}
+use Rattle.lrs_record.specs.declared.entry.Command.TheVariants.{Found, Provider, Put, Post, Get, More, About, Refused}
 use Rattle.lrs_record.specs.declared.entry.Entry.{Entry}
 use Rattle.lrs_record.proofs.Decimals.{Fits-moment}
+use Rattle.lrs_record.proofs.ManyTrees.{Fits-trees, shallow_trees}
 use Rattle.lrs_record.proofs.Words.{IsUtf8-draw_text, IsUtf8-small}
 
 IsUtf8-caller_text : (caller : Caller) → HoldsCaller caller → IsUtf8 (caller_text caller)
@@ -39,16 +40,25 @@ Fits-command (Put id statement) lawful holds = (
   (IsUtf8-small (codes "id") refl, refl, IsUtf8-id_text id, (IsUtf8-small (codes "statement") refl, refl, lawful.0, tt)),
   tt,
 )
+Fits-command (Post statements) lawful holds = (
+  IsUtf8-small (codes "post") refl,
+  refl,
+  (IsUtf8-small (codes "statements") refl, refl, Fits-trees statements lawful, tt),
+  tt,
+)
 Fits-command (Get wanted) lawful holds = absurd lawful
+Fits-command (More link) lawful holds = absurd lawful
 Fits-command About lawful holds = absurd lawful
 Fits-command (Refused area status rule) lawful holds = absurd lawful
 
--- two levels above a statement
-shallow_command : (command : Command) → IsLawfulCommand command → depth (command_json command) ≤ 66
+-- at most three levels above a statement
+shallow_command : (command : Command) → IsLawfulCommand command → depth (command_json command) ≤ 67
 shallow_command (Found admin base) lawful = omega arith
 shallow_command (Provider name) lawful = omega arith
 shallow_command (Put id statement) lawful = omega (arith, lawful.1)
+shallow_command (Post statements) lawful = omega (arith, shallow_trees statements lawful)
 shallow_command (Get wanted) lawful = absurd lawful
+shallow_command (More link) lawful = absurd lawful
 shallow_command About lawful = absurd lawful
 shallow_command (Refused area status rule) lawful = absurd lawful
 

@@ -1,13 +1,13 @@
 -- The text of a lawful entry tells the entry.
-use Rattle.std.proofs.Common.{◌≡◌, ◌<◌, ◌^◌, ℕ, List, Result, Ok, codes, arith, refl, sym, ap, ◌∙◌, subst}
+use Rattle.std.proofs.Common.{◌≡◌, ◌<◌, ◌^◌, ℕ, List, map, Result, Ok, codes, arith, refl, sym, ap, ◌∙◌, subst}
 use Rattle.std.specs.Fmt.{decimal}
 use Rattle.std.specs.Int.{to_be_bytes, w128}
 use Rattle.std.proofs.lemmas.Fmt.{decimal_injective}
 use Rattle.hex.specs.Hex.{decode_of}
 use Rattle.hex.specs.declared.error.FromHexError.{FromHexError}
 use Rattle.hex.proofs.HexLemmas.{decode_of-encode_lower}
-use Rattle.lrs_json.specs.Json.{number, string}
-use Rattle.lrs_json.specs.View.{view}
+use Rattle.lrs_json.specs.Json.{array, number, string}
+use Rattle.lrs_json.specs.View.{elements_of, view}
 use Rattle.lrs_json.specs.declared.tree.Tree.{Tree}
 use Rattle.lrs_json.proofs.Back.{same_tree}
 use Rattle.lrs_names.specs.Ids.{IsId, id_text}
@@ -18,10 +18,11 @@ use Rattle.lrs_record.specs.Entries.{HoldsCommand, HoldsDraw, IsLawful, IsLawful
 use Rattle.lrs_record.specs.declared.entry.Caller.{Caller}
 use Rattle.lrs_record.specs.declared.entry.Caller.TheVariants.{Nobody, Operator, Token}
 use Rattle.lrs_record.specs.declared.entry.Command.{Command}
-use Rattle.lrs_record.specs.declared.entry.Command.TheVariants.{Found, Provider, Put, Get, About, Refused}
+use Rattle.lrs_record.specs.declared.entry.Command.TheVariants.{Found, Provider, Put, Post, Get, More, About, Refused}
 use Rattle.lrs_record.specs.declared.entry.Entry.{Entry}
-use Rattle.lrs_record.proofs.Commands.{admin_in, base_in, id_in, name_in, of_name, statement_in}
+use Rattle.lrs_record.proofs.Commands.{admin_in, base_in, id_in, name_in, of_name, statement_in, statements_in}
 use Rattle.lrs_record.proofs.EntryParts.{member_texts}
+use Rattle.lrs_record.proofs.ManyTrees.{same_trees}
 use Rattle.lrs_record.proofs.Readable.{readable}
 use Rattle.lrs_record.proofs.SameParts.{one_part, two_parts}
 use Rattle.lrs_record.proofs.SameWritten.{told_by_written}
@@ -86,6 +87,12 @@ same_put id key statement tree x y e =
     let second : statement ≡ tree = same_tree statement tree (ap (λ pair. pair.1) parts.1) in
     rw (first, second) refl
 
+same_post : (statements trees : List Tree) → command_json (Post statements) ≡ command_json (Post trees) → Post statements ≡ Post trees
+same_post statements trees e =
+    let args = (same_args (Post statements) (Post trees) e).1 in
+    let part = one_part _ (codes "statements", array (elements_of (map view statements))) (codes "statements", array (elements_of (map view trees))) refl args in
+    ap Post (same_trees statements trees (ap (λ pair. pair.1) part))
+
 -- The names are compared first, so that the other is of the same sort.
 same_command : (a b : Command) → IsLawfulCommand a → HoldsCommand a → HoldsCommand b → command_json a ≡ command_json b → a ≡ b
 same_command (Found admin base) b lawful x y e =
@@ -98,7 +105,11 @@ same_command (Put id statement) b lawful x y e =
     let is : b ≡ Put (id_in b) (statement_in b) = of_name b (codes "put") (sym (same_args (Put id statement) b e).0) in
     let key : IsId (id_in b) = subst HoldsCommand is y in
     same_put id (id_in b) statement (statement_in b) x key (e ∙ ap command_json is) ∙ sym is
+same_command (Post statements) b lawful x y e =
+    let is : b ≡ Post (statements_in b) = of_name b (codes "post") (sym (same_args (Post statements) b e).0) in
+    same_post statements (statements_in b) (e ∙ ap command_json is) ∙ sym is
 same_command (Get wanted) b lawful x y e = absurd lawful
+same_command (More link) b lawful x y e = absurd lawful
 same_command About b lawful x y e = absurd lawful
 same_command (Refused area status rule) b lawful x y e = absurd lawful
 

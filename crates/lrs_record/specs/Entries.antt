@@ -1,18 +1,20 @@
 -- The text of an entry: `{"caller":C,"moment":MS,"draw":HEX64,"command":{NAME:ARGS}}`, in the written form of JSON.
-use Rattle.std.specs.Prelude.{◌≡◌, ◌≢◌, ◌<◌, ◌≤◌, ◌^◌, ℕ, List, [], ◌∷◌, ◌++◌, codes, IsUtf8}
+use Rattle.std.specs.Prelude.{◌≡◌, ◌≢◌, ◌<◌, ◌≤◌, ◌^◌, ℕ, List, [], ◌∷◌, ◌++◌, map, codes, IsUtf8}
 use Rattle.std.specs.Fmt.{decimal}
 use Rattle.std.specs.Int.{to_be_bytes, w128}
+use Rattle.std.specs.List.{AllByRecursion}
 use Rattle.hex.specs.Hex.{encode_lower}
 use Rattle.lrs_json.specs.Fits.{IsReadable}
-use Rattle.lrs_json.specs.Json.{Json, number, string, object}
-use Rattle.lrs_json.specs.View.{view, members_of}
+use Rattle.lrs_json.specs.Json.{Json, number, string, array, object}
+use Rattle.lrs_json.specs.View.{view, elements_of, members_of}
 use Rattle.lrs_json.specs.Written.{written}
+use Rattle.lrs_json.specs.declared.tree.Tree.{Tree}
 use Rattle.lrs_names.specs.Ids.{IsId, id_text}
 use Rattle.lrs_names.specs.declared.draw.Draw.{Draw}
 use Rattle.lrs_record.specs.declared.entry.Caller.{Caller}
 use Rattle.lrs_record.specs.declared.entry.Caller.TheVariants.{Nobody, Operator, Token}
 use Rattle.lrs_record.specs.declared.entry.Command.{Command}
-use Rattle.lrs_record.specs.declared.entry.Command.TheVariants.{Found, Provider, Put, Get, About, Refused}
+use Rattle.lrs_record.specs.declared.entry.Command.TheVariants.{Found, Provider, Put, Post, Get, More, About, Refused}
 use Rattle.lrs_record.specs.declared.entry.Entry.{Entry}
 use Rattle.lrs_record.specs.Moments.{latest}
 
@@ -39,7 +41,9 @@ abbrev pub command_name : Command → List ℕ
 command_name (Found admin base) = codes "found"
 command_name (Provider name) = codes "provider"
 command_name (Put id statement) = codes "put"
+command_name (Post statements) = codes "post"
 command_name (Get wanted) = []
+command_name (More link) = []
 command_name About = []
 command_name (Refused area status rule) = []
 
@@ -52,11 +56,16 @@ provider_args name = (codes "name", string name) ∷ []
 abbrev pub put_args : List ℕ → Json → List (List ℕ × Json)
 put_args id statement = (codes "id", string (id_text id)) ∷ (codes "statement", statement) ∷ []
 
+abbrev pub post_args : List Tree → List (List ℕ × Json)
+post_args statements = (codes "statements", array (elements_of (map view statements))) ∷ []
+
 abbrev pub command_args : Command → List (List ℕ × Json)
 command_args (Found admin base) = found_args admin base
 command_args (Provider name) = provider_args name
 command_args (Put id statement) = put_args id (view statement)
+command_args (Post statements) = post_args statements
 command_args (Get wanted) = []
+command_args (More link) = []
 command_args About = []
 command_args (Refused area status rule) = []
 
@@ -81,12 +90,17 @@ IsLawfulCaller (Token token) = (token ≢ []) × (token ≢ codes "*")
 abbrev pub IsLawfulTree : Json → Type 0
 IsLawfulTree tree = IsReadable 64 tree
 
+abbrev pub AreLawfulTrees : List Tree → Type 0
+AreLawfulTrees trees = AllByRecursion (λ tree. IsLawfulTree (view tree)) trees
+
 -- It is one that is kept, and its trees are such as reading gives.
 abbrev pub IsLawfulCommand : Command → Type 0
 IsLawfulCommand (Found admin base) = Unit {0}
 IsLawfulCommand (Provider name) = Unit {0}
 IsLawfulCommand (Put id statement) = IsLawfulTree (view statement)
+IsLawfulCommand (Post statements) = AreLawfulTrees statements
 IsLawfulCommand (Get wanted) = ⊥
+IsLawfulCommand (More link) = ⊥
 IsLawfulCommand About = ⊥
 IsLawfulCommand (Refused area status rule) = ⊥
 
@@ -101,7 +115,9 @@ abbrev pub HoldsCommand : Command → Type 0
 HoldsCommand (Found admin base) = IsUtf8 admin × IsUtf8 base
 HoldsCommand (Provider name) = IsUtf8 name
 HoldsCommand (Put id statement) = IsId id
+HoldsCommand (Post statements) = Unit {0}
 HoldsCommand (Get wanted) = Unit {0}
+HoldsCommand (More link) = Unit {0}
 HoldsCommand About = Unit {0}
 HoldsCommand (Refused area status rule) = Unit {0}
 

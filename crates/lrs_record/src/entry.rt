@@ -2,9 +2,9 @@ ghost use Rattle.std.specs.Prelude.{◌≡◌};
 ghost use Rattle.lrs_record.specs.Entries.{HoldsCaller, caller_text, command_name};
 
 use crate::{Area, Moment, Rule};
-use lrs_json::{Text, Tree};
+use lrs_json::{Items, Text, Tree};
 use lrs_names::{Draw, Id};
-use xapi_query::Wanted;
+use xapi_query::{MoreLink, Wanted};
 
 /// What is presented for a command.
 #[derive(Drop)]
@@ -26,8 +26,12 @@ pub enum Command {
     Provider { name: Text },
     /// Keeps a statement under an id.
     Put { id: Id, statement: Tree },
+    /// Keeps statements together, each under the id that it gives itself or one that is made.
+    Post { statements: Items<Tree> },
     /// Asks for statements.
     Get(Wanted),
+    /// Asks for the next page of a list.
+    More(MoreLink),
     /// Asks for the versions of xAPI that are spoken.
     About,
     /// A request whose form is refused with that status and that rule, once its caller has been looked at.
@@ -53,7 +57,8 @@ impl Command {
             Command::Found { .. } => "found",
             Command::Provider { .. } => "provider",
             Command::Put { .. } => "put",
-            Command::Get(_) | Command::About | Command::Refused { .. } => "",
+            Command::Post { .. } => "post",
+            Command::Get(_) | Command::More(_) | Command::About | Command::Refused { .. } => "",
         }
     }
 }

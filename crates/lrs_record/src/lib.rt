@@ -87,6 +87,46 @@ mod tests {
         Ok(())
     }
 
+    #[test]
+    fn reads_a_post_back(rt: HostRuntime) -> Result<(), Fail> {
+        let alloc = rt.alloc();
+        for (statements, number) in [("[]", 0), ("[{\"a\":[1]},{}]", 2)] {
+            let text = format!(in alloc;
+                "{{\"caller\":\"token-1\",\"moment\":1,\"draw\":\"{:064}\",\"command\":{{\"post\":{{\"statements\":{statements}}}}}}}",
+                0
+            )?;
+            let entry = read_entry(alloc, text.as_bytes())?;
+            assert!(rt;
+                matches!(&entry.command, Command::Post { statements } if statements.len() == number)
+            );
+            let mut again = Vec::new(alloc);
+            write_entry(&entry, &mut again)?;
+            assert_eq!(rt; again.as_slice(), text.as_bytes());
+        }
+        Ok(())
+    }
+
+    // Statements of 64 and of 65 levels, and one that is no array.
+    #[test]
+    fn holds_a_post_against_its_limits(rt: HostRuntime) -> Result<(), Fail> {
+        let alloc = rt.alloc();
+        for (levels, good) in [(64, true), (65, false)] {
+            let deep = "[".repeat(alloc, levels)?;
+            let up = "]".repeat(alloc, levels)?;
+            let text = format!(in alloc;
+                "{{\"caller\":\"\",\"moment\":1,\"draw\":\"{:064}\",\"command\":{{\"post\":{{\"statements\":[1,{deep}{up}]}}}}}}",
+                0
+            )?;
+            assert!(rt; read_entry(alloc, text.as_bytes()).is_ok() == good);
+        }
+        let alone = format!(in alloc;
+            "{{\"caller\":\"\",\"moment\":1,\"draw\":\"{:064}\",\"command\":{{\"post\":{{\"statements\":{{}}}}}}}}",
+            0
+        )?;
+        assert!(rt; read_entry(alloc, alone.as_bytes()).is_err());
+        Ok(())
+    }
+
     // The founding entry with one place changed.
     #[test]
     fn refuses_other_spellings(rt: HostRuntime) -> Result<(), Fail> {

@@ -1,9 +1,10 @@
-ghost use Rattle.std.specs.Prelude.{◌≡◌, [], ◌∷◌, ℕ, List, map, IsSome, IfSome, vec_len};
-ghost use Rattle.lrs_json.specs.Json.{Json, object, string};
-ghost use Rattle.lrs_json.specs.View.{member_view, members_of, view};
+ghost use Rattle.std.specs.Prelude.{◌≡◌, [], ◌∷◌, ℕ, List, Some, map, IsSome, IfSome, vec_len};
+ghost use Rattle.lrs_json.specs.Json.{Json, array, object, string};
+ghost use Rattle.lrs_json.specs.View.{elements_of, member_view, members_of, view};
+ghost use Rattle.lrs_json.specs.declared.tree.Tree.{Tree as SpecTree};
 ghost use Rattle.lrs_record.specs.Widths.{width};
 
-use lrs_json::{Member, Text, Tree};
+use lrs_json::{Items, Member, Text, Tree};
 
 /// The member of the tree, where it is an object of one.
 pub fn one(tree: Tree) -> Option<Member>
@@ -82,6 +83,17 @@ pub fn text(member: Member, name: &str) -> Option<Text>
 {
     match named(member, name)? {
         Tree::Words(text) => Some(text),
+        _ => None,
+    }
+}
+
+/// The items of the array that is the value of the member, where it has that name.
+pub fn items(member: Member, name: &str) -> Option<Items<Tree>>
+    ensures found { IfSome result (λ items. member_view member ≡ (name.now, array (elements_of (map view items)))) }
+    ensures all { (items : List SpecTree) → member_view member ≡ (name.now, array (elements_of (map view items))) → result ≡ Some items }
+{
+    match named(member, name)? {
+        Tree::List(items) => Some(items),
         _ => None,
     }
 }

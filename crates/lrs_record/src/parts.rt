@@ -1,11 +1,13 @@
-ghost use Rattle.std.specs.Prelude.{◌≡◌, ◌≤◌, ℕ, List, Some, IfSome, codes};
+ghost use Rattle.std.specs.Prelude.{◌≡◌, ◌≤◌, ◌↔◌, ℕ, List, Some, IfSome, IsTrue, codes};
 ghost use Rattle.std.specs.Fmt.{decimal};
+ghost use Rattle.std.specs.List.{AllByRecursion};
+ghost use Rattle.lrs_json.specs.Depth.{depth};
 ghost use Rattle.lrs_json.specs.Fits.{Fits};
 ghost use Rattle.lrs_json.specs.Json.{number};
 ghost use Rattle.lrs_json.specs.View.{member_view, view};
 ghost use Rattle.lrs_json.specs.declared.tree.Tree.{Tree as SpecTree};
 ghost use Rattle.lrs_names.specs.Ids.{IsId};
-ghost use Rattle.lrs_record.specs.Entries.{HoldsCommand, IsLawful, IsLawfulCaller, IsLawfulCommand, IsLawfulTree, caller_text, command_json, entry_json, fields, found_args, provider_args, put_args};
+ghost use Rattle.lrs_record.specs.Entries.{AreLawfulTrees, HoldsCommand, IsLawful, IsLawfulCaller, IsLawfulCommand, IsLawfulTree, caller_text, command_json, entry_json, fields, found_args, post_args, provider_args, put_args};
 ghost use Rattle.lrs_record.specs.Moments.{latest};
 ghost use Rattle.lrs_record.specs.declared.entry.Caller.{Caller as SpecCaller};
 ghost use Rattle.lrs_record.specs.declared.entry.Command.{Command as SpecCommand};
@@ -13,7 +15,7 @@ ghost use Rattle.lrs_record.specs.declared.entry.Entry.{Entry as SpecEntry};
 
 use crate::depth::is_within;
 use crate::digits::draw_of;
-use crate::members::{four, named, one, text, two};
+use crate::members::{four, items, named, one, text, two};
 use crate::{Caller, Command, Entry, Moment};
 use lrs_json::{Member, Text, Tree};
 use lrs_names::Id;
@@ -70,6 +72,7 @@ fn command_of(member: Member) -> Option<Command>
         "found" => found_of(value),
         "provider" => provider_of(value),
         "put" => put_of(value),
+        "post" => post_of(value),
         _ => None,
     }
 }
@@ -107,4 +110,28 @@ fn put_of(args: Tree) -> Option<Command>
     } else {
         None
     }
+}
+
+fn post_of(args: Tree) -> Option<Command>
+    requires { Fits (view args) }
+    ensures lawful { IfSome result IsLawfulCommand }
+    ensures all { (statements : List SpecTree) → AreLawfulTrees statements → view args ≡ fields (post_args statements) → result ≡ Some (Command.Post statements) }
+{
+    let statements = items(one(args)?, "statements")?;
+    if are_all_within(statements.as_slice(), 64) {
+        Some(Command::Post { statements })
+    } else {
+        None
+    }
+}
+
+fn are_all_within(trees: &[Tree], levels: u32) -> bool
+    ensures { IsTrue result ↔ AllByRecursion (λ tree. depth (view tree) ≤ levels) trees.now }
+{
+    for tree in trees {
+        if !is_within(tree, levels) {
+            return false;
+        }
+    }
+    true
 }

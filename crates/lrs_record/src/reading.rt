@@ -7,7 +7,7 @@ use crate::{Entry, EntryRefused, write_entry};
 use lrs_json::{Memory, read_to};
 use std::alloc::Global;
 
-/// How deep an entry's text may nest: a statement of 64 levels may stand four levels down.
+/// How deep an entry's text may nest: a statement of 64 levels may stand four levels down, as those of a `post` do.
 const DEPTH: u32 = 68;
 
 /// The entry whose text the bytes are, with nothing before, between or behind.

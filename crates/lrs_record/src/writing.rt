@@ -1,8 +1,8 @@
-ghost use Rattle.std.specs.Prelude.{◌≡◌, ◌≤◌, [], ◌∷◌, ◌++◌, codes, false, true, OnOk, OnErr};
+ghost use Rattle.std.specs.Prelude.{◌≡◌, ◌≤◌, [], ◌∷◌, ◌++◌, codes, map, false, true, OnOk, OnErr};
 ghost use Rattle.std.specs.Fmt.{decimal};
 ghost use Rattle.lrs_json.specs.Json.{number, string};
-ghost use Rattle.lrs_json.specs.View.{members_of, view};
-ghost use Rattle.lrs_json.specs.Written.{Extends, members_text, quoted, written};
+ghost use Rattle.lrs_json.specs.View.{elements_of, members_of, view};
+ghost use Rattle.lrs_json.specs.Written.{Extends, comma_if, elements_text, members_text, quoted, written};
 ghost use Rattle.lrs_record.specs.Entries.{HasValues, HoldsCommand, IsLawful, IsLawfulCaller, IsLawfulCommand, command_args, command_json, written_entry};
 ghost use Rattle.lrs_record.specs.Moments.{latest};
 ghost use Rattle.lrs_record.specs.Texts.{member_text, name_text};
@@ -92,8 +92,27 @@ fn put_args(command: &Command, into: &mut Vec<u8>) -> Result<(), Memory>
             put_name(true, "statement", into)?;
             put_tree(statement, into)
         }
-        Command::Get(_) | Command::About | Command::Refused { .. } => Ok(()),
+        Command::Post { statements } => {
+            put_name(false, "statements", into)?;
+            put(b"[", into)?;
+            put_trees(statements.as_slice(), into)
+        }
+        Command::Get(_) | Command::More(_) | Command::About | Command::Refused { .. } => Ok(()),
     }
+}
+
+// The items of an array and the closing bracket.
+#[tactic(auto, using(lrs_json::proofs::Extending::extends_trans))]
+fn put_trees(trees: &[Tree], into: &mut Vec<u8>) -> Result<(), Memory>
+    ensures ok { OnOk result (into.new.items ≡ into.old.items ++ elements_text false (elements_of (map view trees.now))) }
+    ensures kept { Extends into.old.items into.new.items }
+{
+    for (i, tree) in trees.iter().enumerate() {
+        put_comma(i > 0, into)?;
+        put_tree(tree, into)?;
+    }
+    into.push(b']')?;
+    Ok(())
 }
 
 // A member whose value is a text.
@@ -115,6 +134,16 @@ fn put_name(later: bool, name: &str, into: &mut Vec<u8>) -> Result<(), Memory>
     }
     put_quoted(name, into)?;
     put(b":", into)
+}
+
+fn put_comma(later: bool, into: &mut Vec<u8>) -> Result<(), Memory>
+    ensures ok { OnOk result (into.new.items ≡ into.old.items ++ comma_if later) }
+    ensures kept { Extends into.old.items into.new.items }
+{
+    if later {
+        into.push(b',')?;
+    }
+    Ok(())
 }
 
 fn put_quoted(text: &str, into: &mut Vec<u8>) -> Result<(), Memory>
