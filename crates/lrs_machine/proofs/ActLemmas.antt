@@ -9,20 +9,15 @@ use Rattle.lrs_journal.specs.declared.journal.AppendRefused.TheVariants as appen
 use Rattle.lrs_journal.specs.Journal.{need_of, Held, frames_of, IsJournal, IsUnchanged, IsAppended}
 use Rattle.lrs_record.specs.declared.entry.Caller.{Caller}
 use Rattle.lrs_record.specs.declared.entry.Command.{Command}
-use Rattle.lrs_record.specs.declared.entry.Command.TheVariants.{Put}
 use Rattle.lrs_record.specs.declared.entry.Entry.{Entry}
-use Rattle.lrs_json.specs.Json.{Json}
-use Rattle.lrs_json.specs.View.{view}
 use Rattle.lrs_record.specs.Entries.{IsLawful, written_entry}
 use Rattle.lrs_record.specs.Moments.{clamped, latest}
 use Rattle.lrs_machine.specs.declared.answered.Answered.{Answered}
-use Rattle.lrs_machine.specs.declared.answered.Refusal.{Refusal}
 use Rattle.lrs_machine.specs.declared.answered.Refusal.TheVariants as refusal
-use Rattle.lrs_machine.specs.declared.index.HeldStatement.{HeldStatement}
 use Rattle.lrs_machine.specs.declared.reply.Trouble.{Trouble}
 use Rattle.lrs_machine.specs.declared.reply.Trouble.TheVariants as trouble
-use Rattle.lrs_machine.specs.History.{State, state, step, nothing, Answer, answer, answer_by, kept, thanks, refused, area_of, barred, unless_barred, who_is, said_at_once, put_said, refused_form, held_under, entry_at, need, end_place, IsLegal, ComesNext}
-use Rattle.lrs_machine.specs.Steps.{IsTied, HasFold, IsFresh, Still, Grows, IsFull, SaysBy, Acts}
+use Rattle.lrs_machine.specs.History.{State, state, step, nothing, Answer, answer, answer_by, kept, thanks, refused, said_at_once, entry_at, need, end_place, IsLegal, ComesNext}
+use Rattle.lrs_machine.specs.Steps.{IsTied, HasFold, Still, Grows, IsFull, SaysBy, Acts}
 use Rattle.lrs_machine.specs.Desk.{StandsFor, Answers}
 use Rattle.lrs_machine.proofs.Histories.{state_from-more, map-more, legal_with, one_history}
 
@@ -295,21 +290,3 @@ full_kept told old new st su e payload r n l is full fits text settled same = by
             (record { frames = ap (λ j. frames_of told j) k.1; number = ap (λ j. j.number) k.1; end = ap (λ j. j.end) k.1; limit = ap (λ j. j.limit) k.1 }, same),
           ),
         )
-
--- ---- what may be kept
-
-unbarred : (o : Option Refusal) (s : Option Answered) → unless_barred o s ≡ None → s ≡ None
-unbarred None s is = is
-unbarred (Some r) s is = cc is
-
-fresh_put : (id : List ℕ) (j : Json) (refused : Option Refusal) (held : Option HeldStatement) → put_said id j refused held ≡ None → held ≡ None
-fresh_put id j (Some r) held is = cc is
-fresh_put id j None (Some h) is = cc is
-fresh_put id j None None is = refl
-
--- a statement that may be kept has an id that isn't held
-pub fresh_unsaid : (st : State) (caller : Caller) (command : Command) → said_at_once st caller command ≡ None → IsFresh st command
-fresh_unsaid st caller (Put id statement) none =
-    fresh_put id (view statement) (refused_form id (view statement)) (held_under id st.statements)
-    (unbarred (barred (area_of (Put id statement)) (who_is st.admin st.callers caller)) (put_said id (view statement) (refused_form id (view statement)) (held_under id st.statements)) none)
-fresh_unsaid st caller other none = tt

@@ -1,29 +1,32 @@
 -- What the desk's methods owe, over plain data.
 use Rattle.std.proofs.Common.{◌≡◌, ◌-◌, ℕ, List, refl, sym, ◌∙◌, ap, subst, inl, inr, Option, Some, None, Bool, true, false, nat_lt, Result, Ok, Err, IfOk}
-use Rattle.std.specs.Prelude.{◌⊎◌, if◌then◌else◌}
+use Rattle.std.specs.Prelude.{◌⊎◌, ◌&&◌, if◌then◌else◌, option_map}
 use Rattle.std.specs.Str.{bytes_eq}
 use Rattle.lrs_disk.specs.declared.failed.Failed.{Failed}
 use Rattle.lrs_journal.specs.Journal.{Held}
 use Rattle.lrs_json.specs.Json.{Json}
 use Rattle.lrs_json.specs.View.{view}
 use Rattle.lrs_names.specs.declared.draw.Draw.{Draw}
-use Rattle.xapi_rules.specs.Rules.{broken_rule}
+use Rattle.xapi_equal.specs.Same.{same}
+use Rattle.xapi_rules.specs.Rules.{broken_rule, is_voiding}
+use Rattle.xapi_statement.specs.Completed.{HeldStatement}
 use Rattle.xapi_statement.specs.Statement.{own_id, is_too_long}
 use Rattle.lrs_record.specs.declared.entry.Caller.{Caller}
 use Rattle.lrs_record.specs.declared.entry.Caller.TheVariants.{Nobody, Operator, Token}
 use Rattle.lrs_record.specs.declared.entry.Command.{Command}
-use Rattle.lrs_record.specs.declared.entry.Command.TheVariants.{Provider, Put}
+use Rattle.lrs_record.specs.declared.entry.Command.TheVariants.{Provider, Post, Put}
 use Rattle.lrs_record.specs.declared.entry.Entry.{Entry}
-use Rattle.lrs_machine.specs.Same.{same}
+use Rattle.lrs_record.specs.declared.who.Who.TheVariants as who
 use Rattle.lrs_machine.specs.declared.answered.Answered.{Answered}
 use Rattle.lrs_machine.specs.declared.answered.Answered.TheVariants as said
 use Rattle.lrs_machine.specs.declared.answered.Refusal.{Refusal}
 use Rattle.lrs_machine.specs.declared.answered.Refusal.TheVariants as refusal
-use Rattle.lrs_machine.specs.declared.index.HeldStatement.{HeldStatement}
 use Rattle.lrs_machine.specs.declared.reply.Reply.{Reply}
 use Rattle.lrs_machine.specs.declared.reply.Trouble.{Trouble}
 use Rattle.lrs_machine.specs.declared.reply.Trouble.TheVariants as trouble
-use Rattle.lrs_machine.specs.History.{State, state, Answer, answer, answer_by, thanks, said_at_once, refused, put_said, refused_form, broken_form, other_id, repeated, held_under, need, end_place, with_entry, rule}
+use Rattle.lrs_machine.specs.History.{State, state, Answer, answer, answer_by, thanks, said_at_once, refused, put_said, refused_form, broken_form, other_id, repeated, need, end_place, with_entry}
+use Rattle.lrs_machine.specs.Batches.{forbidden, rule}
+use Rattle.lrs_machine.specs.Statements.{held_under}
 use Rattle.lrs_machine.specs.Steps.{IsPut, Thanks, TellsFull, SaysBy, Acts}
 use Rattle.lrs_machine.specs.Replies.{IsRefusal, IsReplyTo}
 use Rattle.lrs_machine.specs.Desk.{MayRefusePut, IsOfPut, StandsFor, Answers, HasCause, Replies}
@@ -79,7 +82,15 @@ repeated_put id j held = by_same (same (view held.received) j)
     by_same true = tt
     by_same false = tt
 
-said_put : (id : List ℕ) (j : Json) (o : Option Refusal) (held : Option HeldStatement) (s : Answered) → ((r : Refusal) → o ≡ Some r → MayRefusePut r) → put_said id j o held ≡ Some s → IsOfPut s
+-- an admin may void
+admin_voids : (j : Json) → forbidden who.Admin j ≡ None
+admin_voids j = by_verb (is_voiding j)
+  where
+    by_verb : (b : Bool) → (if b && false then Some (refusal.Forbidden (rule 67 2)) else None) ≡ None
+    by_verb true = refl
+    by_verb false = refl
+
+said_put : (id : List ℕ) (j : Json) (o : Option Refusal) (held : Option HeldStatement) (s : Answered) → ((r : Refusal) → o ≡ Some r → MayRefusePut r) → put_said who.Admin id j o held ≡ Some s → IsOfPut s
 said_put id j (Some r) held s of is = subst IsOfPut (one is) (of r refl)
   where
     one : Some (refused r) ≡ Some s → refused r ≡ s
@@ -88,7 +99,7 @@ said_put id j None (Some h) s of is = subst IsOfPut (one is) (repeated_put id j 
   where
     one : Some (repeated id j h) ≡ Some s → repeated id j h ≡ s
     one e = cc
-said_put id j None None s of is = absurd (no is)
+said_put id j None None s of is = absurd (no (sym (ap (λ o. option_map refused o) (admin_voids j)) ∙ is))
   where
     no : ◌≡◌ {A = Option Answered} None (Some s) → ⊥
     no e = cc
@@ -124,6 +135,7 @@ entry_in a = a.entry
 
 thanks_no_refusal : (st : State) (command : Command) (draw : Draw) → IsRefusal (Ok (thanks st command draw)) → ⊥
 thanks_no_refusal st (Provider name) draw k = k
+thanks_no_refusal st (Post statements) draw k = k
 thanks_no_refusal st other draw k = k
 
 unkept_entry : (o : Option Answered) (limit place : ℕ) (t : Answered) (e : Entry) (s : Answered) → (IsRefusal (Ok t) → ⊥) → s ≡ (answer_by o limit place t e).said → IsRefusal (Ok s) → (answer_by o limit place t e).entry ≡ None

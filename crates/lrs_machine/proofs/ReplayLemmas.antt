@@ -10,7 +10,7 @@ use Rattle.lrs_journal.specs.Replay.{Reading, HasReadTo, HasRead, IsSamePlace}
 use Rattle.lrs_record.specs.declared.entry.Caller.{Caller}
 use Rattle.lrs_record.specs.declared.entry.Caller.TheVariants.{Nobody, Operator, Token}
 use Rattle.lrs_record.specs.declared.entry.Command.{Command}
-use Rattle.lrs_record.specs.declared.entry.Command.TheVariants.{Found, Put}
+use Rattle.lrs_record.specs.declared.entry.Command.TheVariants.{Found, Put, Post}
 use Rattle.lrs_record.specs.declared.entry.Entry.{Entry}
 use Rattle.lrs_record.specs.Entries.{IsLawful, written_entry}
 use Rattle.lrs_record.specs.Moments.{clamped, latest}
@@ -20,13 +20,14 @@ use Rattle.lrs_machine.specs.declared.opening.DeskRefused.TheVariants as desk
 use Rattle.lrs_machine.specs.Founding.{is_token, is_base}
 use Rattle.lrs_machine.specs.History.{State, state, step, thanks, nothing, Answer, answer_by, kept, said_at_once, entry_at, need, end_place, IsLegalFrom, ComesNext, IsFounding, Founds}
 use Rattle.lrs_machine.specs.Desk.{BeginsWith, HasLegalFrames, IsRefused}
-use Rattle.lrs_machine.specs.Steps.{IsFresh}
+use Rattle.lrs_machine.specs.Steps.{IsJudged}
 use Rattle.lrs_journal.specs.declared.replay.ReplayRefused.{ReplayRefused}
 use Rattle.lrs_journal.specs.declared.replay.ReplayRefused.TheVariants as replay
 use Rattle.lrs_machine.specs.Replays.{is_operator, is_zero, founds, is_founding, may_come, refusal_of, IsReplayed, TakesEntry}
 use Rattle.lrs_journal.proofs.Unique.{store_length}
 use Rattle.lrs_machine.proofs.Histories.{state_from-more, map-more, legal-more}
-use Rattle.lrs_machine.proofs.ActLemmas.{no_room, kept_answer, fresh_unsaid}
+use Rattle.lrs_machine.proofs.ActLemmas.{no_room, kept_answer}
+use Rattle.lrs_machine.proofs.Judged.{judged_unsaid}
 
 -- ---- tests
 
@@ -248,15 +249,16 @@ pub taken_damaged : {D : Type 0} (bytes : List ℕ) (old : Reading D) (st : Stat
 taken_damaged bytes old st h j k long so_far is damaged =
     (old.limit, h, legal_frames bytes old st h j (sym (length-map h written_entry) ∙ (sym so_far.frames.counts ∙ sym is)) so_far, damaged)
 
--- ---- what may come is fresh
+-- ---- what may come is judged
 
-fresh_founds : (st : State) (c : Command) → founds c ≡ true → IsFresh st c
-fresh_founds st (Put id statement) is = cc is
-fresh_founds st other is = tt
+judged_founds : (c : Command) → founds c ≡ true → IsJudged c
+judged_founds (Put id statement) is = cc is
+judged_founds (Post statements) is = cc is
+judged_founds other is = tt
 
-pub fresh_may : (b : Bool) (limit place : ℕ) (st : State) (e : Entry) → may_come b limit place st e ≡ true → IsFresh st e.command
-fresh_may true limit place st e is = fresh_founds st e.command (second (is_operator e.caller && is_zero e.draw) (founds e.command) is)
-fresh_may false limit place st e is = fresh_unsaid st e.caller e.command (none_is (said_at_once st e.caller e.command)
+pub judged_may : (b : Bool) (limit place : ℕ) (st : State) (e : Entry) → may_come b limit place st e ≡ true → IsJudged e.command
+judged_may true limit place st e is = judged_founds e.command (second (is_operator e.caller && is_zero e.draw) (founds e.command) is)
+judged_may false limit place st e is = judged_unsaid st e.caller e.command (none_is (said_at_once st e.caller e.command)
     (first (is_none (said_at_once st e.caller e.command)) (nat_le st.last e.moment)
     (first (is_none (said_at_once st e.caller e.command) && nat_le st.last e.moment) (nat_lt place limit) is)))
 

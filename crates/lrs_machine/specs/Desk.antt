@@ -6,10 +6,10 @@ use Rattle.lrs_journal.specs.Store.{store, HasHeader, IsPayload, Stands, IsDamag
 use Rattle.lrs_journal.specs.Journal.{Held, frames_of, StandsFor as JournalStandsFor}
 use Rattle.lrs_record.specs.declared.entry.Caller.TheVariants.{Operator}
 use Rattle.lrs_record.specs.declared.entry.Command.{Command}
-use Rattle.lrs_record.specs.declared.entry.Command.TheVariants.{Found, Put}
+use Rattle.lrs_record.specs.declared.entry.Command.TheVariants.{Found, Put, Post}
 use Rattle.lrs_record.specs.declared.entry.Entry.{Entry}
 use Rattle.lrs_json.specs.View.{view}
-use Rattle.lrs_record.specs.Entries.{IsLawful, IsLawfulTree, written_entry}
+use Rattle.lrs_record.specs.Entries.{AreLawfulTrees, IsLawful, IsLawfulTree, written_entry}
 use Rattle.lrs_record.specs.Moments.{clamped}
 use Rattle.lrs_machine.specs.declared.answered.Answered.{Answered}
 use Rattle.lrs_machine.specs.declared.answered.Answered.TheVariants.{Shown, Refused}
@@ -51,6 +51,7 @@ HoldsPrefix limit least h bytes = (n : ℕ) × (least ≤ n) × (n ≤ length h)
 -- The trees of a command are such as reading gives.
 abbrev pub HasReadTrees : Command → Type 0
 HasReadTrees (Put id statement) = IsLawfulTree (view statement)
+HasReadTrees (Post statements) = AreLawfulTrees statements
 HasReadTrees other = Unit {0}
 
 -- What comes of an act that answers by a over the history h. In trouble with the disk the answer's entry may be in doubt, and no other comes into doubt.

@@ -1,19 +1,26 @@
 -- The store as a plain list of entries: what it holds, what it answers, and which lists can have come about.
-use Rattle.std.specs.Prelude.{◌≡◌, ◌<◌, ◌+◌, ◌-◌, ◌^◌, ◌==◌, ℕ, min, max, List, [], ◌∷◌, ◌++◌, length, map, find, position, Option, Some, None, Bool, true, false, is_some, option_map, if◌then◌else◌, nat_lt}
+use Rattle.std.specs.Prelude.{◌≡◌, ◌<◌, ◌+◌, ◌-◌, ◌^◌, ◌==◌, ℕ, min, max, List, [], ◌∷◌, ◌++◌, length, map, position, take, Option, Some, None, Bool, true, false, not, ◌&&◌, option_map, if◌then◌else◌, nat_lt}
 use Rattle.std.specs.Str.{bytes_eq}
 use Rattle.lrs_json.specs.View.{view}
 use Rattle.lrs_json.specs.Json.{Json}
-use Rattle.lrs_json.specs.Written.{written}
+use Rattle.lrs_json.specs.declared.tree.Tree.{Tree}
 use Rattle.lrs_names.specs.declared.draw.Draw.{Draw}
+use Rattle.xapi_equal.specs.Same.{same}
 use Rattle.xapi_rules.specs.Rules.{broken_rule}
+use Rattle.xapi_statement.specs.Completed.{HeldStatement}
+use Rattle.xapi_statement.specs.Shown.{shown_text}
+use Rattle.xapi_statement.specs.declared.format.Format.{Format}
 use Rattle.xapi_statement.specs.Statement.{is_too_long, own_id}
+use Rattle.xapi_query.specs.Filters.{sees}
+use Rattle.xapi_query.specs.declared.link.MoreLink.{MoreLink}
+use Rattle.xapi_query.specs.declared.query.Query.{Query}
 use Rattle.xapi_query.specs.declared.wanted.Wanted.{Wanted}
-use Rattle.xapi_query.specs.declared.wanted.Wanted.TheVariants.{One}
+use Rattle.xapi_query.specs.declared.wanted.Wanted.TheVariants.{One, Voided, Many}
 use Rattle.lrs_journal.specs.Store.{store}
 use Rattle.lrs_record.specs.declared.entry.Caller.{Caller}
 use Rattle.lrs_record.specs.declared.entry.Caller.TheVariants.{Nobody, Operator, Token}
 use Rattle.lrs_record.specs.declared.entry.Command.{Command}
-use Rattle.lrs_record.specs.declared.entry.Command.TheVariants.{Found, Provider, Put, Get, About, Refused}
+use Rattle.lrs_record.specs.declared.entry.Command.TheVariants.{Found, Provider, Put, Post, Get, More, About, Refused}
 use Rattle.lrs_record.specs.declared.entry.Entry.{Entry}
 use Rattle.lrs_record.specs.declared.rule.Area.{Area}
 use Rattle.lrs_record.specs.declared.rule.Area.TheVariants.{Free, Store, Desk}
@@ -28,10 +35,11 @@ use Rattle.lrs_machine.specs.declared.answered.Answered.TheVariants as answered
 use Rattle.lrs_machine.specs.declared.answered.Refusal.{Refusal}
 use Rattle.lrs_machine.specs.declared.answered.Refusal.TheVariants.{Conflict, Full, Broken, TooLong, Unauthorized, Forbidden, NotFound}
 use Rattle.lrs_machine.specs.declared.callers.HeldCaller.{HeldCaller}
-use Rattle.lrs_machine.specs.declared.index.HeldStatement.{HeldStatement}
 use Rattle.lrs_machine.specs.Founding.{IsToken, IsBase}
-use Rattle.lrs_machine.specs.Same.{same}
-use Rattle.lrs_machine.specs.Texts.{is_name, token_text, caller_body, versions_body, with_id}
+use Rattle.lrs_machine.specs.Statements.{add_each, authority_of, held_under, is_voided, sight_of}
+use Rattle.lrs_machine.specs.Batches.{are_old, forbidden, given_ids, ids_in, kept_by, named_in, refused_batch, refused_in, rule}
+use Rattle.lrs_machine.specs.Listings.{page_behind, page_body}
+use Rattle.lrs_machine.specs.Texts.{is_name, token_text, caller_body, ids_body, versions_body}
 
 -- ---- what the entries give
 
@@ -41,7 +49,7 @@ pub record State : Type 0 where
   pub admin : Option (List ℕ)
   -- the providers in the order in which they were made, each with its name and its token
   pub callers : List HeldCaller
-  -- the statements in the order in which they were accepted, each under an id of its own, with who gave it
+  -- the statements in the order in which they were accepted, each under an id of its own
   pub statements : List HeldStatement
   -- how many entries there are
   pub length : ℕ
@@ -84,21 +92,15 @@ abbrev pub callers_after : List HeldCaller → ℕ → Command → Draw → List
 callers_after callers place (Provider name) draw = callers ++ new_caller name place draw ∷ []
 callers_after callers place command draw = callers
 
--- the statement that is held under an id
-abbrev pub held_under : List ℕ → List HeldStatement → Option HeldStatement
-held_under id statements = find (λ s. bytes_eq s.id id) statements
-
--- the first statement of an id counts
-abbrev pub statements_after : List HeldStatement → Who → Command → List HeldStatement
-statements_after statements by (Put id statement) =
-    if is_some (held_under id statements) then statements else statements ++ record { id = id; received = statement; by = by } ∷ []
-statements_after statements by command = statements
+-- the statements that a command brings, as they are kept: with the moment of its entry and its caller's authority
+abbrev pub brought : State → Entry → List HeldStatement
+brought st e = kept_by e.moment (authority_of st.callers (who_is st.admin st.callers e.caller)) (named_in st.statements e.draw e.command)
 
 abbrev pub step : State → Entry → State
 step st e = record {
   admin = admin_after st.admin e.command;
   callers = callers_after st.callers st.length e.command e.draw;
-  statements = statements_after st.statements (who_is st.admin st.callers e.caller) e.command;
+  statements = add_each st.statements (brought st e);
   length = st.length + 1;
   last = e.moment;
 }
@@ -118,16 +120,14 @@ state entries = state_from nothing entries
 abbrev pub refused : Refusal → Answered
 refused refusal = answered.Refused refusal
 
--- rule n of the family of this letter
-abbrev pub rule : ℕ → ℕ → Rule
-rule family n = record { family = family; number = n }
-
 -- where a command goes, by what it asks of its caller
 abbrev pub area_of : Command → Area
 area_of (Found admin base) = Desk
 area_of (Provider name) = Desk
 area_of (Put id statement) = Store
+area_of (Post statements) = Store
 area_of (Get wanted) = Store
+area_of (More link) = Store
 area_of About = Free
 area_of (Refused area status rule) = area
 
@@ -166,37 +166,55 @@ refused_form id j = if is_too_long j then Some TooLong else broken_form id j (br
 abbrev pub repeated : List ℕ → Json → HeldStatement → Answered
 repeated id j held = if same (view held.received) j then Same else refused (Conflict id)
 
-abbrev pub put_said : List ℕ → Json → Option Refusal → Option HeldStatement → Option Answered
-put_said id j (Some refusal) held = Some (refused refusal)
-put_said id j None (Some held) = Some (repeated id j held)
-put_said id j None None = None
+abbrev pub put_said : Who → List ℕ → Json → Option Refusal → Option HeldStatement → Option Answered
+put_said by id j (Some refusal) held = Some (refused refusal)
+put_said by id j None (Some held) = Some (repeated id j held)
+put_said by id j None None = option_map refused (forbidden by j)
 
--- who sees a statement: an admin each, a provider what its own entries gave
-abbrev pub is_seen : Who → Who → Bool
-is_seen who.Admin by = true
-is_seen (who.Provider k) (who.Provider j) = j == k
-is_seen (who.Provider k) other = false
-is_seen who.Unknown by = false
+-- statements of which none is new make no entry, and are told their ids
+abbrev pub old_said : List HeldStatement → List Tree → Option Answered
+old_said statements trees = if are_old statements trees then Some (Shown (ids_body (given_ids trees)) None) else None
 
--- a statement as it was received, its id put last where it had none
-abbrev pub statement_body : HeldStatement → List ℕ
-statement_body held = written (with_id held.id (view held.received))
+abbrev pub post_said : List HeldStatement → List Tree → Option Refusal → Option Refusal → Option Answered
+post_said statements trees (Some refusal) met = Some (refused refusal)
+post_said statements trees None (Some refusal) = Some (refused refusal)
+post_said statements trees None None = old_said statements trees
 
--- the statement that is wanted, where it is held and seen, consistent up to the last entry
-abbrev pub one_said : Who → ℕ → Option HeldStatement → Answered
-one_said by last None = refused NotFound
-one_said by last (Some held) = if is_seen by held.by then Shown (statement_body held) (Some last) else refused NotFound
+-- a caller sees it, and it is voided or not as is asked
+abbrev pub is_shown : Who → Bool → List HeldStatement → HeldStatement → Bool
+is_shown by true statements held = sees (sight_of by) held && is_voided statements held
+is_shown by false statements held = sees (sight_of by) held && not (is_voided statements held)
+
+-- the statement that is wanted, where it is held and shown, consistent up to the last entry
+abbrev pub one_said : State → Who → Format → Bool → Option HeldStatement → Answered
+one_said st by format voided None = refused NotFound
+one_said st by format voided (Some held) =
+    if is_shown by voided st.statements held then Shown (shown_text format held) (Some st.last) else refused NotFound
+
+-- the page behind a position in the list as of the first n statements, consistent up to the last entry
+abbrev pub page_said : State → Who → Query → ℕ → Option ℕ → Answered
+page_said st by query n after =
+    Shown (page_body query n st.statements (page_behind query (sight_of by) (take n st.statements) after)) (Some st.last)
 
 abbrev pub wanted_said : State → Who → Wanted → Answered
-wanted_said st by (One id format) = one_said by st.last (held_under id st.statements)
+wanted_said st by (One id format) = one_said st by format false (held_under id st.statements)
+wanted_said st by (Voided id format) = one_said st by format true (held_under id st.statements)
+wanted_said st by (Many query) = page_said st by query (length st.statements) None
+
+-- a link may not speak of more statements than there are: P14
+abbrev pub more_said : State → Who → MoreLink → Answered
+more_said st by link =
+    if nat_lt (length st.statements) link.asof then refused (Broken (rule 80 14)) else page_said st by link.query link.asof (Some link.after)
 
 -- What a caller who is let in is told at once, or None where the command is to have an entry. A `found` command is no
 -- command of a founded store.
 abbrev pub said_inside : State → Who → Command → Option Answered
 said_inside st by (Found admin base) = Some (refused NotFound)
 said_inside st by (Provider name) = option_map refused (refused_name name)
-said_inside st by (Put id statement) = put_said id (view statement) (refused_form id (view statement)) (held_under id st.statements)
+said_inside st by (Put id statement) = put_said by id (view statement) (refused_form id (view statement)) (held_under id st.statements)
+said_inside st by (Post statements) = post_said st.statements statements (refused_batch statements) (refused_in by st.statements statements)
 said_inside st by (Get wanted) = Some (wanted_said st by wanted)
+said_inside st by (More link) = Some (more_said st by link)
 said_inside st by About = Some (Shown versions_body None)
 said_inside st by (Refused area status rule) = Some (refused (refused_with status rule))
 
@@ -208,7 +226,7 @@ abbrev pub said_to : State → Who → Command → Option Answered
 said_to st by command = unless_barred (barred (area_of command) by) (said_inside st by command)
 
 -- What is said whatever room there is, or None where the command is to have an entry. The order: the caller (A1, A2), a
--- refused form, what is missing, a held id.
+-- refused form, what is missing, then for each statement a held id (409) or what a new one may not be (C2).
 abbrev pub said_at_once : State → Caller → Command → Option Answered
 said_at_once st caller command = said_to st (who_is st.admin st.callers caller) command
 
@@ -219,9 +237,10 @@ pub record Answer : Type 0 where
   pub said : Answered
   pub entry : Option Entry
 
--- what is told of an entry that is kept: of a provider its place and its token
+-- what is told of an entry that is kept: of a provider its place and its token, of statements that came together their ids
 abbrev pub thanks : State → Command → Draw → Answered
 thanks st (Provider name) draw = Shown (caller_body (length st.callers) (token_text st.length draw.secret)) None
+thanks st (Post statements) draw = Shown (ids_body (ids_in st.statements draw (Post statements))) None
 thanks st command draw = Kept
 
 -- where the end gate stands behind a history's frames

@@ -1,13 +1,17 @@
 -- What the desk's private functions say, over the journal and the fold.
-use Rattle.std.specs.Prelude.{◌≡◌, ◌⊎◌, ◌<◌, ◌≤◌, ◌-◌, ◌^◌, ℕ, min, List, length, map, take, Option, Some, None, true, false, Result, Ok, Err}
+use Rattle.std.specs.Prelude.{◌≡◌, ◌⊎◌, ◌<◌, ◌≤◌, ◌-◌, ◌^◌, ℕ, min, List, length, map, take, Option, Some, None, true, false, IsTrue, Result, Ok, Err}
+use Rattle.std.specs.List.{AllByRecursion}
 use Rattle.std.specs.Option.{ForSome}
+use Rattle.lrs_json.specs.View.{view}
+use Rattle.lrs_json.specs.declared.tree.Tree.{Tree}
+use Rattle.xapi_statement.specs.Statement.{is_statement}
 use Rattle.lrs_disk.specs.Faults.{Rises}
 use Rattle.lrs_journal.specs.Store.{Stands}
 use Rattle.lrs_journal.specs.Journal.{Held, frames_of, IsJournal, IsUnchanged, IsAppended}
 use Rattle.lrs_record.specs.declared.entry.Caller.{Caller}
 use Rattle.lrs_record.specs.declared.entry.Caller.TheVariants.{Nobody, Operator, Token}
 use Rattle.lrs_record.specs.declared.entry.Command.{Command}
-use Rattle.lrs_record.specs.declared.entry.Command.TheVariants.{Put}
+use Rattle.lrs_record.specs.declared.entry.Command.TheVariants.{Put, Post}
 use Rattle.lrs_record.specs.declared.entry.Entry.{Entry}
 use Rattle.lrs_record.specs.Entries.{IsLawful, written_entry}
 use Rattle.lrs_machine.specs.declared.answered.Answered.{Answered}
@@ -16,7 +20,7 @@ use Rattle.lrs_machine.specs.declared.keeping.Keeping.{Keeping}
 use Rattle.lrs_machine.specs.declared.keeping.Keeping.TheVariants.{Added, NoRoom}
 use Rattle.lrs_machine.specs.declared.reply.Trouble.{Trouble}
 use Rattle.lrs_machine.specs.declared.reply.Trouble.TheVariants.{Memory, Disk}
-use Rattle.lrs_machine.specs.History.{State, state, step, said_at_once, thanks, refused, held_under, need, IsLegal}
+use Rattle.lrs_machine.specs.History.{State, state, step, said_at_once, thanks, refused, need, IsLegal}
 
 -- The frames are those of a history that can have come about, whose fold this is.
 abbrev pub HasFold : ℕ → State → List (List ℕ) → Type 0
@@ -27,10 +31,14 @@ pub record IsTied {D : Type 0} (told : D → Option (List ℕ)) (image : D → L
   pub sound : IsJournal told image journal
   pub folded : ForSome (frames_of told journal) (HasFold journal.limit st)
 
--- the command's statement has an id that isn't held
-abbrev pub IsFresh : State → Command → Type 0
-IsFresh st (Put id statement) = held_under id st.statements ≡ None
-IsFresh st other = Unit {0}
+abbrev pub IsJudgedTree : Tree → Type 0
+IsJudgedTree tree = IsTrue (is_statement (view tree))
+
+-- the command's statements break no rule, and none is too long
+abbrev pub IsJudged : Command → Type 0
+IsJudged (Put id statement) = IsJudgedTree statement
+IsJudged (Post statements) = AllByRecursion IsJudgedTree statements
+IsJudged other = Unit {0}
 
 -- nothing has changed
 abbrev pub Still : {D : Type 0} → (D → Option (List ℕ)) → Held D → Held D → State → State → Type 0

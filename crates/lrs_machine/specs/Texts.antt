@@ -1,10 +1,9 @@
 -- The texts that the store makes: tokens, and the bodies of its answers.
-use Rattle.std.specs.Prelude.{ℕ, ◌==◌, ◌&&◌, ◌||◌, nat_le, List, ◌++◌, length, Option, Some, None, Bool, codes}
+use Rattle.std.specs.Prelude.{ℕ, ◌==◌, ◌&&◌, ◌||◌, nat_le, List, [], ◌∷◌, ◌++◌, length, Bool, true, false, codes}
 use Rattle.std.specs.List.{list_all}
 use Rattle.std.specs.Char.{is_ascii_alphanumeric}
 use Rattle.std.specs.Fmt.{decimal}
-use Rattle.lrs_json.specs.Json.{Json, null, boolean, number, string, array, object, Members, no_members, member}
-use Rattle.lrs_json.specs.Find.{find_member}
+use Rattle.lrs_json.specs.Written.{comma_if}
 use Rattle.lrs_names.specs.Ids.{id_text}
 use Rattle.lrs_record.specs.Entries.{word_text}
 
@@ -28,19 +27,11 @@ caller_body k token = codes "{\"caller\":" ++ decimal k ++ codes ",\"token\":\""
 abbrev pub versions_body : List ℕ
 versions_body = codes "{\"version\":[\"1.0.3\"]}"
 
-abbrev pub with_last : Members → List ℕ → Json → Members
-with_last no_members name j = member name j no_members
-with_last (member k i ms) name j = member k i (with_last ms name j)
+-- each id as a string, and the closing bracket
+abbrev pub ids_text : Bool → List (List ℕ) → List ℕ
+ids_text later [] = codes "]"
+ids_text later (id ∷ ids) = comma_if later ++ codes "\"" ++ id_text id ++ codes "\"" ++ ids_text true ids
 
-abbrev pub with_id_unless : Option Json → List ℕ → Members → Json
-with_id_unless (Some j) id ms = object ms
-with_id_unless None id ms = object (with_last ms (codes "id") (string (id_text id)))
-
--- the object with that id put last, where it has no `id`
-abbrev pub with_id : List ℕ → Json → Json
-with_id id null = null
-with_id id (boolean b) = boolean b
-with_id id (number s) = number s
-with_id id (string s) = string s
-with_id id (array js) = array js
-with_id id (object ms) = with_id_unless (find_member (codes "id") ms) id ms
+-- ["ID","ID"]
+abbrev pub ids_body : List (List ℕ) → List ℕ
+ids_body ids = codes "[" ++ ids_text false ids

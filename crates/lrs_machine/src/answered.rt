@@ -9,7 +9,8 @@ pub enum Answered {
     Kept,
     /// The same statement is held under that id. Nothing changes.
     Same,
-    /// What was asked for or made, as a JSON text. Of statements also the moment up to which it is consistent.
+    /// What was asked for or made, as a JSON text. Of statements that were asked for also the moment up to which it is
+    /// consistent.
     Shown {
         text: Items<u8>,
         through: Option<Moment>,
@@ -27,7 +28,7 @@ pub enum Refusal {
     Full { need: u64, limit: u64 },
     /// An argument breaks a rule.
     Broken(Rule),
-    /// The statement's written form has too many bytes.
+    /// A statement's written form has too many bytes, or too many statements come together.
     TooLong,
     /// The history knows no such caller.
     Unauthorized,

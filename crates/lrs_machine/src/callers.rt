@@ -1,10 +1,11 @@
 // The providers by token, with the room for the next one made ahead.
-ghost use Rattle.std.specs.Prelude.{◌≡◌, List, ℕ, None, Some, IsSome, IfSome, length, OnOk, [], ◌∷◌, ◌++◌};
+ghost use Rattle.std.specs.Prelude.{◌≡◌, List, ℕ, None, Some, IsSome, length, slice_get, OnOk, []};
 ghost use Rattle.std.specs.BTreeMap.{get};
 ghost use Rattle.std.specs.Cmp.Lexicographic.{slice_cmp};
 ghost use Rattle.std.specs.Ordering.{nat_cmp};
+ghost use Rattle.std.specs.Option.{option_copied};
 ghost use Rattle.lrs_machine.specs.History.{place_of_token};
-ghost use Rattle.lrs_machine.specs.Index.{place_of};
+ghost use Rattle.lrs_machine.specs.Index.{place_of, with_next};
 
 use lrs_json::{Memory, Text};
 use std::alloc::Global;
@@ -84,6 +85,21 @@ impl Callers {
         }
     }
 
+    /// The provider at that place in their order.
+    pub(crate) fn get(&self, place: u32) -> Option<&HeldCaller>
+        ensures { option_copied result ≡ slice_get self.now.held place }
+    {
+        self.held.get(place as usize)
+    }
+
+    /// No provider is the next one.
+    pub(crate) fn ready_none(&mut self)
+        ensures held { self.new.held ≡ self.old.held }
+        ensures next { self.new.next ≡ None }
+    {
+        self.next = None;
+    }
+
     /// Makes room for a provider with that name and that token.
     pub(crate) fn ready(&mut self, name: &Text, token: Text) -> Result<(), Memory>
         ensures held { self.new.held ≡ self.old.held }
@@ -107,14 +123,13 @@ impl Callers {
         Ok(())
     }
 
-    /// Takes the provider in for which there is room. It takes no memory.
+    /// Takes the next provider in, where there is one. It takes no memory.
     pub(crate) fn install(&mut self)
-        requires ready { IsSome self.old.next }
-        ensures held { IfSome self.old.next (λ caller. self.new.held ≡ self.old.held ++ caller ∷ []) }
+        ensures held { self.new.held ≡ with_next self.old.held self.old.next }
         ensures next { self.new.next ≡ None }
     {
         let Some(NextCaller { key, caller }) = self.next.take() else {
-            unreachable!();
+            return;
         };
         if self.find(&key).is_none() {
             let Ok(_) = self.places.insert(key, Some(self.held.len() as u32)) else {

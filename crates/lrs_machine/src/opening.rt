@@ -80,10 +80,14 @@ impl<D: Disk> Desk<D> {
             Ok(founding) => founding,
             Err(_) => return Err((FoundRefused::Memory, disk)),
         };
+        let fold = match founded(alloc, entry) {
+            Ok(fold) => fold,
+            Err(_) => return Err((FoundRefused::Memory, disk)),
+        };
         match Journal::create(disk, limit, &frame) {
             Ok(journal) => Ok(Desk {
                 journal,
-                fold: founded(alloc, entry),
+                fold,
                 alloc,
             }),
             Err((refused, disk)) => Err((founding_refusal(refused), disk)),
@@ -192,11 +196,12 @@ fn founding(
 }
 
 // What a store's first entry gives.
-fn founded(alloc: Global, entry: Entry) -> Fold
+fn founded(alloc: Global, entry: Entry) -> Result<Fold, Memory>
     requires { IsFounding entry }
-    ensures { state_of result ≡ state (entry ∷ []) }
+    ensures { IfOk result (λ fold. state_of fold ≡ state (entry ∷ [])) }
 {
     let mut fold = Fold::new(alloc);
-    fold.install(entry);
-    fold
+    fold.ready(alloc, entry, &[])?;
+    fold.install();
+    Ok(fold)
 }

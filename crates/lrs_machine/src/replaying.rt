@@ -6,6 +6,8 @@ ghost use Rattle.lrs_journal.specs.Replay.{HasRead};
 ghost use Rattle.lrs_record.specs.declared.entry.Entry.{Entry};
 ghost use Rattle.lrs_machine.specs.Fold.{state_of};
 ghost use Rattle.lrs_machine.specs.Desk.{IsRefused};
+ghost use Rattle.lrs_machine.specs.History.{step};
+ghost use Rattle.lrs_machine.specs.Steps.{IsJudged};
 ghost use Rattle.lrs_machine.specs.Replays.{is_founding, founds, may_come, refusal_of, IsCapped, IsReplayed, HasReplayed, Takes, TakesEntry};
 ghost use Rattle.lrs_machine.specs.declared.opening.DeskRefused.TheVariants as refused;
 
@@ -65,7 +67,9 @@ fn founds(alloc: Global, command: &Command) -> Result<bool, Memory>
         }
         Command::Provider { .. }
         | Command::Put { .. }
+        | Command::Post { .. }
         | Command::Get(_)
+        | Command::More(_)
         | Command::About
         | Command::Refused { .. } => Ok(false),
     }
@@ -93,10 +97,20 @@ fn take_entry(
         Ok(false) => return Err(DeskRefused::IllegalEntry { k }),
         Err(_) => return Err(DeskRefused::Memory),
     }
-    if fold.ready(alloc, &entry).is_err() {
-        return Err(DeskRefused::Memory);
+    match take_in(alloc, fold, entry) {
+        Ok(()) => Ok(()),
+        Err(_) => Err(DeskRefused::Memory),
     }
-    fold.install(entry);
+}
+
+// Takes an entry in that comes next.
+fn take_in(alloc: Global, fold: &mut Fold, entry: Entry) -> Result<(), Memory>
+    requires { IsJudged entry.command }
+    ensures { OnOk result (state_of fold.new ≡ step (state_of fold.old) entry) }
+{
+    let ids = fold.ids(alloc, &entry.command, &entry.draw)?;
+    fold.ready(alloc, entry, ids.as_slice())?;
+    fold.install();
     Ok(())
 }
 

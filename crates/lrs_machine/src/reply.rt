@@ -30,7 +30,7 @@ pub struct Reply {
     pub status: u16,
     pub media: Media,
     pub body: Body,
-    /// Of a list of statements: the moment up to which it is consistent.
+    /// Of statements that were asked for: the moment up to which the answer is consistent.
     pub through: Option<Moment>,
 }
 

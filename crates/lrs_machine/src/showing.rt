@@ -1,16 +1,16 @@
 // The texts that are shown: tokens, and the bodies of answers.
-ghost use Rattle.std.specs.Prelude.{◌≡◌, ◌++◌, ◌∷◌, [], List, ℕ, not, codes, OnOk, IfOk, IsUtf8};
-ghost use Rattle.lrs_json.specs.Written.{comma_if, quoted};
+ghost use Rattle.std.specs.Prelude.{◌≡◌, ◌++◌, IfOk, OnOk, IsUtf8, codes};
+ghost use Rattle.lrs_json.specs.Written.{comma_if};
 ghost use Rattle.lrs_names.specs.Ids.{id_text};
 ghost use Rattle.lrs_record.specs.Entries.{word_text};
-ghost use Rattle.lrs_machine.specs.History.{statement_body};
-ghost use Rattle.lrs_machine.specs.Texts.{token_text, caller_body, versions_body};
+ghost use Rattle.lrs_machine.specs.Texts.{token_text, caller_body, ids_body, versions_body};
+ghost use Rattle.xapi_statement.specs.Shown.{shown_text};
 
-use crate::index::HeldStatement;
 use hex::encode_to_slice;
-use lrs_json::{Memory, Text, Tree, write};
+use lrs_json::{Memory, Text};
 use lrs_names::Id;
 use std::alloc::Global;
+use xapi_statement::{Completed, Format};
 
 /// The token of a provider whose entry stands at that place and was drawn with that secret.
 pub(crate) fn token_text(alloc: Global, place: u64, secret: u128) -> Result<Text, Memory>
@@ -64,31 +64,49 @@ pub(crate) fn versions_text(alloc: Global) -> Result<Vec<u8>, Memory>
     Ok(b"{\"version\":[\"1.0.3\"]}".to_vec(alloc)?)
 }
 
-/// A statement as it was received, with its id put last where it had none.
-pub(crate) fn statement_text(alloc: Global, held: &HeldStatement) -> Result<Vec<u8>, Memory>
-    ensures { IfOk result (λ body. body.items ≡ statement_body held.now) }
+// What most statements have room in, so that few bodies grow while they are written.
+const BODY_ROOM: usize = 1_024;
+
+/// A statement as it is shown.
+pub(crate) fn statement_text(
+    alloc: Global,
+    format: Format,
+    held: &Completed,
+) -> Result<Vec<u8>, Memory>
+    ensures { IfOk result (λ body. body.items ≡ shown_text format held.now) }
 {
-    let mut body = Vec::new(alloc);
-    write(&held.received, &mut body)?;
-    if let Tree::Object(members) = &held.received {
-        if held.received.get("id").is_none() {
-            add_id(alloc, members.is_empty(), &held.id, &mut body)?;
-        }
-    }
+    let mut body = Vec::with_capacity(alloc, BODY_ROOM)?;
+    held.write(format, &mut body)?;
     Ok(body)
 }
 
-// Puts a member `id` before the closing brace of a written object, which is empty or not.
-fn add_id(alloc: Global, empty: bool, id: &Id, body: &mut Vec<u8>) -> Result<(), Memory>
-    ensures { OnOk result ((front : List ℕ) → body.old.items ≡ front ++ 125 ∷ [] → body.new.items ≡ front ++ (comma_if (not empty) ++ quoted (codes "id") ++ 58 ∷ quoted (id_text id.now) ++ 125 ∷ [])) }
+/// The body that tells the ids of statements.
+pub(crate) fn ids_text(alloc: Global, ids: &[Id]) -> Result<Vec<u8>, Memory>
+    ensures { IfOk result (λ body. body.items ≡ ids_body ids.now) }
 {
-    let _brace = body.pop();
-    if !empty {
-        body.push(b',')?;
+    let mut body = b"[".to_vec(alloc)?;
+    let mut later = false;
+    for id in ids {
+        put_id(&mut body, later, id)?;
+        later = true;
     }
-    body.extend_from_slice(b"\"id\":")?;
-    let digits = id.text();
-    write(&Tree::Words(Text::of(alloc, ascii(&digits))?), body)?;
-    body.push(b'}')?;
+    body.push(b']')?;
+    Ok(body)
+}
+
+// Puts an id behind the text so far, as a string.
+fn put_id(body: &mut Vec<u8>, later: bool, id: &Id) -> Result<(), Memory>
+    ensures { OnOk result (body.new.items ≡ body.old.items ++ comma_if later ++ codes "\"" ++ id_text id.now ++ codes "\"") }
+{
+    put_comma(body, later)?;
+    body.push(b'"')?;
+    body.extend_from_slice(&id.text())?;
+    body.push(b'"')?;
     Ok(())
+}
+
+fn put_comma(body: &mut Vec<u8>, later: bool) -> Result<(), Memory>
+    ensures { OnOk result (body.new.items ≡ body.old.items ++ comma_if later) }
+{
+    if later { Ok(body.push(b',')?) } else { Ok(()) }
 }

@@ -1,9 +1,8 @@
 use Rattle.std.proofs.Common.{◌≡◌, sym, subst, refl, false, ◌∙◌}
 use Rattle.std.specs.Prelude.{◌==◌}
 use Rattle.lrs_machine.specs.Fold.{state_of}
-use Rattle.lrs_machine.specs.Steps.{IsFresh}
 use Rattle.lrs_machine.specs.Replays.{may_come}
-use Rattle.lrs_machine.proofs.ReplayLemmas.{fresh_may}
+use Rattle.lrs_machine.proofs.ReplayLemmas.{judged_may}
 use Rattle.lrs_machine.proofs.replaying.take_entry.Goals as goal
 
 pub returns-in-Ok-false : goal.returns-in-Ok-false
@@ -14,7 +13,5 @@ returns-in-Ok-false c = (
       (c.in-Ok.ensures.again e lawful is) (sym c.in-Ok-false.ensures ∙ c.in-Ok-false.field-0-test),
 )
 
-pub install-requires-clause-fresh : goal.install-requires-clause-fresh
-install-requires-clause-fresh c =
-    subst (λ z. IsFresh z c.in-Ok.entry.command) (sym c.ready.ensures.same)
-    (fresh_may (c.args.k == 0) c.args.limit c.args.place (state_of c.args.fold.now) c.in-Ok.entry (sym c.in-Ok-true.ensures ∙ c.in-Ok-true.field-0-test))
+pub take_in-requires : goal.take_in-requires
+take_in-requires c = judged_may (c.args.k == 0) c.args.limit c.args.place (state_of c.args.fold.now) c.in-Ok.entry (sym c.in-Ok-true.ensures ∙ c.in-Ok-true.field-0-test)

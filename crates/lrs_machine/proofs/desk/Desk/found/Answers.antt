@@ -9,10 +9,10 @@ use Rattle.lrs_machine.proofs.desk.Desk.found.Goals as goal
 
 pub invariant_of-result : goal.invariant_of-result
 invariant_of-result g c =
-    found_ties g.D.Disk.told g.D.Disk.image (g.D.Disk.told c.args.disk) c.in-Ok-create.journal (state_of c.founded.result) (founding_entry c.args.admin.now c.args.base.now c.args.clock)
+    found_ties g.D.Disk.told g.D.Disk.image (g.D.Disk.told c.args.disk) c.in-Ok-create.journal (state_of c.in-Ok-founded.fold) (founding_entry c.args.admin.now c.args.base.now c.args.clock)
     (subst (λ f. frames_of g.D.Disk.told c.in-Ok-create.journal ≡ option_map (λ _. f ∷ []) (g.D.Disk.told c.args.disk)) (c.deref.ensures.value ∙ c.in-Ok.ensures.frame) c.in-Ok-create.ensures.made)
     c.in-Ok-create.ensures.sound c.in-Ok.ensures.lawful (founding_of c.args.admin.now c.args.base.now c.args.clock c.requires.admin c.requires.base)
-    (c.founded.ensures ∙ ap (λ e. state (e ∷ [])) c.in-Ok.ensures.entry)
+    (c.in-Ok-founded.ensures ∙ ap (λ e. state (e ∷ [])) c.in-Ok.ensures.entry)
 
 pub returns-in-Ok-create-clause-founded : goal.returns-in-Ok-create-clause-founded
 returns-in-Ok-create-clause-founded g c = λ bytes there. (
@@ -22,8 +22,8 @@ returns-in-Ok-create-clause-founded g c = λ bytes there. (
       there c.in-Ok-create.ensures.fields.3 c.in-Ok.ensures.lawful (founding_of c.args.admin.now c.args.base.now c.args.clock c.requires.admin c.requires.base),
 )
 
-pub returns-in-Err-create-clause-refused : goal.returns-in-Err-create-clause-refused
-returns-in-Err-create-clause-refused g c = λ bytes there.
+pub returns-clause-refused : goal.returns-clause-refused
+returns-clause-refused g c = λ bytes there.
     subst (λ e. IsNotFounded bytes c.args.limit (founding_entry c.args.admin.now c.args.base.now c.args.clock) e) (sym c.founding_refusal.ensures)
     (found_refused bytes c.args.limit (founding_entry c.args.admin.now c.args.base.now c.args.clock) c.deref.result.now c.in-Err-create.refused
     (c.deref.ensures.value ∙ c.in-Ok.ensures.frame) (c.in-Err-create.ensures.refused bytes there) c.in-Err-create.ensures.full)

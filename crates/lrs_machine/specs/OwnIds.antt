@@ -1,0 +1,12 @@
+-- Sets of ids, and the ids that statements give themselves.
+use Rattle.std.specs.Prelude.{◌≡◌, ℕ, Bool, true, not, List, Option, Some, None}
+use Rattle.lrs_names.specs.Members.{is_one_of}
+
+-- two lists hold the same ids
+abbrev pub HoldSame : List (List ℕ) → List (List ℕ) → Type 0
+HoldSame ids others = (id : List ℕ) → is_one_of ids id ≡ is_one_of others id
+
+-- the id is none of these, or there is none
+abbrev pub is_new_among : List (List ℕ) → Option (List ℕ) → Bool
+is_new_among ids None = true
+is_new_among ids (Some id) = not (is_one_of ids id)
