@@ -21,13 +21,13 @@ Account = Result Asked RouteRefused
 
 one_allow : (a b : Allow) → methods_of a ≡ methods_of b → a ≡ b
 one_allow allow.Get allow.Get e = refl
-one_allow allow.Get allow.GetPut e = absurd (cc e)
+one_allow allow.Get allow.GetPostPut e = absurd (cc e)
 one_allow allow.Get allow.Post e = absurd (cc e)
-one_allow allow.GetPut allow.Get e = absurd (cc e)
-one_allow allow.GetPut allow.GetPut e = refl
-one_allow allow.GetPut allow.Post e = absurd (cc e)
+one_allow allow.GetPostPut allow.Get e = absurd (cc e)
+one_allow allow.GetPostPut allow.GetPostPut e = refl
+one_allow allow.GetPostPut allow.Post e = absurd (cc e)
 one_allow allow.Post allow.Get e = absurd (cc e)
-one_allow allow.Post allow.GetPut e = absurd (cc e)
+one_allow allow.Post allow.GetPostPut e = absurd (cc e)
 one_allow allow.Post allow.Post e = refl
 
 none_some : (operation : Operation) → ◌≡◌ {A = Option Operation} None (Some operation) → ⊥

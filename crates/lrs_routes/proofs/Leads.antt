@@ -50,7 +50,8 @@ pattern_is (r ∷ ks) t k h = elim h [
 in_table : (k : Route) → Has patterns (row_of k).pattern k
 in_table route.Callers = inl (refl, refl)
 in_table route.About = inr (inl (refl, refl))
-in_table route.Statements = inr (inr (inl (refl, refl)))
+in_table route.MoreStatements = inr (inr (inl (refl, refl)))
+in_table route.Statements = inr (inr (inr (inl (refl, refl))))
 
 abbrev ends_part : List ℕ → Bool
 ends_part [] = true
@@ -74,6 +75,7 @@ neat_from (x ∷ t) e =
 neat_route : (k : Route) → Neat (row_of k).pattern
 neat_route route.Callers = neat_from (row_of route.Callers).pattern refl
 neat_route route.About = neat_from (row_of route.About).pattern refl
+neat_route route.MoreStatements = neat_from (row_of route.MoreStatements).pattern refl
 neat_route route.Statements = neat_from (row_of route.Statements).pattern refl
 
 all_neat : (rs : Rows) → map key rs ≡ patterns → AllNeat rs
@@ -136,10 +138,17 @@ none_fits (x ∷ p) (y ∷ q) path e f g =
 pub one_route : (path : List ℕ) (a b : Route) → Fits (row_of a).pattern path → Fits (row_of b).pattern path → a ≡ b
 one_route path route.Callers route.Callers f g = refl
 one_route path route.Callers route.About f g = absurd (none_fits (row_of route.Callers).pattern (row_of route.About).pattern path refl f g)
+one_route path route.Callers route.MoreStatements f g = absurd (none_fits (row_of route.Callers).pattern (row_of route.MoreStatements).pattern path refl f g)
 one_route path route.Callers route.Statements f g = absurd (none_fits (row_of route.Callers).pattern (row_of route.Statements).pattern path refl f g)
 one_route path route.About route.Callers f g = absurd (none_fits (row_of route.About).pattern (row_of route.Callers).pattern path refl f g)
 one_route path route.About route.About f g = refl
+one_route path route.About route.MoreStatements f g = absurd (none_fits (row_of route.About).pattern (row_of route.MoreStatements).pattern path refl f g)
 one_route path route.About route.Statements f g = absurd (none_fits (row_of route.About).pattern (row_of route.Statements).pattern path refl f g)
+one_route path route.MoreStatements route.Callers f g = absurd (none_fits (row_of route.MoreStatements).pattern (row_of route.Callers).pattern path refl f g)
+one_route path route.MoreStatements route.About f g = absurd (none_fits (row_of route.MoreStatements).pattern (row_of route.About).pattern path refl f g)
+one_route path route.MoreStatements route.MoreStatements f g = refl
+one_route path route.MoreStatements route.Statements f g = absurd (none_fits (row_of route.MoreStatements).pattern (row_of route.Statements).pattern path refl f g)
 one_route path route.Statements route.Callers f g = absurd (none_fits (row_of route.Statements).pattern (row_of route.Callers).pattern path refl f g)
 one_route path route.Statements route.About f g = absurd (none_fits (row_of route.Statements).pattern (row_of route.About).pattern path refl f g)
+one_route path route.Statements route.MoreStatements f g = absurd (none_fits (row_of route.Statements).pattern (row_of route.MoreStatements).pattern path refl f g)
 one_route path route.Statements route.Statements f g = refl

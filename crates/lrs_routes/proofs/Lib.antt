@@ -4,8 +4,9 @@ pub mod Complete
 pub mod Leads
 pub mod Stages
 pub mod Readings
+pub mod Batches
+pub mod OneWanted
 pub mod Looks
 pub mod Alone
-pub mod OneJson
 pub mod OneAsked
 pub mod Media

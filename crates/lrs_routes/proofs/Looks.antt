@@ -1,28 +1,35 @@
 -- What a look at parameters, and at a body, finds.
-use Rattle.std.proofs.Common.{◌≡◌, ◌≢◌, ℕ, Bool, true, false, List, [], Option, Some, None, refl, sym, ap, ◌∙◌, subst, arith, IsErrAnd}
+use Rattle.std.proofs.Common.{◌≡◌, ◌≢◌, ℕ, Bool, true, false, List, [], map, Option, Some, None, refl, sym, ap, ◌∙◌, subst, arith, IsErrAnd}
 use Rattle.std.specs.Prelude.{◌==◌, IsTrue, MatchBool, Result, Ok, Err}
 use Rattle.std.proofs.lemmas.Bool.Decides.{nat_tests}
 use Rattle.std.specs.Prelude.{codes}
 use Rattle.lrs_http.specs.declared.request.Request.{Request}
 use Rattle.lrs_json.specs.Json.{Json}
-use Rattle.lrs_json.specs.View.{view}
+use Rattle.lrs_json.specs.View.{elements_of, view}
 use Rattle.lrs_json.specs.declared.tree.Tree.{Tree}
 use Rattle.lrs_json.proofs.Back.{same_tree}
 use Rattle.lrs_names.specs.Members.{member_text}
 use Rattle.lrs_record.specs.declared.entry.Command.TheVariants as command
 use Rattle.lrs_record.specs.declared.rule.Rule.{Rule}
 use Rattle.xapi_query.specs.Pairs.{AreTexts}
-use Rattle.xapi_query.specs.Parameters.{Answers, is_rule}
-use Rattle.xapi_query.specs.Wants.{id_under}
+use Rattle.xapi_query.specs.Links.{IsLink}
+use Rattle.xapi_query.specs.Parameters.{Answers, LeastOfGet, is_rule}
+use Rattle.xapi_query.specs.Queries.{id_under}
+use Rattle.xapi_query.specs.Wants.{IsWanted}
+use Rattle.xapi_query.specs.declared.link.MoreLink.{MoreLink}
+use Rattle.xapi_query.proofs.LinkAlone.{links_alone}
 use Rattle.xapi_query.specs.declared.pair.Pair.{Pair}
 use Rattle.xapi_query.specs.declared.refused.QueryRefused.{QueryRefused}
-use Rattle.xapi_query.specs.declared.refused.QueryRefused.TheVariants.{BadParameter, Memory}
+use Rattle.xapi_query.specs.declared.refused.QueryRefused.TheVariants.{BadLink, BadParameter, Memory}
+use Rattle.xapi_query.specs.declared.wanted.Wanted.{Wanted}
 use Rattle.lrs_routes.specs.Faults.{fault_of_query, p_rule}
-use Rattle.lrs_routes.specs.Forms.{LeastOfNone, NamesProvider, Spelled, parameters_of}
-use Rattle.lrs_routes.specs.Parts.{Finds, IfBroken, IsFirst, IsMeant, IsProviderIn, IsTreeOf, OnlyGiven, is_form_rule}
+use Rattle.lrs_routes.specs.Forms.{LeastOfNone, NamesProvider, Spelled, StatementBody, batch_of, parameters_of}
+use Rattle.lrs_routes.specs.Parts.{AreStatementsOf, Finds, IfBroken, IsFirst, IsMeant, IsProviderIn, IsTreeOf, OnlyGiven, is_form_rule}
 use Rattle.lrs_routes.specs.declared.fault.Fault.{Fault}
 use Rattle.lrs_routes.specs.declared.fault.Fault.TheVariants as fault
 use Rattle.lrs_routes.specs.declared.table.Operation.TheVariants as operation
+use Rattle.lrs_routes.proofs.Batches.{lawful_batch, same_trees}
+use Rattle.lrs_routes.proofs.OneWanted.{given_least, wanted_once}
 use Rattle.lrs_routes.proofs.Stages.{OnlySpelled, given_found, given_none, given_texts, spelled_passes}
 
 -- ---- the least rule is found once
@@ -35,6 +42,10 @@ err_some : (T : Type 0) (number : ℕ) (found : Option ℕ) → Answers {T = T} 
 err_some T number None a = absurd a
 err_some T number (Some n) a = ap Some (sym a)
 
+err_link : (T : Type 0) (found : Option ℕ) → Answers {T = T} found (Err BadLink) → found ≡ Some 14
+err_link T None a = absurd a
+err_link T (Some n) a = ap Some a
+
 -- ---- parameters that are texts
 
 pub given_passed : {T : Type 0} (own : Option ℕ → List Pair → Type 0) (now pairs : List Pair) (value : T) → now ≡ pairs → AreTexts pairs → own None now
@@ -44,16 +55,18 @@ given_passed own now pairs value same texts none always =
     subst (λ (ps : List Pair). IsFirst (OnlyGiven own ps) None) same first
 
 given_refused_at : {T : Type 0} (own : Option ℕ → List Pair → Type 0) (pairs : List Pair) (IsValue : T → Type 0) (S : Type 0) (refused : QueryRefused) → AreTexts pairs
-    → ((number : ℕ) → refused ≡ BadParameter number → own (Some number) pairs)
+    → ((number : ℕ) → refused ≡ BadParameter number → own (Some number) pairs) → (refused ≡ BadLink → own (Some 14) pairs)
     → ((found : Option ℕ) → own found pairs → Answers {T = S} found (Err refused)) → Finds (OnlyGiven own pairs) IsValue (Err (fault_of_query refused))
-given_refused_at own pairs IsValue S (BadParameter number) texts broken always = (given_found own pairs texts number (broken number refl) (λ found h. err_some S number found (always found h)), refl)
-given_refused_at own pairs IsValue S Memory texts broken always = tt
+given_refused_at own pairs IsValue S (BadParameter number) texts broken bad always = (given_found own pairs texts number (broken number refl) (λ found h. err_some S number found (always found h)), refl)
+given_refused_at own pairs IsValue S BadLink texts broken bad always = (given_found own pairs texts 14 (bad refl) (λ found h. err_link S found (always found h)), refl)
+given_refused_at own pairs IsValue S Memory texts broken bad always = tt
 
 pub given_refused : {T : Type 0} (own : Option ℕ → List Pair → Type 0) (now pairs : List Pair) (IsValue : T → Type 0) (S : Type 0) (refused : QueryRefused) (given : Fault) → now ≡ pairs → AreTexts pairs
-    → ((number : ℕ) → refused ≡ BadParameter number → own (Some number) now)
+    → ((number : ℕ) → refused ≡ BadParameter number → own (Some number) now) → (refused ≡ BadLink → own (Some 14) now)
     → ((found : Option ℕ) → own found now → Answers {T = S} found (Err refused)) → given ≡ fault_of_query refused → Finds (OnlyGiven own pairs) IsValue (Err given)
-given_refused own now pairs IsValue S refused given same texts broken always is =
+given_refused own now pairs IsValue S refused given same texts broken bad always is =
     let found = given_refused_at own pairs IsValue S refused texts (λ number e. subst (λ (ps : List Pair). own (Some number) ps) same (broken number e))
+    (λ e. subst (λ (ps : List Pair). own (Some 14) ps) same (bad e))
     (λ f h. always f (subst (λ (ps : List Pair). own f ps) (sym same) h)) in
     subst (λ (f : Fault). Finds (OnlyGiven own pairs) IsValue (Err f)) (sym is) found
 
@@ -86,6 +99,13 @@ none_refused T pairs refused is some found h = subst (λ (r : QueryRefused). Ans
 
 bad_two : (number : ℕ) (refused : QueryRefused) → refused ≡ BadParameter 2 → refused ≡ BadParameter number → 2 ≡ number
 bad_two number refused is e = let same : BadParameter 2 ≡ BadParameter number = sym is ∙ e in cc same
+
+-- a link is no part of other looks
+no_link : (number : ℕ) (refused : QueryRefused) → refused ≡ BadParameter number → refused ≡ BadLink → ⊥
+no_link number refused is e = let same : BadParameter number ≡ BadLink = sym is ∙ e in cc same
+
+pub never_link : (own : Option ℕ → List Pair → Type 0) (now : List Pair) (number : ℕ) (refused : QueryRefused) → refused ≡ BadParameter number → refused ≡ BadLink → own (Some 14) now
+never_link own now number refused is e = absurd (no_link number refused is e)
 
 pub none_broken : (pairs : List Pair) (refused : QueryRefused) → refused ≡ BadParameter 2 → pairs ≢ [] → (number : ℕ) → refused ≡ BadParameter number → LeastOfNone (Some number) pairs
 none_broken pairs refused is some number e = subst (λ (n : ℕ). LeastOfNone (Some n) pairs) (bad_two number refused is e) some
@@ -139,6 +159,44 @@ put_meant request id statement is tree = record {
       h.4 ∙ put_same h.0 id h.1 statement ids (sym trees);
   plain = tree.readable;
 }
+
+pub post_meant : (request : Request) (statements : List Tree) → AreStatementsOf request.body statements → IsMeant operation.PostStatements request (command.Post statements)
+post_meant request statements in_body = record {
+  means = (statements, view in_body.tree, in_body.of.spelled, in_body.are, refl);
+  sole = λ other h.
+      let values : view in_body.tree ≡ h.1 = in_body.of.only h.1 h.2 in
+      let trees : h.0 ≡ statements = same_trees h.0 statements (h.3 ∙ ap batch_of (sym values) ∙ sym in_body.are) in
+      h.4 ∙ ap command.Post trees;
+  plain = in_body.readable;
+}
+
+-- parameters that break no rule mean one thing
+pub get_meant : (request : Request) (wanted : Wanted) → OnlyGiven LeastOfGet (parameters_of request.query) None → IsWanted (parameters_of request.query) wanted
+    → IsMeant operation.GetStatements request (command.Get wanted)
+get_meant request wanted unbroken is = record {
+  means = (wanted, is, refl);
+  sole = λ other h.
+      let pairs = parameters_of request.query in
+      let same : h.0 ≡ wanted = wanted_once pairs (given_least pairs unbroken) h.0 wanted h.1 is in
+      h.2 ∙ ap command.Get same;
+  plain = tt;
+}
+
+pub more_meant : (request : Request) (link : MoreLink) → IsLink (parameters_of request.query) link → IsMeant operation.GetMoreStatements request (command.More link)
+more_meant request link is = record {
+  means = (link, is, refl);
+  sole = λ other h. h.2 ∙ ap command.More (links_alone (parameters_of request.query) h.0 link h.1 is);
+  plain = tt;
+}
+
+-- ---- the statements of a body
+
+pub batch_found : (request : Request) (body : Tree) (statements : List Tree) → IsFirst (StatementBody request) None → IsTreeOf request.body body
+    → elements_of (map view statements) ≡ batch_of (view body) → Finds (StatementBody request) (AreStatementsOf request.body) (Ok statements)
+batch_found request body statements first tree are = (
+  first,
+  record { tree = body; of = tree; are = are; readable = lawful_batch (view body) statements tree.readable are },
+)
 
 pub provider_meant : (request : Request) (name : List ℕ) → IsProviderIn request.body name → IsMeant operation.MakeProvider request (command.Provider name)
 provider_meant request name in_body = record {

@@ -18,23 +18,23 @@ use Rattle.lrs_record.specs.declared.entry.Command.{Command}
 use Rattle.lrs_record.specs.declared.entry.Command.TheVariants as command
 use Rattle.lrs_record.specs.declared.rule.Area.{Area}
 use Rattle.lrs_record.specs.declared.rule.Rule.{Rule}
-use Rattle.xapi_query.specs.Parameters.{LeastOfGet, LeastOfPut}
-use Rattle.xapi_query.specs.Wants.{IsWanted}
+use Rattle.xapi_query.specs.Parameters.{LeastOfGet, LeastOfLink, LeastOfPut}
 use Rattle.xapi_query.specs.declared.pair.Pair.{Pair}
-use Rattle.xapi_query.specs.declared.wanted.Format.TheVariants.{Exact}
 use Rattle.xapi_query.specs.declared.wanted.Wanted.{Wanted}
-use Rattle.xapi_query.specs.declared.wanted.Wanted.TheVariants.{One}
-use Rattle.xapi_query.proofs.Least.{get_once, put_once}
+use Rattle.xapi_query.proofs.Least.{get_once, link_once, put_once}
+use Rattle.xapi_query.proofs.LinkAlone.{links_alone}
 use Rattle.lrs_routes.specs.Asked.{Agree, IsAsked}
 use Rattle.lrs_routes.specs.Faults.{b_rule, f_rule, p_rule}
 use Rattle.lrs_routes.specs.Fields.{allows_json}
-use Rattle.lrs_routes.specs.Forms.{BreaksJson, FirstBroken, Given, IsCommand, LeastOfNone, Means, NamesProvider, ProviderBody, Spelled, StatementBody, Tested, has_just, parameters_of}
+use Rattle.lrs_routes.specs.Forms.{BreaksJson, FirstBroken, Given, IsCommand, LeastOfNone, Means, NamesProvider, ProviderBody, Spelled, StatementBody, Tested, batch_of, has_just, parameters_of}
 use Rattle.lrs_routes.specs.declared.asked.Asked.{Asked}
 use Rattle.lrs_routes.specs.declared.asked.RouteRefused.{RouteRefused}
 use Rattle.lrs_routes.specs.declared.table.Operation.{Operation}
 use Rattle.lrs_routes.specs.declared.table.Operation.TheVariants as operation
 use Rattle.lrs_routes.proofs.Alone.{asked_alone, refused_alone}
-use Rattle.lrs_routes.proofs.OneJson.{one_json}
+use Rattle.lrs_routes.proofs.Batches.{same_trees}
+use Rattle.lrs_routes.proofs.OneWanted.{given_least, wanted_once}
+use Rattle.xapi_query.proofs.OneJson.{one_json}
 
 -- a JSON text spells one value, each of its parts at one place
 abbrev OneJson : Type 0
@@ -176,16 +176,25 @@ none_once pairs None (Some n) h k = absurd ((none_at pairs n (n == 2) refl k).0 
 none_once pairs (Some m) None h k = absurd ((none_at pairs m (m == 2) refl h).0 k.0)
 none_once pairs (Some m) (Some n) h k = ap Some ((none_at pairs m (m == 2) refl h).1 ∙ sym (none_at pairs n (n == 2) refl k).1)
 
+statement_once : OneJson → (request : Request) (a b : Broken) → StatementBody request a → StatementBody request b → a ≡ b
+statement_once one request a b h k =
+    tested_once (allows_json request.media) (f_rule 3) (λ x. Spelled request.body x (λ _. x ≡ None)) a b
+    (λ s t. spelled_once one request.body (λ _ x. x ≡ None) a b (λ _. both a b None) s t) h k
+
 first_once : OneJson → (o : Operation) (request : Request) (a b : Broken) → FirstBroken o request a → FirstBroken o request b → a ≡ b
 first_once one operation.TellVersions request a b h k = both a b None h k
 first_once one operation.GetStatements request a b h k =
     let pairs = parameters_of request.query in
     given_once LeastOfGet pairs (get_once pairs) (λ x. x ≡ None) a b (both a b None) h k
+first_once one operation.GetMoreStatements request a b h k =
+    let pairs = parameters_of request.query in
+    given_once LeastOfLink pairs (link_once pairs) (λ x. x ≡ None) a b (both a b None) h k
+first_once one operation.PostStatements request a b h k =
+    let pairs = parameters_of request.query in
+    given_once LeastOfNone pairs (none_once pairs) (StatementBody request) a b (statement_once one request a b) h k
 first_once one operation.PutStatement request a b h k =
     let pairs = parameters_of request.query in
-    let passes = allows_json request.media in
-    given_once LeastOfPut pairs (put_once pairs) (StatementBody request) a b
-    (λ p q. tested_once passes (f_rule 3) (λ x. Spelled request.body x (λ _. x ≡ None)) a b (λ s t. spelled_once one request.body (λ _ x. x ≡ None) a b (λ _. both a b None) s t) p q) h k
+    given_once LeastOfPut pairs (put_once pairs) (StatementBody request) a b (statement_once one request a b) h k
 first_once one operation.MakeProvider request a b h k =
     let pairs = parameters_of request.query in
     given_once LeastOfNone pairs (none_once pairs) (ProviderBody request) a b
@@ -194,31 +203,36 @@ first_once one operation.MakeProvider request a b h k =
 some_same : (a b : List ℕ) → Some a ≡ Some b → a ≡ b
 some_same a b e = cc e
 
-wanted_once : (pairs : List Pair) (a b : Wanted) → IsWanted pairs a → IsWanted pairs b → a ≡ b
-wanted_once pairs (One a Exact) (One b Exact) h k = ap (λ (id : List ℕ). One id Exact) (some_same a b (sym h ∙ k))
-
-means_once : OneJson → (o : Operation) (request : Request) (c d : Command) → Means o request c → Means o request d → c ≡ d
-means_once one operation.TellVersions request c d h k = h ∙ sym k
-means_once one operation.GetStatements request c d h k = h.2 ∙ ap command.Get (wanted_once (parameters_of request.query) h.0 k.0 h.1 k.1) ∙ sym k.2
-means_once one operation.PutStatement request c d h k =
+-- what a form means that breaks no rule
+means_once : OneJson → (o : Operation) (request : Request) (c d : Command) → FirstBroken o request None → Means o request c → Means o request d → c ≡ d
+means_once one operation.TellVersions request c d unbroken h k = h ∙ sym k
+means_once one operation.GetStatements request c d unbroken h k =
+    h.2 ∙ ap command.Get (wanted_once (parameters_of request.query) (given_least (parameters_of request.query) unbroken) h.0 k.0 h.1 k.1) ∙ sym k.2
+means_once one operation.GetMoreStatements request c d unbroken h k =
+    h.2 ∙ ap command.More (links_alone (parameters_of request.query) h.0 k.0 h.1 k.1) ∙ sym k.2
+means_once one operation.PostStatements request c d unbroken h k =
+    let values : h.1 ≡ k.1 = one_value one request.body h.1 k.1 h.2 k.2 in
+    let trees : h.0 ≡ k.0 = same_trees h.0 k.0 (h.3 ∙ ap batch_of values ∙ sym k.3) in
+    h.4 ∙ ap command.Post trees ∙ sym k.4
+means_once one operation.PutStatement request c d unbroken h k =
     let ids : h.0 ≡ k.0 = some_same h.0 k.0 (sym h.2 ∙ k.2) in
     let trees : h.1 ≡ k.1 = same_tree h.1 k.1 (one_value one request.body (view h.1) (view k.1) h.3 k.3) in
     let puts : command.Put h.0 h.1 ≡ command.Put k.0 k.1 = λ i. command.Put (ids i) (trees i) in
     h.4 ∙ puts ∙ sym k.4
-means_once one operation.MakeProvider request c d h k =
+means_once one operation.MakeProvider request c d unbroken h k =
     let values : h.1 ≡ k.1 = one_value one request.body h.1 k.1 h.2 k.2 in
     let names : h.0 ≡ k.0 = some_same h.0 k.0 (sym h.3 ∙ ap (member_text (codes "name")) values ∙ k.3) in
     h.4 ∙ ap command.Provider names ∙ sym k.4
 
-command_at : OneJson → (area : Area) (o : Operation) (request : Request) (c d : Command) (a b : Broken) → a ≡ b
+command_at : OneJson → (area : Area) (o : Operation) (request : Request) (c d : Command) (a b : Broken) → a ≡ b → FirstBroken o request a
     → MatchOption a (Means o request c) (λ r. c ≡ command.Refused area 400 r) → MatchOption b (Means o request d) (λ r. d ≡ command.Refused area 400 r) → c ≡ d
-command_at one area o request c d None None e h k = means_once one o request c d h k
-command_at one area o request c d None (Some r) e h k = absurd (none_some r e)
-command_at one area o request c d (Some r) None e h k = absurd (none_some r (sym e))
-command_at one area o request c d (Some r) (Some s) e h k = let same : r ≡ s = cc e in h ∙ ap (λ (x : Rule). command.Refused area 400 x) same ∙ sym k
+command_at one area o request c d None None e first h k = means_once one o request c d first h k
+command_at one area o request c d None (Some r) e first h k = absurd (none_some r e)
+command_at one area o request c d (Some r) None e first h k = absurd (none_some r (sym e))
+command_at one area o request c d (Some r) (Some s) e first h k = let same : r ≡ s = cc e in h ∙ ap (λ (x : Rule). command.Refused area 400 x) same ∙ sym k
 
 command_once : OneJson → (area : Area) (o : Operation) (request : Request) (c d : Command) → IsCommand area o request c → IsCommand area o request d → c ≡ d
-command_once one area o request c d h k = command_at one area o request c d h.0 k.0 (first_once one o request h.0 k.0 h.1 k.1) h.2 k.2
+command_once one area o request c d h k = command_at one area o request c d h.0 k.0 (first_once one o request h.0 k.0 h.1 k.1) h.1 h.2 k.2
 
 one_asked_if : OneJson → (request : Request) (a b : Result Asked RouteRefused) → IsAsked request a → IsAsked request b → Agree a b
 one_asked_if one request (Ok asked) b h k =

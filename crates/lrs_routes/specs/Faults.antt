@@ -29,6 +29,7 @@ b_rule number = rule 66 number
 
 abbrev pub fault_of_query : QueryRefused → Fault
 fault_of_query (query.BadParameter number) = fault.Broken (p_rule number)
+fault_of_query query.BadLink = fault.Broken (p_rule 14)
 fault_of_query query.Memory = fault.Memory
 
 abbrev pub fault_of_json : ReadRefused → Fault

@@ -1,19 +1,22 @@
 -- The form of a request: the rules that it may break, in the order in which they are looked at, and the command that it means where it breaks none.
-use Rattle.std.specs.Prelude.{◌≡◌, ◌⊎◌, ℕ, Bool, ◌&&◌, List, [], ◌∷◌, Option, Some, None, codes, IsTrue, MatchBool, MatchOption}
+use Rattle.std.specs.Prelude.{◌≡◌, ◌⊎◌, ℕ, Bool, ◌&&◌, List, [], ◌∷◌, map, Option, Some, None, codes, IsTrue, MatchBool, MatchOption}
 use Rattle.std.specs.List.{list_all}
 use Rattle.lrs_http.specs.declared.request.Request.{Request}
-use Rattle.lrs_json.specs.Json.{Json}
+use Rattle.lrs_json.specs.Json.{Json, null, boolean, number, string, array, object, Elements, no_elements, element}
 use Rattle.lrs_json.specs.Refusals.{Spells, IsBad, RepeatedAt, OutOfRangeAt, is_too_deep}
-use Rattle.lrs_json.specs.View.{view}
+use Rattle.lrs_json.specs.View.{view, elements_of}
 use Rattle.lrs_json.specs.declared.tree.Tree.{Tree}
 use Rattle.lrs_names.specs.Members.{has_member, has_member_that, has_only, is_string, member_text}
 use Rattle.lrs_record.specs.declared.entry.Command.{Command}
-use Rattle.lrs_record.specs.declared.entry.Command.TheVariants.{Provider, Put, Get, About, Refused}
+use Rattle.lrs_record.specs.declared.entry.Command.TheVariants.{Provider, Put, Post, Get, More, About, Refused}
 use Rattle.lrs_record.specs.declared.rule.Area.{Area}
 use Rattle.lrs_record.specs.declared.rule.Rule.{Rule}
 use Rattle.xapi_query.specs.Pairs.{AreTexts, pairs_of}
-use Rattle.xapi_query.specs.Parameters.{Demands, LeastOfGet, LeastOfPut}
-use Rattle.xapi_query.specs.Wants.{IsWanted, id_under}
+use Rattle.xapi_query.specs.Links.{IsLink}
+use Rattle.xapi_query.specs.Parameters.{Demands, LeastOfGet, LeastOfLink, LeastOfPut}
+use Rattle.xapi_query.specs.Queries.{id_under}
+use Rattle.xapi_query.specs.Wants.{IsWanted}
+use Rattle.xapi_query.specs.declared.link.MoreLink.{MoreLink}
 use Rattle.xapi_query.specs.declared.pair.Pair.{Pair}
 use Rattle.xapi_query.specs.declared.wanted.Wanted.{Wanted}
 use Rattle.lrs_routes.specs.Faults.{b_rule, f_rule, j_rule, p_rule}
@@ -66,6 +69,15 @@ has_just names j = has_only names j && list_all (λ name. has_member name j) nam
 abbrev pub StatementBody : Request → Option Rule → Type 0
 StatementBody request broken = Tested (allows_json request.media) (f_rule 3) broken (Spelled request.body broken (λ statement. broken ≡ None))
 
+-- the statements of a body: the items of an array, or any other value alone
+abbrev pub batch_of : Json → Elements
+batch_of null = element null no_elements
+batch_of (boolean b) = element (boolean b) no_elements
+batch_of (number s) = element (number s) no_elements
+batch_of (string s) = element (string s) no_elements
+batch_of (array js) = js
+batch_of (object ms) = element (object ms) no_elements
+
 -- what a provider to be made is asked for by: an object with its name
 abbrev pub NamesProvider : Json → Option Rule → Type 0
 NamesProvider j broken =
@@ -78,6 +90,8 @@ ProviderBody request broken = Spelled request.body broken (λ j. NamesProvider j
 abbrev pub FirstBroken : Operation → Request → Option Rule → Type 0
 FirstBroken operation.TellVersions request broken = broken ≡ None
 FirstBroken operation.GetStatements request broken = Given LeastOfGet (parameters_of request.query) broken (broken ≡ None)
+FirstBroken operation.GetMoreStatements request broken = Given LeastOfLink (parameters_of request.query) broken (broken ≡ None)
+FirstBroken operation.PostStatements request broken = Given LeastOfNone (parameters_of request.query) broken (StatementBody request broken)
 FirstBroken operation.PutStatement request broken = Given LeastOfPut (parameters_of request.query) broken (StatementBody request broken)
 FirstBroken operation.MakeProvider request broken = Given LeastOfNone (parameters_of request.query) broken (ProviderBody request broken)
 
@@ -85,6 +99,9 @@ FirstBroken operation.MakeProvider request broken = Given LeastOfNone (parameter
 abbrev pub Means : Operation → Request → Command → Type 0
 Means operation.TellVersions request command = command ≡ About
 Means operation.GetStatements request command = (wanted : Wanted) × IsWanted (parameters_of request.query) wanted × (command ≡ Get wanted)
+Means operation.GetMoreStatements request command = (link : MoreLink) × IsLink (parameters_of request.query) link × (command ≡ More link)
+Means operation.PostStatements request command =
+    (statements : List Tree) × (j : Json) × Spells 64 request.body j × (elements_of (map view statements) ≡ batch_of j) × (command ≡ Post statements)
 Means operation.PutStatement request command =
     (id : List ℕ) × (statement : Tree) × (id_under (codes "statementId") (parameters_of request.query) ≡ Some id)
     × Spells 64 request.body (view statement) × (command ≡ Put id statement)

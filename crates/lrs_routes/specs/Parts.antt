@@ -1,19 +1,19 @@
 -- What the parts of a request's reading give, each as far as it looks.
-use Rattle.std.specs.Prelude.{◌≡◌, ◌==◌, ℕ, Bool, List, Option, Some, None, Result, Ok, Err, IsTrue, codes}
+use Rattle.std.specs.Prelude.{◌≡◌, ◌==◌, ℕ, Bool, List, map, Option, Some, None, Result, Ok, Err, IsTrue, codes}
 use Rattle.std.specs.List.{list_any}
 use Rattle.lrs_http.specs.declared.request.Request.{Request}
 use Rattle.lrs_json.specs.Fits.{IsReadable}
 use Rattle.lrs_json.specs.Json.{Json}
 use Rattle.lrs_json.specs.Refusals.{Spells}
-use Rattle.lrs_json.specs.View.{view}
+use Rattle.lrs_json.specs.View.{view, elements_of}
 use Rattle.lrs_json.specs.declared.tree.Tree.{Tree}
 use Rattle.lrs_names.specs.Members.{member_text}
-use Rattle.lrs_record.specs.Entries.{IsLawfulTree}
+use Rattle.lrs_record.specs.Entries.{AreLawfulTrees, IsLawfulTree}
 use Rattle.lrs_record.specs.declared.entry.Command.{Command}
-use Rattle.lrs_record.specs.declared.entry.Command.TheVariants.{Put, Refused}
+use Rattle.lrs_record.specs.declared.entry.Command.TheVariants.{Put, Post, Refused}
 use Rattle.lrs_record.specs.declared.rule.Rule.{Rule}
 use Rattle.xapi_query.specs.declared.pair.Pair.{Pair}
-use Rattle.lrs_routes.specs.Forms.{Given, Means}
+use Rattle.lrs_routes.specs.Forms.{Given, Means, batch_of}
 use Rattle.lrs_routes.specs.declared.fault.Fault.{Fault}
 use Rattle.lrs_routes.specs.declared.fault.Fault.TheVariants as fault
 use Rattle.lrs_routes.specs.declared.table.Operation.{Operation}
@@ -21,6 +21,7 @@ use Rattle.lrs_routes.specs.declared.table.Operation.{Operation}
 -- The trees of a command are such as reading gives.
 abbrev pub HasReadTrees : Command → Type 0
 HasReadTrees (Put id statement) = IsLawfulTree (view statement)
+HasReadTrees (Post statements) = AreLawfulTrees statements
 HasReadTrees other = Unit {0}
 
 -- a rule on fields, parameters, JSON or bodies
@@ -57,6 +58,13 @@ pub record IsTreeOf (bytes : List ℕ) (tree : Tree) : Type 0 where
   pub spelled : Spells 64 bytes (view tree)
   pub only : (j : Json) → Spells 64 bytes j → view tree ≡ j
   pub readable : IsReadable 64 (view tree)
+
+-- the statements of the bytes, and no others
+pub record AreStatementsOf (bytes : List ℕ) (statements : List Tree) : Type 0 where
+  pub tree : Tree
+  pub of : IsTreeOf bytes tree
+  pub are : elements_of (map view statements) ≡ batch_of (view tree)
+  pub readable : AreLawfulTrees statements
 
 -- the name of the provider that a body asks for
 pub record IsProviderIn (bytes : List ℕ) (name : List ℕ) : Type 0 where

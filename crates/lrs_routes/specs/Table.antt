@@ -28,11 +28,12 @@ row pattern area versioned methods = record { pattern = pattern; area = area; ve
 abbrev pub row_of : Route → Row
 row_of route.Callers = row (codes "/desk/callers") area.Desk false ((Post, operation.MakeProvider) ∷ [])
 row_of route.About = row (codes "/xapi/about") area.Free false ((Get, operation.TellVersions) ∷ [])
-row_of route.Statements = row (codes "/xapi/statements") area.Store true ((Get, operation.GetStatements) ∷ (Put, operation.PutStatement) ∷ [])
+row_of route.MoreStatements = row (codes "/xapi/statements/more") area.Store true ((Get, operation.GetMoreStatements) ∷ [])
+row_of route.Statements = row (codes "/xapi/statements") area.Store true ((Get, operation.GetStatements) ∷ (Post, operation.PostStatements) ∷ (Put, operation.PutStatement) ∷ [])
 
--- each route, in the order of the paths
+-- each route, in the order in which the router has their paths: a longer one before its beginning
 abbrev pub routes : List Route
-routes = route.Callers ∷ route.About ∷ route.Statements ∷ []
+routes = route.Callers ∷ route.About ∷ route.MoreStatements ∷ route.Statements ∷ []
 
 -- the routes' patterns, as the router has them
 abbrev pub patterns : List (List ℕ × Route)
@@ -56,7 +57,7 @@ operation_of (first ∷ methods) method =
 -- the methods that a refusal lists
 abbrev pub methods_of : Allow → List Method
 methods_of allow.Get = Get ∷ []
-methods_of allow.GetPut = Get ∷ Put ∷ []
+methods_of allow.GetPostPut = Get ∷ Post ∷ Put ∷ []
 methods_of allow.Post = Post ∷ []
 
 -- their names, with a comma and a space between them (RFC 9110, section 10.2.1)

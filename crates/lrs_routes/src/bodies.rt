@@ -1,16 +1,16 @@
 // The body of a request, as JSON.
-ghost use Rattle.std.specs.Prelude.{◌≡◌, Some, IfErr, MatchOption, codes, map, option_map};
+ghost use Rattle.std.specs.Prelude.{◌≡◌, [], ◌∷◌, Some, IfOk, IfErr, MatchOption, codes, map, option_map};
 ghost use Rattle.std.specs.List.{list_all};
 ghost use Rattle.lrs_json.specs.Find.{find, find_member};
-ghost use Rattle.lrs_json.specs.View.{member_view, members_of, view};
+ghost use Rattle.lrs_json.specs.View.{elements_of, member_view, members_of, view};
 ghost use Rattle.lrs_names.specs.Members.{has_member, member_text};
-ghost use Rattle.lrs_routes.specs.Forms.{NamesProvider, ProviderBody, Spelled, StatementBody, has_just};
-ghost use Rattle.lrs_routes.specs.Parts.{Finds, IsProviderIn, IsTreeOf};
+ghost use Rattle.lrs_routes.specs.Forms.{NamesProvider, ProviderBody, Spelled, StatementBody, batch_of, has_just};
+ghost use Rattle.lrs_routes.specs.Parts.{AreStatementsOf, Finds, IsProviderIn, IsTreeOf};
 
 use crate::fault::Fault;
 use crate::fields::allows_json;
 use lrs_http::Request;
-use lrs_json::{Member, Text, Tree, read};
+use lrs_json::{Items, Member, Memory, Text, Tree, read};
 use lrs_names::{has_member, has_only};
 use std::alloc::Global;
 
@@ -23,6 +23,32 @@ pub fn statement_in(alloc: Global, request: &Request) -> Result<Tree, Fault>
     } else {
         Err(Fault::of_rule(b'F', 3))
     }
+}
+
+/// The body as statements that aren't looked into: an array of them, or one alone.
+pub fn statements_in(alloc: Global, request: &Request) -> Result<Items<Tree>, Fault>
+    ensures { Finds (StatementBody request.now) (AreStatementsOf request.now.body) result }
+{
+    let body = statement_in(alloc, request)?;
+    let statements = batch_of(alloc, body)?;
+    Ok(statements)
+}
+
+fn batch_of(alloc: Global, body: Tree) -> Result<Items<Tree>, Memory>
+    ensures { IfOk result (λ statements. elements_of (map view statements) ≡ batch_of (view body)) }
+{
+    match body {
+        Tree::List(statements) => Ok(statements),
+        statement => alone(alloc, statement),
+    }
+}
+
+fn alone(alloc: Global, statement: Tree) -> Result<Items<Tree>, Memory>
+    ensures { IfOk result (λ statements. statements ≡ statement ∷ []) }
+{
+    let mut statements = Items::new(alloc);
+    statements.push(statement)?;
+    Ok(statements)
 }
 
 /// The name of the provider that the body asks for.

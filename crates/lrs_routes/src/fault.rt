@@ -44,6 +44,7 @@ impl From<QueryRefused> for Fault {
     fn from(refused: QueryRefused) -> Fault {
         match refused {
             QueryRefused::BadParameter { number } => Fault::of_rule(b'P', number),
+            QueryRefused::BadLink => Fault::of_rule(b'P', 14),
             QueryRefused::Memory => Fault::Memory,
         }
     }

@@ -2,13 +2,15 @@
 ghost use Rattle.std.specs.Prelude.{◌≡◌, [], IfOk, MatchResult, Some, codes};
 ghost use Rattle.lrs_record.specs.declared.entry.Command.{Command as SpecCommand};
 ghost use Rattle.xapi_query.specs.Pairs.{AreTexts, pairs_of};
-ghost use Rattle.xapi_query.specs.Parameters.{LeastOfGet, LeastOfPut};
-ghost use Rattle.xapi_query.specs.Wants.{IsWanted, id_under};
+ghost use Rattle.xapi_query.specs.Links.{IsLink};
+ghost use Rattle.xapi_query.specs.Parameters.{LeastOfGet, LeastOfLink, LeastOfPut};
+ghost use Rattle.xapi_query.specs.Queries.{id_under};
+ghost use Rattle.xapi_query.specs.Wants.{IsWanted};
 ghost use Rattle.lrs_routes.specs.Faults.{p_rule};
 ghost use Rattle.lrs_routes.specs.Forms.{FirstBroken, IsCommand, LeastOfNone, parameters_of};
 ghost use Rattle.lrs_routes.specs.Parts.{Finds, HasFormRule, HasReadTrees, IfBroken, IsMeant, OnlyGiven};
 
-use crate::bodies::{provider_in, statement_in};
+use crate::bodies::{provider_in, statement_in, statements_in};
 use crate::fault::Fault;
 use crate::table::Operation;
 use lrs_http::Request;
@@ -16,7 +18,7 @@ use lrs_json::{Memory, Text};
 use lrs_names::Id;
 use lrs_record::{Area, Command};
 use std::alloc::Global;
-use xapi_query::{Pair, Wanted, no_parameters, pairs, put_id};
+use xapi_query::{MoreLink, Pair, Wanted, no_parameters, pairs, put_id};
 
 /// The command of a request to a route of that area. A form that is refused is a command, too.
 pub fn command(
@@ -47,6 +49,8 @@ fn meaning(alloc: Global, operation: Operation, request: &Request) -> Result<Com
     match operation {
         Operation::TellVersions => Ok(Command::About),
         Operation::GetStatements => get_statements(alloc, request),
+        Operation::GetMoreStatements => get_more_statements(alloc, request),
+        Operation::PostStatements => post_statements(alloc, request),
         Operation::PutStatement => put_statement(alloc, request),
         Operation::MakeProvider => make_provider(alloc, request),
     }
@@ -57,6 +61,21 @@ fn get_statements(alloc: Global, request: &Request) -> Result<Command, Fault>
 {
     let wanted = wanted_in(alloc, &request.query)?;
     Ok(Command::Get(wanted))
+}
+
+fn get_more_statements(alloc: Global, request: &Request) -> Result<Command, Fault>
+    ensures { Finds (FirstBroken Operation.GetMoreStatements request.now) (IsMeant Operation.GetMoreStatements request.now) result }
+{
+    let link = link_in(alloc, &request.query)?;
+    Ok(Command::More(link))
+}
+
+fn post_statements(alloc: Global, request: &Request) -> Result<Command, Fault>
+    ensures { Finds (FirstBroken Operation.PostStatements request.now) (IsMeant Operation.PostStatements request.now) result }
+{
+    nothing_in(alloc, &request.query)?;
+    let statements = statements_in(alloc, request)?;
+    Ok(Command::Post { statements })
 }
 
 fn put_statement(alloc: Global, request: &Request) -> Result<Command, Fault>
@@ -83,6 +102,16 @@ fn wanted_in(alloc: Global, query: &Option<Text>) -> Result<Wanted, Fault>
     let parameters = parameters(alloc, query)?;
     match Wanted::read(alloc, parameters.as_slice()) {
         Ok(wanted) => Ok(wanted),
+        Err(refused) => Err(Fault::from(refused)),
+    }
+}
+
+fn link_in(alloc: Global, query: &Option<Text>) -> Result<MoreLink, Fault>
+    ensures { Finds (OnlyGiven LeastOfLink (parameters_of query.now)) (IsLink (parameters_of query.now)) result }
+{
+    let parameters = parameters(alloc, query)?;
+    match MoreLink::read(alloc, parameters.as_slice()) {
+        Ok(link) => Ok(link),
         Err(refused) => Err(Fault::from(refused)),
     }
 }

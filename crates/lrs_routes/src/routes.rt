@@ -101,5 +101,6 @@ fn router(alloc: Global) -> Result<Router<Route>, InsertError>
     router.insert("/desk/callers", Route::Callers)?;
     router.insert("/xapi/about", Route::About)?;
     router.insert("/xapi/statements", Route::Statements)?;
+    router.insert("/xapi/statements/more", Route::MoreStatements)?;
     Ok(router)
 }

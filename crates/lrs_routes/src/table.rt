@@ -9,6 +9,7 @@ use lrs_record::Area;
 pub(crate) enum Route {
     Callers,
     About,
+    MoreStatements,
     Statements,
 }
 
@@ -19,6 +20,10 @@ pub(crate) enum Operation {
     TellVersions,
     /// Gives statements.
     GetStatements,
+    /// Gives the next page of a list of statements.
+    GetMoreStatements,
+    /// Keeps statements together.
+    PostStatements,
     /// Keeps a statement under an id.
     PutStatement,
     /// Makes a provider and its token.
@@ -29,18 +34,18 @@ pub(crate) enum Operation {
 #[derive(Clone, Copy, Debug, PartialEq, Eq)]
 pub enum Allow {
     Get,
-    GetPut,
+    GetPostPut,
     Post,
 }
 
 impl Allow {
-    /// The methods' names, as in `GET, PUT`.
+    /// The methods' names, as in `GET, POST, PUT`.
     pub fn text(&self) -> &'static str
         ensures { result.now ≡ listed (methods_of self.now) }
     {
         match self {
             Allow::Get => "GET",
-            Allow::GetPut => "GET, PUT",
+            Allow::GetPostPut => "GET, POST, PUT",
             Allow::Post => "POST",
         }
     }
@@ -54,7 +59,7 @@ impl Route {
         match self {
             Route::Callers => Area::Desk,
             Route::About => Area::Free,
-            Route::Statements => Area::Store,
+            Route::MoreStatements | Route::Statements => Area::Store,
         }
     }
 
@@ -63,7 +68,7 @@ impl Route {
         ensures { result ≡ (row_of self).versioned }
     {
         match self {
-            Route::Statements => true,
+            Route::MoreStatements | Route::Statements => true,
             Route::Callers | Route::About => false,
         }
     }
@@ -77,9 +82,12 @@ impl Route {
             (Route::Callers, _) => Err(Allow::Post),
             (Route::About, Method::Get) => Ok(Operation::TellVersions),
             (Route::About, _) => Err(Allow::Get),
+            (Route::MoreStatements, Method::Get) => Ok(Operation::GetMoreStatements),
+            (Route::MoreStatements, _) => Err(Allow::Get),
             (Route::Statements, Method::Get) => Ok(Operation::GetStatements),
+            (Route::Statements, Method::Post) => Ok(Operation::PostStatements),
             (Route::Statements, Method::Put) => Ok(Operation::PutStatement),
-            (Route::Statements, _) => Err(Allow::GetPut),
+            (Route::Statements, _) => Err(Allow::GetPostPut),
         }
     }
 }

@@ -31,22 +31,25 @@ fn text_of(alloc: Global, text: Option<&str>) -> Result<Option<Text>, Fail> {
     }
 }
 
-fn request(
-    alloc: Global,
+// A request, and the path and the query of its target.
+#[derive(Clone, Copy)]
+struct Sent<'a> {
     method: Method,
-    target: (&str, Option<&str>),
-    fields: Fields<'_>,
-    body: &str,
-) -> Result<Request, Fail> {
+    target: (&'a str, Option<&'a str>),
+    fields: Fields<'a>,
+    body: &'a str,
+}
+
+fn request(alloc: Global, sent: Sent<'_>) -> Result<Request, Fail> {
     Ok(Request {
-        method,
-        path: Text::of(alloc, target.0)?,
-        query: text_of(alloc, target.1)?,
-        version: text_of(alloc, fields.version)?,
-        credential: text_of(alloc, fields.credential)?,
-        media: text_of(alloc, fields.media)?,
+        method: sent.method,
+        path: Text::of(alloc, sent.target.0)?,
+        query: text_of(alloc, sent.target.1)?,
+        version: text_of(alloc, sent.fields.version)?,
+        credential: text_of(alloc, sent.fields.credential)?,
+        media: text_of(alloc, sent.fields.media)?,
         closes: false,
-        body: Body::from_vec(Vec::from_slice(alloc, body.as_bytes())?),
+        body: Body::from_vec(Vec::from_slice(alloc, sent.body.as_bytes())?),
     })
 }
 
@@ -59,10 +62,21 @@ fn text_of_id(id: &Id, into: &mut String) -> Result<(), Fail> {
 fn show(command: &Command, into: &mut String) -> Result<(), Fail> {
     match command {
         Command::About => into.push_str("about")?,
-        Command::Get(Wanted::One(id, Format::Exact)) => {
-            into.push_str("get ")?;
+        Command::Get(Wanted::One(id, format)) => {
+            into.push_str(if *format == Format::Ids {
+                "get ids of "
+            } else {
+                "get "
+            })?;
             text_of_id(id, into)?;
         }
+        Command::Get(Wanted::Voided(id, _format)) => {
+            into.push_str("get voided ")?;
+            text_of_id(id, into)?;
+        }
+        Command::Get(Wanted::Many(query)) => write!(into, "list {}", query.page)?,
+        Command::More(link) => write!(into, "more {} {}", link.asof, link.after)?,
+        Command::Post { statements } => write!(into, "post {}", statements.len())?,
         Command::Put { id, .. } => {
             into.push_str("put ")?;
             text_of_id(id, into)?;
@@ -82,33 +96,44 @@ fn show(command: &Command, into: &mut String) -> Result<(), Fail> {
     Ok(())
 }
 
+fn show_asked(asked: &Asked, into: &mut String) -> Result<(), Fail> {
+    into.push_str(asked.caller.text())?;
+    into.push_str(": ")?;
+    show(&asked.command, into)
+}
+
+fn show_refused(refused: RouteRefused, into: &mut String) -> Result<(), Fail> {
+    match refused {
+        RouteRefused::NoMethod { allow } => {
+            into.push_str("only ")?;
+            into.push_str(allow.text())?;
+        }
+        RouteRefused::NoRoute => into.push_str("NoRoute")?,
+        RouteRefused::NoVersion => into.push_str("NoVersion")?,
+        RouteRefused::Memory => into.push_str("Memory")?,
+    }
+    Ok(())
+}
+
 // What the request asks, in one word.
 fn shown(alloc: Global, routes: &Routes, request: Request) -> Result<String, Fail> {
     let mut text = String::new(alloc);
     match routes.command_of(alloc, request) {
-        Ok(Asked { caller, command }) => {
-            text.push_str(caller.text())?;
-            text.push_str(": ")?;
-            show(&command, &mut text)?;
-        }
-        Err(RouteRefused::NoMethod { allow }) => {
-            text.push_str("only ")?;
-            text.push_str(allow.text())?;
-        }
-        Err(RouteRefused::NoRoute) => text.push_str("NoRoute")?,
-        Err(RouteRefused::NoVersion) => text.push_str("NoVersion")?,
-        Err(RouteRefused::Memory) => text.push_str("Memory")?,
+        Ok(asked) => show_asked(&asked, &mut text)?,
+        Err(refused) => show_refused(refused, &mut text)?,
     }
     Ok(text)
 }
 
 // Whether this is what the request asks, in one word.
-fn asks(alloc: Global, routes: &Routes, request: Request, expected: &str) -> Result<bool, Fail> {
-    Ok(shown(alloc, routes, request)?.as_str() == expected)
+fn asks(alloc: Global, sent: Sent<'_>, expected: &str) -> Result<bool, Fail> {
+    let routes = Routes::new(alloc)?;
+    let request = request(alloc, sent)?;
+    Ok(shown(alloc, &routes, request)?.as_str() == expected)
 }
 
 // Paths are compared whole and undecoded. At `about` nobody is presented, and no version is asked for.
-const ROUTES: [(Method, &str, &str); 22] = [
+const ROUTES: [(Method, &str, &str); 26] = [
     (Method::Get, "/xapi/about", ": about"),
     (Method::Delete, "/xapi/about", "only GET"),
     (Method::Other, "/xapi/about", "only GET"),
@@ -123,11 +148,19 @@ const ROUTES: [(Method, &str, &str); 22] = [
     (Method::Get, "/xapi//statements", "NoRoute"),
     (Method::Get, "/xapi/%73tatements", "NoRoute"),
     (Method::Get, "/XAPI/statements", "NoRoute"),
-    (Method::Get, "/xapi/statements", "token-1: Store 400 P4"),
+    (Method::Get, "/xapi/statements", "token-1: list 100"),
+    (
+        Method::Get,
+        "/xapi/statements/more",
+        "token-1: Store 400 P14",
+    ),
+    (Method::Put, "/xapi/statements/more", "only GET"),
+    (Method::Get, "/xapi/statements/more/", "NoRoute"),
+    (Method::Get, "/xapi/statements/mor", "NoRoute"),
     (Method::Put, "/xapi/statements", "token-1: Store 400 P4"),
-    (Method::Post, "/xapi/statements", "only GET, PUT"),
-    (Method::Delete, "/xapi/statements", "only GET, PUT"),
-    (Method::Other, "/xapi/statements", "only GET, PUT"),
+    (Method::Post, "/xapi/statements", "token-1: Store 400 J2"),
+    (Method::Delete, "/xapi/statements", "only GET, POST, PUT"),
+    (Method::Other, "/xapi/statements", "only GET, POST, PUT"),
     (Method::Post, "/desk/callers", "token-1: Desk 400 J2"),
     (Method::Get, "/desk/callers", "only POST"),
     (Method::Put, "/desk/callers", "only POST"),
@@ -136,16 +169,20 @@ const ROUTES: [(Method, &str, &str); 22] = [
 #[test]
 fn finds_routes_and_methods(rt: HostRuntime) -> Result<(), Fail> {
     let alloc = rt.alloc();
-    let routes = Routes::new(alloc)?;
     for (method, path, expected) in ROUTES {
-        let request = request(alloc, method, (path, None), FIELDS, "")?;
-        assert!(rt; asks(alloc, &routes, request, expected)?);
+        let sent = Sent {
+            method,
+            target: (path, None),
+            fields: FIELDS,
+            body: "",
+        };
+        assert!(rt; asks(alloc, sent, expected)?);
     }
     Ok(())
 }
 
 // The version goes behind the method and before all else. The other routes ask for none.
-const VERSIONS: [(Method, &str, Option<&str>, &str); 17] = [
+const VERSIONS: [(Method, &str, Option<&str>, &str); 18] = [
     (Method::Get, "/xapi/statements", None, "NoVersion"),
     (Method::Get, "/xapi/statements", Some(""), "NoVersion"),
     (Method::Get, "/xapi/statements", Some("1"), "NoVersion"),
@@ -153,31 +190,31 @@ const VERSIONS: [(Method, &str, Option<&str>, &str); 17] = [
         Method::Get,
         "/xapi/statements",
         Some("1.0"),
-        "token-1: Store 400 P4",
+        "token-1: list 100",
     ),
     (
         Method::Get,
         "/xapi/statements",
         Some("1.0."),
-        "token-1: Store 400 P4",
+        "token-1: list 100",
     ),
     (
         Method::Get,
         "/xapi/statements",
         Some("1.0.0"),
-        "token-1: Store 400 P4",
+        "token-1: list 100",
     ),
     (
         Method::Get,
         "/xapi/statements",
         Some("1.0.3"),
-        "token-1: Store 400 P4",
+        "token-1: list 100",
     ),
     (
         Method::Get,
         "/xapi/statements",
         Some("1.0.17"),
-        "token-1: Store 400 P4",
+        "token-1: list 100",
     ),
     (Method::Get, "/xapi/statements", Some("1.00"), "NoVersion"),
     (Method::Get, "/xapi/statements", Some("1.1"), "NoVersion"),
@@ -185,7 +222,13 @@ const VERSIONS: [(Method, &str, Option<&str>, &str); 17] = [
     (Method::Get, "/xapi/statements", Some("2.0.0"), "NoVersion"),
     (Method::Get, "/xapi/statements", Some("v1.0.3"), "NoVersion"),
     (Method::Put, "/xapi/statements", Some("1.0 "), "NoVersion"),
-    (Method::Post, "/xapi/statements", None, "only GET, PUT"),
+    (Method::Post, "/xapi/statements", None, "NoVersion"),
+    (
+        Method::Delete,
+        "/xapi/statements",
+        None,
+        "only GET, POST, PUT",
+    ),
     (Method::Get, "/xapi/about", None, ": about"),
     (Method::Post, "/desk/callers", None, "token-1: Desk 400 J2"),
 ];
@@ -193,11 +236,15 @@ const VERSIONS: [(Method, &str, Option<&str>, &str); 17] = [
 #[test]
 fn asks_for_the_version(rt: HostRuntime) -> Result<(), Fail> {
     let alloc = rt.alloc();
-    let routes = Routes::new(alloc)?;
     for (method, path, version, expected) in VERSIONS {
         let fields = Fields { version, ..FIELDS };
-        let request = request(alloc, method, (path, None), fields, "")?;
-        assert!(rt; asks(alloc, &routes, request, expected)?);
+        let sent = Sent {
+            method,
+            target: (path, None),
+            fields,
+            body: "",
+        };
+        assert!(rt; asks(alloc, sent, expected)?);
     }
     Ok(())
 }
@@ -225,14 +272,18 @@ const CREDENTIALS: [(Option<&str>, &str); 16] = [
 #[test]
 fn presents_the_credential(rt: HostRuntime) -> Result<(), Fail> {
     let alloc = rt.alloc();
-    let routes = Routes::new(alloc)?;
     for (credential, expected) in CREDENTIALS {
         let fields = Fields {
             credential,
             ..FIELDS
         };
-        let request = request(alloc, Method::Put, ("/xapi/statements", None), fields, "")?;
-        assert!(rt; asks(alloc, &routes, request, expected)?);
+        let sent = Sent {
+            method: Method::Put,
+            target: ("/xapi/statements", None),
+            fields,
+            body: "",
+        };
+        assert!(rt; asks(alloc, sent, expected)?);
     }
     Ok(())
 }
@@ -313,23 +364,81 @@ const PUTS: [(&str, Option<&str>, &str, &str); 19] = [
 #[test]
 fn reads_puts(rt: HostRuntime) -> Result<(), Fail> {
     let alloc = rt.alloc();
-    let routes = Routes::new(alloc)?;
     for (query, media, body, expected) in PUTS {
         let fields = Fields { media, ..FIELDS };
-        let request = request(
-            alloc,
-            Method::Put,
-            ("/xapi/statements", Some(query)),
+        let sent = Sent {
+            method: Method::Put,
+            target: ("/xapi/statements", Some(query)),
             fields,
             body,
-        )?;
-        assert!(rt; asks(alloc, &routes, request, expected)?);
+        };
+        assert!(rt; asks(alloc, sent, expected)?);
+    }
+    Ok(())
+}
+
+// An array is a batch, and any other value the one statement of a batch.
+const POSTS: [(Option<&str>, Option<&str>, &str, &str); 13] = [
+    (None, None, "[]", "token-1: post 0"),
+    (None, None, "[{},5,[]]", "token-1: post 3"),
+    (Some(""), None, " {} ", "token-1: post 1"),
+    (None, None, "5", "token-1: post 1"),
+    (None, None, "null", "token-1: post 1"),
+    (
+        None,
+        Some("application/json; charset=utf-8"),
+        "[[]]",
+        "token-1: post 1",
+    ),
+    (Some(PUT), None, "[]", "token-1: Store 400 P2"),
+    (
+        Some("statementId=1&a=%FF"),
+        None,
+        "[]",
+        "token-1: Store 400 P1",
+    ),
+    (
+        Some("limit=1"),
+        Some("text/plain"),
+        "[",
+        "token-1: Store 400 P2",
+    ),
+    (None, Some("text/plain"), "[", "token-1: Store 400 F3"),
+    (None, None, "[1,]", "token-1: Store 400 J2"),
+    (None, None, "[{\"a\":1,\"a\":2}]", "token-1: Store 400 J3"),
+    (None, None, "[1e1000]", "token-1: Store 400 J4"),
+];
+
+#[test]
+fn reads_posts(rt: HostRuntime) -> Result<(), Fail> {
+    let alloc = rt.alloc();
+    for (query, media, body, expected) in POSTS {
+        let fields = Fields { media, ..FIELDS };
+        let sent = Sent {
+            method: Method::Post,
+            target: ("/xapi/statements", query),
+            fields,
+            body,
+        };
+        assert!(rt; asks(alloc, sent, expected)?);
     }
     Ok(())
 }
 
 // A GET has no body that counts.
-const GETS: [(&str, &str); 6] = [
+const GETS: [(&str, &str); 12] = [
+    ("", "token-1: list 100"),
+    ("limit=7&verb=http://v/1", "token-1: list 7"),
+    ("verb=http://v/1&since=now", "token-1: Store 400 P9"),
+    ("limit=7&asof=9&after=8", "token-1: Store 400 P2"),
+    (
+        "statementId=11111111-1111-4111-8111-111111111111&format=ids",
+        "token-1: get ids of 11111111-1111-4111-8111-111111111111",
+    ),
+    (
+        "voidedStatementId=11111111-1111-4111-8111-111111111111&format=exact",
+        "token-1: get voided 11111111-1111-4111-8111-111111111111",
+    ),
     (PUT, "token-1: get 11111111-1111-4111-8111-111111111111"),
     (
         "format=exact&statementId=%31%31111111-1111-4111-8111-111111111111&attachments=false",
@@ -344,20 +453,42 @@ const GETS: [(&str, &str); 6] = [
 #[test]
 fn reads_gets(rt: HostRuntime) -> Result<(), Fail> {
     let alloc = rt.alloc();
-    let routes = Routes::new(alloc)?;
     for (query, expected) in GETS {
         let fields = Fields {
             media: Some("text/plain"),
             ..FIELDS
         };
-        let request = request(
-            alloc,
-            Method::Get,
-            ("/xapi/statements", Some(query)),
+        let sent = Sent {
+            method: Method::Get,
+            target: ("/xapi/statements", Some(query)),
             fields,
-            "{",
-        )?;
-        assert!(rt; asks(alloc, &routes, request, expected)?);
+            body: "{",
+        };
+        assert!(rt; asks(alloc, sent, expected)?);
+    }
+    Ok(())
+}
+
+// A link has the parameters of a list, and two of its own.
+const LINKS: [(&str, &str); 5] = [
+    ("asof=9&after=8", "token-1: more 9 8"),
+    ("limit=7&after=8&asof=9", "token-1: more 9 8"),
+    ("after=9&asof=8", "token-1: Store 400 P14"),
+    ("asof=9&after=8&attachments=false", "token-1: Store 400 P2"),
+    ("asof=9&after=8&limit=%FF", "token-1: Store 400 P1"),
+];
+
+#[test]
+fn reads_links(rt: HostRuntime) -> Result<(), Fail> {
+    let alloc = rt.alloc();
+    for (query, expected) in LINKS {
+        let sent = Sent {
+            method: Method::Get,
+            target: ("/xapi/statements/more", Some(query)),
+            fields: FIELDS,
+            body: "",
+        };
+        assert!(rt; asks(alloc, sent, expected)?);
     }
     Ok(())
 }
@@ -400,14 +531,18 @@ const CALLERS: [(Option<&str>, &str, &str); 19] = [
 #[test]
 fn reads_new_callers(rt: HostRuntime) -> Result<(), Fail> {
     let alloc = rt.alloc();
-    let routes = Routes::new(alloc)?;
     for (query, body, expected) in CALLERS {
         let fields = Fields {
             media: Some("text/plain"),
             ..FIELDS
         };
-        let request = request(alloc, Method::Post, ("/desk/callers", query), fields, body)?;
-        assert!(rt; asks(alloc, &routes, request, expected)?);
+        let sent = Sent {
+            method: Method::Post,
+            target: ("/desk/callers", query),
+            fields,
+            body,
+        };
+        assert!(rt; asks(alloc, sent, expected)?);
     }
     Ok(())
 }

@@ -1,11 +1,11 @@
 use Rattle.std.proofs.Common.{◌≡◌, ℕ, List, Some, codes, subst, sym, ap, ◌∙◌}
 use Rattle.xapi_query.specs.Parameters.{LeastOfPut}
-use Rattle.xapi_query.specs.Wants.{id_under}
+use Rattle.xapi_query.specs.Queries.{id_under}
 use Rattle.xapi_query.specs.declared.refused.QueryRefused.{QueryRefused}
 use Rattle.xapi_query.specs.declared.refused.QueryRefused.TheVariants.{BadParameter}
 use Rattle.xapi_query.specs.declared.pair.Pair.{Pair}
 use Rattle.lrs_routes.specs.Forms.{parameters_of}
-use Rattle.lrs_routes.proofs.Looks.{given_passed, given_refused}
+use Rattle.lrs_routes.proofs.Looks.{given_passed, given_refused, never_link}
 use Rattle.lrs_routes.proofs.forms.id_in.Goals as goal
 
 broken_at : (pairs : List Pair) (refused : QueryRefused) → (rule : ℕ) × (refused ≡ BadParameter rule) × LeastOfPut (Some rule) pairs → (number : ℕ) → refused ≡ BadParameter number → LeastOfPut (Some number) pairs
@@ -26,4 +26,5 @@ returns c =
     let pairs = parameters_of c.args.query.now in
     let same = c.as_slice.ensures.value ∙ c.in_ok-parameters.ensures.0 in
     given_refused LeastOfPut c.as_slice.result.now pairs (λ (id : List ℕ). id_under (codes "statementId") pairs ≡ Some id) (List ℕ) c.in-Err.refused c.from.result same c.in_ok-parameters.ensures.1
-    (broken_at c.as_slice.result.now c.in-Err.refused c.in-Err.ensures.broken) c.in-Err.ensures.always c.from.ensures
+    (broken_at c.as_slice.result.now c.in-Err.refused c.in-Err.ensures.broken)
+    (never_link LeastOfPut c.as_slice.result.now c.in-Err.ensures.broken.0 c.in-Err.refused c.in-Err.ensures.broken.1) c.in-Err.ensures.always c.from.ensures

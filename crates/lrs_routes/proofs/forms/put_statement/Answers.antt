@@ -1,6 +1,6 @@
 use Rattle.std.proofs.Common.{◌≡◌, ℕ, List, Some, None, codes}
 use Rattle.xapi_query.specs.Parameters.{LeastOfPut}
-use Rattle.xapi_query.specs.Wants.{id_under}
+use Rattle.xapi_query.specs.Queries.{id_under}
 use Rattle.lrs_routes.specs.Forms.{FirstBroken, StatementBody, parameters_of}
 use Rattle.lrs_routes.specs.Parts.{IsMeant, IsTreeOf, OnlyGiven}
 use Rattle.lrs_routes.specs.declared.table.Operation.TheVariants.{PutStatement}

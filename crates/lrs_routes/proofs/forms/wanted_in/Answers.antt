@@ -17,4 +17,4 @@ pub returns : goal.returns
 returns c =
     let pairs = parameters_of c.args.query.now in
     let same = c.as_slice.ensures.value ∙ c.in_ok-parameters.ensures.0 in
-    given_refused LeastOfGet c.as_slice.result.now pairs (IsWanted pairs) Wanted c.in-Err.refused c.from.result same c.in_ok-parameters.ensures.1 (λ number e. c.in-Err.ensures.broken number (cc e)) c.in-Err.ensures.always c.from.ensures
+    given_refused LeastOfGet c.as_slice.result.now pairs (IsWanted pairs) Wanted c.in-Err.refused c.from.result same c.in_ok-parameters.ensures.1 (λ number e. c.in-Err.ensures.broken number (cc e)) (λ e. absurd (c.in-Err.ensures.plain (cc e))) c.in-Err.ensures.always c.from.ensures
