@@ -1,5 +1,6 @@
 use super::*;
 use lrs_disk::{MemDisk, MemDoor, MemLink, MemLobby, MemShelf, MemSink, MemSource};
+use lrs_hall::{Finish, Talk};
 use std::alloc::Global;
 use std::fs;
 use std::test::Fail;
@@ -216,8 +217,9 @@ struct Ran {
     printed: Vec<u8>,
     // what the file `s` holds then
     stored: Vec<u8>,
-    // what went out over the first connection, where one was served
+    // what went out over the first connection, and how its conversation ended, where one was served
     sent: Vec<u8>,
+    finish: Option<Finish>,
 }
 
 // A lobby with one door, of which the calls of `next` with these numbers fail. Reads of its links end at the cuts.
@@ -288,7 +290,12 @@ fn run_in_pieces(
         printed: out.taken().to_vec(alloc)?,
         stored: disk.bytes().to_vec(alloc)?,
         sent: sent(alloc, &lobby)?,
+        finish: first_finish(ended.report.talks.as_slice()),
     })
+}
+
+fn first_finish(talks: &[Talk]) -> Option<Finish> {
+    Some(talks.first()?.finish())
 }
 
 fn sent(alloc: Global, lobby: &MemLobby) -> Result<Vec<u8>, Fail> {
@@ -363,7 +370,7 @@ const GET: &str =
 const NO_CONTENT: &str = "HTTP/1.1 204 No Content\r\nX-Experience-API-Version: 1.0.3\r\n\r\n";
 
 const SHOWN: &str =
-    "HTTP/1.1 200 OK\r\nContent-Type: application/json\r\nContent-Length: 131\r\nX-Experience-API-Version: 1.0.3\r\nX-Experience-API-Consistent-Through: 2023-11-14T22:13:20.000Z\r\n\r\n{\"id\":\"11111111-1111-4111-8111-111111111111\",\"actor\":{\"mbox\":\"mailto:a@b\"},\"verb\":{\"id\":\"http://v/1\"},\"object\":{\"id\":\"http://a/1\"}}";
+    "HTTP/1.1 200 OK\r\nContent-Type: application/json\r\nContent-Length: 342\r\nX-Experience-API-Version: 1.0.3\r\nX-Experience-API-Consistent-Through: 2023-11-14T22:13:20.000Z\r\n\r\n{\"actor\":{\"mbox\":\"mailto:a@b\"},\"verb\":{\"id\":\"http://v/1\"},\"object\":{\"id\":\"http://a/1\"},\"id\":\"11111111-1111-4111-8111-111111111111\",\"timestamp\":\"2023-11-14T22:13:20.000Z\",\"stored\":\"2023-11-14T22:13:20.000Z\",\"authority\":{\"objectType\":\"Agent\",\"name\":\"admin\",\"account\":{\"homePage\":\"https://lrs.invalid/callers\",\"name\":\"admin\"}},\"version\":\"1.0.0\"}";
 
 #[test]
 fn a_server_keeps_to_the_limit(rt: HostRuntime) -> Result<(), Fail> {
@@ -426,6 +433,14 @@ fn a_put_and_a_get_are_answered_alike_however_they_are_cut(rt: HostRuntime) -> R
     Ok(())
 }
 
+// The end of a conversation whose input ends behind so many bytes of its first request.
+fn finish_behind(length: usize) -> Finish {
+    match length {
+        0 => Finish::Ended,
+        _ => Finish::Cut,
+    }
+}
+
 #[test]
 fn a_part_of_a_put_is_not_answered(rt: HostRuntime) -> Result<(), Fail> {
     let alloc = rt.alloc();
@@ -437,6 +452,8 @@ fn a_part_of_a_put_is_not_answered(rt: HostRuntime) -> Result<(), Fail> {
         assert_eq!(rt; ran.responses, 0, "{end}");
         assert_eq!(rt; ran.stored.as_slice(), stored.as_slice(), "{end}");
         assert_eq!(rt; ran.printed.as_slice(), b"served 0\n".as_slice());
+        let finish = ran.finish.ok_or("no conversation")?;
+        assert!(rt; finish == finish_behind(end), "{end}");
     }
     Ok(())
 }
@@ -468,6 +485,37 @@ fn a_provider_is_made_and_keeps_to_its_area(rt: HostRuntime) -> Result<(), Fail>
         &[],
     )?;
     assert_eq!(rt; ran.sent.as_slice(), answers.as_bytes());
+    Ok(())
+}
+
+const POST: &str =
+    "POST /xapi/statements HTTP/1.1\r\nX-Experience-API-Version: 1.0.3\r\nAuthorization: Basic adminadmin\r\nContent-Length: 131\r\n\r\n{\"id\":\"11111111-1111-4111-8111-111111111111\",\"actor\":{\"mbox\":\"mailto:a@b\"},\"verb\":{\"id\":\"http://v/1\"},\"object\":{\"id\":\"http://a/1\"}}";
+
+const POST_NONE: &str =
+    "POST /xapi/statements HTTP/1.1\r\nX-Experience-API-Version: 1.0.3\r\nAuthorization: Basic adminadmin\r\nContent-Length: 2\r\n\r\n[]";
+
+// One statement without an array, the same again, and none: each is told the ids, and one entry is made.
+#[test]
+fn a_server_tells_the_ids_of_a_batch(rt: HostRuntime) -> Result<(), Fail> {
+    let alloc = rt.alloc();
+    let stored = store(alloc, "65536")?;
+    let rows = [
+        (
+            POST,
+            "HTTP/1.1 200 OK\r\nContent-Type: application/json\r\nContent-Length: 40\r\nX-Experience-API-Version: 1.0.3\r\n\r\n[\"11111111-1111-4111-8111-111111111111\"]",
+        ),
+        (
+            POST_NONE,
+            "HTTP/1.1 200 OK\r\nContent-Type: application/json\r\nContent-Length: 2\r\nX-Experience-API-Version: 1.0.3\r\n\r\n[]",
+        ),
+    ];
+    for (request, response) in rows {
+        let ran = run_in_memory(alloc, SERVE, stored.as_slice(), &[request], &[], &[])?;
+        assert_eq!(rt; ran.sent.as_slice(), response.as_bytes());
+    }
+    let once = run_in_memory(alloc, SERVE, stored.as_slice(), &[POST], &[], &[])?;
+    let twice = run_in_memory(alloc, SERVE, stored.as_slice(), &[POST, POST], &[], &[])?;
+    assert_eq!(rt; twice.stored.as_slice(), once.stored.as_slice());
     Ok(())
 }
 
