@@ -2,8 +2,9 @@
 """Makes a store file of N statements by the formats of docs/FORMATS.md, without the program: a second hand that writes
 the journal, for measuring and for holding the program against it.
 
-    make_store.py FILE N [--limit BYTES]
+    make_store.py FILE N [--limit BYTES] [--table ROWS]
 
+ROWS is a second file: the same statements as rows of a table, each a place, a verb and a text, parted by tabs.
 Statement i has the id 00000000-0000-4000-8000-<i in twelve hexadecimal digits>."""
 import argparse
 import json
@@ -45,6 +46,7 @@ def main():
     words.add_argument("file")
     words.add_argument("number", type=int)
     words.add_argument("--limit", type=int, default=268_435_456)
+    words.add_argument("--table")
     words = words.parse_args()
     with open(words.file, "wb") as out:
         out.write(b"\x01LRSJRNL\x01" + struct.pack(">Q", words.limit))
@@ -53,6 +55,10 @@ def main():
             put = {"put": {"id": f"00000000-0000-4000-8000-{i:012x}", "statement": statement(i)}}
             out.write(frame(entry(MOMENT + i, f"{i:032x}{i:032x}", put)))
         out.write(b"\x00")
+    if words.table is not None:
+        with open(words.table, "wb") as out:
+            for i in range(words.number):
+                out.write(b"%d\t%s\t%s\n" % (i, statement(i)["verb"]["id"].encode(), written(statement(i))))
 
 
 main()

@@ -1,12 +1,16 @@
-// Sends requests over kept-alive connections, one after the other, and prints how many are answered a second: PUTs of new
-// statements, GETs of those by their ids, or GETs of a file from another server, to hold the first two against.
+// Sends requests over kept-alive connections and prints how many are answered a second: PUTs of new statements, POSTs of new
+// statements in batches of 100, GETs of those by their ids, or GETs of a file from another server, to hold the others
+// against. Of batches it prints how many statements are answered a second.
 //
 //   cc -O2 -o requests requests.c
-//   ./requests PORT put FIRST N TOKEN        statements FIRST .. FIRST + N - 1, wants 204
-//   ./requests PORT get HELD N TOKEN         N statements, their numbers below HELD by turns, wants 200
-//   ./requests PORT file PATH N TOKEN        wants 200
+//   ./requests PORT put FIRST N TOKEN AHEAD    statements FIRST .. FIRST + N - 1, wants 204
+//   ./requests PORT post FIRST N TOKEN AHEAD   N batches, statements FIRST .. FIRST + 100 * N - 1, wants 200
+//   ./requests PORT get HELD N TOKEN AHEAD     N statements, their numbers below HELD by turns, wants 200
+//   ./requests PORT path PATH N TOKEN AHEAD    GETs of that path from the store, wants 200
+//   ./requests PORT file PATH N TOKEN AHEAD    the same from another server, wants 200
 //
-// A connection is closed behind 1,000 requests, as the store does.
+// AHEAD requests are on their way at a time: with 1 each waits for the answer to the one before. All are written before the
+// clock starts. A connection is closed behind 1,000 requests, as the store does.
 #include <arpa/inet.h>
 #include <netinet/in.h>
 #include <netinet/tcp.h>
@@ -17,7 +21,7 @@
 #include <time.h>
 #include <unistd.h>
 
-enum { PER_CONNECTION = 1000, ROOM = 1 << 16 };
+enum { PER_CONNECTION = 1000, BATCH = 100, ROOM = 1 << 18 };
 
 static void must(int holds, const char *what) {
   if (!holds) {
@@ -37,29 +41,57 @@ static int connected(int port) {
   return link;
 }
 
-// Reads one response and says its status.
+// What has come and isn't looked at yet.
+static char come[ROOM];
+static size_t from = 0, upto = 0;
+
+static void read_more(int link) {
+  if (from > 0) {
+    memmove(come, come + from, upto - from);
+    upto -= from;
+    from = 0;
+  }
+  must(upto < ROOM - 1, "room for a response");
+  ssize_t more = read(link, come + upto, ROOM - 1 - upto);
+  must(more > 0, "read");
+  upto += (size_t)more;
+}
+
+// Takes one response off the link and says its status.
 static int answered(int link) {
-  static char bytes[ROOM];
-  size_t held = 0;
-  char *end = NULL;
-  while (end == NULL) {
-    ssize_t more = read(link, bytes + held, ROOM - 1 - held);
-    must(more > 0, "read");
-    held += (size_t)more;
-    bytes[held] = 0;
-    end = strstr(bytes, "\r\n\r\n");
-  }
-  int status = atoi(bytes + 9);
-  char *length = strcasestr(bytes, "\r\nContent-Length:");
-  size_t whole = (size_t)(end + 4 - bytes);
-  if (length != NULL && length < end) whole += (size_t)atol(length + 17);
-  while (held < whole) {
-    size_t room = whole - held < ROOM ? whole - held : ROOM;
-    ssize_t more = read(link, bytes, room);
-    must(more > 0, "read");
-    held += (size_t)more;
-  }
+  char *end;
+  while (come[upto] = 0, (end = strstr(come + from, "\r\n\r\n")) == NULL) read_more(link);
+  int status = atoi(come + from + 9);
+  *end = 0;
+  char *length = strcasestr(come + from, "\r\nContent-Length:");
+  size_t whole = (size_t)(end + 4 - (come + from)) + (length != NULL ? (size_t)atol(length + 17) : 0);
+  while (upto - from < whole) read_more(link);
+  from += whole;
   return status;
+}
+
+static int statement_of(char *into, size_t room, long number) {
+  return snprintf(into, room,
+                  "{\"id\":\"%08lx-1111-4111-8111-111111111111\","
+                  "\"actor\":{\"name\":\"Learner %ld\",\"mbox\":\"mailto:learner-%ld@example.org\"},"
+                  "\"verb\":{\"id\":\"http://adlnet.gov/expapi/verbs/completed\",\"display\":{\"en-US\":\"completed\"}},"
+                  "\"object\":{\"id\":\"http://example.org/courses/%ld\",\"definition\":{\"type\":"
+                  "\"http://adlnet.gov/expapi/activities/course\",\"name\":{\"en-US\":\"A course of many lessons\"},"
+                  "\"description\":{\"en-US\":\"What is learned here, told in a sentence or two of plain words.\"}}},"
+                  "\"result\":{\"score\":{\"scaled\":0.85,\"raw\":85,\"min\":0,\"max\":100},\"success\":true,"
+                  "\"completion\":true,\"duration\":\"PT31M14.5S\"},\"timestamp\":\"2023-11-14T22:13:20.000Z\"}",
+                  number, number, number % 997, number % 31);
+}
+
+static int batch_of(char *into, size_t room, long first) {
+  size_t length = 0;
+  for (long i = 0; i < BATCH; i++) {
+    into[length++] = i == 0 ? '[' : ',';
+    length += (size_t)statement_of(into + length, room - length, first + i);
+  }
+  into[length++] = ']';
+  into[length] = 0;
+  return (int)length;
 }
 
 // The base64 of a name is not needed: the store takes the token as it stands.
@@ -69,50 +101,67 @@ static int request_of(char *into, const char *mode, const char *path, long numbe
   if (strcmp(mode, "file") == 0)
     return snprintf(into, ROOM, "GET %s HTTP/1.1\r\nHost: a\r\n\r\n", path);
   const char *fields = "Host: a\r\nX-Experience-API-Version: 1.0.3\r\nAuthorization: Basic ";
+  if (strcmp(mode, "path") == 0) return snprintf(into, ROOM, "GET %s HTTP/1.1\r\n%s%s\r\n\r\n", path, fields, token);
   if (strcmp(mode, "get") == 0)
     return snprintf(into, ROOM, "GET /xapi/statements?statementId=%s HTTP/1.1\r\n%s%s\r\n\r\n", id, fields, token);
-  char body[1024];
-  int length = snprintf(body, sizeof body,
-                        "{\"id\":\"%s\",\"actor\":{\"name\":\"Learner %ld\",\"mbox\":\"mailto:learner-%ld@example.org\"},"
-                        "\"verb\":{\"id\":\"http://adlnet.gov/expapi/verbs/completed\",\"display\":{\"en-US\":\"completed\"}},"
-                        "\"object\":{\"id\":\"http://example.org/courses/%ld\",\"definition\":{\"type\":"
-                        "\"http://adlnet.gov/expapi/activities/course\",\"name\":{\"en-US\":\"A course of many lessons\"},"
-                        "\"description\":{\"en-US\":\"What is learned here, told in a sentence or two of plain words.\"}}},"
-                        "\"result\":{\"score\":{\"scaled\":0.85,\"raw\":85,\"min\":0,\"max\":100},\"success\":true,"
-                        "\"completion\":true,\"duration\":\"PT31M14.5S\"},\"timestamp\":\"2023-11-14T22:13:20.000Z\"}",
-                        id, number, number % 997, number % 31);
+  static char body[ROOM / 2];
+  int many = strcmp(mode, "post") == 0;
+  int length = many ? batch_of(body, sizeof body, number) : statement_of(body, sizeof body, number);
   return snprintf(into, ROOM,
-                  "PUT /xapi/statements?statementId=%s HTTP/1.1\r\n%s%s\r\nContent-Type: application/json\r\n"
+                  "%s /xapi/statements%s%s HTTP/1.1\r\n%s%s\r\nContent-Type: application/json\r\n"
                   "Content-Length: %d\r\n\r\n%s",
-                  id, fields, token, length, body);
+                  many ? "POST" : "PUT", many ? "" : "?statementId=", many ? "" : id, fields, token, length, body);
 }
 
-int main(int argc, char **argv) {
-  if (argc != 6) return 2;
-  int port = atoi(argv[1]);
-  const char *mode = argv[2];
-  long first = atol(argv[3]), number = atol(argv[4]);
-  int wanted = strcmp(mode, "put") == 0 ? 204 : 200;
-  static char request[ROOM];
-  struct timespec from, to;
-  clock_gettime(CLOCK_MONOTONIC, &from);
-  int link = -1;
+struct request {
+  char *text;
+  int length;
+};
+
+static void sent(int link, const struct request *request) {
+  for (int done = 0; done < request->length;) {
+    ssize_t more = write(link, request->text + done, (size_t)(request->length - done));
+    must(more > 0, "write");
+    done += (int)more;
+  }
+}
+
+// Those of one connection, at most so many on their way at a time.
+static void all_sent(int port, const struct request *requests, long number, long ahead, int wanted) {
+  int link = connected(port);
+  from = upto = 0;
+  long next = 0;
   for (long i = 0; i < number; i++) {
-    if (i % PER_CONNECTION == 0) {
-      if (link >= 0) close(link);
-      link = connected(port);
-    }
-    long statement = strcmp(mode, "get") == 0 ? (i * 7919) % first : first + i;
-    int length = request_of(request, mode, argv[3], statement, argv[5]);
-    must(write(link, request, (size_t)length) == length, "write");
+    while (next < number && next < i + ahead) sent(link, &requests[next++]);
     int status = answered(link);
     if (status != wanted) {
       fprintf(stderr, "request %ld: %d\n", i, status);
-      return 1;
+      exit(1);
     }
   }
-  if (link >= 0) close(link);
-  clock_gettime(CLOCK_MONOTONIC, &to);
-  printf("%.0f\n", (double)number / ((double)(to.tv_sec - from.tv_sec) + (double)(to.tv_nsec - from.tv_nsec) / 1e9));
+  close(link);
+}
+
+int main(int argc, char **argv) {
+  if (argc != 7) return 2;
+  int port = atoi(argv[1]);
+  const char *mode = argv[2];
+  long first = atol(argv[3]), number = atol(argv[4]), ahead = atol(argv[6]);
+  int wanted = strcmp(mode, "put") == 0 ? 204 : 200;
+  long each = strcmp(mode, "post") == 0 ? BATCH : 1;
+  struct request *requests = calloc((size_t)number, sizeof *requests);
+  static char text[ROOM];
+  must(requests != NULL, "calloc");
+  for (long i = 0; i < number; i++) {
+    long statement = strcmp(mode, "get") == 0 ? (i * 7919) % first : first + i * each;
+    requests[i].length = request_of(text, mode, argv[3], statement, argv[5]);
+    requests[i].text = memcpy(malloc((size_t)requests[i].length), text, (size_t)requests[i].length);
+  }
+  struct timespec began, ended;
+  clock_gettime(CLOCK_MONOTONIC, &began);
+  for (long i = 0; i < number; i += PER_CONNECTION)
+    all_sent(port, requests + i, number - i < PER_CONNECTION ? number - i : PER_CONNECTION, ahead, wanted);
+  clock_gettime(CLOCK_MONOTONIC, &ended);
+  printf("%.0f\n", (double)(number * each) / ((double)(ended.tv_sec - began.tv_sec) + (double)(ended.tv_nsec - began.tv_nsec) / 1e9));
   return 0;
 }

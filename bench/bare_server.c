@@ -1,0 +1,90 @@
+// A server that looks at nothing: between reading a request and answering it, it makes the six calls of an append, and no more.
+// What it reaches is what any server of one worker could reach here, whatever it does with a request.
+//
+//   cc -O2 -o bare_server bare_server.c && ./bare_server FILE PORT CONNECTIONS BYTES
+#include <arpa/inet.h>
+#include <fcntl.h>
+#include <netinet/in.h>
+#include <netinet/tcp.h>
+#include <stdint.h>
+#include <stdio.h>
+#include <stdlib.h>
+#include <string.h>
+#include <sys/socket.h>
+#include <unistd.h>
+
+enum { ROOM = 1 << 16 };
+
+static int file;
+static off_t end = 17;
+static uint32_t length;
+static uint8_t *payload;
+
+static void must(int holds, const char *what) {
+  if (!holds) {
+    perror(what);
+    exit(1);
+  }
+}
+
+static void append(void) {
+  uint8_t open_gate = 1, closed_gate = 0;
+  uint8_t size[4] = {length >> 24, length >> 16, length >> 8, length};
+  must(pwrite(file, size, 4, end + 1) == 4, "pwrite");
+  must(pwrite(file, payload, length, end + 5) == (ssize_t)length, "pwrite");
+  must(pwrite(file, &closed_gate, 1, end + 5 + length) == 1, "pwrite");
+  must(fsync(file) == 0, "fsync");
+  must(pwrite(file, &open_gate, 1, end) == 1, "pwrite");
+  must(fsync(file) == 0, "fsync");
+  end += 5 + length;
+}
+
+// Answers each whole request of the link until it ends.
+static void serve(int link) {
+  static char come[ROOM];
+  static const char answer[] = "HTTP/1.1 204 No Content\r\nX-Experience-API-Version: 1.0.3\r\n\r\n";
+  size_t held = 0;
+  for (;;) {
+    come[held] = 0;
+    char *behind = strstr(come, "\r\n\r\n");
+    char *field = behind == NULL ? NULL : strcasestr(come, "\r\nContent-Length:");
+    size_t whole = behind == NULL ? 0 : (size_t)(behind + 4 - come) + (field == NULL ? 0 : (size_t)atol(field + 17));
+    if (behind == NULL || held < whole) {
+      must(held < ROOM - 1, "room for a request");
+      ssize_t more = read(link, come + held, ROOM - 1 - held);
+      must(more >= 0, "read");
+      if (more == 0) return;
+      held += (size_t)more;
+      continue;
+    }
+    append();
+    must(write(link, answer, sizeof answer - 1) == (ssize_t)(sizeof answer - 1), "write");
+    memmove(come, come + whole, held - whole);
+    held -= whole;
+  }
+}
+
+int main(int argc, char **argv) {
+  if (argc != 5) return 2;
+  length = (uint32_t)atol(argv[4]);
+  payload = malloc(length);
+  must(payload != NULL, "malloc");
+  memset(payload, 'x', length);
+  file = open(argv[1], O_RDWR | O_CREAT | O_TRUNC, 0644);
+  must(file >= 0, "open");
+  int door = socket(AF_INET, SOCK_STREAM, 0), on = 1;
+  must(door >= 0, "socket");
+  setsockopt(door, SOL_SOCKET, SO_REUSEADDR, &on, sizeof on);
+  struct sockaddr_in address = {.sin_family = AF_INET, .sin_port = htons((uint16_t)atoi(argv[2]))};
+  address.sin_addr.s_addr = htonl(INADDR_LOOPBACK);
+  must(bind(door, (struct sockaddr *)&address, sizeof address) == 0, "bind");
+  must(listen(door, 16) == 0, "listen");
+  for (long i = atol(argv[3]); i > 0; i--) {
+    int link = accept(door, NULL, NULL);
+    must(link >= 0, "accept");
+    setsockopt(link, IPPROTO_TCP, TCP_NODELAY, &on, sizeof on);
+    serve(link);
+    close(link);
+  }
+  return 0;
+}
