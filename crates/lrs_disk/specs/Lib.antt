@@ -20,5 +20,6 @@ pub mod Named
 pub mod Output
 pub mod Readings
 pub mod Schedule
+pub mod Shelf
 pub mod Steps
 pub mod Streams

@@ -1,7 +1,7 @@
 -- What is seen of a shelf in memory.
-use Rattle.std.specs.Prelude.{ℕ, List, Option, String}
+use Rattle.std.specs.Prelude.{ℕ, List, Option, String, option_map}
 use Rattle.std.specs.Global.{Global}
-use Rattle.lrs_disk.specs.Named.{disk_named}
+use Rattle.lrs_disk.specs.Named.{disk_named, names_of}
 use Rattle.lrs_disk.specs.Schedule.{Schedule}
 use Rattle.lrs_disk.specs.declared.memory.disk.MemDisk.{MemDisk}
 use Rattle.lrs_disk.specs.declared.memory.shelf.MemShelf.{MemShelf}
@@ -16,6 +16,10 @@ spare_of s = s.spare.items
 -- the disk that a name gets
 abbrev pub disk_for : MemShelf → List ℕ → Option MemDisk
 disk_for s name = disk_named (disks_of s) (spare_of s) name
+
+-- the names that were asked for, unless there was no memory to keep them
+abbrev pub taken_of : MemShelf → Option (List (List ℕ))
+taken_of s = option_map names_of s.taken
 
 abbrev pub schedule_of : MemShelf → Schedule
 schedule_of s = record { failing = s.plan.failing.items; number = s.plan.number }

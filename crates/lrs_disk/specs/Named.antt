@@ -1,5 +1,5 @@
 -- Disks by name.
-use Rattle.std.specs.Prelude.{◌≡◌, ◌-◌, ℕ, Bool, List, Option, String, find, length, option_map, slice_get, string_bytes}
+use Rattle.std.specs.Prelude.{◌≡◌, ◌-◌, ℕ, Bool, List, Option, String, Vec, find, length, map, option_map, slice_get, string_bytes}
 use Rattle.std.specs.Global.{Global}
 use Rattle.std.specs.Option.{option_or}
 use Rattle.std.specs.Str.{bytes_eq}
@@ -16,3 +16,7 @@ disk_named disks spare name = option_or (option_map (λ (entry : String Global �
 -- nothing is pending: a crash leaves what a read gives
 abbrev pub IsSettled : MemDisk → Type 0
 IsSettled d = (c : List ℕ) → Leaves d c → c ≡ bytes_of d
+
+-- names that are kept
+abbrev pub names_of : Vec (String Global) Global → List (List ℕ)
+names_of names = map string_bytes names.items

@@ -1,5 +1,6 @@
 ghost use Rattle.std.specs.Prelude.{◌≡◌, List, ℕ, Option, Some, IfOk};
 ghost use Rattle.lrs_disk.specs.Faults.{HasCause};
+ghost use Rattle.lrs_disk.specs.Shelf.{AddsName};
 
 use crate::{Disk, Failed};
 
@@ -16,6 +17,9 @@ pub trait Shelf: Drop {
     /// The moment with which the disk of a name is taken.
     ghost starts: { Self → List ℕ → ℕ };
 
+    /// The names that were asked for so far, in their order, where they are told.
+    ghost taken: { Self → Option (List (List ℕ)) };
+
     /// How often a call has failed.
     ghost fault_count: { Self → ℕ };
 
@@ -25,6 +29,7 @@ pub trait Shelf: Drop {
         ensures begins { IfOk result (λ disk. Self.Disk.fault_count disk ≡ begins self.old name.now) }
         ensures starts { IfOk result (λ disk. Self.Disk.time disk ≡ starts self.old name.now) }
         ensures settled { IfOk result (λ disk. (c : List ℕ) → Self.Disk.image disk c → Self.Disk.told disk ≡ Some c) }
+        ensures taken { AddsName (taken self.old) (taken self.new) name.now }
         ensures cause { HasCause (fault_count self.old) (fault_count self.new) result };
 
     /// How often a call has failed. At the last value of u64 the count stands still.

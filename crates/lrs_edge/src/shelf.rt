@@ -5,6 +5,7 @@ use crate::faults::Faults;
 use lrs_disk::{Failed, Shelf};
 use std::fs::{File, OpenOptions};
 use std::io;
+use std::os::unix::fs::OpenOptionsExt;
 use std::path::Path;
 use std::rt::Files;
 
@@ -36,10 +37,13 @@ impl<R: Files<File = File> + Drop> Shelf for FileShelf<R> {
 
     ghost starts = { λ s name. 0 };
 
+    ghost taken = { λ s. None };
+
     ghost fault_count = { λ s. s.faults.count };
 
-    /// Opens the file of a name, which is made where it isn't there. The entry of its folder is on the disk, too,
-    /// when this answers.
+    /// Opens the file of a name, which is made where it isn't there, for its owner alone. The entry of its folder is on
+    /// the disk, too, when this answers. The file is locked until the disk is dropped: where it is locked already this
+    /// fails.
     fn take(&mut self, name: &str) -> Result<FileDisk, Failed> {
         match open(&self.rt, name) {
             Ok(file) => Ok(FileDisk::new(file)),
@@ -52,12 +56,18 @@ impl<R: Files<File = File> + Drop> Shelf for FileShelf<R> {
     }
 }
 
+// The file of a store holds tokens as they are.
+const OWNER_ALONE: u32 = 0o600;
+
+// Two programs on one file would write over each other, so it is locked for as long as its disk is there.
 fn open<R: Files<File = File>>(rt: &R, name: &str) -> io::Result<File> {
     let file = OpenOptions::new()
         .read(true)
         .write(true)
         .create(true)
+        .mode(OWNER_ALONE)
         .open(rt, name)?;
+    file.try_lock()?;
     sync_folder(rt, name)?;
     Ok(file)
 }

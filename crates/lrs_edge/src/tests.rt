@@ -2,11 +2,12 @@ use crate::{FileShelf, StdSink, StdSource, TcpLobby};
 use lrs_disk::{Disk, Door, Link, Lobby, Next, Shelf, Sink, Source};
 use std::io::{Read, Write};
 use std::net::TcpStream;
+use std::os::unix::fs::MetadataExt;
 use std::test::Fail;
 use std::{env, fs};
 
 #[test]
-fn a_file_keeps_its_bytes(rt: HostRuntime) -> Result<(), Fail> {
+fn a_file_keeps_its_bytes_and_has_one_user(rt: HostRuntime) -> Result<(), Fail> {
     let mut path = env::temp_dir(&rt)?;
     path.push(format!(in rt.alloc();
         "kilnlime-lrs-edge-{}",
@@ -20,14 +21,17 @@ fn a_file_keeps_its_bytes(rt: HostRuntime) -> Result<(), Fail> {
     disk.write_at(5, b" you")?;
     disk.cut(7)?;
     disk.sync()?;
+    assert!(rt; shelf.take(name).is_err());
+    drop(disk);
     let mut disk = shelf.take(name)?;
     let mut read = [0; 9];
     assert_eq!(rt; disk.read_at(1, &mut read)?, 6);
     assert_eq!(rt; read, *b"ello y\0\0\0");
-    assert_eq!(rt; disk.faults() + shelf.faults(), 0);
+    assert_eq!(rt; disk.faults(), 0);
+    assert_eq!(rt; fs::metadata(&rt, name)?.mode() & 0o777, 0o600);
     fs::remove_file(&rt, name)?;
     assert!(rt; shelf.take("/no/such/folder").is_err());
-    assert_eq!(rt; shelf.faults(), 1);
+    assert_eq!(rt; shelf.faults(), 2);
     Ok(())
 }
 

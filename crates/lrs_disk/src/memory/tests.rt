@@ -215,5 +215,12 @@ fn an_unknown_name_gets_a_spare_disk(rt: HostRuntime) -> Result<(), Fail> {
     assert_eq!(rt; shelf.take("known")?.len(), Ok(2));
     assert!(rt; shelf.take("known").is_err());
     assert_eq!(rt; shelf.faults(), 1);
+    let Some(taken) = shelf.taken() else {
+        return Err(Fail::from("no names"));
+    };
+    assert_eq!(rt; taken.len(), 3);
+    for (place, name) in ["other", "known", "known"].iter().enumerate() {
+        assert_eq!(rt; taken[place].as_str(), *name);
+    }
     Ok(())
 }
