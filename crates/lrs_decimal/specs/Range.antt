@@ -1,4 +1,4 @@
--- The numbers that are in range.
+-- The numbers that are in range, and those that are whole.
 use Rattle.std.specs.Prelude.{ℕ, ◌+◌, ◌-◌, ◌==◌, ◌&&◌, ◌||◌, nat_le, List, length, reverse, Bool}
 use Rattle.std.specs.List.{prefix_len}
 use Rattle.lrs_decimal.specs.Parts.{all_digits, exponent_digits, point_right, point_left}
@@ -31,3 +31,11 @@ abbrev pub is_in_range : List ℕ → Bool
 is_in_range spelling =
     nat_le (length spelling) 64 && nat_le (length (exponent_digits spelling)) 4
     && (is_zero (all_digits spelling) || (nat_le (significant_digits (all_digits spelling)) 34 && has_small_exponent spelling))
+
+-- Once the exponent has moved the point, nothing but zeros stands behind it.
+abbrev pub has_no_fraction : List ℕ → Bool
+has_no_fraction spelling = is_zero (all_digits spelling) || nat_le (point_left spelling) (point_right spelling + trailing_zeros (all_digits spelling))
+
+-- Of a number's spelling in range: it is a whole number.
+unfoldable pub is_whole : List ℕ → Bool
+is_whole spelling = nat_le (length spelling) 64 && nat_le (length (exponent_digits spelling)) 4 && has_no_fraction spelling

@@ -1,4 +1,5 @@
-//! The numbers of JSON: their grammar (RFC 8259, section 6), which of them are in range, and their exact values.
+//! The numbers of JSON: their grammar (RFC 8259, section 6), which of them are in range, which are
+//! whole, and their exact values.
 #![tactic(auto)]
 
 mod decimal;
@@ -8,7 +9,7 @@ mod range;
 
 pub use decimal::Decimal;
 pub use numbers::number_len;
-pub use range::is_in_range;
+pub use range::{is_in_range, is_whole};
 
 #[cfg(test)]
 mod tests;

@@ -1,6 +1,6 @@
 ghost use Rattle.std.specs.Prelude.{◌≡◌, ◌≤◌, length};
 ghost use Rattle.lrs_decimal.specs.Parts.{exponent_digits};
-ghost use Rattle.lrs_decimal.specs.Range.{has_small_exponent, is_in_range};
+ghost use Rattle.lrs_decimal.specs.Range.{has_small_exponent, is_in_range, has_no_fraction, is_whole};
 
 use crate::parts::{
     count, exponent_digits, leading_zeros, mantissa, point_left, point_right, trailing_zeros,
@@ -31,4 +31,22 @@ fn has_small_exponent(spelling: &[u8]) -> bool
     let right = point_right(spelling) + trailing_zeros(mantissa(spelling));
     let left = point_left(spelling);
     left <= right + 999 && right <= left + 999
+}
+
+/// Whether a number's spelling in range is a whole number, however it is spelled: `2`, `2.0`, `20e-1`.
+#[tactic(auto, unfolding(crate::specs::Range::is_whole))]
+pub fn is_whole(spelling: &[u8]) -> bool
+    ensures { result ≡ is_whole spelling.now }
+{
+    spelling.len() <= 64 && exponent_digits(spelling).len() <= 4 && has_no_fraction(spelling)
+}
+
+fn has_no_fraction(spelling: &[u8]) -> bool
+    requires short { length spelling.now ≤ 64 }
+    requires few { length (exponent_digits spelling.now) ≤ 4 }
+    ensures { result ≡ has_no_fraction spelling.now }
+{
+    let mantissa = mantissa(spelling);
+    leading_zeros(mantissa) == count(mantissa)
+        || point_left(spelling) <= point_right(spelling) + trailing_zeros(mantissa)
 }

@@ -1,4 +1,4 @@
-use crate::Decimal;
+use crate::{Decimal, is_whole};
 use std::cmp::Ordering;
 
 #[test]
@@ -70,5 +70,30 @@ fn values_are_compared(rt: HostRuntime) {
         };
         assert_eq!(rt; a.cmp(&b), wanted);
         assert_eq!(rt; b.cmp(&a), wanted.reverse());
+    }
+}
+
+#[test]
+fn a_number_is_whole_by_its_value(rt: HostRuntime) {
+    let texts = [
+        ("0", true),
+        ("-0.0", true),
+        ("0.0e5", true),
+        ("0e-9", true),
+        ("-3", true),
+        ("1.0", true),
+        ("10e-1", true),
+        ("1.5e1", true),
+        ("120E-1", true),
+        ("1e999", true),
+        ("9007199254740993", true),
+        ("1.5", false),
+        ("15e-1", false),
+        ("1.25e1", false),
+        ("1e-1", false),
+        ("-0.10", false),
+    ];
+    for (text, wanted) in texts {
+        assert_eq!(rt; is_whole(text.as_bytes()), wanted);
     }
 }
