@@ -1,4 +1,5 @@
 pub mod Extending
+pub mod Escaping
 pub mod Views
 pub mod Back
 pub mod Spaces

@@ -3,6 +3,7 @@ pub mod Json
 pub mod View
 pub mod Trees
 pub mod Written
+pub mod Texts
 pub mod Find
 pub mod Strings
 pub mod Placed

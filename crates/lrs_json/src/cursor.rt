@@ -278,7 +278,8 @@ fn spaces(bytes: &[u8]) -> usize
     bytes.len()
 }
 
-fn plain_len(bytes: &[u8]) -> usize
+// How many bytes at the front stand for themselves in a string.
+pub fn plain_len(bytes: &[u8]) -> usize
     ensures bound { result ≤ length bytes.now }
     ensures value { result ≡ prefix_len is_plain bytes.now }
 {

@@ -1,6 +1,7 @@
 //! JSON as every layer above stands on it: trees, their written form, and the reader of RFC 8259's grammar.
 #![tactic(auto)]
 
+pub mod appending;
 mod copying;
 mod cursor;
 mod depth;

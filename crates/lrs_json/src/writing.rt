@@ -1,8 +1,8 @@
-ghost use Rattle.std.specs.Prelude.{◌≡◌, ◌∷◌, [], ◌++◌, ◌<◌, false, OnOk, OnErr};
-ghost use Rattle.std.specs.List.{flat_map};
-ghost use Rattle.lrs_json.specs.Written.{Extends, comma_if, escaped, hex_digit_of, quoted, written_tree, list_text, object_text, text_of_member};
+ghost use Rattle.std.specs.Prelude.{◌≡◌, ◌++◌, false, OnOk, OnErr};
+ghost use Rattle.lrs_json.specs.Written.{Extends, written_tree, list_text, object_text, text_of_member};
 
-use crate::{Member, Memory, Text, Tree};
+use crate::appending::{put, put_comma, put_quoted};
+use crate::{Member, Memory, Tree};
 
 /// Appends the written form of the tree, or nothing where memory runs out.
 pub fn write(tree: &Tree, into: &mut Vec<u8>) -> Result<(), Memory>
@@ -19,8 +19,9 @@ pub fn write(tree: &Tree, into: &mut Vec<u8>) -> Result<(), Memory>
     }
 }
 
+/// Appends the written form of the tree, or a part of it where memory runs out in the middle.
 #[cycle(write)]
-fn put_tree(tree: &Tree, into: &mut Vec<u8>) -> Result<(), Memory>
+pub fn put_tree(tree: &Tree, into: &mut Vec<u8>) -> Result<(), Memory>
     ensures ok { OnOk result (into.new.items ≡ into.old.items ++ written_tree tree.now) }
     ensures kept { Extends into.old.items into.new.items }
 {
@@ -29,7 +30,7 @@ fn put_tree(tree: &Tree, into: &mut Vec<u8>) -> Result<(), Memory>
         Tree::Bool(true) => put(b"true", into),
         Tree::Bool(false) => put(b"false", into),
         Tree::Number(spelling) => put(spelling.as_str().as_bytes(), into),
-        Tree::Words(text) => put_quoted(text, into),
+        Tree::Words(text) => put_quoted(text.as_str(), into),
         Tree::List(items) => {
             into.push(b'[')?;
             put_items(items.as_slice(), into)
@@ -75,71 +76,7 @@ fn put_member(member: &Member, into: &mut Vec<u8>) -> Result<(), Memory>
     ensures ok { OnOk result (into.new.items ≡ into.old.items ++ text_of_member member.now) }
     ensures kept { Extends into.old.items into.new.items }
 {
-    put_quoted(&member.name, into)?;
+    put_quoted(member.name.as_str(), into)?;
     into.push(b':')?;
     put_tree(&member.value, into)
-}
-
-fn put_comma(later: bool, into: &mut Vec<u8>) -> Result<(), Memory>
-    ensures ok { OnOk result (into.new.items ≡ into.old.items ++ comma_if later) }
-    ensures kept { Extends into.old.items into.new.items }
-{
-    if later {
-        into.push(b',')?;
-    }
-    Ok(())
-}
-
-fn put(bytes: &[u8], into: &mut Vec<u8>) -> Result<(), Memory>
-    ensures ok { OnOk result (into.new.items ≡ into.old.items ++ bytes.now) }
-    ensures kept { Extends into.old.items into.new.items }
-{
-    into.extend_from_slice(bytes)?;
-    Ok(())
-}
-
-#[tactic(auto, using(crate::proofs::Extending::extends_trans))]
-fn put_quoted(text: &Text, into: &mut Vec<u8>) -> Result<(), Memory>
-    ensures ok { OnOk result (into.new.items ≡ into.old.items ++ quoted text.now) }
-    ensures kept { Extends into.old.items into.new.items }
-{
-    into.push(b'"')?;
-    for byte in text.as_str().as_bytes() {
-        put_escaped(*byte, into)?;
-    }
-    into.push(b'"')?;
-    Ok(())
-}
-
-#[tactic(auto, unfolding(crate::specs::Written::escaped))]
-fn put_escaped(byte: u8, into: &mut Vec<u8>) -> Result<(), Memory>
-    ensures ok { OnOk result (into.new.items ≡ into.old.items ++ escaped byte) }
-    ensures kept { Extends into.old.items into.new.items }
-{
-    match byte {
-        b'"' => put(b"\\\"", into),
-        b'\\' => put(b"\\\\", into),
-        8 => put(b"\\b", into),
-        b'\t' => put(b"\\t", into),
-        b'\n' => put(b"\\n", into),
-        12 => put(b"\\f", into),
-        b'\r' => put(b"\\r", into),
-        0..32 => {
-            put(b"\\u00", into)?;
-            into.push(hex_digit(byte / 16))?;
-            into.push(hex_digit(byte % 16))?;
-            Ok(())
-        }
-        _ => {
-            into.push(byte)?;
-            Ok(())
-        }
-    }
-}
-
-fn hex_digit(n: u8) -> u8
-    requires { n < 16 }
-    ensures { result ≡ hex_digit_of n }
-{
-    if n < 10 { b'0' + n } else { b'a' - 10 + n }
 }

@@ -1,5 +1,4 @@
 pub mod Moments
-pub mod Texts
 pub mod Entries
 pub mod Widths
 pub mod Refusals

@@ -1,17 +1,18 @@
 ghost use Rattle.std.specs.Prelude.{◌≡◌, ◌≤◌, [], ◌∷◌, ◌++◌, codes, map, false, true, OnOk, OnErr};
 ghost use Rattle.std.specs.Fmt.{decimal};
-ghost use Rattle.lrs_json.specs.Json.{number, string};
+ghost use Rattle.lrs_json.specs.Json.{number};
+ghost use Rattle.lrs_json.specs.Texts.{member_text};
 ghost use Rattle.lrs_json.specs.View.{elements_of, members_of, view};
-ghost use Rattle.lrs_json.specs.Written.{Extends, comma_if, elements_text, members_text, quoted, written};
+ghost use Rattle.lrs_json.specs.Written.{Extends, elements_text, members_text};
 ghost use Rattle.lrs_record.specs.Entries.{HasValues, HoldsCommand, IsLawful, IsLawfulCaller, IsLawfulCommand, command_args, command_json, written_entry};
 ghost use Rattle.lrs_record.specs.Moments.{latest};
-ghost use Rattle.lrs_record.specs.Texts.{member_text, name_text};
 ghost use Rattle.lrs_record.specs.declared.entry.Entry.{Entry as SpecEntry};
 
 use crate::digits::{ascii, draw_digits};
 use crate::{Command, Entry, Moment};
 use itoa::Buffer;
-use lrs_json::{Memory, Text, Tree, write};
+use lrs_json::appending::{put, put_comma, put_name, put_text, put_tree};
+use lrs_json::{Memory, Tree};
 
 /// Appends the text of the entry, or nothing where memory runs out.
 pub fn write_entry(entry: &Entry, into: &mut Vec<u8>) -> Result<(), Memory>
@@ -112,59 +113,5 @@ fn put_trees(trees: &[Tree], into: &mut Vec<u8>) -> Result<(), Memory>
         put_tree(tree, into)?;
     }
     into.push(b']')?;
-    Ok(())
-}
-
-// A member whose value is a text.
-fn put_text(later: bool, name: &str, text: &str, into: &mut Vec<u8>) -> Result<(), Memory>
-    ensures ok { OnOk result (into.new.items ≡ into.old.items ++ member_text later name.now (string text.now)) }
-    ensures kept { Extends into.old.items into.new.items }
-{
-    put_name(later, name, into)?;
-    put_quoted(text, into)
-}
-
-// The name of a member and its colon, and a comma before it where other members stand before.
-fn put_name(later: bool, name: &str, into: &mut Vec<u8>) -> Result<(), Memory>
-    ensures ok { OnOk result (into.new.items ≡ into.old.items ++ name_text later name.now) }
-    ensures kept { Extends into.old.items into.new.items }
-{
-    if later {
-        into.push(b',')?;
-    }
-    put_quoted(name, into)?;
-    put(b":", into)
-}
-
-fn put_comma(later: bool, into: &mut Vec<u8>) -> Result<(), Memory>
-    ensures ok { OnOk result (into.new.items ≡ into.old.items ++ comma_if later) }
-    ensures kept { Extends into.old.items into.new.items }
-{
-    if later {
-        into.push(b',')?;
-    }
-    Ok(())
-}
-
-fn put_quoted(text: &str, into: &mut Vec<u8>) -> Result<(), Memory>
-    ensures ok { OnOk result (into.new.items ≡ into.old.items ++ quoted text.now) }
-    ensures kept { Extends into.old.items into.new.items }
-{
-    let text = Text::of(*into.allocator(), text)?;
-    put_tree(&Tree::Words(text), into)
-}
-
-fn put_tree(tree: &Tree, into: &mut Vec<u8>) -> Result<(), Memory>
-    ensures ok { OnOk result (into.new.items ≡ into.old.items ++ written (view tree.now)) }
-    ensures kept { Extends into.old.items into.new.items }
-{
-    write(tree, into)
-}
-
-fn put(bytes: &[u8], into: &mut Vec<u8>) -> Result<(), Memory>
-    ensures ok { OnOk result (into.new.items ≡ into.old.items ++ bytes.now) }
-    ensures kept { Extends into.old.items into.new.items }
-{
-    into.extend_from_slice(bytes)?;
     Ok(())
 }

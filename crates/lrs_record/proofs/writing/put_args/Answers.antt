@@ -5,7 +5,7 @@ use Rattle.lrs_json.specs.View.{view}
 use Rattle.lrs_json.specs.Written.{comma_if, quoted}
 use Rattle.lrs_names.specs.Ids.{id_text}
 use Rattle.lrs_names.proofs.IdTexts.{IsUtf8-id_text}
-use Rattle.lrs_record.specs.Texts.{member_text}
+use Rattle.lrs_json.specs.Texts.{member_text}
 use Rattle.lrs_record.proofs.Joined.{two_members, member_of_tree}
 use Rattle.lrs_record.proofs.writing.put_args.Goals as goal
 

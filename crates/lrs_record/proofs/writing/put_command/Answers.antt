@@ -3,7 +3,7 @@ use Rattle.std.proofs.lemmas.Result.{on_ok_weaker}
 use Rattle.lrs_json.specs.View.{members_of}
 use Rattle.lrs_json.specs.Written.{comma_if, members_text, quoted}
 use Rattle.lrs_record.specs.Entries.{command_args, command_name}
-use Rattle.lrs_record.specs.Texts.{name_text}
+use Rattle.lrs_json.specs.Texts.{name_text}
 use Rattle.lrs_record.proofs.Joined.{member_of_member}
 use Rattle.lrs_record.proofs.Kept.{over_two, over_three, over_four, over_five, over_six}
 use Rattle.lrs_record.proofs.writing.put_command.Goals as goal

@@ -2,7 +2,7 @@ use Rattle.std.proofs.Common.{ap, codes, true, false, ◌++◌, ◌∙◌}
 use Rattle.std.proofs.lemmas.Result.{on_ok_weaker}
 use Rattle.lrs_json.specs.Json.{string}
 use Rattle.lrs_record.specs.Entries.{entry_json, written_entry}
-use Rattle.lrs_record.specs.Texts.{member_text}
+use Rattle.lrs_json.specs.Texts.{member_text}
 use Rattle.lrs_record.proofs.Joined.{four_members}
 use Rattle.lrs_record.proofs.Words.{IsUtf8-draw_text}
 use Rattle.lrs_record.proofs.Kept.{over_two, over_three, over_four, over_five, over_six}

@@ -1,5 +1,5 @@
 -- The written form of a member of an object, without what stands behind it.
-use Rattle.std.specs.Prelude.{ℕ, List, [], ◌∷◌, ◌++◌, Bool}
+use Rattle.std.specs.Prelude.{ℕ, List, ◌∷◌, ◌++◌, [], Bool}
 use Rattle.lrs_json.specs.Json.{Json}
 use Rattle.lrs_json.specs.Written.{comma_if, quoted, written}
 

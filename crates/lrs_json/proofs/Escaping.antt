@@ -1,0 +1,29 @@
+-- The escapes of a run of bytes that stand for themselves, and of the byte behind it.
+use Rattle.std.proofs.Common.{◌≡◌, ℕ, ◌+◌, suc, List, [], ◌∷◌, ◌++◌, take, drop, Bool, true, false, refl, sym, ap, arith, append_assoc}
+use Rattle.std.proofs.lemmas.Grind.{common_steps}
+use Rattle.std.specs.List.{flat_map, prefix_len}
+use Rattle.lrs_json.specs.Steps.{is_plain}
+use Rattle.lrs_json.specs.Written.{escaped}
+
+escaped_plain : (b : ℕ) → is_plain b ≡ true → escaped b ≡ b ∷ []
+unfolding escaped
+escaped_plain b p = grind (arith, common_steps)
+
+abbrev Splits : List ℕ → Type 0
+Splits bs = flat_map escaped bs ≡ take (prefix_len is_plain bs) bs ++ flat_map escaped (drop (prefix_len is_plain bs) bs)
+
+splits_next : (b : ℕ) (bs : List ℕ) (plain : Bool) → is_plain b ≡ plain → Splits bs → Splits (b ∷ bs)
+splits_next b bs true p s = let one : 1 + prefix_len is_plain bs ≡ suc (prefix_len is_plain bs) = omega arith in rw (p, escaped_plain b p, one) (ap (λ z. b ∷ z) s)
+splits_next b bs false p s = rw (p) refl
+
+-- a plain run at the front is its own escaped form
+splits : (bs : List ℕ) → Splits bs
+splits [] = refl
+splits (b ∷ bs) = splits_next b bs (is_plain b) refl (splits bs)
+
+pub run_put : (old bytes run behind mid : List ℕ) (n : ℕ) → n ≡ prefix_len is_plain bytes → run ≡ take n bytes → behind ≡ drop n bytes → mid ≡ old ++ run → mid ++ flat_map escaped behind ≡ old ++ flat_map escaped bytes
+run_put old bytes run behind mid n is is_run is_behind put =
+    rw (put, append_assoc old run (flat_map escaped behind), is_run, is_behind, is) (ap (λ z. old ++ z) (sym (splits bytes)))
+
+pub byte_put : (mid behind new left : List ℕ) (b : ℕ) → behind ≡ b ∷ left → new ≡ mid ++ escaped b → new ++ flat_map escaped left ≡ mid ++ flat_map escaped behind
+byte_put mid behind new left b is put = rw (put, is) (append_assoc mid (escaped b) (flat_map escaped left))

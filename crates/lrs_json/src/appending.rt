@@ -1,0 +1,141 @@
+//! Appending the parts of a JSON text, for the layers that write one around trees. Each call leaves what stood before
+//! where memory runs out in the middle.
+ghost use Rattle.std.specs.Prelude.{◌≡◌, ◌++◌, ◌<◌, length, IfOk, OnOk};
+ghost use Rattle.std.specs.List.{flat_map};
+ghost use Rattle.lrs_json.specs.Json.{string};
+ghost use Rattle.lrs_json.specs.Texts.{name_text, member_text};
+ghost use Rattle.lrs_json.specs.Written.{Extends, comma_if, escaped, hex_digit_of, quoted};
+
+use crate::Memory;
+use crate::cursor::plain_len;
+pub use crate::writing::put_tree;
+
+pub fn put(bytes: &[u8], into: &mut Vec<u8>) -> Result<(), Memory>
+    ensures ok { OnOk result (into.new.items ≡ into.old.items ++ bytes.now) }
+    ensures kept { Extends into.old.items into.new.items }
+{
+    into.extend_from_slice(bytes)?;
+    Ok(())
+}
+
+/// A comma, where other items or members stand before.
+pub fn put_comma(later: bool, into: &mut Vec<u8>) -> Result<(), Memory>
+    ensures ok { OnOk result (into.new.items ≡ into.old.items ++ comma_if later) }
+    ensures kept { Extends into.old.items into.new.items }
+{
+    if later {
+        into.push(b',')?;
+    }
+    Ok(())
+}
+
+#[tactic(auto, using(crate::proofs::Extending::extends_trans))]
+pub fn put_quoted(text: &str, into: &mut Vec<u8>) -> Result<(), Memory>
+    ensures ok { OnOk result (into.new.items ≡ into.old.items ++ quoted text.now) }
+    ensures kept { Extends into.old.items into.new.items }
+{
+    into.push(b'"')?;
+    put_escaped(text, into)?;
+    into.push(b'"')?;
+    Ok(())
+}
+
+/// The text that the two make, one behind the other.
+#[tactic(auto, using(crate::proofs::Extending::extends_trans))]
+pub fn put_quoted_parts(first: &str, second: &str, into: &mut Vec<u8>) -> Result<(), Memory>
+    ensures ok { OnOk result (into.new.items ≡ into.old.items ++ quoted (first.now ++ second.now)) }
+    ensures kept { Extends into.old.items into.new.items }
+{
+    into.push(b'"')?;
+    put_escaped(first, into)?;
+    put_escaped(second, into)?;
+    into.push(b'"')?;
+    Ok(())
+}
+
+/// The name of a member and its colon, and a comma before it where other members stand before.
+#[tactic(auto, using(crate::proofs::Extending::extends_trans))]
+pub fn put_name(later: bool, name: &str, into: &mut Vec<u8>) -> Result<(), Memory>
+    ensures ok { OnOk result (into.new.items ≡ into.old.items ++ name_text later name.now) }
+    ensures kept { Extends into.old.items into.new.items }
+{
+    put_comma(later, into)?;
+    put_quoted(name, into)?;
+    put(b":", into)
+}
+
+/// A member whose value is a text.
+#[tactic(auto, using(crate::proofs::Extending::extends_trans))]
+pub fn put_text(later: bool, name: &str, text: &str, into: &mut Vec<u8>) -> Result<(), Memory>
+    ensures ok { OnOk result (into.new.items ≡ into.old.items ++ member_text later name.now (string text.now)) }
+    ensures kept { Extends into.old.items into.new.items }
+{
+    put_name(later, name, into)?;
+    put_quoted(text, into)
+}
+
+// A text as it stands between its quotes.
+#[tactic(auto, using(crate::proofs::Extending::extends_trans))]
+fn put_escaped(text: &str, into: &mut Vec<u8>) -> Result<(), Memory>
+    ensures ok { OnOk result (into.new.items ≡ into.old.items ++ flat_map escaped text.now) }
+    ensures kept { Extends into.old.items into.new.items }
+{
+    let mut left = text.as_bytes();
+    while !left.is_empty() {
+        left = put_run(left, into)?;
+    }
+    Ok(())
+}
+
+// The bytes at the front that stand for themselves, copied at once, and the escape of the byte behind them. What is
+// left is given back.
+#[tactic(auto, using(crate::proofs::Extending::extends_trans))]
+fn put_run<'a>(bytes: &'a [u8], into: &mut Vec<u8>) -> Result<&'a [u8], Memory>
+    requires { 0 < length bytes.now }
+    ensures ok { IfOk result (λ left. into.new.items ++ flat_map escaped left.now ≡ into.old.items ++ flat_map escaped bytes.now) }
+    ensures shorter { IfOk result (λ left. length left.now < length bytes.now) }
+    ensures kept { Extends into.old.items into.new.items }
+{
+    let (run, behind) = bytes.split_at(plain_len(bytes));
+    put(run, into)?;
+    match behind.split_first() {
+        Some((byte, left)) => {
+            put_byte(*byte, into)?;
+            Ok(left)
+        }
+        None => Ok(behind),
+    }
+}
+
+#[tactic(auto, unfolding(crate::specs::Written::escaped))]
+fn put_byte(byte: u8, into: &mut Vec<u8>) -> Result<(), Memory>
+    ensures ok { OnOk result (into.new.items ≡ into.old.items ++ escaped byte) }
+    ensures kept { Extends into.old.items into.new.items }
+{
+    match byte {
+        b'"' => put(b"\\\"", into),
+        b'\\' => put(b"\\\\", into),
+        8 => put(b"\\b", into),
+        b'\t' => put(b"\\t", into),
+        b'\n' => put(b"\\n", into),
+        12 => put(b"\\f", into),
+        b'\r' => put(b"\\r", into),
+        0..32 => {
+            put(b"\\u00", into)?;
+            into.push(hex_digit(byte / 16))?;
+            into.push(hex_digit(byte % 16))?;
+            Ok(())
+        }
+        _ => {
+            into.push(byte)?;
+            Ok(())
+        }
+    }
+}
+
+fn hex_digit(n: u8) -> u8
+    requires { n < 16 }
+    ensures { result ≡ hex_digit_of n }
+{
+    if n < 10 { b'0' + n } else { b'a' - 10 + n }
+}
