@@ -28,7 +28,7 @@ pub struct Reply2<'a> {
 // What waits to be written, so that a short response goes out in one write. Behind a fault nothing more is written.
 #[derive(Drop)]
 struct Output {
-    gathered: ArrayVec<u8, 1024>,
+    gathered: ArrayVec<u8, 4096>,
     failed: bool,
 }
 
