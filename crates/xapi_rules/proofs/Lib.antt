@@ -1,3 +1,2 @@
-pub mod Decimals
 pub mod Lists
 pub mod Ids

@@ -6,8 +6,8 @@ use Rattle.lrs_names.specs.Iris.{iri_faults}
 use Rattle.lrs_names.specs.Languages.{is_language_tag, language_map_faults}
 use Rattle.lrs_names.specs.Agents.{group_faults, agent_or_group_faults}
 use Rattle.lrs_names.specs.Members.{is_string, is_string_that, has_only, has_member, has_member_that, if_member, faults_of_member}
-use Rattle.xapi_rules.specs.Shapes.{is_object, is_boolean, is_uuid, is_duration, extension_faults}
-use Rattle.xapi_rules.specs.Numbers.{is_count, is_score}
+use Rattle.xapi_values.specs.Shapes.{is_object, is_boolean, is_uuid, is_duration, extension_faults}
+use Rattle.xapi_values.specs.Numbers.{is_count, is_score}
 use Rattle.xapi_rules.specs.Objects.{activity_faults, reference_faults}
 
 -- ---- results (section 2.4.5)

@@ -2,9 +2,9 @@
 use Rattle.std.specs.Prelude.{ℕ, List, Bool, true, false, ◌||◌, codes, if◌then◌else◌}
 use Rattle.std.specs.Str.{bytes_eq}
 use Rattle.lrs_json.specs.Json.{Json, null, boolean, number, string, array, object, Elements, no_elements, element, Members, no_members, member}
-use Rattle.xapi_rules.specs.Kinds.{kind_of}
-use Rattle.xapi_rules.specs.declared.kinds.Kind.{Kind}
-use Rattle.xapi_rules.specs.declared.kinds.Kind.TheVariants.{Unstated, Activity, Agent, Group, StatementRef, SubStatement, Other}
+use Rattle.xapi_values.specs.Kinds.{kind_of}
+use Rattle.xapi_values.specs.declared.kinds.Kind.{Kind}
+use Rattle.xapi_values.specs.declared.kinds.Kind.TheVariants.{Unstated, Activity, Agent, Group, StatementRef, SubStatement, Other}
 use Rattle.xapi_rules.specs.declared.nulls.Role.{Role}
 use Rattle.xapi_rules.specs.declared.nulls.Role.TheVariants.{Plain, Statement, Object, Described, Holder, Context, ContextActivities, Activities, Extensions}
 

@@ -8,10 +8,10 @@ use Rattle.lrs_names.specs.Iris.{iri_faults}
 use Rattle.lrs_names.specs.Languages.{language_map_faults}
 use Rattle.lrs_names.specs.Agents.{agent_faults, group_faults}
 use Rattle.lrs_names.specs.Members.{is_string, is_string_that, is_one_of, is_word, has_only, has_member, has_member_that, if_member, faults_of_member, member_text}
-use Rattle.xapi_rules.specs.Shapes.{is_object, is_string_array, is_uuid, extension_faults}
-use Rattle.xapi_rules.specs.Kinds.{kind_of}
-use Rattle.xapi_rules.specs.declared.kinds.Kind.{Kind}
-use Rattle.xapi_rules.specs.declared.kinds.Kind.TheVariants.{Unstated, Activity, Agent, Group, StatementRef, SubStatement, Other}
+use Rattle.xapi_values.specs.Shapes.{is_object, is_string_array, is_uuid, extension_faults}
+use Rattle.xapi_values.specs.Kinds.{kind_of}
+use Rattle.xapi_values.specs.declared.kinds.Kind.{Kind}
+use Rattle.xapi_values.specs.declared.kinds.Kind.TheVariants.{Unstated, Activity, Agent, Group, StatementRef, SubStatement, Other}
 
 -- ---- interaction activities (section 2.4.4.1)
 

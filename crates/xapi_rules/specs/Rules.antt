@@ -6,13 +6,13 @@ use Rattle.lrs_names.specs.Iris.{iri_faults}
 use Rattle.lrs_names.specs.Languages.{language_map_faults}
 use Rattle.lrs_names.specs.Agents.{agent_faults, group_faults, agent_or_group_faults}
 use Rattle.lrs_names.specs.Members.{is_word, has_only, has_member, has_member_that, if_member, faults_of_member}
-use Rattle.xapi_rules.specs.Shapes.{is_object, is_uuid, is_timestamp, is_version}
-use Rattle.xapi_rules.specs.Kinds.{kind_of}
+use Rattle.xapi_values.specs.Shapes.{is_object, is_uuid, is_timestamp, is_version}
+use Rattle.xapi_values.specs.Kinds.{kind_of}
 use Rattle.xapi_rules.specs.Objects.{object_faults_with, nested_object_faults}
 use Rattle.xapi_rules.specs.Contexts.{result_faults, context_faults, attachments_faults}
 use Rattle.xapi_rules.specs.Nulls.{has_null}
-use Rattle.xapi_rules.specs.declared.kinds.Kind.{Kind}
-use Rattle.xapi_rules.specs.declared.kinds.Kind.TheVariants.{Unstated, Activity, Agent, Group, StatementRef, SubStatement, Other}
+use Rattle.xapi_values.specs.declared.kinds.Kind.{Kind}
+use Rattle.xapi_values.specs.declared.kinds.Kind.TheVariants.{Unstated, Activity, Agent, Group, StatementRef, SubStatement, Other}
 use Rattle.xapi_rules.specs.declared.nulls.Role.TheVariants.{Statement}
 
 -- ---- what a statement and a SubStatement share

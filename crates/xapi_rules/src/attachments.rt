@@ -4,10 +4,10 @@ ghost use Rattle.lrs_json.specs.View.{view, elements_of};
 ghost use Rattle.lrs_names.specs.Rules.{least};
 ghost use Rattle.xapi_rules.specs.Contexts.{is_attachment, attachment_faults, faults_of_attachments, attachments_faults};
 
-use crate::members::{broken_iri_at, broken_map_at};
-use crate::numbers::is_count;
 use lrs_json::Tree;
 use lrs_names::{has_member, has_only, has_string, lesser, unless};
+use xapi_values::numbers::is_count;
+use xapi_values::{broken_iri_at, broken_map_at};
 
 #[tactic(auto, unfolding(crate::specs::Contexts::is_attachment))]
 fn is_attachment(tree: &Tree) -> bool

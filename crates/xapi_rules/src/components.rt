@@ -5,12 +5,12 @@ ghost use Rattle.lrs_names.specs.Members.{faults_of_member, is_string_that};
 ghost use Rattle.lrs_names.specs.Rules.{least};
 ghost use Rattle.xapi_rules.specs.Objects.{is_component, are_components, component_faults, faults_of_components, ids_of, are_new, component_list_faults, is_interaction, interaction_faults, is_interaction_type};
 
-use crate::members::broken_map_at;
-use crate::shapes::is_string_array;
 use lrs_json::{Memory, Tree};
 use lrs_names::{has_only, has_string, lesser, member_text, unless};
 use std::alloc::Global;
 use std::collections::BTreeSet;
+use xapi_values::broken_map_at;
+use xapi_values::shapes::is_string_array;
 
 fn is_component(tree: &Tree) -> bool
     ensures { result ≡ is_component (view tree.now) }

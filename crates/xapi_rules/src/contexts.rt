@@ -7,15 +7,15 @@ ghost use Rattle.lrs_names.specs.Languages.{is_language_tag};
 ghost use Rattle.lrs_names.specs.Agents.{group_faults};
 ghost use Rattle.xapi_rules.specs.Contexts.{is_result, score_faults, duration_faults, result_faults, is_context, context_statement_faults, context_activity_faults, faults_of_activities, activities_faults, context_activities_faults, instructor_faults, context_agent_faults, context_faults};
 
-use crate::members::broken_extensions_of;
-use crate::numbers::is_score;
 use crate::objects::{broken_activity, broken_reference};
-use crate::shapes::{is_boolean, is_duration, is_object, is_uuid};
 use lrs_json::{Memory, Tree};
 use lrs_names::{
     Group, LangTag, broken_agent_or_group, has_only, is_string_if_there, lesser, unless,
 };
 use std::alloc::Global;
+use xapi_values::broken_extensions_of;
+use xapi_values::numbers::is_score;
+use xapi_values::shapes::{is_boolean, is_duration, is_object, is_uuid};
 
 #[tactic(auto, unfolding(crate::specs::Contexts::is_result))]
 fn is_result(tree: &Tree) -> bool

@@ -5,18 +5,11 @@
 mod attachments;
 mod components;
 mod contexts;
-mod kinds;
-mod members;
 mod nulls;
-mod numbers;
 mod objects;
 mod rules;
-mod shapes;
-mod whole;
 
-pub use kinds::Kind;
 pub use lrs_json::Memory;
-pub use numbers::{decimal_of, member_number};
 pub use rules::{broken_rule, is_voiding};
 
 #[cfg(test)]

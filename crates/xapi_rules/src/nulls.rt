@@ -3,8 +3,8 @@ ghost use Rattle.std.specs.Prelude.{◌≡◌, map};
 ghost use Rattle.lrs_json.specs.View.{view, member_view, members_of, elements_of};
 ghost use Rattle.xapi_rules.specs.Nulls.{role_of_member, role_of_item, role_of_kind, role_of_object, is_free, has_null, items_have_null, members_have_null};
 
-use crate::kinds::Kind;
 use lrs_json::{Member, Tree};
+use xapi_values::Kind;
 
 /// What a place in a statement makes of the value there, as far as it tells which extensions are free.
 #[derive(Clone, Copy, Debug, PartialEq, Eq)]

@@ -3,23 +3,22 @@ ghost use Rattle.std.specs.Prelude.{◌≡◌, IfOk, codes};
 ghost use Rattle.lrs_json.specs.View.{view};
 ghost use Rattle.lrs_names.specs.Rules.{least, IsLeast};
 ghost use Rattle.lrs_names.specs.Members.{faults_of_member, has_only, if_member};
-ghost use Rattle.xapi_rules.specs.Shapes.{is_uuid, is_version};
+ghost use Rattle.xapi_values.specs.Shapes.{is_uuid, is_version};
 ghost use Rattle.xapi_rules.specs.Contexts.{context_faults, attachments_faults};
 ghost use Rattle.xapi_rules.specs.Objects.{nested_object_faults};
 ghost use Rattle.xapi_rules.specs.Rules.{actor_faults, is_verb, verb_faults, has_no_revision, is_about_activity, is_fit_revision, are_timestamps, action_faults, shared_faults, has_action, statement_members, is_substatement, substatement_faults, object_faults, is_pair, has_no_identifier, is_authority_group, authority_faults, is_voided_verb, is_voiding, is_about_reference, voids_reference, form_faults, own_faults, statement_faults, broken_rule};
 
 use crate::attachments::broken_attachments;
 use crate::contexts::{broken_context, broken_result};
-use crate::kinds::Kind;
-use crate::members::{broken_iri_at, broken_map_at};
 use crate::nulls::{Role, has_null};
 use crate::objects::{broken_nested_object, broken_plain_object};
-use crate::shapes::{is_object, is_timestamp, is_uuid, is_version};
 use lrs_json::{Memory, Tree};
 use lrs_names::{
     Agent, Group, broken_agent_or_group, has_member, has_only, is_word, lesser, unless,
 };
 use std::alloc::Global;
+use xapi_values::shapes::{is_object, is_timestamp, is_uuid, is_version};
+use xapi_values::{Kind, broken_iri_at, broken_map_at};
 
 fn broken_actor(tree: &Tree) -> Option<u8>
     ensures { result ≡ least (actor_faults (view tree.now)) }

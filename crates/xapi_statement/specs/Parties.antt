@@ -1,50 +1,14 @@
 -- Who takes part in a statement, by their identifiers (xAPI 1.0.3, part two, section 2.4.2.3; part three, section 2.1.3).
 use Rattle.std.specs.Prelude.{Bool, true, false, ◌&&◌, ◌||◌, Option, None, option_and_then, codes, if◌then◌else◌}
-use Rattle.std.specs.Option.{option_map_or}
-use Rattle.std.specs.Str.{bytes_eq}
-use Rattle.lrs_json.specs.Json.{Json, Elements, no_elements, element}
+use Rattle.lrs_json.specs.Json.{Json}
 use Rattle.lrs_json.specs.Find.{find}
-use Rattle.lrs_names.specs.Members.{has_member_that, items_of}
+use Rattle.lrs_names.specs.Members.{has_member_that}
 use Rattle.lrs_names.specs.Identifiers.{identifier_of}
 use Rattle.lrs_names.specs.declared.identifiers.Ifi.{Ifi}
-use Rattle.lrs_names.specs.declared.identifiers.Ifi.TheVariants.{Mbox, MboxSha1, OpenId, Account}
-use Rattle.xapi_rules.specs.Kinds.{kind_of}
-use Rattle.xapi_rules.specs.declared.kinds.Kind.{Kind}
-use Rattle.xapi_statement.specs.Statement.{is_nested}
-
--- the same kind, with the same texts
-abbrev pub same_ifi : Ifi → Ifi → Bool
-same_ifi (Mbox a) (Mbox b) = bytes_eq a b
-same_ifi (Mbox a) (MboxSha1 b) = false
-same_ifi (Mbox a) (OpenId b) = false
-same_ifi (Mbox a) (Account h n) = false
-same_ifi (MboxSha1 a) (Mbox b) = false
-same_ifi (MboxSha1 a) (MboxSha1 b) = bytes_eq a b
-same_ifi (MboxSha1 a) (OpenId b) = false
-same_ifi (MboxSha1 a) (Account h n) = false
-same_ifi (OpenId a) (Mbox b) = false
-same_ifi (OpenId a) (MboxSha1 b) = false
-same_ifi (OpenId a) (OpenId b) = bytes_eq a b
-same_ifi (OpenId a) (Account h n) = false
-same_ifi (Account h n) (Mbox b) = false
-same_ifi (Account h n) (MboxSha1 b) = false
-same_ifi (Account h n) (OpenId b) = false
-same_ifi (Account h n) (Account g m) = bytes_eq h g && bytes_eq n m
-
--- the agent or group has that identifier
-unfoldable pub is_identified : Ifi → Json → Bool
-is_identified ifi j = option_map_or (same_ifi ifi) (identifier_of j) false
-
-abbrev pub any_identified : Ifi → Elements → Bool
-any_identified ifi no_elements = false
-any_identified ifi (element j js) = is_identified ifi j || any_identified ifi js
-
-abbrev pub has_identified : Ifi → Json → Bool
-has_identified ifi j = any_identified ifi (items_of j)
-
--- it has that identifier, or one of its members does
-unfoldable pub is_party : Ifi → Json → Bool
-is_party ifi j = is_identified ifi j || has_member_that (codes "member") (has_identified ifi) j
+use Rattle.xapi_values.specs.Kinds.{kind_of}
+use Rattle.xapi_values.specs.declared.kinds.Kind.{Kind}
+use Rattle.xapi_format.specs.Nested.{is_nested}
+use Rattle.xapi_format.specs.Party.{is_group_kind, is_party}
 
 abbrev pub is_party_kind : Kind → Bool
 is_party_kind Kind.Unstated = false
@@ -81,15 +45,6 @@ has_related_agent ifi j =
 -- the related places: also of the authority, the instructor, the team, their members, and the same places of a SubStatement.
 unfoldable pub has_agent : Ifi → Bool → Json → Bool
 has_agent ifi related j = has_direct_agent ifi j || (related && has_related_agent ifi j)
-
-abbrev pub is_group_kind : Kind → Bool
-is_group_kind Kind.Unstated = false
-is_group_kind Kind.Activity = false
-is_group_kind Kind.Agent = false
-is_group_kind Kind.Group = true
-is_group_kind Kind.StatementRef = false
-is_group_kind Kind.SubStatement = false
-is_group_kind Kind.Other = false
 
 abbrev pub agent_in : Json → Option Ifi
 agent_in j = if is_group_kind (kind_of j) then None else identifier_of j

@@ -5,12 +5,13 @@ use Rattle.lrs_json.specs.View.{view}
 use Rattle.lrs_json.specs.Written.{written}
 use Rattle.lrs_names.specs.Members.{has_member_that}
 use Rattle.lrs_names.specs.declared.identifiers.Ifi.{Ifi}
-use Rattle.xapi_statement.specs.Authorities.{authority_json}
+use Rattle.xapi_format.specs.Authorities.{authority_json}
+use Rattle.xapi_format.specs.Party.{is_party}
+use Rattle.xapi_format.specs.Reduced.{reduced}
+use Rattle.xapi_format.specs.declared.format.Format.{Format}
+use Rattle.xapi_format.specs.declared.format.Format.TheVariants.{Exact, Ids}
 use Rattle.xapi_statement.specs.Completed.{HeldStatement, completed_form}
-use Rattle.xapi_statement.specs.Parties.{has_context_agent, has_direct_agent, is_party, nested_has_agent}
-use Rattle.xapi_statement.specs.Reduced.{reduced}
-use Rattle.xapi_statement.specs.declared.format.Format.{Format}
-use Rattle.xapi_statement.specs.declared.format.Format.TheVariants.{Exact, Ids}
+use Rattle.xapi_statement.specs.Parties.{has_context_agent, has_direct_agent, nested_has_agent}
 
 -- ---- forms
 

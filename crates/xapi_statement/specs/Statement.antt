@@ -1,14 +1,13 @@
 -- What is asked of a statement: its length, and its members (xAPI 1.0.3, part two, section 2.4).
-use Rattle.std.specs.Prelude.{ℕ, nat_lt, List, [], length, Bool, true, false, ◌&&◌, ◌||◌, Option, Some, None, is_none, option_map, option_and_then, unwrap_or, codes, if◌then◌else◌}
+use Rattle.std.specs.Prelude.{ℕ, nat_lt, List, [], length, Bool, false, ◌&&◌, ◌||◌, Option, Some, None, is_none, option_map, option_and_then, unwrap_or, codes, if◌then◌else◌}
 use Rattle.lrs_json.specs.Json.{Json, null, boolean, number, string, array, object, Elements, no_elements, element}
 use Rattle.lrs_json.specs.Find.{find}
 use Rattle.lrs_json.specs.Written.{written}
 use Rattle.lrs_names.specs.Ids.{id_of}
 use Rattle.lrs_names.specs.Members.{is_word, has_member, has_member_that, text_of, member_text}
-use Rattle.xapi_rules.specs.Kinds.{kind_of}
-use Rattle.xapi_rules.specs.Numbers.{member_number}
+use Rattle.xapi_format.specs.Nested.{is_nested}
+use Rattle.xapi_values.specs.Numbers.{member_number}
 use Rattle.xapi_rules.specs.Rules.{broken_rule, is_about_activity, is_about_reference}
-use Rattle.xapi_rules.specs.declared.kinds.Kind.{Kind}
 use Rattle.xapi_statement.specs.declared.refused.StatementRefused.{StatementRefused}
 use Rattle.xapi_statement.specs.declared.refused.StatementRefused.TheVariants.{TooLong, Broken}
 
@@ -97,18 +96,6 @@ has_some_context_activity id j =
 
 unfoldable pub is_about : List ℕ → Json → Bool
 is_about id j = has_member_that (codes "object") (is_activity_of id) j
-
-abbrev pub is_substatement_kind : Kind → Bool
-is_substatement_kind Kind.Unstated = false
-is_substatement_kind Kind.Activity = false
-is_substatement_kind Kind.Agent = false
-is_substatement_kind Kind.Group = false
-is_substatement_kind Kind.StatementRef = false
-is_substatement_kind Kind.SubStatement = true
-is_substatement_kind Kind.Other = false
-
-abbrev pub is_nested : Json → Bool
-is_nested j = is_substatement_kind (kind_of j)
 
 -- a SubStatement whose object or context activities are that Activity
 unfoldable pub nested_has_activity : List ℕ → Json → Bool

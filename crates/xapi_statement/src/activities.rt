@@ -2,11 +2,12 @@
 ghost use Rattle.std.specs.Prelude.{◌≡◌, map, codes};
 ghost use Rattle.lrs_json.specs.View.{view, elements_of};
 ghost use Rattle.lrs_names.specs.Members.{has_member_that, is_word};
-ghost use Rattle.xapi_statement.specs.Statement.{is_activity_of, any_activity_of, holds_activity, holds_at, context_holds, has_context_activity, has_some_context_activity, is_about, is_nested, nested_has_activity, has_activity};
+ghost use Rattle.xapi_statement.specs.Statement.{is_activity_of, any_activity_of, holds_activity, holds_at, context_holds, has_context_activity, has_some_context_activity, is_about, nested_has_activity, has_activity};
 
 use lrs_json::Tree;
 use lrs_names::is_word;
-use xapi_rules::Kind;
+use xapi_format::is_nested;
+use xapi_values::Kind;
 
 fn has_id(tree: &Tree, id: &str) -> bool
     ensures { result ≡ has_member_that (codes "id") (is_word id.now) (view tree.now) }
@@ -94,12 +95,6 @@ fn is_about(statement: &Tree, id: &str) -> bool
         Some(object) => is_activity_of(object, id),
         None => false,
     }
-}
-
-pub fn is_nested(object: &Tree) -> bool
-    ensures { result ≡ is_nested (view object.now) }
-{
-    matches!(Kind::of(object), Kind::SubStatement)
 }
 
 #[tactic(auto, unfolding(crate::specs::Statement::nested_has_activity))]

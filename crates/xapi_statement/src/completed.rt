@@ -5,12 +5,13 @@ ghost use Rattle.xapi_rules.specs.Rules.{is_voiding};
 ghost use Rattle.xapi_statement.specs.Shown.{shown_form, shown_text, takes_part};
 ghost use Rattle.xapi_statement.specs.Statement.{has_activity, registration_of, target_of, verb_of};
 
-use crate::{Authority, Format, Statement, building, parties, reducing, showing};
+use crate::{Authority, Format, Statement, parties};
 use lrs_json::{Memory, Tree, write};
 use lrs_names::{Id, Ifi};
 use lrs_time::Moment;
 use std::alloc::Global;
 use std::marker::Model;
+use xapi_format::{completed, put_completed, reduced};
 
 /// A statement as the store keeps it: as it was received, under its id, with the moment at which it was accepted and
 /// under whose authority it stands.
@@ -133,7 +134,7 @@ impl Completed {
     pub fn tree(&self, alloc: Global, format: Format) -> Result<Tree, Memory>
         ensures { IfOk result (λ tree. view tree ≡ shown_form format self.now) }
     {
-        let whole = building::completed(
+        let whole = completed(
             alloc,
             self.received(),
             &self.id,
@@ -142,7 +143,7 @@ impl Completed {
         )?;
         match format {
             Format::Exact => Ok(whole),
-            Format::Ids => reducing::reduced(whole),
+            Format::Ids => reduced(whole),
         }
     }
 
@@ -154,7 +155,7 @@ impl Completed {
     {
         let length = into.len();
         let written = match format {
-            Format::Exact => showing::put_completed(
+            Format::Exact => put_completed(
                 self.received(),
                 &self.id,
                 self.stored,

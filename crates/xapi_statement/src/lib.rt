@@ -1,30 +1,22 @@
 //! Statements (xAPI 1.0.3, part two, section 2): a value that breaks none of the rules and isn't too long, what the
-//! layers above ask of one, and what the store makes of it.
+//! layers above ask of one, and one as the store keeps it.
 #![tactic(auto)]
 
 mod activities;
-mod authority;
-mod building;
 mod completed;
-mod digits;
-mod format;
 mod length;
 mod members;
 mod parties;
-mod reducing;
 mod refused;
-mod showing;
 mod statement;
-mod texts;
 
-pub use authority::Authority;
 pub use completed::Completed;
-pub use format::Format;
 pub use length::is_too_long;
 pub use lrs_json::Memory;
 pub use members::{own_id, target_of};
 pub use refused::{StatementRefused, judge};
 pub use statement::Statement;
+pub use xapi_format::{Authority, Format};
 pub use xapi_rules::{broken_rule, is_voiding};
 
 #[cfg(test)]

@@ -4,13 +4,14 @@ ghost use Rattle.lrs_decimal.specs.Values.{Means};
 ghost use Rattle.lrs_json.specs.View.{view};
 ghost use Rattle.lrs_json.specs.Find.{find};
 ghost use Rattle.lrs_names.specs.Members.{has_member};
-ghost use Rattle.xapi_rules.specs.Numbers.{is_decimal};
+ghost use Rattle.xapi_values.specs.Numbers.{is_decimal};
 ghost use Rattle.xapi_statement.specs.Statement.{id_in, own_id, verb_of, registration_in, registration_of, reference_in, target_of, activity_in, activity_of, extension_of, boolean_in, member_boolean, result_boolean, scaled_of, has_duration};
 
 use lrs_decimal::Decimal;
 use lrs_json::{Text, Tree};
 use lrs_names::{Id, has_member, member_text};
-use xapi_rules::{Kind, decimal_of, member_number};
+use xapi_values::Kind;
+use xapi_values::numbers::{decimal_of, member_number};
 
 fn id_in(tree: &Tree) -> Option<Id>
     ensures { result ≡ id_in (view tree.now) }

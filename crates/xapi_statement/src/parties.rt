@@ -2,14 +2,15 @@
 ghost use Rattle.std.specs.Prelude.{◌≡◌, ◌↔◌, ◌||◌, Some, IsTrue, map, codes};
 ghost use Rattle.lrs_json.specs.View.{view, elements_of};
 ghost use Rattle.lrs_names.specs.Members.{has_member_that};
-ghost use Rattle.xapi_statement.specs.Parties.{is_identified, any_identified, has_identified, is_party, is_party_object, has_direct_agent, is_party_of_context, has_context_agent, nested_has_agent, has_related_agent, has_agent, agent_in, actor_of};
+ghost use Rattle.xapi_format.specs.Party.{is_identified, any_identified, has_identified, is_party};
+ghost use Rattle.xapi_statement.specs.Parties.{is_party_object, has_direct_agent, is_party_of_context, has_context_agent, nested_has_agent, has_related_agent, has_agent, agent_in, actor_of};
 
-use crate::activities::is_nested;
 use lrs_json::Tree;
 use lrs_names::Ifi;
-use xapi_rules::Kind;
+use xapi_format::is_nested;
+use xapi_values::Kind;
 
-#[tactic(auto, unfolding(crate::specs::Parties::is_identified))]
+#[tactic(auto, unfolding(xapi_format::specs::Party::is_identified))]
 fn is_identified(tree: &Tree, ifi: &Ifi) -> bool
     ensures { result ≡ is_identified ifi.now (view tree.now) }
 {
@@ -45,7 +46,7 @@ fn has_identified_member(tree: &Tree, ifi: &Ifi) -> bool
     }
 }
 
-#[tactic(auto, unfolding(crate::specs::Parties::is_party))]
+#[tactic(auto, unfolding(xapi_format::specs::Party::is_party))]
 fn is_party(tree: &Tree, ifi: &Ifi) -> bool
     ensures { result ≡ is_party ifi.now (view tree.now) }
 {

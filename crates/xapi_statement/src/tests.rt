@@ -147,101 +147,36 @@ fn long_and_broken_values_are_no_statements(rt: HostRuntime) -> Result<(), Fail>
     Ok(())
 }
 
-// The first statement, its completed form under the admin's authority, one of a provider with a time and a version of
-// its own, and one whose context activities stand alone, also in a SubStatement.
-const COMPLETED: [(&str, Option<(u32, &str)>, &str); 4] = [
+// A statement, and its forms when the store keeps it for an admin: whole, and with ids alone.
+const RECEIVED: &str =
+    r#"{"actor":{"name":"A","mbox":"mailto:a@b"},"verb":{"id":"http://v/1"},"object":{"id":"http://a/1"}}"#;
+
+const KEPT: [(Format, &str); 2] = [
     (
-        r#"{"id":"11111111-1111-4111-8111-111111111111","actor":{"mbox":"mailto:a@b"},"verb":{"id":"http://v/1"},"object":{"id":"http://a/1"}}"#,
-        None,
-        r#"{"actor":{"mbox":"mailto:a@b"},"verb":{"id":"http://v/1"},"object":{"id":"http://a/1"},"id":"11111111-1111-4111-8111-111111111111","timestamp":"2023-11-14T22:13:20.000Z","stored":"2023-11-14T22:13:20.000Z","authority":{"objectType":"Agent","name":"admin","account":{"homePage":"https://lrs.invalid/callers","name":"admin"}},"version":"1.0.0"}"#,
+        Format::Exact,
+        r#"{"actor":{"name":"A","mbox":"mailto:a@b"},"verb":{"id":"http://v/1"},"object":{"id":"http://a/1"},"id":"11111111-1111-4111-8111-111111111111","timestamp":"2023-11-14T22:13:20.000Z","stored":"2023-11-14T22:13:20.000Z","authority":{"objectType":"Agent","name":"admin","account":{"homePage":"https://lrs.invalid/callers","name":"admin"}},"version":"1.0.0"}"#,
     ),
     (
-        r#"{"version":"1.0.3","timestamp":"2023-11-14T23:13:20+01:00","actor":{"mbox":"mailto:a@b"},"stored":"2001-01-01T00:00:00Z","verb":{"id":"http://v/1"},"authority":{"mbox":"mailto:c@d"},"object":{"id":"http://a/1"},"result":{"response":"a\"\u0001"}}"#,
-        Some((12, "p.1")),
-        r#"{"actor":{"mbox":"mailto:a@b"},"verb":{"id":"http://v/1"},"object":{"id":"http://a/1"},"result":{"response":"a\"\u0001"},"id":"11111111-1111-4111-8111-111111111111","timestamp":"2023-11-14T23:13:20+01:00","stored":"2023-11-14T22:13:20.000Z","authority":{"objectType":"Agent","name":"p.1","account":{"homePage":"https://lrs.invalid/callers","name":"provider:12"}},"version":"1.0.3"}"#,
-    ),
-    (
-        r#"{"actor":{"mbox":"mailto:a@b"},"context":{"platform":"x","contextActivities":{"parent":{"id":"http://c/1"},"other":[{"id":"http://c/2"},{"id":"http://c/3"}],"grouping":[]}},"verb":{"id":"http://v/1"},"object":{"id":"http://a/1"}}"#,
-        None,
-        r#"{"actor":{"mbox":"mailto:a@b"},"context":{"platform":"x","contextActivities":{"parent":[{"id":"http://c/1"}],"other":[{"id":"http://c/2"},{"id":"http://c/3"}],"grouping":[]}},"verb":{"id":"http://v/1"},"object":{"id":"http://a/1"},"id":"11111111-1111-4111-8111-111111111111","timestamp":"2023-11-14T22:13:20.000Z","stored":"2023-11-14T22:13:20.000Z","authority":{"objectType":"Agent","name":"admin","account":{"homePage":"https://lrs.invalid/callers","name":"admin"}},"version":"1.0.0"}"#,
-    ),
-    (
-        r#"{"actor":{"mbox":"mailto:a@b"},"verb":{"id":"http://v/1"},"object":{"objectType":"SubStatement","actor":{"mbox":"mailto:a@b"},"verb":{"id":"http://v/2"},"object":{"id":"http://a/2"},"context":{"contextActivities":{"category":{"id":"http://c/1"}}}}}"#,
-        None,
-        r#"{"actor":{"mbox":"mailto:a@b"},"verb":{"id":"http://v/1"},"object":{"objectType":"SubStatement","actor":{"mbox":"mailto:a@b"},"verb":{"id":"http://v/2"},"object":{"id":"http://a/2"},"context":{"contextActivities":{"category":[{"id":"http://c/1"}]}}},"id":"11111111-1111-4111-8111-111111111111","timestamp":"2023-11-14T22:13:20.000Z","stored":"2023-11-14T22:13:20.000Z","authority":{"objectType":"Agent","name":"admin","account":{"homePage":"https://lrs.invalid/callers","name":"admin"}},"version":"1.0.0"}"#,
+        Format::Ids,
+        r#"{"actor":{"mbox":"mailto:a@b"},"verb":{"id":"http://v/1"},"object":{"id":"http://a/1"},"id":"11111111-1111-4111-8111-111111111111","timestamp":"2023-11-14T22:13:20.000Z","stored":"2023-11-14T22:13:20.000Z","authority":{"objectType":"Agent","account":{"homePage":"https://lrs.invalid/callers","name":"admin"}},"version":"1.0.0"}"#,
     ),
 ];
 
-fn authority(alloc: Global, provider: Option<(u32, &str)>) -> Result<Authority, Fail> {
-    match provider {
-        Some((number, name)) => Ok(Authority::Provider {
-            number,
-            name: Text::of(alloc, name)?,
-        }),
-        None => Ok(Authority::Admin),
-    }
-}
-
 #[test]
-fn a_completed_statement_has_what_the_store_adds(rt: HostRuntime) -> Result<(), Fail> {
+fn a_kept_statement_is_shown_in_the_form_that_is_asked_for(rt: HostRuntime) -> Result<(), Fail> {
     let alloc = rt.alloc();
     let id = Id::read(b"11111111-1111-4111-8111-111111111111").ok_or("no id")?;
-    for (received, provider, expected) in COMPLETED {
-        let by = authority(alloc, provider)?;
-        let stored = Moment::clamp(1_700_000_000_000);
-        let completed = statement(alloc, received)?.complete(id, stored, by);
+    let stored = Moment::clamp(1_700_000_000_000);
+    let kept = statement(alloc, RECEIVED)?.complete(id, stored, Authority::Admin);
+    assert!(rt; kept.id() == id && kept.stored() == stored);
+    assert!(rt; !kept.is_voiding() && kept.target().is_none());
+    for (format, expected) in KEPT {
         let mut text = Vec::new(alloc);
-        completed.write(Format::Exact, &mut text)?;
+        kept.write(format, &mut text)?;
         assert_eq!(rt; str::from_utf8(text.as_slice())?, expected);
         let mut text = Vec::new(alloc);
-        write(&completed.tree(alloc, Format::Exact)?, &mut text)?;
+        write(&kept.tree(alloc, format)?, &mut text)?;
         assert_eq!(rt; str::from_utf8(text.as_slice())?, expected);
-        assert!(rt; completed.id() == id && completed.stored() == stored);
-        assert!(rt; !completed.is_voiding() && completed.target().is_none());
-    }
-    Ok(())
-}
-
-// Statements with all that is dropped, and their forms with ids alone: the first statement; names, definitions and
-// displays; Groups with and without an identifier, a context, and a SubStatement; a reference, and what is free.
-const REDUCED: [(&str, &str); 5] = [
-    (
-        r#"{"id":"11111111-1111-4111-8111-111111111111","actor":{"mbox":"mailto:a@b"},"verb":{"id":"http://v/1"},"object":{"id":"http://a/1"}}"#,
-        r#"{"actor":{"mbox":"mailto:a@b"},"verb":{"id":"http://v/1"},"object":{"id":"http://a/1"}"#,
-    ),
-    (
-        r#"{"actor":{"name":"A","objectType":"Agent","account":{"homePage":"http://h","name":"n"}},"verb":{"display":{"en":"did"},"id":"http://v/1"},"object":{"definition":{"name":{"en":"x"}},"id":"http://a/1","objectType":"Activity"},"result":{"response":"r","extensions":{"http://e":{"name":"kept","id":1}}}}"#,
-        r#"{"actor":{"objectType":"Agent","account":{"homePage":"http://h","name":"n"}},"verb":{"id":"http://v/1"},"object":{"id":"http://a/1","objectType":"Activity"},"result":{"response":"r","extensions":{"http://e":{"name":"kept","id":1}}}"#,
-    ),
-    (
-        r#"{"actor":{"objectType":"Group","name":"G","member":[{"name":"M","mbox":"mailto:m@n"},{"objectType":"Agent","openid":"http://o"}]},"verb":{"id":"http://v/1"},"object":{"objectType":"Group","name":"H","mbox":"mailto:h@h","member":[{"mbox":"mailto:m@n"}]}}"#,
-        r#"{"actor":{"objectType":"Group","member":[{"mbox":"mailto:m@n"},{"objectType":"Agent","openid":"http://o"}]},"verb":{"id":"http://v/1"},"object":{"objectType":"Group","mbox":"mailto:h@h"}"#,
-    ),
-    (
-        r#"{"actor":{"mbox":"mailto:a@b"},"verb":{"id":"http://v/1"},"object":{"objectType":"SubStatement","actor":{"name":"S","mbox":"mailto:s@t"},"verb":{"id":"http://v/2","display":{}},"object":{"id":"http://a/2","definition":{}},"context":{"team":{"objectType":"Group","name":"T","member":[{"name":"U","mbox":"mailto:u@u"}]},"contextActivities":{"other":{"id":"http://o/1","definition":{}}}}},"context":{"instructor":{"name":"I","mbox":"mailto:i@j"},"language":"en","contextActivities":{"parent":[{"id":"http://p/1","definition":{}},{"objectType":"Activity","id":"http://p/2"}],"category":[]},"extensions":{"http://x":{"definition":1}}}}"#,
-        r#"{"actor":{"mbox":"mailto:a@b"},"verb":{"id":"http://v/1"},"object":{"objectType":"SubStatement","actor":{"mbox":"mailto:s@t"},"verb":{"id":"http://v/2"},"object":{"id":"http://a/2"},"context":{"team":{"objectType":"Group","member":[{"mbox":"mailto:u@u"}]},"contextActivities":{"other":[{"id":"http://o/1"}]}}},"context":{"instructor":{"mbox":"mailto:i@j"},"language":"en","contextActivities":{"parent":[{"id":"http://p/1"},{"objectType":"Activity","id":"http://p/2"}],"category":[]},"extensions":{"http://x":{"definition":1}}}"#,
-    ),
-    (
-        r#"{"actor":{"mbox":"mailto:a@b"},"verb":{"id":"http://v/1"},"object":{"id":"22222222-2222-4222-8222-222222222222","objectType":"StatementRef"},"attachments":[{"usageType":"http://u","display":{"en":"d"},"contentType":"text/plain","length":3,"sha2":"s","fileUrl":"http://f"}]}"#,
-        r#"{"actor":{"mbox":"mailto:a@b"},"verb":{"id":"http://v/1"},"object":{"id":"22222222-2222-4222-8222-222222222222","objectType":"StatementRef"},"attachments":[{"usageType":"http://u","display":{"en":"d"},"contentType":"text/plain","length":3,"sha2":"s","fileUrl":"http://f"}]"#,
-    ),
-];
-
-// What the store adds for an admin, with ids alone.
-const ADDED_IDS: &str =
-    r#","id":"11111111-1111-4111-8111-111111111111","timestamp":"2023-11-14T22:13:20.000Z","stored":"2023-11-14T22:13:20.000Z","authority":{"objectType":"Agent","account":{"homePage":"https://lrs.invalid/callers","name":"admin"}},"version":"1.0.0"}"#;
-
-#[test]
-fn a_statement_with_ids_alone_tells_which_ones_they_are(rt: HostRuntime) -> Result<(), Fail> {
-    let alloc = rt.alloc();
-    let id = Id::read(b"11111111-1111-4111-8111-111111111111").ok_or("no id")?;
-    for (received, reduced) in REDUCED {
-        let stored = Moment::clamp(1_700_000_000_000);
-        let completed = statement(alloc, received)?.complete(id, stored, Authority::Admin);
-        let expected = format!(in alloc; "{reduced}{ADDED_IDS}")?;
-        let mut text = Vec::new(alloc);
-        completed.write(Format::Ids, &mut text)?;
-        assert_eq!(rt; str::from_utf8(text.as_slice())?, expected.as_str());
     }
     Ok(())
 }
@@ -252,30 +187,22 @@ fn the_authority_of_a_kept_statement_is_the_callers(rt: HostRuntime) -> Result<(
     let alloc = rt.alloc();
     let id = Id::read(b"11111111-1111-4111-8111-111111111111").ok_or("no id")?;
     let stored = Moment::clamp(1_700_000_000_000);
-    let rows = [
-        (None, "admin", true),
-        (None, "provider:12", false),
-        (Some((12, "p.1")), "provider:12", true),
-        (Some((12, "p.1")), "provider:1", false),
-        (Some((12, "p.1")), "provider:012", false),
-        (Some((12, "p.1")), "p.1", false),
-        (Some((12, "p.1")), "admin", false),
-    ];
-    for (provider, name, found) in rows {
-        let by = authority(alloc, provider)?;
-        let kept = statement(alloc, WHOLE)?.complete(id, stored, by);
-        for (home, there) in [("https://lrs.invalid/callers", found), ("http://h", false)] {
-            let account = Ifi::Account {
-                home: Text::of(alloc, home)?,
-                name: Text::of(alloc, name)?,
-            };
-            assert_eq!(rt; kept.has_agent(&account, true), there, "{name}");
-            assert_eq!(rt; kept.has_agent(&account, false), false, "{name}");
-        }
-        let received = mailbox(alloc, "mailto:auth@example.com")?;
-        assert!(rt; !kept.has_agent(&received, true));
-        assert!(rt; kept.has_agent(&mailbox(alloc, "mailto:t@example.com")?, true));
-        assert!(rt; kept.has_agent(&mailbox(alloc, "mailto:team@example.com")?, false));
+    let by = Authority::Provider {
+        number: 12,
+        name: Text::of(alloc, "p.1")?,
+    };
+    let kept = statement(alloc, WHOLE)?.complete(id, stored, by);
+    for (name, found) in [("provider:12", true), ("admin", false)] {
+        let account = Ifi::Account {
+            home: Text::of(alloc, "https://lrs.invalid/callers")?,
+            name: Text::of(alloc, name)?,
+        };
+        assert_eq!(rt; kept.has_agent(&account, true), found, "{name}");
+        assert_eq!(rt; kept.has_agent(&account, false), false, "{name}");
     }
+    let received = mailbox(alloc, "mailto:auth@example.com")?;
+    assert!(rt; !kept.has_agent(&received, true));
+    assert!(rt; kept.has_agent(&mailbox(alloc, "mailto:t@example.com")?, true));
+    assert!(rt; kept.has_agent(&mailbox(alloc, "mailto:team@example.com")?, false));
     Ok(())
 }

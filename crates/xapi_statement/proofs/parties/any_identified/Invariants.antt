@@ -1,6 +1,6 @@
 use Rattle.std.proofs.Common.{◌≡◌, drop, map}
 use Rattle.lrs_json.specs.View.{view, elements_of}
-use Rattle.xapi_statement.specs.Parties.{any_identified}
+use Rattle.xapi_format.specs.Party.{any_identified}
 use Rattle.xapi_statement.proofs.parties.any_identified.Given as goal
 
 abbrev pub invariant-loop-item : goal.invariant-loop-item

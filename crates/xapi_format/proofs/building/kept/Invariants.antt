@@ -1,0 +1,11 @@
+use Rattle.std.proofs.Common.{◌≡◌, drop, map}
+use Rattle.lrs_json.specs.Json.{Members}
+use Rattle.lrs_json.specs.View.{member_view, members_of}
+use Rattle.xapi_format.specs.Completed.{followed_by, kept_before}
+use Rattle.xapi_format.proofs.building.kept.Given as goal
+
+-- what was kept so far, and what is left, for every list behind
+abbrev pub invariant-loop-part : goal.invariant-loop-part
+invariant-loop-part l =
+    (behind : Members) → kept_before (members_of (map member_view l.members)) behind
+    ≡ followed_by (members_of (map member_view l.built)) (kept_before (members_of (map member_view (drop l.part-index l.members))) behind)

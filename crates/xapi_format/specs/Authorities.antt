@@ -1,0 +1,29 @@
+-- Under whose authority a statement stands, as the Agent that its completed form names (xAPI 1.0.3, part two, section 2.4.9).
+use Rattle.std.specs.Prelude.{ℕ, List, [], ◌∷◌, ◌++◌, codes}
+use Rattle.std.specs.Fmt.{decimal}
+use Rattle.lrs_json.specs.Json.{Json, object, string}
+use Rattle.lrs_json.specs.View.{members_of}
+use Rattle.xapi_format.specs.declared.authority.Authority.{Authority}
+use Rattle.xapi_format.specs.declared.authority.Authority.TheVariants.{Admin, Provider}
+
+-- the callers' accounts have this home page
+abbrev pub callers_page : List ℕ
+callers_page = codes "https://lrs.invalid/callers"
+
+abbrev pub authority_name : Authority → List ℕ
+authority_name Admin = codes "admin"
+authority_name (Provider number name) = name
+
+-- the name of the account: providers are told apart by their numbers
+abbrev pub account_name : Authority → List ℕ
+account_name Admin = codes "admin"
+account_name (Provider number name) = codes "provider:" ++ decimal number
+
+-- {"objectType":"Agent","name":N,"account":{"homePage":"https://lrs.invalid/callers","name":A}}
+abbrev pub caller_agent : List ℕ → List ℕ → Json
+caller_agent name account =
+    object (members_of ((codes "objectType", string (codes "Agent")) ∷ (codes "name", string name)
+    ∷ (codes "account", object (members_of ((codes "homePage", string callers_page) ∷ (codes "name", string account) ∷ []))) ∷ []))
+
+abbrev pub authority_json : Authority → Json
+authority_json authority = caller_agent (authority_name authority) (account_name authority)

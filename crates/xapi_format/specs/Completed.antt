@@ -1,0 +1,90 @@
+-- The completed form of a statement: as it was received, with what the store adds (xAPI 1.0.3, part two, section 2.4).
+use Rattle.std.specs.Prelude.{ℕ, List, [], ◌∷◌, unwrap_or, codes, if◌then◌else◌}
+use Rattle.std.specs.Str.{bytes_eq}
+use Rattle.lrs_json.specs.Json.{Json, null, boolean, number, string, array, object, no_elements, element, Members, no_members, member}
+use Rattle.lrs_json.specs.Find.{find}
+use Rattle.lrs_json.specs.View.{members_of}
+use Rattle.lrs_names.specs.Ids.{id_text}
+use Rattle.lrs_names.specs.Members.{is_one_of}
+use Rattle.xapi_format.specs.Nested.{is_nested}
+
+-- ---- context activities (section 2.4.6.2)
+
+-- one activity alone is made an array of one
+abbrev pub in_array : Json → Json
+in_array null = null
+in_array (boolean b) = boolean b
+in_array (number s) = number s
+in_array (string s) = string s
+in_array (array js) = array js
+in_array (object ms) = array (element (object ms) no_elements)
+
+abbrev pub each_in_array : Members → Members
+each_in_array no_members = no_members
+each_in_array (member name j ms) = member name (in_array j) (each_in_array ms)
+
+abbrev pub plural_activities : Json → Json
+plural_activities null = null
+plural_activities (boolean b) = boolean b
+plural_activities (number s) = number s
+plural_activities (string s) = string s
+plural_activities (array js) = array js
+plural_activities (object ms) = object (each_in_array ms)
+
+-- the members, with what a function makes of those of a name
+abbrev pub changed : List ℕ → (Json → Json) → Members → Members
+changed name change no_members = no_members
+changed name change (member k j ms) = member k (if bytes_eq k name then change j else j) (changed name change ms)
+
+-- the same of an object
+abbrev pub with_changed : List ℕ → (Json → Json) → Json → Json
+with_changed name change null = null
+with_changed name change (boolean b) = boolean b
+with_changed name change (number s) = number s
+with_changed name change (string s) = string s
+with_changed name change (array js) = array js
+with_changed name change (object ms) = object (changed name change ms)
+
+-- a context, each of its context activities in an array
+abbrev pub plural_context : Json → Json
+plural_context j = with_changed (codes "contextActivities") plural_activities j
+
+-- the object of a statement: a SubStatement has a context of its own
+abbrev pub plural_object : Json → Json
+plural_object j = if is_nested j then with_changed (codes "context") plural_context j else j
+
+-- ---- the whole
+
+-- the members that the store writes itself
+abbrev pub added_names : List (List ℕ)
+added_names = codes "id" ∷ codes "timestamp" ∷ codes "stored" ∷ codes "authority" ∷ codes "version" ∷ []
+
+abbrev pub plural_member : List ℕ → Json → Json
+plural_member name j =
+    if bytes_eq name (codes "context") then plural_context j else (if bytes_eq name (codes "object") then plural_object j else j)
+
+-- the other members in their order, and these behind them
+abbrev pub kept_before : Members → Members → Members
+kept_before no_members behind = behind
+kept_before (member name j ms) behind =
+    if is_one_of added_names name then kept_before ms behind else member name (plural_member name j) (kept_before ms behind)
+
+abbrev pub followed_by : Members → Members → Members
+followed_by no_members behind = behind
+followed_by (member name j ms) behind = member name j (followed_by ms behind)
+
+-- What the store writes behind them. The time at which it happened is the one that was given, else the stored moment.
+abbrev pub added : Json → List ℕ → List ℕ → Json → Members
+added received id stored authority =
+    members_of ((codes "id", string (id_text id)) ∷ (codes "timestamp", unwrap_or (find (codes "timestamp") received) (string stored))
+    ∷ (codes "stored", string stored) ∷ (codes "authority", authority)
+    ∷ (codes "version", unwrap_or (find (codes "version") received) (string (codes "1.0.0"))) ∷ [])
+
+-- The completed form of a received statement: under an id, with the text of its stored moment and an authority.
+unfoldable pub completed : Json → List ℕ → List ℕ → Json → Json
+completed null id stored authority = null
+completed (boolean b) id stored authority = boolean b
+completed (number s) id stored authority = number s
+completed (string s) id stored authority = string s
+completed (array js) id stored authority = array js
+completed (object ms) id stored authority = object (kept_before ms (added (object ms) id stored authority))

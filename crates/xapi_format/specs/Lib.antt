@@ -1,0 +1,6 @@
+pub mod Nested
+pub mod Party
+pub mod Moments
+pub mod Authorities
+pub mod Completed
+pub mod Reduced

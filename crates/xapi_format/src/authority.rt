@@ -1,0 +1,62 @@
+ghost use Rattle.std.specs.Prelude.{◌≡◌};
+ghost use Rattle.std.specs.Str.{bytes_eq};
+
+use itoa::Buffer;
+use lrs_json::Text;
+use lrs_names::Ifi;
+
+/// Under whose authority a statement stands.
+#[derive(Drop)]
+pub enum Authority {
+    /// An admin, or the store's own machine.
+    Admin,
+    /// The provider of that number, counted from 0 in the order in which providers were made, and its name.
+    Provider { number: u32, name: Text },
+}
+
+impl Authority {
+    ghost use Rattle.xapi_format.specs.Authorities.{account_name, authority_json, authority_name};
+    ghost use Rattle.xapi_format.specs.Party.{is_party};
+
+    /// The home page of the accounts that callers have.
+    pub const HOME_PAGE: &'static str = "https://lrs.invalid/callers";
+
+    /// The name that its Agent has.
+    pub fn name(&self) -> &str
+        ensures { result.now ≡ authority_name self.now }
+    {
+        match self {
+            Authority::Admin => "admin",
+            Authority::Provider { number: _, name } => name.as_str(),
+        }
+    }
+
+    /// Whether its Agent has that identifier. Takes no memory.
+    pub fn has_agent(&self, ifi: &Ifi) -> bool
+        ensures { result ≡ is_party ifi.now (authority_json self.now) }
+    {
+        match ifi {
+            Ifi::Account { home, name } => {
+                home.as_str() == Authority::HOME_PAGE && self.has_account(name.as_str())
+            }
+            Ifi::Mbox(_) => false,
+            Ifi::MboxSha1(_) => false,
+            Ifi::OpenId(_) => false,
+        }
+    }
+
+    fn has_account(&self, name: &str) -> bool
+        ensures { result ≡ bytes_eq name.now (account_name self.now) }
+    {
+        match self {
+            Authority::Admin => name == "admin",
+            Authority::Provider { number, name: _ } => match name.strip_prefix("provider:") {
+                Some(digits) => {
+                    let mut buffer = Buffer::new();
+                    digits == buffer.format(*number)
+                }
+                None => false,
+            },
+        }
+    }
+}

@@ -1,0 +1,77 @@
+-- Numbers as the rules on scores and attachments ask of them, by their exact values.
+use Rattle.std.specs.Prelude.{ℕ, List, [], ◌∷◌, Bool, true, false, ◌&&◌, Option, Some, None, option_and_then, codes, if◌then◌else◌}
+use Rattle.std.specs.Option.{option_map_or}
+use Rattle.std.specs.Ordering.{is_lt, is_le}
+use Rattle.std.specs.declared.cmp.Ordering.{Ordering}
+use Rattle.lrs_decimal.specs.Numbers.{number_end}
+use Rattle.lrs_decimal.specs.Range.{is_in_range, is_whole}
+use Rattle.lrs_decimal.specs.Values.{order}
+use Rattle.lrs_json.specs.Json.{Json, null, boolean, number, string, array, object}
+use Rattle.lrs_json.specs.Find.{find}
+use Rattle.lrs_names.specs.Members.{has_only, if_member}
+
+-- nothing is left behind the number
+abbrev pub is_whole_text : Option (List ℕ) → Bool
+is_whole_text None = false
+is_whole_text (Some []) = true
+is_whole_text (Some (b ∷ bs)) = false
+
+-- the spelling of a number in range
+unfoldable pub is_decimal : List ℕ → Bool
+is_decimal spelling = is_whole_text (number_end spelling) && is_in_range spelling
+
+abbrev pub spelling_of : Json → Option (List ℕ)
+spelling_of null = None
+spelling_of (boolean b) = None
+spelling_of (number s) = Some s
+spelling_of (string s) = None
+spelling_of (array js) = None
+spelling_of (object ms) = None
+
+abbrev pub is_number : Json → Bool
+is_number j = option_map_or is_decimal (spelling_of j) false
+
+-- the spelling of the member, where it is a number
+abbrev pub member_number : List ℕ → Json → Option (List ℕ)
+member_number name j = option_and_then spelling_of (find name j)
+
+-- how two numbers lie, where both are such
+unfoldable pub compared : List ℕ → List ℕ → Option Ordering
+compared s t = if is_decimal s && is_decimal t then Some (order s t) else None
+
+-- the first is less than the second, where both stand
+unfoldable pub is_below : Option (List ℕ) → Option (List ℕ) → Bool
+is_below None t = true
+is_below (Some s) None = true
+is_below (Some s) (Some t) = option_map_or is_lt (compared s t) true
+
+-- the first isn't greater than the second, where both stand
+unfoldable pub is_not_above : Option (List ℕ) → Option (List ℕ) → Bool
+is_not_above None t = true
+is_not_above (Some s) None = true
+is_not_above (Some s) (Some t) = option_map_or is_le (compared s t) true
+
+-- a whole number that isn't negative
+unfoldable pub is_natural : List ℕ → Bool
+is_natural spelling = is_decimal spelling && is_whole spelling && is_not_above (Some (codes "0")) (Some spelling)
+
+abbrev pub is_count : Json → Bool
+is_count j = option_map_or is_natural (spelling_of j) false
+
+unfoldable pub are_numbers : Json → Bool
+are_numbers j =
+    if_member (codes "scaled") is_number j && if_member (codes "raw") is_number j && if_member (codes "min") is_number j
+    && if_member (codes "max") is_number j
+
+-- `scaled` is from -1 to 1, `min` is less than `max`, and `raw` isn't outside of them
+unfoldable pub are_in_order : Json → Bool
+are_in_order j =
+    is_not_above (Some (codes "-1")) (member_number (codes "scaled") j)
+    && is_not_above (member_number (codes "scaled") j) (Some (codes "1"))
+    && is_below (member_number (codes "min") j) (member_number (codes "max") j)
+    && is_not_above (member_number (codes "min") j) (member_number (codes "raw") j)
+    && is_not_above (member_number (codes "raw") j) (member_number (codes "max") j)
+
+-- Rule 26 (section 2.4.5.1): only `scaled`, `raw`, `min` and `max`, all numbers, and in their order.
+unfoldable pub is_score : Json → Bool
+is_score j = has_only (codes "scaled" ∷ codes "raw" ∷ codes "min" ∷ codes "max" ∷ []) j && are_numbers j && are_in_order j

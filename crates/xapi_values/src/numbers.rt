@@ -1,0 +1,146 @@
+// Numbers, by their exact values.
+ghost use Rattle.std.specs.Prelude.{◌≡◌, map, option_map, is_some, IfSome};
+ghost use Rattle.lrs_decimal.specs.Values.{Means};
+ghost use Rattle.lrs_json.specs.View.{view};
+ghost use Rattle.xapi_values.specs.Numbers.{is_decimal, is_number, spelling_of, member_number, compared, is_below, is_not_above, is_natural, is_count, are_numbers, are_in_order, is_score};
+ghost use Rattle.lrs_names.specs.Members.{if_member};
+
+use lrs_decimal::{Decimal, is_whole};
+use lrs_json::{Text, Tree};
+use lrs_names::has_only;
+use std::cmp::Ordering;
+
+fn spelling_of(tree: &Tree) -> Option<&[u8]>
+    ensures { option_map (λ s. s.now) result ≡ spelling_of (view tree.now) }
+{
+    match tree {
+        Tree::Number(spelling) => Some(spelling.as_bytes()),
+        _ => None,
+    }
+}
+
+/// The spelling of the member of that name, where it is a number.
+pub fn member_number<'a>(tree: &'a Tree, name: &str) -> Option<&'a [u8]>
+    ensures { option_map (λ s. s.now) result ≡ member_number name.now (view tree.now) }
+{
+    match tree.get(name) {
+        Some(value) => spelling_of(value),
+        None => None,
+    }
+}
+
+/// The value of a spelling, where it is a number in range.
+pub fn decimal_of(spelling: &[u8]) -> Option<Decimal>
+    ensures some { is_some result ≡ is_decimal spelling.now }
+    ensures value { IfSome result (λ d. Means d spelling.now) }
+{
+    Decimal::of(spelling)
+}
+
+fn is_decimal(spelling: &[u8]) -> bool
+    ensures { result ≡ is_decimal spelling.now }
+{
+    decimal_of(spelling).is_some()
+}
+
+/// A number in range.
+pub fn is_number(tree: &Tree) -> bool
+    ensures { result ≡ is_number (view tree.now) }
+{
+    match spelling_of(tree) {
+        Some(spelling) => is_decimal(spelling),
+        None => false,
+    }
+}
+
+#[tactic(auto, unfolding(crate::specs::Numbers::compared))]
+fn compared(a: &[u8], b: &[u8]) -> Option<Ordering>
+    ensures { result ≡ compared a.now b.now }
+{
+    let Some(first) = decimal_of(a) else {
+        return None;
+    };
+    let Some(second) = decimal_of(b) else {
+        return None;
+    };
+    Some(first.cmp(&second))
+}
+
+#[tactic(auto, unfolding(crate::specs::Numbers::is_below))]
+fn is_below(a: Option<&[u8]>, b: Option<&[u8]>) -> bool
+    ensures { result ≡ is_below (option_map (λ s. s.now) a.entry) (option_map (λ s. s.now) b.entry) }
+{
+    match (a, b) {
+        (Some(a), Some(b)) => compared(a, b).is_none_or(|order| order.is_lt()),
+        _ => true,
+    }
+}
+
+#[tactic(auto, unfolding(crate::specs::Numbers::is_not_above))]
+fn is_not_above(a: Option<&[u8]>, b: Option<&[u8]>) -> bool
+    ensures { result ≡ is_not_above (option_map (λ s. s.now) a.entry) (option_map (λ s. s.now) b.entry) }
+{
+    match (a, b) {
+        (Some(a), Some(b)) => compared(a, b).is_none_or(|order| order.is_le()),
+        _ => true,
+    }
+}
+
+fn is_number_if_there(tree: &Tree, name: &str) -> bool
+    ensures { result ≡ if_member name.now is_number (view tree.now) }
+{
+    match tree.get(name) {
+        Some(value) => is_number(value),
+        None => true,
+    }
+}
+
+/// A score (xAPI 1.0.3, part two, section 2.4.5.1), with its numbers in their order.
+#[tactic(auto, unfolding(crate::specs::Numbers::is_score))]
+pub fn is_score(tree: &Tree) -> bool
+    ensures { result ≡ is_score (view tree.now) }
+{
+    has_only(tree, &["scaled", "raw", "min", "max"]) && are_numbers(tree) && are_in_order(tree)
+}
+
+#[tactic(auto, unfolding(crate::specs::Numbers::are_numbers))]
+fn are_numbers(tree: &Tree) -> bool
+    ensures { result ≡ are_numbers (view tree.now) }
+{
+    is_number_if_there(tree, "scaled")
+        && is_number_if_there(tree, "raw")
+        && is_number_if_there(tree, "min")
+        && is_number_if_there(tree, "max")
+}
+
+#[tactic(auto, unfolding(crate::specs::Numbers::are_in_order))]
+fn are_in_order(tree: &Tree) -> bool
+    ensures { result ≡ are_in_order (view tree.now) }
+{
+    let scaled = member_number(tree, "scaled");
+    let raw = member_number(tree, "raw");
+    let least = member_number(tree, "min");
+    let greatest = member_number(tree, "max");
+    is_not_above(Some(b"-1"), scaled)
+        && is_not_above(scaled, Some(b"1"))
+        && is_below(least, greatest)
+        && is_not_above(least, raw)
+        && is_not_above(raw, greatest)
+}
+
+/// A whole number that isn't negative, however it is spelled: `2`, `2.0`, `20e-1`.
+pub fn is_count(tree: &Tree) -> bool
+    ensures { result ≡ is_count (view tree.now) }
+{
+    match spelling_of(tree) {
+        Some(spelling) => is_natural(spelling),
+        None => false,
+    }
+}
+
+#[tactic(auto, unfolding(crate::specs::Numbers::is_natural))]
+fn is_natural(spelling: &[u8]) -> bool
+    ensures { result ≡ is_natural spelling.now }
+{
+    is_decimal(spelling) && is_whole(spelling) && is_not_above(Some(b"0"), Some(spelling))
+}
