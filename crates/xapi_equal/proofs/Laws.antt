@@ -1,7 +1,7 @@
 -- What is alike is an equivalence of neat normal forms.
 use Rattle.std.proofs.Common.{◌≡◌, ℕ, List, [], ◌∷◌, Bool, true, false, ◌&&◌, inl, inr, is_some, refl, sym, ap, ◌∙◌, subst, true≢false}
 use Rattle.std.specs.Str.{bytes_eq}
-use Rattle.xapi_rules.specs.declared.kinds.Kind.{Kind}
+use Rattle.xapi_values.specs.declared.kinds.Kind.{Kind}
 use Rattle.xapi_equal.specs.declared.place.Place.TheVariants.{Statement}
 use Rattle.xapi_equal.specs.Normal.{Words, Normal, nothing, truth, amount, words, items, thing, Normals, none, more, Named, unnamed, named, normal}
 use Rattle.xapi_equal.specs.Alike.{same_truth, same_kind, same_words, same_amount, alike, all_alike, same_bag, has_name, any_named, named_alike, are_named}

@@ -5,7 +5,7 @@ use Rattle.std.specs.Str.{bytes_eq}
 use Rattle.lrs_json.specs.Json.{Json, null, boolean, number, string, array, object, Elements, no_elements, element, Members, no_members, member}
 use Rattle.lrs_json.specs.Faults.{is_among}
 use Rattle.lrs_json.specs.Fits.{Fits, FitElements, FitMembers}
-use Rattle.xapi_rules.specs.Kinds.{kind_of}
+use Rattle.xapi_values.specs.Kinds.{kind_of}
 use Rattle.xapi_equal.specs.declared.place.Place.{Place}
 use Rattle.xapi_equal.specs.Places.{is_passed_over, kind_at, place_of_object, place_of_member, place_of_item, is_plural}
 use Rattle.xapi_equal.specs.Normal.{Normal, nothing, truth, amount, words, items, thing, Normals, none, more, Named, unnamed, named, normal, normal_items, normal_members}

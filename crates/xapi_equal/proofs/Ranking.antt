@@ -14,7 +14,7 @@ use Rattle.lrs_json.specs.Faults.{is_among}
 use Rattle.lrs_json.specs.Json.{Json, null, boolean, number, string, array, object, Elements, no_elements, element, Members, no_members, member}
 use Rattle.lrs_json.specs.View.{view, elements_of}
 use Rattle.lrs_json.specs.declared.tree.Tree.{Tree}
-use Rattle.xapi_rules.specs.Kinds.{kind_of}
+use Rattle.xapi_values.specs.Kinds.{kind_of}
 use Rattle.xapi_equal.specs.declared.place.Place.{Place}
 use Rattle.xapi_equal.specs.Places.{is_passed_over, kind_at, place_of_object, place_of_member, is_plural}
 use Rattle.xapi_equal.specs.Normal.{Normal, thing, Normals, normal, normal_items, normal_members}

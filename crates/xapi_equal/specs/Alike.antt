@@ -4,8 +4,8 @@ use Rattle.std.specs.Ordering.{is_eq, int_eq}
 use Rattle.std.specs.Str.{bytes_eq}
 use Rattle.lrs_decimal.specs.Values.{order}
 use Rattle.lrs_time.specs.Duration.{same_span}
-use Rattle.xapi_rules.specs.Numbers.{is_decimal}
-use Rattle.xapi_rules.specs.declared.kinds.Kind.{Kind}
+use Rattle.xapi_values.specs.Numbers.{is_decimal}
+use Rattle.xapi_values.specs.declared.kinds.Kind.{Kind}
 use Rattle.xapi_equal.specs.Normal.{Words, letters, uuid, instant, lasting, Normal, nothing, truth, amount, words, items, thing, Normals, none, more, Named, unnamed, named}
 
 -- one spelling, or two of one value

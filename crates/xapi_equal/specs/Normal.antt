@@ -5,8 +5,8 @@ use Rattle.lrs_names.specs.Ids.{id_of}
 use Rattle.lrs_time.specs.Duration.{Span}
 use Rattle.lrs_time.specs.Reading.{timestamp_at, duration_at}
 use Rattle.lrs_time.specs.declared.timestamps.TimeRefused.{TimeRefused}
-use Rattle.xapi_rules.specs.Kinds.{kind_of}
-use Rattle.xapi_rules.specs.declared.kinds.Kind.{Kind}
+use Rattle.xapi_values.specs.Kinds.{kind_of}
+use Rattle.xapi_values.specs.declared.kinds.Kind.{Kind}
 use Rattle.xapi_equal.specs.declared.place.Place.{Place}
 use Rattle.xapi_equal.specs.declared.place.Place.TheVariants.{Statement, SubStatement, Object, Agent, GroupMembers, Activity, Reference, Context, ContextActivities, Activities, Outcome, Id, Timestamp, Duration, Plain}
 use Rattle.xapi_equal.specs.Places.{is_passed_over, kind_at, place_of_object, place_of_member, place_of_item, is_unordered, is_plural}

@@ -2,7 +2,7 @@
 use Rattle.std.specs.Prelude.{ℕ, List, [], ◌∷◌, Bool, true, false, codes, if◌then◌else◌}
 use Rattle.std.specs.Str.{bytes_eq}
 use Rattle.lrs_names.specs.Members.{is_one_of}
-use Rattle.xapi_rules.specs.declared.kinds.Kind.{Kind}
+use Rattle.xapi_values.specs.declared.kinds.Kind.{Kind}
 use Rattle.xapi_equal.specs.declared.place.Place.{Place}
 use Rattle.xapi_equal.specs.declared.place.Place.TheVariants.{Statement, SubStatement, Object, Agent, GroupMembers, Activity, Reference, Context, ContextActivities, Activities, Outcome, Id, Timestamp, Duration, Plain}
 

@@ -11,7 +11,7 @@ use crate::leaves::{is_same_amount, is_same_kind, is_same_text};
 use crate::place::Place;
 use crate::ranks::{MOST, Places, first_extra, have_own_names, rank};
 use lrs_json::{Member, Tree};
-use xapi_rules::Kind;
+use xapi_values::Kind;
 
 // Fewer items are counted at once.
 const FEW: usize = 32;

@@ -1,6 +1,6 @@
 // Numbers and texts.
 ghost use Rattle.std.specs.Prelude.{◌≡◌};
-ghost use Rattle.xapi_rules.specs.Numbers.{is_decimal};
+ghost use Rattle.xapi_values.specs.Numbers.{is_decimal};
 ghost use Rattle.xapi_equal.specs.Normal.{id_or, instant_or, span_or, said_at};
 ghost use Rattle.xapi_equal.specs.Alike.{same_amount, same_words, same_kind};
 ghost use Rattle.lrs_names.specs.Ids.{id_of};
@@ -13,7 +13,8 @@ use crate::place::Place;
 use lrs_json::Text;
 use lrs_names::Id;
 use lrs_time::{Duration, read_timestamp};
-use xapi_rules::{Kind, decimal_of};
+use xapi_values::Kind;
+use xapi_values::numbers::decimal_of;
 
 /// Whether the spellings of numbers are one, or are of one value.
 pub fn is_same_amount(a: &Text, b: &Text) -> bool

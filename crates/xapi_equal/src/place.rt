@@ -2,7 +2,7 @@
 ghost use Rattle.std.specs.Prelude.{◌≡◌};
 ghost use Rattle.xapi_equal.specs.Places.{is_passed_over, kind_or, kind_at, place_of_kind, place_of_object, place_in_statement, place_in_context, place_of_member, place_of_item, is_unordered, is_plural};
 
-use xapi_rules::Kind;
+use xapi_values::Kind;
 
 /// What stands at a place of a statement.
 #[derive(Clone, Copy, Debug)]

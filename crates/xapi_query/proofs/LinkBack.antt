@@ -19,8 +19,8 @@ use Rattle.lrs_names.proofs.IdTexts.{IsUtf8-id_text, id_of-id_text}
 use Rattle.lrs_time.specs.Reading.{timestamp_at}
 use Rattle.lrs_time.specs.declared.timestamps.TimeRefused.{TimeRefused}
 use Rattle.lrs_time.proofs.DigitLemmas.{digit_test}
-use Rattle.xapi_statement.specs.declared.format.Format.{Format}
-use Rattle.xapi_statement.specs.declared.format.Format.TheVariants.{Exact, Ids}
+use Rattle.xapi_format.specs.declared.format.Format.{Format}
+use Rattle.xapi_format.specs.declared.format.Format.TheVariants.{Exact, Ids}
 use Rattle.xapi_query.specs.Links.{IsLink, LinksAreReadBack, format_pair, limit_pair, link_pairs, link_query, pair_if, pair_if_true}
 use Rattle.xapi_query.specs.Pairs.{AreTexts, IsText, pair_of, pairs_of}
 use Rattle.xapi_query.specs.Parameters.{LeastOfLink, Passes, are_among, are_distinct, given, has_ids, has_iris, has_places, has_timestamps, has_truths, link_names, passes}

@@ -6,8 +6,8 @@ use Rattle.lrs_json.specs.View.{view}
 use Rattle.xapi_statement.specs.Completed.{HeldStatement}
 use Rattle.xapi_statement.specs.Shown.{takes_part}
 use Rattle.xapi_statement.specs.Statement.{has_activity, registration_of, verb_of}
-use Rattle.xapi_statement.specs.declared.authority.Authority.{Authority}
-use Rattle.xapi_statement.specs.declared.authority.Authority.TheVariants as authority
+use Rattle.xapi_format.specs.declared.authority.Authority.{Authority}
+use Rattle.xapi_format.specs.declared.authority.Authority.TheVariants as authority
 use Rattle.xapi_query.specs.declared.query.Query.{Query}
 use Rattle.xapi_query.specs.declared.sight.Sight.{Sight}
 use Rattle.xapi_query.specs.declared.sight.Sight.TheVariants.{Nothing, All, Provider, Registration}

@@ -4,8 +4,8 @@ use Rattle.std.specs.Fmt.{decimal}
 use Rattle.form_urlencoded.specs.Form.{extend_pairs}
 use Rattle.form_urlencoded.specs.Target.{Target}
 use Rattle.lrs_names.specs.Ids.{id_text}
-use Rattle.xapi_statement.specs.declared.format.Format.{Format}
-use Rattle.xapi_statement.specs.declared.format.Format.TheVariants.{Exact, Ids}
+use Rattle.xapi_format.specs.declared.format.Format.{Format}
+use Rattle.xapi_format.specs.declared.format.Format.TheVariants.{Exact, Ids}
 use Rattle.xapi_query.specs.Pairs.{AreTexts, pairs_of}
 use Rattle.xapi_query.specs.Parameters.{LeastOfGet, LeastOfLink, number_under}
 use Rattle.xapi_query.specs.Queries.{IsQuery}

@@ -7,8 +7,8 @@ use Rattle.std.specs.Str.Parse.{digits_value}
 use Rattle.lrs_names.specs.Ids.{id_of}
 use Rattle.lrs_names.specs.declared.identifiers.Ifi.{Ifi}
 use Rattle.lrs_time.specs.Reading.{timestamp_at}
-use Rattle.xapi_statement.specs.declared.format.Format.{Format}
-use Rattle.xapi_statement.specs.declared.format.Format.TheVariants.{Exact, Ids}
+use Rattle.xapi_format.specs.declared.format.Format.{Format}
+use Rattle.xapi_format.specs.declared.format.Format.TheVariants.{Exact, Ids}
 use Rattle.xapi_query.specs.Parameters.{Passes, given, has_iris, passes}
 use Rattle.xapi_query.specs.Values.{IsActor, IsActorOf, is_limit}
 use Rattle.xapi_query.specs.declared.pair.Pair.{Pair}
