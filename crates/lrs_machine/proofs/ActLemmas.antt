@@ -12,11 +12,12 @@ use Rattle.lrs_record.specs.declared.entry.Command.{Command}
 use Rattle.lrs_record.specs.declared.entry.Entry.{Entry}
 use Rattle.lrs_record.specs.Entries.{IsLawful, written_entry}
 use Rattle.lrs_record.specs.Moments.{clamped, latest}
-use Rattle.lrs_machine.specs.declared.answered.Answered.{Answered}
-use Rattle.lrs_machine.specs.declared.answered.Refusal.TheVariants as refusal
-use Rattle.lrs_machine.specs.declared.reply.Trouble.{Trouble}
-use Rattle.lrs_machine.specs.declared.reply.Trouble.TheVariants as trouble
-use Rattle.lrs_machine.specs.History.{State, state, step, nothing, Answer, answer, answer_by, kept, thanks, refused, said_at_once, entry_at, need, end_place, IsLegal, ComesNext}
+use Rattle.lrs_history.specs.declared.answered.Answered.{Answered}
+use Rattle.lrs_history.specs.declared.answered.Refusal.TheVariants as refusal
+use Rattle.lrs_history.specs.declared.reply.Trouble.{Trouble}
+use Rattle.lrs_history.specs.declared.reply.Trouble.TheVariants as trouble
+use Rattle.lrs_history.specs.History.{State, state, step, nothing, Answer, answer, answer_by, kept, thanks, refused, said_at_once, entry_at, need, end_place, IsLegal, ComesNext}
+use Rattle.lrs_history.proofs.Kept.{kept_answer, room_is, full_is}
 use Rattle.lrs_machine.specs.Steps.{IsTied, HasFold, Still, Grows, IsFull, SaysBy, Acts}
 use Rattle.lrs_machine.specs.Desk.{StandsFor, Answers}
 use Rattle.lrs_machine.proofs.Histories.{state_from-more, map-more, legal_with, one_history}
@@ -28,32 +29,6 @@ next_of limit [] e legal is = absurd (no legal.0)
     no : length {A = Entry} [] < 0 → ⊥
     no h = omega (arith, h)
 next_of limit (x ∷ h) e legal is = is
-
-abbrev pub no_room : ℕ → ℕ → Entry → Answer
-no_room limit place e = record { said = refused (refusal.Full (min (need place e) (2 ^ 64 - 1)) limit); entry = None }
-
-abbrev pub kept_answer : Answered → Entry → Answer
-kept_answer t e = record { said = t; entry = Some e }
-
-room_is : (limit place : ℕ) (t : Answered) (e : Entry) → need place e ≤ limit → kept limit place t e ≡ kept_answer t e
-room_is limit place t e fits = by_test (nat_lt limit (need place e)) refl
-  where
-    no : nat_lt limit (need place e) ≡ true → ⊥
-    no is = grind (arith, common_steps)
-
-    by_test : (b : Bool) → nat_lt limit (need place e) ≡ b → (if b then no_room limit place e else kept_answer t e) ≡ kept_answer t e
-    by_test true is = absurd (no is)
-    by_test false is = refl
-
-full_is : (limit place : ℕ) (t : Answered) (e : Entry) → limit < need place e → kept limit place t e ≡ no_room limit place e
-full_is limit place t e exceeds = by_test (nat_lt limit (need place e)) refl
-  where
-    no : nat_lt limit (need place e) ≡ false → ⊥
-    no is = grind (arith, common_steps)
-
-    by_test : (b : Bool) → nat_lt limit (need place e) ≡ b → (if b then no_room limit place e else kept_answer t e) ≡ no_room limit place e
-    by_test true is = refl
-    by_test false is = absurd (no is)
 
 -- the entry that a command may have over a history
 abbrev pub entry_for : List Entry → Caller → Command → ℕ → Draw → Entry

@@ -17,20 +17,20 @@ use Rattle.lrs_record.specs.declared.entry.Command.{Command}
 use Rattle.lrs_record.specs.declared.entry.Command.TheVariants.{Provider, Post, Put}
 use Rattle.lrs_record.specs.declared.entry.Entry.{Entry}
 use Rattle.lrs_record.specs.declared.who.Who.TheVariants as who
-use Rattle.lrs_machine.specs.declared.answered.Answered.{Answered}
-use Rattle.lrs_machine.specs.declared.answered.Answered.TheVariants as said
-use Rattle.lrs_machine.specs.declared.answered.Refusal.{Refusal}
-use Rattle.lrs_machine.specs.declared.answered.Refusal.TheVariants as refusal
-use Rattle.lrs_machine.specs.declared.reply.Reply.{Reply}
-use Rattle.lrs_machine.specs.declared.reply.Trouble.{Trouble}
-use Rattle.lrs_machine.specs.declared.reply.Trouble.TheVariants as trouble
-use Rattle.lrs_machine.specs.History.{State, state, Answer, answer, answer_by, thanks, said_at_once, refused, put_said, refused_form, broken_form, other_id, repeated, need, end_place, with_entry}
-use Rattle.lrs_machine.specs.Batches.{forbidden, rule}
-use Rattle.lrs_machine.specs.Statements.{held_under}
+use Rattle.lrs_history.specs.declared.answered.Answered.{Answered}
+use Rattle.lrs_history.specs.declared.answered.Answered.TheVariants as said
+use Rattle.lrs_history.specs.declared.answered.Refusal.{Refusal}
+use Rattle.lrs_history.specs.declared.answered.Refusal.TheVariants as refusal
+use Rattle.lrs_history.specs.declared.reply.Reply.{Reply}
+use Rattle.lrs_history.specs.declared.reply.Trouble.{Trouble}
+use Rattle.lrs_history.specs.declared.reply.Trouble.TheVariants as trouble
+use Rattle.lrs_history.specs.History.{State, state, Answer, answer, answer_by, thanks, said_at_once, refused, put_said, refused_form, broken_form, other_id, repeated, need, end_place, with_entry}
+use Rattle.lrs_history.specs.Batches.{forbidden, rule}
+use Rattle.lrs_history.specs.Statements.{held_under}
+use Rattle.lrs_history.specs.Replies.{IsRefusal, IsReplyTo}
+use Rattle.lrs_history.proofs.Kept.{no_room, kept_answer}
 use Rattle.lrs_machine.specs.Steps.{IsPut, Thanks, TellsFull, SaysBy, Acts}
-use Rattle.lrs_machine.specs.Replies.{IsRefusal, IsReplyTo}
 use Rattle.lrs_machine.specs.Desk.{MayRefusePut, IsOfPut, StandsFor, Answers, HasCause, Replies}
-use Rattle.lrs_machine.proofs.ActLemmas.{no_room, kept_answer}
 
 -- ---- the limit stays
 

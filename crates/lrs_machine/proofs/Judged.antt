@@ -12,12 +12,12 @@ use Rattle.lrs_record.specs.declared.who.Who.{Who}
 use Rattle.xapi_rules.specs.Rules.{broken_rule}
 use Rattle.xapi_statement.specs.Completed.{HeldStatement}
 use Rattle.xapi_statement.specs.Statement.{is_statement, is_too_long, refusal}
-use Rattle.lrs_machine.specs.declared.answered.Answered.{Answered}
-use Rattle.lrs_machine.specs.declared.answered.Refusal.{Refusal}
-use Rattle.lrs_machine.specs.declared.answered.Refusal.TheVariants.{TooLong}
-use Rattle.lrs_machine.specs.Batches.{broken_in, doubled_or, first_of, is_too_large, refused_batch, refused_in}
-use Rattle.lrs_machine.specs.History.{State, area_of, barred, broken_form, post_said, put_said, refused_form, said_at_once, said_inside, unless_barred, who_is}
-use Rattle.lrs_machine.specs.Statements.{held_under}
+use Rattle.lrs_history.specs.declared.answered.Answered.{Answered}
+use Rattle.lrs_history.specs.declared.answered.Refusal.{Refusal}
+use Rattle.lrs_history.specs.declared.answered.Refusal.TheVariants.{TooLong}
+use Rattle.lrs_history.specs.Batches.{broken_in, doubled_or, first_of, is_too_large, refused_batch, refused_in}
+use Rattle.lrs_history.specs.History.{State, area_of, barred, broken_form, post_said, put_said, refused_form, said_at_once, said_inside, unless_barred, who_is}
+use Rattle.lrs_history.specs.Statements.{held_under}
 use Rattle.lrs_machine.specs.Steps.{IsJudged, IsJudgedTree}
 
 judged_tree : (t : Tree) → is_too_long (view t) ≡ false → broken_rule (view t) ≡ None → IsJudgedTree t

@@ -1,9 +1,4 @@
-pub mod Places
-pub mod Marks
-pub mod Indexes
-pub mod Adding
-pub mod Shelves
-pub mod Ids
+pub mod Registers
 pub mod Histories
 pub mod Ready
 pub mod Judged
@@ -12,15 +7,4 @@ pub mod ReplayLemmas
 pub mod OpenLemmas
 pub mod DeskLemmas
 pub mod Spares
-pub mod MadeIds
-pub mod Turns
-pub mod Keepers
-pub mod Again
-pub mod NewIds
-pub mod WholeBatches
-pub mod Chains
-pub mod Fronts
-pub mod Firsts
-pub mod Bodies
-pub mod Paging
-pub mod PageLaws
+pub mod Trees

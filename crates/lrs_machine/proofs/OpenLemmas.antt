@@ -13,8 +13,8 @@ use Rattle.lrs_journal.specs.declared.create.CreateRefused.{CreateRefused}
 use Rattle.lrs_journal.specs.declared.create.CreateRefused.TheVariants as create
 use Rattle.lrs_journal.specs.declared.replay.RecoverRefused.{RecoverRefused}
 use Rattle.lrs_journal.specs.declared.replay.RecoverRefused.TheVariants as recover
-use Rattle.lrs_machine.specs.Founding.{IsToken, IsBase}
-use Rattle.lrs_machine.specs.History.{State, state, IsLegal, IsFounding}
+use Rattle.lrs_history.specs.Founding.{IsToken, IsBase}
+use Rattle.lrs_history.specs.History.{State, state, IsLegal, IsFounding}
 use Rattle.lrs_machine.specs.Desk.{StandsFor, IsStoreOf, LeavesStore, IsOnDisk, IsRefused, IsNotFounded, founding_entry}
 use Rattle.lrs_machine.specs.Steps.{IsTied, HasFold}
 use Rattle.lrs_machine.specs.Replays.{HasReplayed, opening_refusal, founding_refusal}

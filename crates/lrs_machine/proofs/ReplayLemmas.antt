@@ -14,19 +14,19 @@ use Rattle.lrs_record.specs.declared.entry.Command.TheVariants.{Found, Put, Post
 use Rattle.lrs_record.specs.declared.entry.Entry.{Entry}
 use Rattle.lrs_record.specs.Entries.{IsLawful, written_entry}
 use Rattle.lrs_record.specs.Moments.{clamped, latest}
-use Rattle.lrs_machine.specs.declared.answered.Answered.{Answered}
-use Rattle.lrs_machine.specs.declared.opening.DeskRefused.{DeskRefused}
-use Rattle.lrs_machine.specs.declared.opening.DeskRefused.TheVariants as desk
-use Rattle.lrs_machine.specs.Founding.{is_token, is_base}
-use Rattle.lrs_machine.specs.History.{State, state, step, thanks, nothing, Answer, answer_by, kept, said_at_once, entry_at, need, end_place, IsLegalFrom, ComesNext, IsFounding, Founds}
-use Rattle.lrs_machine.specs.Desk.{BeginsWith, HasLegalFrames, IsRefused}
-use Rattle.lrs_machine.specs.Steps.{IsJudged}
 use Rattle.lrs_journal.specs.declared.replay.ReplayRefused.{ReplayRefused}
 use Rattle.lrs_journal.specs.declared.replay.ReplayRefused.TheVariants as replay
-use Rattle.lrs_machine.specs.Replays.{is_operator, is_zero, founds, is_founding, may_come, refusal_of, IsReplayed, TakesEntry}
 use Rattle.lrs_journal.proofs.Unique.{store_length}
+use Rattle.lrs_history.specs.declared.answered.Answered.{Answered}
+use Rattle.lrs_history.specs.Founding.{is_token, is_base}
+use Rattle.lrs_history.specs.History.{State, state, step, thanks, nothing, Answer, answer_by, kept, said_at_once, entry_at, need, end_place, IsLegalFrom, ComesNext, IsFounding, Founds}
+use Rattle.lrs_history.proofs.Kept.{no_room, kept_answer}
+use Rattle.lrs_machine.specs.declared.opening.DeskRefused.{DeskRefused}
+use Rattle.lrs_machine.specs.declared.opening.DeskRefused.TheVariants as desk
+use Rattle.lrs_machine.specs.Desk.{BeginsWith, HasLegalFrames, IsRefused}
+use Rattle.lrs_machine.specs.Steps.{IsJudged}
+use Rattle.lrs_machine.specs.Replays.{is_operator, is_zero, founds, is_founding, may_come, refusal_of, IsReplayed, TakesEntry}
 use Rattle.lrs_machine.proofs.Histories.{state_from-more, map-more, legal-more}
-use Rattle.lrs_machine.proofs.ActLemmas.{no_room, kept_answer}
 use Rattle.lrs_machine.proofs.Judged.{judged_unsaid}
 
 -- ---- tests

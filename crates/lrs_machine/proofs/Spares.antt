@@ -10,9 +10,9 @@ use Rattle.lrs_journal.proofs.Unique.{stands_once, stands_header, stands_whole, 
 use Rattle.lrs_record.specs.declared.entry.Entry.{Entry}
 use Rattle.lrs_record.specs.Entries.{IsLawful, written_entry}
 use Rattle.lrs_record.proofs.Told.{written_entry_injective}
+use Rattle.lrs_history.specs.History.{IsLegal, IsLegalFrom, ComesNext}
 use Rattle.lrs_machine.specs.declared.opening.DeskRefused.{DeskRefused}
 use Rattle.lrs_machine.specs.declared.opening.DeskRefused.TheVariants as desk
-use Rattle.lrs_machine.specs.History.{IsLegal, IsLegalFrom, ComesNext}
 use Rattle.lrs_machine.specs.Desk.{IsIllegalBehind, IsRefused, SparesLegal}
 
 no_end : (q : List ℕ) (qs : List (List ℕ)) (r s : List ℕ) → IsEnd r → r ≡ frames (q ∷ qs) ++ s → ⊥

@@ -11,20 +11,20 @@ use Rattle.lrs_record.specs.declared.entry.Entry.{Entry}
 use Rattle.lrs_json.specs.View.{view}
 use Rattle.lrs_record.specs.Entries.{AreLawfulTrees, IsLawful, IsLawfulTree, written_entry}
 use Rattle.lrs_record.specs.Moments.{clamped}
-use Rattle.lrs_machine.specs.declared.answered.Answered.{Answered}
-use Rattle.lrs_machine.specs.declared.answered.Answered.TheVariants.{Shown, Refused}
-use Rattle.lrs_machine.specs.declared.answered.Refusal.{Refusal}
-use Rattle.lrs_machine.specs.declared.answered.Refusal.TheVariants.{Unauthorized, Forbidden, NotFound}
-use Rattle.lrs_machine.specs.declared.reply.Reply.{Reply}
-use Rattle.lrs_machine.specs.declared.reply.Trouble.{Trouble}
-use Rattle.lrs_machine.specs.declared.reply.Trouble.TheVariants.{Memory, Disk}
+use Rattle.lrs_journal.specs.Create.{IsStore, IsForeign, IsOpenTo}
+use Rattle.lrs_history.specs.declared.answered.Answered.{Answered}
+use Rattle.lrs_history.specs.declared.answered.Answered.TheVariants.{Shown, Refused}
+use Rattle.lrs_history.specs.declared.answered.Refusal.{Refusal}
+use Rattle.lrs_history.specs.declared.answered.Refusal.TheVariants.{Unauthorized, Forbidden, NotFound}
+use Rattle.lrs_history.specs.declared.reply.Reply.{Reply}
+use Rattle.lrs_history.specs.declared.reply.Trouble.{Trouble}
+use Rattle.lrs_history.specs.declared.reply.Trouble.TheVariants.{Memory, Disk}
+use Rattle.lrs_history.specs.Replies.{Says}
+use Rattle.lrs_history.specs.History.{Answer, with_entry, entry_at, ComesNext, IsLegal, IsLegalFrom}
 use Rattle.lrs_machine.specs.declared.opening.DeskRefused.{DeskRefused}
 use Rattle.lrs_machine.specs.declared.opening.DeskRefused.TheVariants as desk
 use Rattle.lrs_machine.specs.declared.opening.FoundRefused.{FoundRefused}
 use Rattle.lrs_machine.specs.declared.opening.FoundRefused.TheVariants as found
-use Rattle.lrs_journal.specs.Create.{IsStore, IsForeign, IsOpenTo}
-use Rattle.lrs_machine.specs.Replies.{Says}
-use Rattle.lrs_machine.specs.History.{Answer, with_entry, entry_at, ComesNext, IsLegal, IsLegalFrom}
 
 -- ---- what a desk stands for
 

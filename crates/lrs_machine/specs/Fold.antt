@@ -3,12 +3,12 @@ use Rattle.std.specs.Prelude.{◌+◌, ◌<◌, ◌^◌, ℕ, List, [], ◌∷�
 use Rattle.lrs_names.specs.declared.draw.Draw.{Draw}
 use Rattle.lrs_record.specs.declared.entry.Command.{Command}
 use Rattle.lrs_record.specs.declared.entry.Command.TheVariants.{Found, Provider, Put, Post}
-use Rattle.lrs_machine.specs.declared.callers.HeldCaller.{HeldCaller}
+use Rattle.lrs_history.specs.declared.held_caller.HeldCaller.{HeldCaller}
+use Rattle.lrs_history.specs.Batches.{Named, first_of, named_of}
+use Rattle.lrs_history.specs.History.{State, new_caller}
+use Rattle.lrs_history.specs.Statements.{add_each}
 use Rattle.lrs_machine.specs.declared.fold.Fold.{Fold}
-use Rattle.lrs_machine.specs.Batches.{Named, first_of, named_of}
-use Rattle.lrs_machine.specs.History.{State, new_caller}
-use Rattle.lrs_machine.specs.Index.{with_next}
-use Rattle.lrs_machine.specs.Statements.{add_each}
+use Rattle.lrs_machine.specs.Callers.{with_next}
 
 abbrev pub state_of : Fold → State
 state_of fold = record { admin = fold.admin; callers = fold.callers.held; statements = fold.statements.held; length = fold.length; last = fold.last }

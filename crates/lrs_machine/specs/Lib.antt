@@ -1,13 +1,4 @@
-pub mod Founding
-pub mod Texts
-pub mod Statements
-pub mod Batches
-pub mod OwnIds
-pub mod Listings
-pub mod History
-pub mod Index
-pub mod Replies
-pub mod Laws
+pub mod Callers
 pub mod Desk
 pub mod Steps
 pub mod Fold

@@ -9,18 +9,18 @@ use Rattle.lrs_journal.specs.declared.replay.RecoverRefused.{RecoverRefused}
 use Rattle.lrs_journal.specs.declared.replay.RecoverRefused.TheVariants as recover
 use Rattle.lrs_journal.specs.declared.create.CreateRefused.{CreateRefused}
 use Rattle.lrs_journal.specs.declared.create.CreateRefused.TheVariants as create
-use Rattle.lrs_machine.specs.declared.opening.FoundRefused.{FoundRefused}
-use Rattle.lrs_machine.specs.declared.opening.FoundRefused.TheVariants as found
 use Rattle.lrs_record.specs.declared.entry.Caller.{Caller}
 use Rattle.lrs_record.specs.declared.entry.Caller.TheVariants.{Nobody, Operator, Token}
 use Rattle.lrs_record.specs.declared.entry.Command.{Command}
 use Rattle.lrs_record.specs.declared.entry.Command.TheVariants.{Found}
 use Rattle.lrs_record.specs.declared.entry.Entry.{Entry}
 use Rattle.lrs_record.specs.Entries.{IsLawful, written_entry}
+use Rattle.lrs_history.specs.Founding.{is_token, is_base}
+use Rattle.lrs_history.specs.History.{State, state, step, said_at_once, IsLegalFrom}
+use Rattle.lrs_machine.specs.declared.opening.FoundRefused.{FoundRefused}
+use Rattle.lrs_machine.specs.declared.opening.FoundRefused.TheVariants as found
 use Rattle.lrs_machine.specs.declared.opening.DeskRefused.{DeskRefused}
 use Rattle.lrs_machine.specs.declared.opening.DeskRefused.TheVariants as desk
-use Rattle.lrs_machine.specs.Founding.{is_token, is_base}
-use Rattle.lrs_machine.specs.History.{State, state, step, said_at_once, IsLegalFrom}
 use Rattle.lrs_machine.specs.Desk.{IsRefused}
 
 abbrev pub is_operator : Caller → Bool

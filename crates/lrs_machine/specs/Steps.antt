@@ -14,13 +14,13 @@ use Rattle.lrs_record.specs.declared.entry.Command.{Command}
 use Rattle.lrs_record.specs.declared.entry.Command.TheVariants.{Put, Post}
 use Rattle.lrs_record.specs.declared.entry.Entry.{Entry}
 use Rattle.lrs_record.specs.Entries.{IsLawful, written_entry}
-use Rattle.lrs_machine.specs.declared.answered.Answered.{Answered}
-use Rattle.lrs_machine.specs.declared.answered.Refusal.TheVariants.{Full}
+use Rattle.lrs_history.specs.declared.answered.Answered.{Answered}
+use Rattle.lrs_history.specs.declared.answered.Refusal.TheVariants.{Full}
+use Rattle.lrs_history.specs.declared.reply.Trouble.{Trouble}
+use Rattle.lrs_history.specs.declared.reply.Trouble.TheVariants.{Memory, Disk}
+use Rattle.lrs_history.specs.History.{State, state, step, said_at_once, thanks, refused, need, IsLegal}
 use Rattle.lrs_machine.specs.declared.keeping.Keeping.{Keeping}
 use Rattle.lrs_machine.specs.declared.keeping.Keeping.TheVariants.{Added, NoRoom}
-use Rattle.lrs_machine.specs.declared.reply.Trouble.{Trouble}
-use Rattle.lrs_machine.specs.declared.reply.Trouble.TheVariants.{Memory, Disk}
-use Rattle.lrs_machine.specs.History.{State, state, step, said_at_once, thanks, refused, need, IsLegal}
 
 -- The frames are those of a history that can have come about, whose fold this is.
 abbrev pub HasFold : ℕ → State → List (List ℕ) → Type 0

@@ -4,20 +4,15 @@ ghost use Rattle.std.specs.BTreeMap.{get};
 ghost use Rattle.std.specs.Cmp.Lexicographic.{slice_cmp};
 ghost use Rattle.std.specs.Ordering.{nat_cmp};
 ghost use Rattle.std.specs.Option.{option_copied};
-ghost use Rattle.lrs_machine.specs.History.{place_of_token};
-ghost use Rattle.lrs_machine.specs.Index.{place_of, with_next};
+ghost use Rattle.lrs_history.specs.History.{place_of_token};
+ghost use Rattle.lrs_statements.specs.Index.{place_of};
+ghost use Rattle.lrs_machine.specs.Callers.{with_next};
 
+use lrs_history::HeldCaller;
 use lrs_json::{Memory, Text};
 use std::alloc::Global;
 use std::collections::BTreeMap;
 use std::marker::Model;
-
-/// A provider as the history made it: the name that it was given, and the token by which it is known.
-#[derive(Drop)]
-pub struct HeldCaller {
-    pub name: Text,
-    pub token: Text,
-}
 
 // A provider with a second copy of its token, as the key of its place.
 #[derive(Drop)]
@@ -36,7 +31,7 @@ pub(crate) struct Callers {
 
 impl Model for Callers {
     ghost use Rattle.std.specs.Prelude.{vec_len, vec_capacity, option_map};
-    ghost use Rattle.lrs_machine.specs.Index.{Registered, IsRegister};
+    ghost use Rattle.lrs_machine.specs.Callers.{Registered, IsRegister};
 
     ghost Value = { Registered };
 

@@ -2,26 +2,24 @@
 ghost use Rattle.std.specs.Prelude.{◌≡◌, ◌≤◌, ◌∷◌, ◌++◌, [], length, OnOk, IfOk};
 ghost use Rattle.std.specs.List.{AllByRecursion};
 ghost use Rattle.lrs_json.specs.View.{view};
-ghost use Rattle.lrs_machine.specs.Batches.{ids_in, kept_by, named_of, new_ones, refused_batch, refused_in};
-ghost use Rattle.lrs_machine.specs.History.{nothing, step, who_is, is_admin, is_shown, thanks, more_said, one_said, page_said, post_said, put_said, refused_form, wanted_said, said_inside, said_at_once};
+ghost use Rattle.lrs_history.specs.Batches.{ids_in, kept_by, named_of, new_ones, refused_batch, refused_in};
+ghost use Rattle.lrs_history.specs.History.{nothing, step, who_is, is_admin, is_shown, thanks, more_said, one_said, page_said, post_said, put_said, refused_form, wanted_said, said_inside, said_at_once};
+ghost use Rattle.lrs_history.specs.Statements.{authority_of, held_under};
 ghost use Rattle.lrs_machine.specs.Fold.{state_of, next_of, founded_by, made_by, named_under, IsCountable};
-ghost use Rattle.lrs_machine.specs.Statements.{authority_of, held_under};
 ghost use Rattle.lrs_machine.specs.Steps.{IsJudged, IsJudgedTree};
 
 use crate::callers::Callers;
-use crate::index::Index;
-use crate::judging::{
-    are_old, area_of, barred, forbidden, refused_batch, refused_form, refused_in, refused_name,
-    refused_with, repeated,
+use lrs_history::{
+    Answered, Refusal, area_of, barred, caller_text, ids_text, refused_name, refused_with,
+    statement_text, token_text, versions_text,
 };
-use crate::listing::{find_page, sight_of};
-use crate::naming::{batch_ids, given_ids};
-use crate::pages::page_text;
-use crate::showing::{caller_text, ids_text, statement_text, token_text, versions_text};
-use crate::{Answered, Refusal};
 use lrs_json::{Items, Memory, Text, Tree};
 use lrs_names::{Draw, Id};
 use lrs_record::{Caller, Command, Entry, Moment, Rule, Who};
+use lrs_statements::{
+    Index, are_old, batch_ids, forbidden, given_ids, page_text, refused_batch, refused_form,
+    refused_in, repeated, sight_of,
+};
 use std::alloc::Global;
 use xapi_query::{MoreLink, Query, Wanted, sees};
 use xapi_statement::{Authority, Completed, Format, Statement};
@@ -221,9 +219,9 @@ impl Fold {
         requires { n ≤ length self.now.statements.held }
         ensures { IfOk result (λ said. said ≡ page_said (state_of self.now) who query.now n after) }
     {
-        let page = find_page(alloc, &self.statements, query, &sight_of(who), n, after)?;
+        let body = page_text(alloc, &self.statements, query, &sight_of(who), n, after)?;
         Ok(Answered::Shown {
-            text: Items::from_vec(page_text(alloc, &self.statements, query, n, &page)?),
+            text: Items::from_vec(body),
             through: Some(self.last),
         })
     }

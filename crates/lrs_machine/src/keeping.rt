@@ -2,13 +2,13 @@
 ghost use Rattle.std.specs.Prelude.{◌≡◌, false};
 ghost use Rattle.lrs_journal.specs.Journal.{IsJournal};
 ghost use Rattle.lrs_record.specs.Entries.{IsLawfulCaller, IsLawfulCommand};
-ghost use Rattle.lrs_machine.specs.Batches.{ids_in};
+ghost use Rattle.lrs_history.specs.Batches.{ids_in};
 ghost use Rattle.lrs_machine.specs.Fold.{state_of};
 ghost use Rattle.lrs_machine.specs.Steps.{IsJudged, Keeps, HasKeepingCause};
 
-use crate::Trouble;
 use crate::fold::Fold;
 use lrs_disk::Disk;
+use lrs_history::Trouble;
 use lrs_journal::{AppendRefused, Journal};
 use lrs_names::Id;
 use lrs_record::{Entry, write_entry};

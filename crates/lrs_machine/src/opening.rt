@@ -5,13 +5,13 @@ ghost use Rattle.lrs_disk.specs.Faults.{Rises};
 ghost use Rattle.lrs_journal.specs.Create.{IsStore, IsOpenTo};
 ghost use Rattle.lrs_record.specs.declared.entry.Entry.{Entry};
 ghost use Rattle.lrs_record.specs.Entries.{IsLawful, written_entry};
-ghost use Rattle.lrs_machine.specs.Desk.{StandsFor, IsStoreOf, LeavesStore, IsRefused, SparesLegal, IsNotFounded, founding_entry};
-ghost use Rattle.lrs_machine.specs.Fold.{state_of};
-ghost use Rattle.lrs_machine.specs.Founding.{IsToken, IsBase};
-ghost use Rattle.lrs_machine.specs.History.{state, IsFounding};
-ghost use Rattle.lrs_machine.specs.Replays.{HasReplayed, founding_refusal, opening_refusal};
+ghost use Rattle.lrs_history.specs.Founding.{IsToken, IsBase};
+ghost use Rattle.lrs_history.specs.History.{state, IsFounding};
 ghost use Rattle.lrs_machine.specs.declared.opening.DeskRefused.TheVariants as DeskRefused;
 ghost use Rattle.lrs_machine.specs.declared.opening.FoundRefused.TheVariants as FoundRefused;
+ghost use Rattle.lrs_machine.specs.Desk.{StandsFor, IsOnDisk, IsStoreOf, LeavesStore, IsRefused, SparesLegal, IsNotFounded, founding_entry};
+ghost use Rattle.lrs_machine.specs.Fold.{state_of};
+ghost use Rattle.lrs_machine.specs.Replays.{HasReplayed, founding_refusal, opening_refusal};
 
 use crate::Desk;
 use crate::fold::Fold;
@@ -69,6 +69,7 @@ impl<D: Disk> Desk<D> {
         requires base { IsBase base.now }
         ensures founded { IfOk result (λ desk. ForSome (D.told disk) (λ bytes. IsOpenTo bytes × StandsFor D.told desk (founding_entry admin.now base.now clock ∷ []))) }
         ensures fields { IfOk result (λ desk. (desk.limit ≡ limit) × (desk.doubt ≡ false) × (desk.number ≡ 1)) }
+        ensures durable { IfOk result (λ desk. (h : List Entry) → StandsFor D.told desk h → IsOnDisk D.image desk h) }
         ensures kept { IfOk result (λ desk. D.fault_count desk.disk ≡ D.fault_count disk) }
         ensures refused { IfErr result (λ e. ForSome (D.told disk) (λ bytes. IsNotFounded bytes limit (founding_entry admin.now base.now clock) e.0)) }
         ensures spared { IfErr result (λ e. e.0 ≢ FoundRefused.Failed → D.told e.1 ≡ D.told disk) }
@@ -98,6 +99,7 @@ impl<D: Disk> Desk<D> {
     /// next.
     pub fn recover(alloc: Global, disk: D) -> Result<Desk<D>, (DeskRefused, D)>
         ensures opened { IfOk result (λ desk. ForSome (D.told disk) (λ bytes. (h : List Entry) × IsStoreOf bytes desk.limit h × StandsFor D.told desk h)) }
+        ensures durable { IfOk result (λ desk. (h : List Entry) → StandsFor D.told desk h → IsOnDisk D.image desk h) }
         ensures settled { IfOk result (λ desk. desk.doubt ≡ false) }
         ensures kept { IfOk result (λ desk. D.fault_count desk.disk ≡ D.fault_count disk) }
         ensures refused { IfErr result (λ e. ForSome (D.told disk) (λ bytes. IsRefused bytes e.0)) }
@@ -127,6 +129,7 @@ fn finish<D: Disk>(
     requires ended { replay.ended ≡ true }
     requires replayed { ForSome (D.told replay.disk) (λ bytes. (h : List Entry) × HasReplayed bytes replay (state_of fold) h) }
     ensures opened { IfOk result (λ desk. ForSome (D.told replay.disk) (λ bytes. (h : List Entry) × IsStoreOf bytes desk.limit h × StandsFor D.told desk h)) }
+    ensures durable { IfOk result (λ desk. (h : List Entry) → StandsFor D.told desk h → IsOnDisk D.image desk h) }
     ensures settled { IfOk result (λ desk. desk.doubt ≡ false) }
     ensures kept { IfOk result (λ desk. D.fault_count desk.disk ≡ D.fault_count replay.disk) }
     ensures failed { IfErr result (λ e. e.0 ≡ DeskRefused.Failed) }

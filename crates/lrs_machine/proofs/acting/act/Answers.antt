@@ -1,6 +1,6 @@
 use Rattle.std.proofs.Common.{max}
 use Rattle.lrs_record.specs.Moments.{clamped}
-use Rattle.lrs_machine.specs.History.{entry_at}
+use Rattle.lrs_history.specs.History.{entry_at}
 use Rattle.lrs_machine.specs.Fold.{state_of}
 use Rattle.lrs_machine.proofs.ActLemmas.{settled_then}
 use Rattle.lrs_machine.proofs.DeskLemmas.{settled_doubt}

@@ -1,5 +1,5 @@
 use Rattle.std.proofs.Common.{rules}
-use Rattle.lrs_machine.proofs.Indexes.{place_of-empty}
+use Rattle.lrs_statements.proofs.Indexes.{place_of-empty}
 use Rattle.lrs_machine.proofs.callers.make_place.Goals as goal
 
 pub returns-in_ok-insert-clause-same : goal.returns-in_ok-insert-clause-same

@@ -1,8 +1,8 @@
 use Rattle.std.proofs.Common.{◌++◌, ◌∷◌, [], sym, subst, refl, true, false, ◌∙◌, Ok, arith, length-append}
+use Rattle.lrs_machine.specs.declared.opening.DeskRefused.TheVariants as desk
 use Rattle.lrs_machine.specs.Desk.{IsRefused}
 use Rattle.lrs_machine.specs.Fold.{state_of}
 use Rattle.lrs_machine.specs.Replays.{Takes}
-use Rattle.lrs_machine.specs.declared.opening.DeskRefused.TheVariants as desk
 use Rattle.lrs_machine.proofs.ReplayLemmas.{ended_empty, first_place}
 use Rattle.lrs_machine.proofs.replaying.replay_all.Goals as goal
 

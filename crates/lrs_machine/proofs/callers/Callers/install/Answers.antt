@@ -1,10 +1,11 @@
 use Rattle.std.proofs.Common.{◌≡◌, ◌∙◌, ap, sym, subst, length, Option, Some, false, rules}
 use Rattle.std.specs.Prelude.{option_and_then, option_map, is_some}
 use Rattle.std.specs.Str.{bytes_eq}
-use Rattle.lrs_machine.specs.History.{place_of_token}
-use Rattle.lrs_machine.specs.Index.{place_of}
+use Rattle.lrs_history.specs.History.{place_of_token}
+use Rattle.lrs_statements.specs.Index.{place_of}
+use Rattle.lrs_statements.proofs.Indexes.{is_at-apart}
+use Rattle.lrs_machine.proofs.Registers.{register-more, register-again, one_some}
 use Rattle.lrs_machine.specs.declared.callers.NextCaller.{NextCaller}
-use Rattle.lrs_machine.proofs.Indexes.{register-more, register-again, is_at-apart, one_some}
 use Rattle.lrs_machine.proofs.callers.Callers.install.Goals.{then-is_none+in-Ok, else-is_none}
 use Rattle.lrs_machine.proofs.callers.Callers.install.Goals as goal
 

@@ -1,8 +1,8 @@
 use Rattle.std.proofs.Common.{◌≡◌, max, subst, sym}
+use Rattle.lrs_record.specs.Moments.{clamped}
+use Rattle.lrs_history.specs.History.{answer, entry_at}
 use Rattle.lrs_machine.specs.Fold.{state_of}
 use Rattle.lrs_machine.specs.Desk.{StandsFor, Answers}
-use Rattle.lrs_record.specs.Moments.{clamped}
-use Rattle.lrs_machine.specs.History.{answer, entry_at}
 use Rattle.lrs_machine.proofs.ActLemmas.{act_ties, act_answers}
 use Rattle.lrs_machine.proofs.DeskLemmas.{act_limit, act_put}
 use Rattle.lrs_machine.proofs.OpenLemmas.{on_disk}

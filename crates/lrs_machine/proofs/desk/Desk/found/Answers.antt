@@ -1,10 +1,10 @@
 use Rattle.std.proofs.Common.{◌≡◌, [], ◌∷◌, sym, subst, refl, ◌∙◌, ap}
 use Rattle.std.specs.Prelude.{option_map}
 use Rattle.lrs_journal.specs.Journal.{frames_of}
+use Rattle.lrs_history.specs.History.{state}
 use Rattle.lrs_machine.specs.Fold.{state_of}
-use Rattle.lrs_machine.specs.History.{state}
 use Rattle.lrs_machine.specs.Desk.{IsNotFounded, founding_entry}
-use Rattle.lrs_machine.proofs.OpenLemmas.{founding_of, found_ties, found_stands, found_refused}
+use Rattle.lrs_machine.proofs.OpenLemmas.{founding_of, found_ties, found_stands, found_refused, on_disk}
 use Rattle.lrs_machine.proofs.desk.Desk.found.Goals as goal
 
 pub invariant_of-result : goal.invariant_of-result
@@ -21,6 +21,9 @@ returns-in-Ok-create-clause-founded g c = λ bytes there. (
       (subst (λ f. frames_of g.D.Disk.told c.in-Ok-create.journal ≡ option_map (λ _. f ∷ []) (g.D.Disk.told c.args.disk)) (c.deref.ensures.value ∙ c.in-Ok.ensures.frame) c.in-Ok-create.ensures.made)
       there c.in-Ok-create.ensures.fields.3 c.in-Ok.ensures.lawful (founding_of c.args.admin.now c.args.base.now c.args.clock c.requires.admin c.requires.base),
 )
+
+pub returns-in-Ok-create-clause-durable : goal.returns-in-Ok-create-clause-durable
+returns-in-Ok-create-clause-durable g c = λ h stands. on_disk g.D.Disk.told g.D.Disk.image c.in-Ok-create.journal h c.in-Ok-create.ensures.sound stands
 
 pub returns-clause-refused : goal.returns-clause-refused
 returns-clause-refused g c = λ bytes there.

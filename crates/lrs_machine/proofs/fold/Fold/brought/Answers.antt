@@ -8,10 +8,10 @@ use Rattle.lrs_record.specs.declared.rule.Rule.{Rule}
 use Rattle.xapi_query.specs.declared.link.MoreLink.{MoreLink}
 use Rattle.xapi_query.specs.declared.wanted.Wanted.{Wanted}
 use Rattle.xapi_statement.specs.Completed.{HeldStatement}
-use Rattle.xapi_statement.specs.declared.authority.Authority.{Authority}
-use Rattle.lrs_machine.specs.Batches.{Named, kept_by, new_ones}
+use Rattle.xapi_format.specs.declared.authority.Authority.{Authority}
+use Rattle.lrs_history.specs.Batches.{Named, kept_by, new_ones}
+use Rattle.lrs_history.specs.Statements.{authority_of}
 use Rattle.lrs_machine.specs.Fold.{named_under}
-use Rattle.lrs_machine.specs.Statements.{authority_of}
 use Rattle.lrs_machine.proofs.fold.Fold.brought.Goals as goal
 
 none_kept : (held : List HeldStatement) (moment : ℕ) (by : Option Authority) (ns : List Named) → ns ≡ [] → [] ≡ new_ones held (kept_by moment by ns)

@@ -1,8 +1,8 @@
 use Rattle.std.proofs.Common.{◌≡◌, ◌++◌, drop}
 use Rattle.std.specs.List.{AllByRecursion}
 use Rattle.std.specs.Vec.Iter.{into_iter_items}
-use Rattle.lrs_machine.specs.Batches.{kept_by, named_of, new_ones}
-use Rattle.lrs_machine.specs.Statements.{authority_of}
+use Rattle.lrs_history.specs.Batches.{kept_by, named_of, new_ones}
+use Rattle.lrs_history.specs.Statements.{authority_of}
 use Rattle.lrs_machine.specs.Steps.{IsJudgedTree}
 use Rattle.lrs_machine.proofs.fold.Fold.new_of_batch.Given as goal
 

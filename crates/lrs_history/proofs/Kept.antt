@@ -1,0 +1,34 @@
+-- An entry for which there is room, and one for which there is none.
+use Rattle.std.proofs.Common.{◌≡◌, ◌<◌, ◌≤◌, ◌-◌, ◌^◌, ℕ, min, refl, arith, Some, None, Bool, true, false, nat_lt}
+use Rattle.std.specs.Prelude.{if◌then◌else◌}
+use Rattle.std.proofs.lemmas.Grind.{common_steps}
+use Rattle.lrs_record.specs.declared.entry.Entry.{Entry}
+use Rattle.lrs_history.specs.declared.answered.Answered.{Answered}
+use Rattle.lrs_history.specs.declared.answered.Refusal.TheVariants as refusal
+use Rattle.lrs_history.specs.History.{Answer, kept, refused, need}
+
+abbrev pub no_room : ℕ → ℕ → Entry → Answer
+no_room limit place e = record { said = refused (refusal.Full (min (need place e) (2 ^ 64 - 1)) limit); entry = None }
+
+abbrev pub kept_answer : Answered → Entry → Answer
+kept_answer t e = record { said = t; entry = Some e }
+
+pub room_is : (limit place : ℕ) (t : Answered) (e : Entry) → need place e ≤ limit → kept limit place t e ≡ kept_answer t e
+room_is limit place t e fits = by_test (nat_lt limit (need place e)) refl
+  where
+    no : nat_lt limit (need place e) ≡ true → ⊥
+    no is = grind (arith, common_steps)
+
+    by_test : (b : Bool) → nat_lt limit (need place e) ≡ b → (if b then no_room limit place e else kept_answer t e) ≡ kept_answer t e
+    by_test true is = absurd (no is)
+    by_test false is = refl
+
+pub full_is : (limit place : ℕ) (t : Answered) (e : Entry) → limit < need place e → kept limit place t e ≡ no_room limit place e
+full_is limit place t e exceeds = by_test (nat_lt limit (need place e)) refl
+  where
+    no : nat_lt limit (need place e) ≡ false → ⊥
+    no is = grind (arith, common_steps)
+
+    by_test : (b : Bool) → nat_lt limit (need place e) ≡ b → (if b then no_room limit place e else kept_answer t e) ≡ no_room limit place e
+    by_test true is = refl
+    by_test false is = absurd (no is)

@@ -1,0 +1,317 @@
+-- The pages of a list give it whole, and a link is told the same page for ever.
+use Rattle.std.proofs.Common.{◌≡◌, ◌≢◌, ℕ, zero, suc, ◌+◌, ◌-◌, ◌<◌, ◌≤◌, List, [], ◌∷◌, ◌++◌, length, take, drop, map, reverse, Bool, true, false, Option, Some, None, cond, refl, sym, ap, subst, ◌∙◌, arith, nat_lt, length-append, append_assoc}
+use Rattle.std.specs.Prelude.{filter, filter_map, position, slice_get, MatchOption, IsTrue, if◌then◌else◌}
+use Rattle.std.specs.List.{AllByRecursion, cons_option, position_from, range_with_len}
+use Rattle.std.specs.Str.{bytes_eq}
+use Rattle.std.proofs.lemmas.Bool.Decides.{nat_tests}
+use Rattle.std.proofs.lemmas.Iterator.Adapters.{position_from-zero}
+use Rattle.std.proofs.lemmas.List.{append-nil, length-drop, length-take, reverse-append, take-append-drop, take-append-le}
+use Rattle.std.proofs.Math.Seq.{take-append_seam, take-length}
+use Rattle.lrs_json.specs.Written.{written}
+use Rattle.lrs_names.specs.declared.draw.Draw.{Draw}
+use Rattle.lrs_record.specs.declared.entry.Caller.{Caller}
+use Rattle.lrs_record.specs.declared.entry.Caller.TheVariants.{Nobody, Operator, Token}
+use Rattle.lrs_record.specs.declared.entry.Command.{Command}
+use Rattle.lrs_record.specs.declared.entry.Command.TheVariants.{Found, Get, More, Provider}
+use Rattle.lrs_record.specs.declared.entry.Entry.{Entry}
+use Rattle.lrs_record.specs.declared.rule.Area.TheVariants.{Store}
+use Rattle.lrs_record.specs.declared.who.Who.{Who}
+use Rattle.lrs_record.specs.declared.who.Who.TheVariants as who
+use Rattle.xapi_query.specs.declared.link.MoreLink.{MoreLink}
+use Rattle.xapi_query.specs.declared.query.Query.{Query}
+use Rattle.xapi_query.specs.declared.sight.Sight.{Sight}
+use Rattle.xapi_query.specs.declared.wanted.Wanted.TheVariants.{Many}
+use Rattle.xapi_statement.specs.Completed.{HeldStatement}
+use Rattle.lrs_history.specs.declared.answered.Answered.{Answered}
+use Rattle.lrs_history.specs.declared.answered.Answered.TheVariants.{Shown}
+use Rattle.lrs_history.specs.declared.answered.Refusal.TheVariants.{Broken}
+use Rattle.lrs_history.specs.declared.held_caller.HeldCaller.{HeldCaller}
+use Rattle.lrs_history.specs.Batches.{rule}
+use Rattle.lrs_history.specs.History.{State, admin_after, barred, brought, callers_after, is_admin, more_said, nothing, page_said, place_of_token, provider_at, refused, said_at_once, said_inside, state, state_from, step, unless_barred, who_is, Founds, IsLegal}
+use Rattle.lrs_history.specs.Listings.{Paged, first_page, is_behind, is_listed_at, list_json, listing, listing_behind, more_text, page_behind, page_body, positions_of, statements_at}
+use Rattle.lrs_history.specs.Statements.{add, add_each, is_held, sight_of}
+use Rattle.lrs_laws.specs.Laws.{FirstPagesAreTold, Follows, LinksGoOn, LinksStay, LinksWhereMoreComes, PagesEnd, PagesGiveTheList, PositionsComeOnce, IsLetIn, sight_in, who_in}
+use Rattle.lrs_laws.proofs.Again.{at_once}
+use Rattle.lrs_laws.proofs.Keepers.{state_from-append}
+use Rattle.lrs_laws.proofs.Paging.{IsInOrder, Links, behind, distinct_in_order, each_at, each_filtered, filtered_in_order, linked, positions_in_order, unlinked}
+
+-- ---- one list
+
+abbrev the_list : Query → Sight → List HeldStatement → List ℕ
+the_list query sight s = listing query sight s
+
+in_order : (query : Query) (sight : Sight) (s : List HeldStatement) → IsInOrder query.ascending (listing query sight s)
+in_order query sight s = filtered_in_order query.ascending (is_listed_at query sight s) (positions_of query.ascending (length s)) (positions_in_order query.ascending (length s))
+
+from_none : (ascending : Bool) (ks : List ℕ) → filter (is_behind ascending None) ks ≡ ks
+from_none ascending [] = refl
+from_none ascending (k ∷ ks) = ap (λ js. k ∷ js) (from_none ascending ks)
+
+links : (query : Query) (sight : Sight) (s : List HeldStatement) (after : Option ℕ) (last : ℕ) → 0 < query.page → (page_behind query sight s after).link ≡ Some last
+    → Links query.ascending (listing query sight s) after query.page last
+links query sight s after last some is = linked query.ascending (listing query sight s) after query.page last some (in_order query sight s) is
+
+-- ---- following
+
+-- what is given by one page and those behind it
+abbrev FollowsOf : Query → Sight → ℕ → List HeldStatement → List (List HeldStatement) → Option ℕ → List ℕ → Type 0
+FollowsOf query sight n s later after given =
+    MatchOption (page_behind query sight s after).link (given ≡ (page_behind query sight s after).positions)
+    (λ last. (rest : List ℕ) × (given ≡ (page_behind query sight s after).positions ++ rest) × Follows query sight n later (Some last) rest)
+
+-- each list has these first statements
+abbrev pub AreGrown : ℕ → List HeldStatement → List (List HeldStatement) → Type 0
+AreGrown n s helds = AllByRecursion (λ held. take n held ≡ s) helds
+
+whole_from : (query : Query) (sight : Sight) (n : ℕ) (s : List HeldStatement) (helds : List (List HeldStatement)) (after : Option ℕ) (given : List ℕ) → 0 < query.page → AreGrown n s helds
+    → Follows query sight n helds after given → given ≡ listing_behind query sight s after
+whole_from query sight n s [] after given some grown follows = absurd follows
+whole_from query sight n s (held ∷ later) after given some grown follows =
+    by_link (page_behind query sight s after).link refl (subst (λ t. FollowsOf query sight n t later after given) grown.0 follows)
+    (λ last rest next. whole_from query sight n s later (Some last) rest some grown.1 next)
+  where
+    by_link : (o : Option ℕ) → (page_behind query sight s after).link ≡ o
+        → MatchOption o (given ≡ take query.page (listing_behind query sight s after))
+        (λ last. (rest : List ℕ) × (given ≡ take query.page (listing_behind query sight s after) ++ rest) × Follows query sight n later (Some last) rest)
+        → ((last : ℕ) (rest : List ℕ) → Follows query sight n later (Some last) rest → rest ≡ listing_behind query sight s (Some last)) → given ≡ listing_behind query sight s after
+    by_link None is gives next = gives ∙ unlinked (listing_behind query sight s after) query.page some is
+    by_link (Some last) is gives next =
+        gives.1
+        ∙ (ap (λ rest. take query.page (listing_behind query sight s after) ++ rest) (next last gives.0 gives.2 ∙ (links query sight s after last some is).rest)
+        ∙ take-append-drop query.page (listing_behind query sight s after))
+
+ends_from : (query : Query) (sight : Sight) (n : ℕ) (s : List HeldStatement) (helds : List (List HeldStatement)) (after : Option ℕ) → 0 < query.page → AreGrown n s helds
+    → length (listing_behind query sight s after) < length helds → Follows query sight n helds after (listing_behind query sight s after)
+ends_from query sight n s [] after some grown fewer = absurd (omega (arith, fewer))
+ends_from query sight n s (held ∷ later) after some grown fewer =
+    subst (λ t. FollowsOf query sight n t later after (listing_behind query sight s after)) (sym grown.0)
+    (by_link (page_behind query sight s after).link refl (λ last less. ends_from query sight n s later (Some last) some grown.1 less))
+  where
+    by_link : (o : Option ℕ) → (page_behind query sight s after).link ≡ o
+        → ((last : ℕ) → length (listing_behind query sight s (Some last)) < length later → Follows query sight n later (Some last) (listing_behind query sight s (Some last)))
+        → MatchOption o (listing_behind query sight s after ≡ take query.page (listing_behind query sight s after))
+        (λ last. (rest : List ℕ) × (listing_behind query sight s after ≡ take query.page (listing_behind query sight s after) ++ rest) × Follows query sight n later (Some last) rest)
+    by_link None is next = sym (unlinked (listing_behind query sight s after) query.page some is)
+    by_link (Some last) is next =
+        let shown = links query sight s after last some is in
+        let shorter : length (listing_behind query sight s (Some last)) < length later =
+        omega (arith, fewer, shown.more, ap (λ ks. length ks) shown.rest, length-drop query.page (listing_behind query sight s after)) in (
+          listing_behind query sight s (Some last),
+          sym (ap (λ rest. take query.page (listing_behind query sight s after) ++ rest) shown.rest ∙ take-append-drop query.page (listing_behind query sight s after)),
+          next last shorter,
+        )
+
+-- ---- what is accepted stays
+
+-- a list that goes on with others
+abbrev GoesOn : {A : Type 0} → List A → List A → Type 0
+GoesOn {A} old new = (more : List A) × (new ≡ old ++ more)
+
+on_and_on : {A : Type 0} (a b c : List A) → GoesOn a b → GoesOn b c → GoesOn a c
+on_and_on a b c first next = (first.0 ++ next.0, next.1 ∙ (ap (λ xs. xs ++ next.0) first.1 ∙ append_assoc a first.0 next.0))
+
+add_on : (held : List HeldStatement) (s : HeldStatement) → GoesOn held (add held s)
+add_on held s = by_held (is_held s.id held)
+  where
+    by_held : (b : Bool) → GoesOn held (if b then held else held ++ s ∷ [])
+    by_held true = ([], sym (append-nil held))
+    by_held false = (s ∷ [], refl)
+
+each_on : (held more : List HeldStatement) → GoesOn held (add_each held more)
+each_on held [] = ([], sym (append-nil held))
+each_on held (s ∷ more) = on_and_on held (add held s) (add_each (add held s) more) (add_on held s) (each_on (add held s) more)
+
+callers_on : (callers : List HeldCaller) (place : ℕ) (command : Command) (draw : Draw) → GoesOn callers (callers_after callers place command draw)
+callers_on callers place (Provider name) draw = (_, refl)
+callers_on callers place other draw = ([], sym (append-nil callers))
+
+pub statements_on : (st : State) (more : List Entry) → GoesOn st.statements (state_from st more).statements
+statements_on st [] = ([], sym (append-nil st.statements))
+statements_on st (e ∷ more) = on_and_on st.statements (step st e).statements (state_from (step st e) more).statements (each_on st.statements (brought st e)) (statements_on (step st e) more)
+
+known_on : (st : State) (more : List Entry) → GoesOn st.callers (state_from st more).callers
+known_on st [] = ([], sym (append-nil st.callers))
+known_on st (e ∷ more) = on_and_on st.callers (step st e).callers (state_from (step st e) more).callers (callers_on st.callers st.length e.command e.draw) (known_on (step st e) more)
+
+grown_on : (h more : List Entry) → take (length (state h).statements) (state (h ++ more)).statements ≡ (state h).statements
+grown_on h more =
+    let on = statements_on (state h) more in
+    ap (λ st. take (length (state h).statements) st.statements) (state_from-append nothing h more)
+    ∙ (ap (λ xs. take (length (state h).statements) xs) on.1 ∙ take-append_seam (state h).statements on.0)
+
+all_grown : (h : List Entry) (grown : List (List Entry)) → AreGrown (length (state h).statements) (state h).statements (map (λ more. (state (h ++ more)).statements) grown)
+all_grown h [] = tt
+all_grown h (more ∷ grown) = (grown_on h more, all_grown h grown)
+
+-- ---- the laws on positions
+
+pub pages_give_the_list : PagesGiveTheList
+pages_give_the_list h grown query sight given some follows =
+    whole_from query sight (length (state h).statements) (state h).statements (map (λ more. (state (h ++ more)).statements) grown) None given some (all_grown h grown) follows
+    ∙ from_none query.ascending (listing query sight (state h).statements)
+
+pub pages_end : PagesEnd
+pages_end h grown query sight some fewer =
+    let whole = from_none query.ascending (listing query sight (state h).statements) in
+    subst (λ ks. Follows query sight (length (state h).statements) (map (λ more. (state (h ++ more)).statements) grown) None ks) whole
+    (ends_from query sight (length (state h).statements) (state h).statements (map (λ more. (state (h ++ more)).statements) grown) None some (all_grown h grown)
+    (omega (arith, fewer, ap (λ ks. length ks) whole, many grown)))
+  where
+    many : (xs : List (List Entry)) → length (map (λ more. (state (h ++ more)).statements) xs) ≡ length xs
+    many [] = refl
+    many (x ∷ xs) = ap suc (many xs)
+
+pub positions_come_once : PositionsComeOnce
+positions_come_once query sight statements = distinct_in_order query.ascending (listing query sight statements) (in_order query sight statements)
+
+-- each position is below that number
+abbrev AreBelow : ℕ → List ℕ → Type 0
+AreBelow n ks = AllByRecursion (λ k. k < n) ks
+
+range_below : (a m n : ℕ) → a + m ≤ n → AreBelow n (range_with_len a m)
+range_below a zero n fits = tt
+range_below a (suc m) n fits = (omega (arith, fits), range_below (a + 1) m n (omega (arith, fits)))
+
+push_below : (n : ℕ) (ks : List ℕ) (k : ℕ) → AreBelow n ks → k < n → AreBelow n (ks ++ k ∷ [])
+push_below n [] k each lt = (lt, tt)
+push_below n (j ∷ ks) k each lt = (each.0, push_below n ks k each.1 lt)
+
+turn_below : (n : ℕ) (ks : List ℕ) → AreBelow n ks → AreBelow n (reverse ks)
+turn_below n [] each = tt
+turn_below n (k ∷ ks) each = subst (λ js. AreBelow n js) (sym (reverse-append (k ∷ []) ks)) (push_below n (reverse ks) k (turn_below n ks each.1) each.0)
+
+positions_below : (ascending : Bool) (n : ℕ) → AreBelow n (positions_of ascending n)
+positions_below true n = range_below 0 n n (omega arith)
+positions_below false n = turn_below n (range_with_len 0 n) (range_below 0 n n (omega arith))
+
+listed_below : (query : Query) (sight : Sight) (s : List HeldStatement) (after : Option ℕ) → AreBelow (length s) (listing_behind query sight s after)
+listed_below query sight s after =
+    each_filtered (λ k. k < length s) (is_behind query.ascending after) (listing query sight s)
+    (each_filtered (λ k. k < length s) (is_listed_at query sight s) (positions_of query.ascending (length s)) (positions_below query.ascending (length s)))
+
+pub links_go_on : LinksGoOn
+links_go_on query sight s after last some is =
+    let shown = links query sight s after last some is in
+    (shown.goes_on, each_at (λ k. k < length s) (listing_behind query sight s after) (query.page - 1) last (listed_below query sight s after) shown.there)
+
+pub links_where_more_comes : LinksWhereMoreComes
+links_where_more_comes query sight s after some = by_link (page_behind query sight s after).link refl
+  where
+    by_link : (o : Option ℕ) → (page_behind query sight s after).link ≡ o
+        → MatchOption o (take query.page (listing_behind query sight s after) ≡ listing_behind query sight s after) (λ last. listing_behind query sight s (Some last) ≢ [])
+    by_link None is = unlinked (listing_behind query sight s after) query.page some is
+    by_link (Some last) is = λ none.
+        let shown = links query sight s after last some is in
+        omega (arith, shown.more, ap (λ ks. length ks) shown.rest, ap (λ ks. length ks) none, length-drop query.page (listing_behind query sight s after))
+
+-- ---- what callers are told
+
+pub first_pages_are_told : FirstPagesAreTold
+first_pages_are_told limit h caller query clock draw let_in =
+    at_once limit h caller (Get (Many query)) clock draw
+    (Shown (page_body query (length (state h).statements) (state h).statements (page_behind query (sight_in h caller) (state h).statements None)) (Some (state h).last))
+    (ap (λ o. unless_barred o (said_inside (state h) (who_in h caller) (Get (Many query)))) let_in
+    ∙ ap (λ s. Some (Shown (page_body query (length (state h).statements) (state h).statements (page_behind query (sight_in h caller) s None)) (Some (state h).last))) (take-length (state h).statements))
+
+-- the admin's token stays
+admin_kept : (token : List ℕ) (command : Command) → admin_after (Some token) command ≡ Some token
+admin_kept token command = refl
+
+admin_on : (st : State) (more : List Entry) (token : List ℕ) → st.admin ≡ Some token → (state_from st more).admin ≡ Some token
+admin_on st [] token is = is
+admin_on st (e ∷ more) token is = admin_on (step st e) more token (ap (λ o. admin_after o e.command) is ∙ admin_kept token e.command)
+
+founded : (command : Command) → Founds command → (token : List ℕ) × (admin_after None command ≡ Some token)
+founded (Found admin base) founds = (admin, refl)
+founded other founds = absurd founds
+
+has_admin : (limit : ℕ) (h : List Entry) → IsLegal limit h → (token : List ℕ) × ((state h).admin ≡ Some token)
+has_admin limit [] legal = absurd (omega (arith, legal.0))
+has_admin limit (e ∷ h) legal =
+    let first = founded e.command legal.1.1.command in
+    (first.0, admin_on (step nothing e) h first.0 first.1)
+
+place_from : (p : HeldCaller → Bool) (i : ℕ) (xs ys : List HeldCaller) (k : ℕ) → position_from p i xs ≡ Some k → position_from p i (xs ++ ys) ≡ Some k
+place_from p i [] ys k is = cc is
+place_from p i (x ∷ xs) ys k is = by_test (p x) (λ rest. place_from p (i + 1) xs ys k rest) is
+  where
+    by_test : (b : Bool) → (position_from p (i + 1) xs ≡ Some k → position_from p (i + 1) (xs ++ ys) ≡ Some k) → cond b (Some i) (position_from p (i + 1) xs) ≡ Some k
+        → cond b (Some i) (position_from p (i + 1) (xs ++ ys)) ≡ Some k
+    by_test true more at = at
+    by_test false more at = more at
+
+place_on : (p : HeldCaller → Bool) (xs ys : List HeldCaller) (k : ℕ) → position p xs ≡ Some k → position p (xs ++ ys) ≡ Some k
+place_on p xs ys k is = position_from-zero p (xs ++ ys) ∙ place_from p 0 xs ys k (sym (position_from-zero p xs) ∙ is)
+
+-- who is let in stays who he is
+who_on : (admin : Option (List ℕ)) (callers more : List HeldCaller) (caller : Caller) → barred Store (who_is admin callers caller) ≡ None → who_is admin (callers ++ more) caller ≡ who_is admin callers caller
+who_on admin callers more Nobody is = refl
+who_on admin callers more Operator is = refl
+who_on admin callers more (Token token) is = by_admin (is_admin admin token) is
+  where
+    by_place : (o : Option ℕ) → place_of_token token callers ≡ o → barred Store (provider_at o) ≡ None → provider_at (place_of_token token (callers ++ more)) ≡ provider_at o
+    by_place None at let_in = cc let_in
+    by_place (Some k) at let_in = ap provider_at (place_on (λ (c : HeldCaller). bytes_eq c.token token) callers more k at)
+
+    by_admin : (b : Bool) → barred Store (if b then who.Admin else provider_at (place_of_token token callers)) ≡ None
+        → (if b then who.Admin else provider_at (place_of_token token (callers ++ more))) ≡ (if b then who.Admin else provider_at (place_of_token token callers))
+    by_admin true let_in = refl
+    by_admin false let_in = by_place (place_of_token token callers) refl let_in
+
+who_stays : (limit : ℕ) (h more : List Entry) (caller : Caller) → IsLegal limit h → IsLetIn h caller → who_in (h ++ more) caller ≡ who_in h caller
+who_stays limit h more caller legal let_in =
+    let admin = has_admin limit h legal in
+    let known = known_on (state h) more in
+    ap (λ st. who_is st.admin st.callers caller) (state_from-append nothing h more)
+    ∙ (ap (λ o. who_is o (state_from (state h) more).callers caller) (admin_on (state h) more admin.0 admin.1 ∙ sym admin.1)
+    ∙ (ap (λ callers. who_is (state h).admin callers caller) known.1 ∙ who_on (state h).admin (state h).callers known.0 caller let_in))
+
+same_at : {A B : Type 0} (f g : A → Option B) (ks : List A) → AllByRecursion (λ k. f k ≡ g k) ks → filter_map f ks ≡ filter_map g ks
+same_at f g [] each = refl
+same_at f g (k ∷ ks) each = ap (λ o. cons_option o (filter_map f ks)) each.0 ∙ ap (λ xs. cons_option (g k) xs) (same_at f g ks each.1)
+
+slice_get-append : {A : Type 0} (xs ys : List A) (k : ℕ) → k < length xs → slice_get (xs ++ ys) k ≡ slice_get xs k
+slice_get-append [] ys k lt = absurd (omega (arith, lt))
+slice_get-append (x ∷ xs) ys zero lt = refl
+slice_get-append (x ∷ xs) ys (suc k) lt = slice_get-append xs ys k (omega (arith, lt))
+
+there_still : (n : ℕ) (xs ys : List HeldStatement) (ks : List ℕ) → AreBelow n ks → n ≤ length xs → AllByRecursion (λ k. slice_get (xs ++ ys) k ≡ slice_get xs k) ks
+there_still n xs ys [] each fits = tt
+there_still n xs ys (k ∷ ks) each fits = (slice_get-append xs ys k (omega (arith, each.0, fits)), there_still n xs ys ks each.1 fits)
+
+take_below : (n size : ℕ) (ks : List ℕ) → AreBelow n ks → AreBelow n (take size ks)
+take_below n zero ks each = tt
+take_below n (suc size) [] each = tt
+take_below n (suc size) (k ∷ ks) each = (each.0, take_below n size ks each.1)
+
+same_body : (query : Query) (sight : Sight) (n : ℕ) (after : Option ℕ) (all more : List HeldStatement) → n ≤ length all
+    → page_body query n (all ++ more) (page_behind query sight (take n (all ++ more)) after) ≡ page_body query n all (page_behind query sight (take n all) after)
+same_body query sight n after all more fits =
+    ap (λ s. page_body query n (all ++ more) (page_behind query sight s after)) (take-append-le n all more fits)
+    ∙ ap (λ xs. written (list_json query.format xs (more_text query n (page_behind query sight (take n all) after).link)))
+    (same_at (λ k. slice_get (all ++ more) k) (λ k. slice_get all k) (take query.page (listing_behind query sight (take n all) after))
+    (there_still (length (take n all)) all more (take query.page (listing_behind query sight (take n all) after))
+    (take_below (length (take n all)) query.page (listing_behind query sight (take n all) after) (listed_below query sight (take n all) after)) (omega (arith, length-take n all))))
+
+more_is : (st : State) (by : Who) (link : MoreLink) (all more : List HeldStatement) → st.statements ≡ all ++ more → link.asof ≤ length all
+    → more_said st by link ≡ Shown (page_body link.query link.asof all (page_behind link.query (sight_of by) (take link.asof all) (Some link.after))) (Some st.last)
+more_is st by link all more is fits =
+    ap (λ b. if b then refused (Broken (rule 80 14)) else page_said st by link.query link.asof (Some link.after)) small
+    ∙ (ap (λ s. Shown (page_body link.query link.asof s (page_behind link.query (sight_of by) (take link.asof s) (Some link.after))) (Some st.last)) is
+    ∙ ap (λ t. Shown t (Some st.last)) (same_body link.query (sight_of by) link.asof (Some link.after) all more fits))
+  where
+    isnt : (a b : ℕ) → b ≤ a → nat_lt a b ≡ false
+    isnt a b le = grind (arith, nat_tests)
+
+    small : nat_lt (length st.statements) link.asof ≡ false
+    small = isnt (length st.statements) link.asof (omega (arith, fits, ap (λ xs. length xs) is, length-append all more))
+
+pub links_stay : LinksStay
+links_stay limit h more caller link clock draw legal let_in fits =
+    let on = statements_on (state h) more in
+    let statements : (state (h ++ more)).statements ≡ (state h).statements ++ on.0 = ap (λ st. st.statements) (state_from-append nothing h more) ∙ on.1 in
+    at_once limit (h ++ more) caller (More link) clock draw
+    (Shown (page_body link.query link.asof (state h).statements (page_behind link.query (sight_in h caller) (take link.asof (state h).statements) (Some link.after))) (Some (state (h ++ more)).last))
+    (ap (λ by. unless_barred (barred Store by) (Some (more_said (state (h ++ more)) by link))) (who_stays limit h more caller legal let_in)
+    ∙ (ap (λ o. unless_barred o (Some (more_said (state (h ++ more)) (who_in h caller) link))) let_in
+    ∙ ap (λ s. Some s) (more_is (state (h ++ more)) (who_in h caller) link (state h).statements on.0 statements fits)))

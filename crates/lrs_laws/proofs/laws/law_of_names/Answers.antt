@@ -1,0 +1,33 @@
+use Rattle.xapi_equal.proofs.Laws.{same_is_sameness}
+use Rattle.lrs_laws.proofs.Again.{batch_conflicts_are_told, conflicts_are_told, repeated_batches_are_taken, repeats_are_taken}
+use Rattle.lrs_laws.proofs.Keepers.{names_for_good, names_one, stays_voided}
+use Rattle.lrs_laws.proofs.NewIds.{made_ids_are_new}
+use Rattle.lrs_laws.proofs.WholeBatches.{batches_are_whole}
+use Rattle.lrs_laws.proofs.laws.law_of_names.Goals as goal
+
+pub returns-clause-one : goal.returns-clause-one
+returns-clause-one c = names_one
+
+pub returns-clause-good : goal.returns-clause-good
+returns-clause-good c = names_for_good
+
+pub returns-clause-voided : goal.returns-clause-voided
+returns-clause-voided c = stays_voided
+
+pub returns-clause-repeats : goal.returns-clause-repeats
+returns-clause-repeats c = repeats_are_taken
+
+pub returns-clause-conflicts : goal.returns-clause-conflicts
+returns-clause-conflicts c = conflicts_are_told
+
+pub returns-clause-repeated_batches : goal.returns-clause-repeated_batches
+returns-clause-repeated_batches c = repeated_batches_are_taken
+
+pub returns-clause-batch_conflicts : goal.returns-clause-batch_conflicts
+returns-clause-batch_conflicts c = batch_conflicts_are_told
+
+pub returns-clause-made : goal.returns-clause-made
+returns-clause-made c = made_ids_are_new
+
+pub returns-clause-whole : goal.returns-clause-whole
+returns-clause-whole c = batches_are_whole same_is_sameness

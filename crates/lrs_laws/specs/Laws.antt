@@ -1,0 +1,193 @@
+-- What follows from the definitions over every history: an id names one statement, for good, a batch is kept whole, and the
+-- pages of a list give it whole.
+use Rattle.std.specs.Prelude.{◌≡◌, ◌≢◌, ◌<◌, ◌≤◌, ◌+◌, ◌^◌, ◌==◌, ℕ, List, [], ◌∷◌, ◌++◌, length, map, take, Option, Some, None, MatchOption, Bool, true, false, IsTrue}
+use Rattle.std.specs.List.{AllByRecursion, IsDistinct}
+use Rattle.lrs_json.specs.View.{view}
+use Rattle.lrs_json.specs.declared.tree.Tree.{Tree}
+use Rattle.lrs_names.specs.declared.draw.Draw.{Draw}
+use Rattle.lrs_record.specs.declared.entry.Caller.{Caller}
+use Rattle.lrs_record.specs.declared.entry.Command.TheVariants.{Get, More, Put, Post}
+use Rattle.lrs_record.specs.declared.entry.Entry.{Entry}
+use Rattle.lrs_record.specs.declared.rule.Area.TheVariants.{Store}
+use Rattle.lrs_record.specs.declared.who.Who.{Who}
+use Rattle.lrs_record.specs.Entries.{AreLawfulTrees}
+use Rattle.xapi_equal.specs.Same.{same}
+use Rattle.xapi_query.specs.declared.link.MoreLink.{MoreLink}
+use Rattle.xapi_query.specs.declared.query.Query.{Query}
+use Rattle.xapi_query.specs.declared.sight.Sight.{Sight}
+use Rattle.xapi_query.specs.declared.wanted.Wanted.TheVariants.{Many}
+use Rattle.xapi_statement.specs.Completed.{HeldStatement}
+use Rattle.xapi_statement.specs.Statement.{own_id}
+use Rattle.lrs_history.specs.declared.answered.Answered.TheVariants.{Same, Shown}
+use Rattle.lrs_history.specs.declared.answered.Refusal.TheVariants.{Conflict}
+use Rattle.lrs_history.specs.Batches.{Named, are_distinct, given_ids, named_batch, refused_batch, refused_in}
+use Rattle.lrs_history.specs.History.{Answer, State, answer, barred, refused, refused_form, state, who_is, IsLegal}
+use Rattle.lrs_history.specs.Listings.{is_behind, listing, listing_behind, page_behind, page_body}
+use Rattle.lrs_history.specs.Statements.{held_under, is_held, is_voided, sight_of}
+use Rattle.lrs_history.specs.Texts.{ids_body}
+
+-- what a history makes of a caller
+abbrev pub who_in : List Entry → Caller → Who
+who_in h caller = who_is (state h).admin (state h).callers caller
+
+-- the store lets the caller in
+abbrev pub IsLetIn : List Entry → Caller → Type 0
+IsLetIn h caller = barred Store (who_in h caller) ≡ None
+
+-- a statement in form comes under an id under which this one is held
+pub record Meets (h : List Entry) (caller : Caller) (id : List ℕ) (t : Tree) (s : HeldStatement) : Type 0 where
+  pub let_in : IsLetIn h caller
+  pub formed : refused_form id (view t) ≡ None
+  pub held : held_under id (state h).statements ≡ Some s
+
+-- statements in form come together
+pub record ComeTogether (h : List Entry) (caller : Caller) (trees : List Tree) : Type 0 where
+  pub let_in : IsLetIn h caller
+  pub formed : refused_batch trees ≡ None
+
+-- the same statement is held under the id that this one gives itself
+pub record Repeats (held : List HeldStatement) (t : Tree) : Type 0 where
+  pub id : List ℕ
+  pub first : HeldStatement
+  pub own : own_id (view t) ≡ Some id
+  pub there : held_under id held ≡ Some first
+  pub equal : same (view first.received) (view t) ≡ true
+
+-- another statement is held under the id that this one gives itself
+pub record Contradicts (held : List HeldStatement) (t : Tree) (id : List ℕ) : Type 0 where
+  pub first : HeldStatement
+  pub own : own_id (view t) ≡ Some id
+  pub there : held_under id held ≡ Some first
+  pub other : same (view first.received) (view t) ≡ false
+
+-- There are fewer ids in use than can be made.
+abbrev pub IsSmall : List Entry → List Tree → Type 0
+IsSmall h trees = length (state h).statements + length trees < 2 ^ 122
+
+-- ---- an id
+
+-- no two statements have one id
+abbrev pub NamesOne : Type 0
+NamesOne = (h : List Entry) → IsTrue (are_distinct (map (λ (s : HeldStatement). s.id) (state h).statements))
+
+-- what an id names, it names behind every further entry
+abbrev pub NamesForGood : Type 0
+NamesForGood = (h more : List Entry) (id : List ℕ) (s : HeldStatement) → held_under id (state h).statements ≡ Some s → held_under id (state (h ++ more)).statements ≡ Some s
+
+-- what is voided stays so
+abbrev pub StaysVoided : Type 0
+StaysVoided = (h more : List Entry) (s : HeldStatement) → is_voided (state h).statements s ≡ true → is_voided (state (h ++ more)).statements s ≡ true
+
+-- ---- a statement again
+
+-- the same one makes no entry
+abbrev pub RepeatsAreTaken : Type 0
+RepeatsAreTaken =
+    (limit : ℕ) (h : List Entry) (caller : Caller) (id : List ℕ) (t : Tree) (s : HeldStatement) (clock : ℕ) (draw : Draw) → Meets h caller id t s
+    → same (view s.received) (view t) ≡ true → answer limit h caller (Put id t) clock draw ≡ record { said = Same; entry = None }
+
+-- another one is told the id, and makes none
+abbrev pub ConflictsAreTold : Type 0
+ConflictsAreTold =
+    (limit : ℕ) (h : List Entry) (caller : Caller) (id : List ℕ) (t : Tree) (s : HeldStatement) (clock : ℕ) (draw : Draw) → Meets h caller id t s
+    → same (view s.received) (view t) ≡ false → answer limit h caller (Put id t) clock draw ≡ record { said = refused (Conflict id); entry = None }
+
+-- a batch of which each is held is told its ids, and makes no entry
+abbrev pub RepeatedBatchesAreTaken : Type 0
+RepeatedBatchesAreTaken =
+    (limit : ℕ) (h : List Entry) (caller : Caller) (trees : List Tree) (clock : ℕ) (draw : Draw) → ComeTogether h caller trees → AllByRecursion (Repeats (state h).statements) trees
+    → answer limit h caller (Post trees) clock draw ≡ record { said = Shown (ids_body (given_ids trees)) None; entry = None }
+
+-- the first that meets another statement is told, where none before it is refused
+abbrev pub BatchConflictsAreTold : Type 0
+BatchConflictsAreTold =
+    (limit : ℕ) (h : List Entry) (caller : Caller) (before behind : List Tree) (t : Tree) (id : List ℕ) (clock : ℕ) (draw : Draw) → ComeTogether h caller (before ++ t ∷ behind)
+    → refused_in (who_in h caller) (state h).statements before ≡ None → Contradicts (state h).statements t id
+    → answer limit h caller (Post (before ++ t ∷ behind)) clock draw ≡ record { said = refused (Conflict id); entry = None }
+
+-- ---- a batch
+
+-- The ids of a batch are distinct, and a made one is that of no held statement.
+abbrev pub MadeIdsAreNew : Type 0
+MadeIdsAreNew =
+    (h : List Entry) (trees : List Tree) (draw : Draw) → IsSmall h trees → refused_batch trees ≡ None
+    → IsTrue (are_distinct (map (λ (n : Named). n.id) (named_batch (state h).statements draw trees)))
+    × AllByRecursion (λ (n : Named). own_id (view n.tree) ≡ None → is_held n.id (state h).statements ≡ false) (named_batch (state h).statements draw trees)
+
+-- Where a batch has an entry, behind that each of its statements, or the same one, is held under the id that its caller was
+-- told.
+abbrev pub BatchesAreWhole : Type 0
+BatchesAreWhole =
+    (limit : ℕ) (h : List Entry) (caller : Caller) (trees : List Tree) (clock : ℕ) (draw : Draw) (e : Entry) → IsSmall h trees → AreLawfulTrees trees
+    → (answer limit h caller (Post trees) clock draw).entry ≡ Some e
+    → AllByRecursion (λ (n : Named). (s : HeldStatement) × (held_under n.id (state (h ++ e ∷ [])).statements ≡ Some s) × (same (view s.received) (view n.tree) ≡ true)) (named_batch (state h).statements draw trees)
+
+-- ---- pages
+
+-- What is given from a position on by following the links until there is none: the positions of each page in turn. For each
+-- page there are the statements that are held when it is asked for.
+abbrev pub Follows : Query → Sight → ℕ → List (List HeldStatement) → Option ℕ → List ℕ → Type 0
+Follows query sight n [] after given = ⊥
+Follows query sight n (held ∷ later) after given =
+    let page = page_behind query sight (take n held) after in
+    MatchOption page.link (given ≡ page.positions)
+    (λ last. (rest : List ℕ) × (given ≡ page.positions ++ rest) × Follows query sight n later (Some last) rest)
+
+-- The links from a first page on give the whole list as of that page, whatever is accepted between the pages: `grown` has for
+-- each page the entries that were accepted since the history h.
+abbrev pub PagesGiveTheList : Type 0
+PagesGiveTheList =
+    (h : List Entry) (grown : List (List Entry)) (query : Query) (sight : Sight) (given : List ℕ) → 0 < query.page
+    → Follows query sight (length (state h).statements) (map (λ more. (state (h ++ more)).statements) grown) None given
+    → given ≡ listing query sight (state h).statements
+
+-- and each position once
+abbrev pub PositionsComeOnce : Type 0
+PositionsComeOnce = (query : Query) (sight : Sight) (statements : List HeldStatement) → IsDistinct (λ j k. j == k) (listing query sight statements)
+
+-- a link leads on: to what lies behind it, within the list
+abbrev pub LinksGoOn : Type 0
+LinksGoOn =
+    (query : Query) (sight : Sight) (statements : List HeldStatement) (after : Option ℕ) (last : ℕ) → 0 < query.page
+    → (page_behind query sight statements after).link ≡ Some last
+    → IsTrue (is_behind query.ascending after last) × (last < length statements)
+
+-- There is a link exactly where something comes behind the page; without one the page has all that was left.
+abbrev pub LinksWhereMoreComes : Type 0
+LinksWhereMoreComes =
+    (query : Query) (sight : Sight) (statements : List HeldStatement) (after : Option ℕ) → 0 < query.page
+    → let page = page_behind query sight statements after in
+    MatchOption page.link (page.positions ≡ listing_behind query sight statements after) (λ last. listing_behind query sight statements (Some last) ≢ [])
+
+-- Where more pages may be asked for than statements are listed, the way ends, and gives the list.
+abbrev pub PagesEnd : Type 0
+PagesEnd =
+    (h : List Entry) (grown : List (List Entry)) (query : Query) (sight : Sight) → 0 < query.page
+    → length (listing query sight (state h).statements) < length grown
+    → Follows query sight (length (state h).statements) (map (λ more. (state (h ++ more)).statements) grown) None (listing query sight (state h).statements)
+
+-- ---- what callers are told of them
+
+-- what a caller of a history sees
+abbrev pub sight_in : List Entry → Caller → Sight
+sight_in h caller = sight_of (who_in h caller)
+
+-- who asks for a list gets its first page, of all statements
+abbrev pub FirstPagesAreTold : Type 0
+FirstPagesAreTold =
+    (limit : ℕ) (h : List Entry) (caller : Caller) (query : Query) (clock : ℕ) (draw : Draw) → IsLetIn h caller
+    → let all = (state h).statements in
+    answer limit h caller (Get (Many query)) clock draw
+    ≡ record { said = Shown (page_body query (length all) all (page_behind query (sight_in h caller) all None)) (Some (state h).last); entry = None }
+
+-- A link is told the same page for ever, as the history h has it, whatever is accepted behind h.
+abbrev pub LinksStay : Type 0
+LinksStay =
+    (limit : ℕ) (h more : List Entry) (caller : Caller) (link : MoreLink) (clock : ℕ) (draw : Draw) → IsLegal limit h → IsLetIn h caller
+    → link.asof ≤ length (state h).statements
+    → let all = (state h).statements in
+    answer limit (h ++ more) caller (More link) clock draw
+    ≡ record {
+      said = Shown (page_body link.query link.asof all (page_behind link.query (sight_in h caller) (take link.asof all) (Some link.after))) (Some (state (h ++ more)).last);
+      entry = None;
+    }

@@ -1,0 +1,27 @@
+ghost use Rattle.lrs_laws.specs.Laws.{BatchConflictsAreTold, BatchesAreWhole, ConflictsAreTold, FirstPagesAreTold, LinksGoOn, LinksStay, LinksWhereMoreComes, MadeIdsAreNew, NamesForGood, NamesOne, PagesEnd, PagesGiveTheList, PositionsComeOnce, RepeatedBatchesAreTaken, RepeatsAreTaken, StaysVoided};
+
+/// Over every history an id names one statement, for good, and what is voided stays so. A repeat makes no entry, and another
+/// statement under the id is told it, alone and in a batch. Made ids are new, and a batch is kept whole.
+pub fn law_of_names()
+    ensures one { NamesOne }
+    ensures good { NamesForGood }
+    ensures voided { StaysVoided }
+    ensures repeats { RepeatsAreTaken }
+    ensures conflicts { ConflictsAreTold }
+    ensures repeated_batches { RepeatedBatchesAreTaken }
+    ensures batch_conflicts { BatchConflictsAreTold }
+    ensures made { MadeIdsAreNew }
+    ensures whole { BatchesAreWhole }
+{}
+
+/// The links from the first page of a list on give the whole list as of that page, each position once, whatever is accepted
+/// between the pages, and end. A link is told the same page for ever.
+pub fn law_of_pages()
+    ensures whole { PagesGiveTheList }
+    ensures once { PositionsComeOnce }
+    ensures on { LinksGoOn }
+    ensures link { LinksWhereMoreComes }
+    ensures end { PagesEnd }
+    ensures first { FirstPagesAreTold }
+    ensures stay { LinksStay }
+{}

@@ -1,0 +1,7 @@
+//! What follows from the definitions of the abstract store over every history. Nothing runs here: each law is a clause of a
+//! function that does nothing.
+#![tactic(auto)]
+
+mod laws;
+
+pub use laws::{law_of_names, law_of_pages};

@@ -1,0 +1,12 @@
+pub mod Places
+pub mod Marks
+pub mod Indexes
+pub mod Shelves
+pub mod Turns
+pub mod MadeIds
+pub mod Walks
+pub mod References
+pub mod Ways
+pub mod Fronts
+pub mod Firsts
+pub mod Bodies
