@@ -7,14 +7,14 @@ use Rattle.lrs_journal.specs.Journal.{Held}
 use Rattle.lrs_json.specs.declared.tree.Tree.{Tree}
 use Rattle.lrs_record.specs.Entries.{written_entry}
 use Rattle.lrs_record.specs.declared.entry.Entry.{Entry}
-use Rattle.lrs_machine.specs.History.{Answer, with_entry}
+use Rattle.lrs_history.specs.History.{Answer, with_entry}
 use Rattle.lrs_machine.specs.Desk.{StandsFor, Answers, HasCause, LeavesStore}
-use Rattle.lrs_machine.specs.declared.answered.Answered.{Answered}
-use Rattle.lrs_machine.specs.declared.answered.Answered.TheVariants as said
-use Rattle.lrs_machine.specs.declared.answered.Refusal.{Refusal}
-use Rattle.lrs_machine.specs.declared.answered.Refusal.TheVariants as refusal
-use Rattle.lrs_machine.specs.declared.reply.Trouble.{Trouble}
-use Rattle.lrs_machine.specs.declared.reply.Trouble.TheVariants as trouble
+use Rattle.lrs_history.specs.declared.answered.Answered.{Answered}
+use Rattle.lrs_history.specs.declared.answered.Answered.TheVariants as said
+use Rattle.lrs_history.specs.declared.answered.Refusal.{Refusal}
+use Rattle.lrs_history.specs.declared.answered.Refusal.TheVariants as refusal
+use Rattle.lrs_history.specs.declared.reply.Trouble.{Trouble}
+use Rattle.lrs_history.specs.declared.reply.Trouble.TheVariants as trouble
 use Rattle.lrs_app.specs.Asking.{named, Asks, EndsSaying, EndsRefused, put_answer, entry_asked}
 use Rattle.lrs_app.specs.Run.{Holds, Leaves, LeavesDoubt, EndsOpened}
 use Rattle.lrs_app.specs.Steps.{IsSure, IsLeft, Submits, TakesIn, HasPutCause, ending_of_trouble}

@@ -4,9 +4,10 @@ use Rattle.std.specs.Option.{option_map_or}
 use Rattle.std.specs.Str.Parse.{digits_value}
 use Rattle.lrs_disk.specs.Door.{DoorState}
 use Rattle.lrs_disk.specs.Lobby.{DoorsAsked}
+use Rattle.lrs_disk.specs.Shelf.{AddsName}
 use Rattle.lrs_names.specs.declared.draw.Draw.{Draw}
 use Rattle.lrs_hall.specs.Draws.{draw_at, start_of}
-use Rattle.lrs_machine.specs.Founding.{IsToken, IsBase}
+use Rattle.lrs_history.specs.Founding.{IsToken, IsBase}
 use Rattle.lrs_app.specs.Words.{Command, init, intake, serve, IsCommand, IsLimit, base_of}
 use Rattle.lrs_app.specs.Shapes.{Means}
 use Rattle.lrs_app.specs.declared.words.Words.{Words}
@@ -19,6 +20,10 @@ use Rattle.lrs_app.specs.Run.{Outside, Outcome, HasCause, IntakeEnds, IntakeRuns
 pub same_doors : {a b : Option (List DoorsAsked)} {c d : Option (List DoorState)} {m n : ℕ} → a ≡ b → c ≡ d → m ≡ n
     → ◌≡◌ {A = Doors} (record { asked = a; returned = c; faults = m }) (record { asked = b; returned = d; faults = n })
 same_doors e f g = cc
+
+-- the file was asked for under its name
+pub takes_file : (old new : Option (List (List ℕ))) {name file : List ℕ} → name ≡ file → AddsName old new name → AddsName old new file
+takes_file old new same adds = subst (λ (f : List ℕ). AddsName old new f) same adds
 
 -- what intake leaves on the disk that the shelf gave under a name
 pub intake_leaves : (holds : List ℕ → Option (List ℕ)) (begins : List ℕ → ℕ) (left : Option (List ℕ)) (input_count input_now : ℕ) (file name : List ℕ)

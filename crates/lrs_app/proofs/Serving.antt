@@ -21,7 +21,7 @@ use Rattle.lrs_hall.specs.Serving.{AreConversations, AreOver, Counts, EndsServin
 use Rattle.lrs_hall.specs.Talks.{Told}
 use Rattle.lrs_hall.specs.declared.serving.ServeEnd.{ServeEnd}
 use Rattle.lrs_hall.specs.declared.serving.ServeEnd.TheVariants as serve
-use Rattle.lrs_app.specs.Service.{Doors, AsksDoor, HasNoDoor, GivesBack, IsBehind, HoldsBehind, HoldsIn, HoldsServed, ServesDoor, ending_of_serving, responses_of}
+use Rattle.lrs_app.specs.Service.{Doors, AsksDoor, HasNoDoor, GivesBack, IsBehind, CountsOn, HoldsBehind, HoldsIn, HoldsServed, ServesDoor, ending_of_serving, responses_of}
 use Rattle.lrs_app.specs.ServeSteps.{ServesOne, ServesHad, ServesDesk, ServesOpened, ClosesDoorless, ClosesServed, ending_of_refusal}
 use Rattle.lrs_app.specs.Run.{EndsUnopened, HasCause, HasLobbyCause, Holds, Leaves, Seen, Serves}
 use Rattle.lrs_app.specs.Steps.{ending_of}
@@ -53,6 +53,10 @@ behind before (r ∷ receipts) end now counts rises =
 
 pub rises_later : (before : ℕ) (receipts : List Account) (end now : ℕ) → Counts before receipts end → Rises end now → Rises before now
 rises_later before receipts end now counts rises = rises_from before end now (later before receipts end counts) rises
+
+-- without a talk the count only has not to fall
+pub counts_none : (begins now : ℕ) (talks : List Told) → talks ≡ [] → begins ≤ now → CountsOn begins talks now
+counts_none begins now talks silent more = (begins, subst (λ (t : List Told). Counts begins (all_receipts t) begins) (sym silent) refl, more)
 
 -- ---- the one door
 
@@ -296,10 +300,11 @@ unopened_serves held address connections seed doors disk talks why end ended sil
 pub serve_leaves : (holds : List ℕ → Option (List ℕ)) (begins : List ℕ → ℕ) (file name address : List ℕ) (connections : ℕ) (seed : List ℕ) (before after : Doors)
     (told : Option (List ℕ)) (count : ℕ) (disk : Seen) (talks : List Told) (n : ℕ) (end : Ending)
     → name ≡ file → told ≡ holds name → count ≡ begins name
-    → Serves told address connections seed before after disk talks n end → HasCause count disk.faults 0 0 end
-    → HasCause (begins file) disk.faults 0 0 end × Serves (holds file) address connections seed before after disk talks n end
-serve_leaves holds begins file name address connections seed before after told count disk talks n end same tells begun serves cause = (
+    → Serves told address connections seed before after disk talks n end → HasCause count disk.faults 0 0 end → CountsOn count talks disk.faults
+    → HasCause (begins file) disk.faults 0 0 end × CountsOn (begins file) talks disk.faults × Serves (holds file) address connections seed before after disk talks n end
+serve_leaves holds begins file name address connections seed before after told count disk talks n end same tells begun serves cause counts = (
   subst (λ (f : ℕ). HasCause f disk.faults 0 0 end) (begun ∙ ap begins same) cause,
+  subst (λ (f : ℕ). CountsOn f talks disk.faults) (begun ∙ ap begins same) counts,
   subst (λ (t : Option (List ℕ)). Serves t address connections seed before after disk talks n end) (tells ∙ ap holds same) serves,
 )
 

@@ -11,13 +11,13 @@ use Rattle.lrs_record.specs.declared.entry.Command.TheVariants.{Put}
 use Rattle.lrs_record.specs.declared.entry.Entry.{Entry}
 use Rattle.xapi_rules.specs.Rules.{broken_rule}
 use Rattle.xapi_statement.specs.Statement.{own_id, is_too_long}
-use Rattle.lrs_machine.specs.Batches.{rule}
-use Rattle.lrs_machine.specs.History.{Answer, answer}
+use Rattle.lrs_history.specs.Batches.{rule}
+use Rattle.lrs_history.specs.History.{Answer, answer}
 use Rattle.lrs_record.specs.declared.rule.Rule.{Rule}
-use Rattle.lrs_machine.specs.declared.answered.Answered.{Answered}
-use Rattle.lrs_machine.specs.declared.answered.Answered.TheVariants as said
-use Rattle.lrs_machine.specs.declared.answered.Refusal.{Refusal}
-use Rattle.lrs_machine.specs.declared.answered.Refusal.TheVariants as refusal
+use Rattle.lrs_history.specs.declared.answered.Answered.{Answered}
+use Rattle.lrs_history.specs.declared.answered.Answered.TheVariants as said
+use Rattle.lrs_history.specs.declared.answered.Refusal.{Refusal}
+use Rattle.lrs_history.specs.declared.answered.Refusal.TheVariants as refusal
 use Rattle.lrs_app.specs.Reading.{longest}
 use Rattle.lrs_app.specs.declared.ending.Ending.{Ending}
 use Rattle.lrs_app.specs.declared.ending.Ending.TheVariants as ending

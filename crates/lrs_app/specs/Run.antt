@@ -3,18 +3,19 @@ use Rattle.std.specs.Prelude.{◌≡◌, ◌⊎◌, ◌<◌, ◌+◌, ℕ, List,
 use Rattle.lrs_disk.specs.Door.{Returned}
 use Rattle.lrs_disk.specs.Faults.{Rises}
 use Rattle.lrs_disk.specs.Readings.{AddsReading}
+use Rattle.lrs_disk.specs.Shelf.{AddsName}
 use Rattle.lrs_names.specs.declared.draw.Draw.{Draw}
 use Rattle.lrs_journal.specs.Store.{Stands}
 use Rattle.lrs_journal.specs.Create.{IsStore, IsForeign, IsOpenTo}
 use Rattle.lrs_record.specs.Entries.{written_entry}
 use Rattle.lrs_record.specs.declared.entry.Entry.{Entry}
-use Rattle.lrs_machine.specs.History.{with_entry}
+use Rattle.lrs_history.specs.History.{with_entry}
 use Rattle.lrs_machine.specs.Desk.{IsStoreOf, IsRefused, founding_entry}
 use Rattle.lrs_machine.specs.declared.opening.DeskRefused.{DeskRefused}
 use Rattle.lrs_machine.specs.declared.opening.DeskRefused.TheVariants as refused
 use Rattle.lrs_hall.specs.Draws.{draw_at, start_of}
 use Rattle.lrs_hall.specs.Talks.{Told}
-use Rattle.lrs_app.specs.Service.{Doors, HasNoDoor, ServesDoor, HoldsServed, responses_of}
+use Rattle.lrs_app.specs.Service.{Doors, HasNoDoor, ServesDoor, HoldsServed, CountsOn, responses_of}
 use Rattle.lrs_app.specs.Steps.{ending_of}
 use Rattle.lrs_app.specs.Words.{Command, init, intake, serve, IsCommand, base_of, limit_of, connections_of}
 use Rattle.lrs_app.specs.Endings.{ending_status, ending_line}
@@ -30,6 +31,8 @@ pub record Outside : Type 0 where
   -- what the disk of each name reads, and the count of faults with which it is taken
   pub holds : List ℕ → Option (List ℕ)
   pub begins : List ℕ → ℕ
+  -- the names of the files that were asked for so far, in their order
+  pub files : Option (List (List ℕ))
   pub shelf_faults : ℕ
   -- the clock's readings so far
   pub readings : Option (List ℕ)
@@ -68,6 +71,10 @@ PrintsEnding end before after status = PrintsLine end before.taken after.taken b
 -- the clock was read once
 abbrev pub ReadsOnce : ℕ → Outside → Outside → Type 0
 ReadsOnce clock before after = AddsReading before.readings after.readings clock
+
+-- this file was asked for once, and no other one
+abbrev pub TakesFile : List ℕ → Outside → Outside → Type 0
+TakesFile file before after = AddsName before.files after.files file
 
 -- the input was left alone
 pub record LeavesInput (before after : Outside) : Type 0 where
@@ -202,22 +209,23 @@ abbrev pub ServeLeaves : List ℕ → List ℕ → ℕ → List ℕ → Outside 
 ServeLeaves file address connections seed before after None talks n end =
     (end ≡ ending.DiskFault) × Rises before.shelf_faults after.shelf_faults × LeavesDoors before after × (talks ≡ []) × (n ≡ 0)
 ServeLeaves file address connections seed before after (Some disk) talks n end =
-    HasCause (before.begins file) disk.faults 0 0 end × Serves (before.holds file) address connections seed before.lobby after.lobby disk talks n end
+    HasCause (before.begins file) disk.faults 0 0 end × CountsOn (before.begins file) talks disk.faults
+    × Serves (before.holds file) address connections seed before.lobby after.lobby disk talks n end
 
 -- ---- the headline
 
--- A command reads the clock once and has one ending, which says what it leaves, what is printed and which status it gives.
+-- A command reads the clock once, asks for its one file, and has one ending, which says what it leaves, what is printed and which status it gives.
 abbrev pub IntakeRuns : List ℕ → Draw → Outside → Outside → Outcome → Type 0
-IntakeRuns file draw before after o = (clock : ℕ) × (end : Ending) × ReadsOnce clock before after × LeavesDoors before after × IsSilent o
+IntakeRuns file draw before after o = (clock : ℕ) × (end : Ending) × ReadsOnce clock before after × TakesFile file before after × LeavesDoors before after × IsSilent o
     × IntakeLeaves file clock draw before after o.disk o.length end × PrintsEnding end before after o.status
 
 abbrev pub InitRuns : List ℕ → List ℕ → List ℕ → ℕ → Outside → Outside → Outcome → Type 0
-InitRuns file admin base limit before after o = (clock : ℕ) × (end : Ending) × ReadsOnce clock before after × LeavesDoors before after × IsSilent o
+InitRuns file admin base limit before after o = (clock : ℕ) × (end : Ending) × ReadsOnce clock before after × TakesFile file before after × LeavesDoors before after × IsSilent o
     × InitLeaves file admin base limit clock before after o.disk o.length end × PrintsEnding end before after o.status
 
 -- serve reads no clock but that of its door
 abbrev pub ServeRuns : List ℕ → List ℕ → ℕ → List ℕ → Outside → Outside → Outcome → Type 0
-ServeRuns file address connections seed before after o = (end : Ending) × (after.readings ≡ before.readings) × (o.responses ≡ responses_of o.talks)
+ServeRuns file address connections seed before after o = (end : Ending) × (after.readings ≡ before.readings) × TakesFile file before after × (o.responses ≡ responses_of o.talks)
     × ServeLeaves file address connections seed before after o.disk o.talks o.length end × PrintsEnding end before after o.status
 
 -- the one draw of intake is the first of stream 0
@@ -230,6 +238,7 @@ CommandRuns (serve w) seed before after o =
 -- Nothing but the output was used.
 pub record IsIdle (before after : Outside) (o : Outcome) : Type 0 where
   pub holds : (file : List ℕ) → after.holds file ≡ before.holds file
+  pub files : after.files ≡ before.files
   pub shelf : after.shelf_faults ≡ before.shelf_faults
   pub readings : after.readings ≡ before.readings
   pub input : LeavesInput before after

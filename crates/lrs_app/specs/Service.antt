@@ -1,5 +1,5 @@
 -- What serve does: it asks for a door of the address, serves its connections, and gives the door back.
-use Rattle.std.specs.Prelude.{◌≡◌, ◌⊎◌, ◌++◌, ◌∷◌, [], ◌-◌, ◌^◌, ℕ, min, List, Option, Some, None, option_map, length, map, Bool, true, false}
+use Rattle.std.specs.Prelude.{◌≡◌, ◌⊎◌, ◌≤◌, ◌++◌, ◌∷◌, [], ◌-◌, ◌^◌, ℕ, min, List, Option, Some, None, option_map, length, map, Bool, true, false}
 use Rattle.std.specs.List.{AllByRecursion}
 use Rattle.lrs_disk.specs.Door.{DoorState, IsFresh, Returned}
 use Rattle.lrs_disk.specs.Faults.{Rises}
@@ -10,7 +10,7 @@ use Rattle.lrs_record.specs.declared.entry.Entry.{Entry}
 use Rattle.lrs_machine.specs.Desk.{Account}
 use Rattle.lrs_hall.specs.Acts.{ActsIn, BeginsWith}
 use Rattle.lrs_hall.specs.Draws.{Place, start_of}
-use Rattle.lrs_hall.specs.Serving.{AddsReadings, AreOver, EndsServing, Passes, all_receipts, clocks, worker_at}
+use Rattle.lrs_hall.specs.Serving.{AddsReadings, AreOver, Counts, EndsServing, Passes, all_receipts, clocks, worker_at}
 use Rattle.lrs_hall.specs.Talks.{Told}
 use Rattle.lrs_hall.specs.declared.serving.ServeEnd.{ServeEnd}
 use Rattle.lrs_hall.specs.declared.serving.ServeEnd.TheVariants as serve
@@ -51,6 +51,11 @@ abbrev pub ending_of_serving : ServeEnd → List Told → Ending
 ending_of_serving serve.Done talks = ending.Served (responses_of talks)
 ending_of_serving serve.DoorFault talks = ending.LobbyFault
 ending_of_serving serve.Memory talks = ending.Memory
+
+-- The disk's count of faults from its taking to its return: what the acts told of it goes on from one to the next, and the closing ends no lower. So a
+-- fault that an act tells is one of this disk's.
+abbrev pub CountsOn : ℕ → List Told → ℕ → Type 0
+CountsOn begins talks now = (last : ℕ) × Counts begins (all_receipts talks) last × (last ≤ now)
 
 -- the count of the disk's faults rose behind what each act told of it
 abbrev pub IsBehind : List Account → ℕ → Type 0

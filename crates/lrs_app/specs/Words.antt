@@ -9,7 +9,7 @@ use Rattle.std.specs.Str.Parse.{digits_value}
 use Rattle.clap.specs.Walk.{Row, Rule, Text, first_of}
 use Rattle.clap.specs.Simple.{App, new_app, new_rule, with_rule, with_subcommand, subcommand_of}
 use Rattle.clap.specs.Faults.{fault_of}
-use Rattle.lrs_machine.specs.Founding.{IsToken, IsBase}
+use Rattle.lrs_history.specs.Founding.{IsToken, IsBase}
 
 -- ---- plain lines
 

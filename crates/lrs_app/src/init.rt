@@ -1,6 +1,6 @@
 // A store is made.
 ghost use Rattle.std.specs.Prelude.{◌≡◌, ◌≤◌, ◌^◌, IfSome};
-ghost use Rattle.lrs_machine.specs.Founding.{IsToken, IsBase};
+ghost use Rattle.lrs_history.specs.Founding.{IsToken, IsBase};
 ghost use Rattle.lrs_app.specs.Steps.{ending_of_found};
 ghost use Rattle.lrs_app.specs.Run.{InitEnds, HasCause};
 

@@ -1,5 +1,5 @@
 ghost use Rattle.std.specs.Prelude.{◌≡◌, ◌≤◌, ◌^◌, ℕ, [], List, Option, None};
-ghost use Rattle.lrs_machine.specs.Founding.{IsToken, IsBase};
+ghost use Rattle.lrs_history.specs.Founding.{IsToken, IsBase};
 ghost use Rattle.lrs_app.specs.Run.{Outside, Outcome, Runs, IntakeRuns, InitRuns, ServeRuns, PrintsLine, seen};
 
 use crate::Ending;
@@ -75,6 +75,7 @@ fn intake<S: Shelf, B: Lobby, I: Source, O: Sink>(
     ensures { let before : Outside = record {
       holds = S.holds shelf.old;
       begins = S.begins shelf.old;
+      files = S.taken shelf.old;
       shelf_faults = S.fault_count shelf.old;
       readings = B.readings lobby.old;
       lobby = record { asked = B.asked lobby.old; returned = B.returned lobby.old; faults = B.fault_count lobby.old };
@@ -86,6 +87,7 @@ fn intake<S: Shelf, B: Lobby, I: Source, O: Sink>(
         let after : Outside = record {
           holds = S.holds shelf.new;
           begins = S.begins shelf.new;
+          files = S.taken shelf.new;
           shelf_faults = S.fault_count shelf.new;
           readings = B.readings lobby.new;
           lobby = record { asked = B.asked lobby.new; returned = B.returned lobby.new; faults = B.fault_count lobby.new };
@@ -132,6 +134,7 @@ fn init<S: Shelf, B: Lobby, O: Sink>(
         let before : Outside = record {
           holds = S.holds shelf.old;
           begins = S.begins shelf.old;
+          files = S.taken shelf.old;
           shelf_faults = S.fault_count shelf.old;
           readings = B.readings lobby.old;
           lobby = record { asked = B.asked lobby.old; returned = B.returned lobby.old; faults = B.fault_count lobby.old };
@@ -143,6 +146,7 @@ fn init<S: Shelf, B: Lobby, O: Sink>(
         let after : Outside = record {
           holds = S.holds shelf.new;
           begins = S.begins shelf.new;
+          files = S.taken shelf.new;
           shelf_faults = S.fault_count shelf.new;
           readings = B.readings lobby.new;
           lobby = record { asked = B.asked lobby.new; returned = B.returned lobby.new; faults = B.fault_count lobby.new };
@@ -186,6 +190,7 @@ fn serve<S: Shelf, B: Lobby, O: Sink>(
         let before : Outside = record {
           holds = S.holds shelf.old;
           begins = S.begins shelf.old;
+          files = S.taken shelf.old;
           shelf_faults = S.fault_count shelf.old;
           readings = B.readings lobby.old;
           lobby = record { asked = B.asked lobby.old; returned = B.returned lobby.old; faults = B.fault_count lobby.old };
@@ -197,6 +202,7 @@ fn serve<S: Shelf, B: Lobby, O: Sink>(
         let after : Outside = record {
           holds = S.holds shelf.new;
           begins = S.begins shelf.new;
+          files = S.taken shelf.new;
           shelf_faults = S.fault_count shelf.new;
           readings = B.readings lobby.new;
           lobby = record { asked = B.asked lobby.new; returned = B.returned lobby.new; faults = B.fault_count lobby.new };
@@ -248,6 +254,7 @@ pub fn run<S: Shelf, B: Lobby, I: Source, O: Sink>(
     ensures { let before : Outside = record {
       holds = S.holds shelf.old;
       begins = S.begins shelf.old;
+      files = S.taken shelf.old;
       shelf_faults = S.fault_count shelf.old;
       readings = B.readings lobby.old;
       lobby = record { asked = B.asked lobby.old; returned = B.returned lobby.old; faults = B.fault_count lobby.old };
@@ -259,6 +266,7 @@ pub fn run<S: Shelf, B: Lobby, I: Source, O: Sink>(
         let after : Outside = record {
           holds = S.holds shelf.new;
           begins = S.begins shelf.new;
+          files = S.taken shelf.new;
           shelf_faults = S.fault_count shelf.new;
           readings = B.readings lobby.new;
           lobby = record { asked = B.asked lobby.new; returned = B.returned lobby.new; faults = B.fault_count lobby.new };

@@ -2,7 +2,7 @@
 ghost use Rattle.std.specs.Prelude.{◌≡◌, All, map, length, false};
 ghost use Rattle.lrs_disk.specs.Door.{IsFresh};
 ghost use Rattle.lrs_hall.specs.Serving.{Counts, all_receipts};
-ghost use Rattle.lrs_app.specs.Service.{responses_of, ending_of_serving};
+ghost use Rattle.lrs_app.specs.Service.{CountsOn, responses_of, ending_of_serving};
 ghost use Rattle.lrs_app.specs.ServeSteps.{ServesOne, ServesDesk, ServesOpened, ending_of_refusal};
 ghost use Rattle.lrs_app.specs.Run.{HasCause, Serves};
 
@@ -122,6 +122,7 @@ fn serve_opened<D: Disk, B: Lobby>(
         (record { asked = B.asked lobby.new; returned = B.returned lobby.new; faults = B.fault_count lobby.new })
         result.disk result.talks result.length result.ending }
     ensures cause { HasCause (D.fault_count desk.disk) (D.fault_count result.disk) 0 0 result.ending }
+    ensures counts { CountsOn (D.fault_count desk.disk) result.talks (D.fault_count result.disk) }
     ensures readings { B.readings lobby.new ≡ B.readings lobby.old }
 {
     let (desk, talks, ending) = serve_desk(alloc, desk, lobby, address, connections, seed);
@@ -156,6 +157,7 @@ pub(crate) fn serve_disk<D: Disk, B: Lobby>(
         (record { asked = B.asked lobby.new; returned = B.returned lobby.new; faults = B.fault_count lobby.new })
         (record { told = D.told result.disk; faults = D.fault_count result.disk }) result.talks result.length result.ending }
     ensures cause { HasCause (D.fault_count disk) (D.fault_count result.disk) 0 0 result.ending }
+    ensures counts { CountsOn (D.fault_count disk) result.talks (D.fault_count result.disk) }
     ensures readings { B.readings lobby.new ≡ B.readings lobby.old }
 {
     match Desk::recover(alloc, disk) {

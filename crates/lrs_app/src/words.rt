@@ -3,7 +3,7 @@ ghost use Rattle.std.specs.Char.{is_ascii_digit};
 ghost use Rattle.std.specs.List.{list_all};
 ghost use Rattle.std.specs.Option.{SomeIff, option_copied, option_map_or};
 ghost use Rattle.std.specs.Str.Parse.{digits_value};
-ghost use Rattle.lrs_machine.specs.Founding.{IsToken, IsBase};
+ghost use Rattle.lrs_history.specs.Founding.{IsToken, IsBase};
 ghost use Rattle.lrs_app.specs.Words.{Command, init, serve, InitWords, ServeWords, IsCommand, IsInRange, IsInitInRange, IsServeInRange, IsNumber, IsNumberIn, IsLimit};
 ghost use Rattle.lrs_app.specs.Shapes.{IsReadAs, Means, command_of, named};
 

@@ -12,13 +12,13 @@ use Rattle.lrs_http.specs.declared.request.RequestRefused.TheVariants as request
 use Rattle.lrs_http.specs.Links.{GivesNext}
 use Rattle.lrs_http.specs.Response.{response_of}
 use Rattle.lrs_http.specs.Stream.{Item, IsItem}
-use Rattle.lrs_machine.specs.declared.answered.Answered.{Answered}
-use Rattle.lrs_machine.specs.declared.reply.Reply.{Reply}
-use Rattle.lrs_machine.specs.declared.reply.Trouble.{Trouble}
-use Rattle.lrs_machine.specs.declared.reply.Trouble.TheVariants.{Memory, Disk}
+use Rattle.lrs_history.specs.declared.answered.Answered.{Answered}
+use Rattle.lrs_history.specs.declared.reply.Reply.{Reply}
+use Rattle.lrs_history.specs.declared.reply.Trouble.{Trouble}
+use Rattle.lrs_history.specs.declared.reply.Trouble.TheVariants.{Memory, Disk}
 use Rattle.lrs_machine.specs.Desk.{Account, plain_account}
-use Rattle.lrs_machine.specs.History.{Answer, answer, with_entry}
-use Rattle.lrs_machine.specs.Replies.{Says, body_bytes, status_of, media_of, body_of, through_of}
+use Rattle.lrs_history.specs.History.{Answer, answer, with_entry}
+use Rattle.lrs_history.specs.Replies.{Says, body_bytes, status_of, media_of, body_of, through_of}
 use Rattle.lrs_names.specs.declared.draw.Draw.{Draw}
 use Rattle.lrs_record.specs.declared.entry.Caller.{Caller}
 use Rattle.lrs_record.specs.declared.entry.Command.{Command}

@@ -7,12 +7,12 @@ use Rattle.std.proofs.lemmas.List.{length_push}
 use Rattle.std.proofs.lemmas.Bool.{le-ltb, lt-ltb}
 use Rattle.std.proofs.lemmas.Option.{slice_get-get_or}
 use Rattle.lrs_journal.specs.Journal.{Held}
-use Rattle.lrs_machine.specs.declared.answered.Answered.{Answered}
-use Rattle.lrs_machine.specs.declared.reply.Reply.{Reply}
-use Rattle.lrs_machine.specs.declared.reply.Trouble.{Trouble}
-use Rattle.lrs_machine.specs.declared.reply.Trouble.TheVariants.{Memory, Disk}
+use Rattle.lrs_history.specs.declared.answered.Answered.{Answered}
+use Rattle.lrs_history.specs.declared.reply.Reply.{Reply}
+use Rattle.lrs_history.specs.declared.reply.Trouble.{Trouble}
+use Rattle.lrs_history.specs.declared.reply.Trouble.TheVariants.{Memory, Disk}
 use Rattle.lrs_machine.specs.Desk.{Account, account_of, added_place, landed_place, Replies, Answers, HasCause, StandsFor}
-use Rattle.lrs_machine.specs.History.{Answer, answer, with_entry}
+use Rattle.lrs_history.specs.History.{Answer, answer, with_entry}
 use Rattle.lrs_names.specs.declared.draw.Draw.{Draw}
 use Rattle.lrs_record.specs.declared.entry.Caller.{Caller}
 use Rattle.lrs_record.specs.declared.entry.Command.{Command}

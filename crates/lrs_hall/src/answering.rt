@@ -1,9 +1,9 @@
 //! The responses: those that take no act, and those that say a reply.
 ghost use Rattle.std.specs.Prelude.{◌≡◌, [], List, ℕ, Result};
 ghost use Rattle.lrs_http.specs.Links.{HasWriteCause};
-ghost use Rattle.lrs_machine.specs.declared.answered.Answered.{Answered};
-ghost use Rattle.lrs_machine.specs.declared.reply.Trouble.{Trouble};
-ghost use Rattle.lrs_machine.specs.Replies.{Says, body_bytes};
+ghost use Rattle.lrs_history.specs.declared.answered.Answered.{Answered};
+ghost use Rattle.lrs_history.specs.declared.reply.Trouble.{Trouble};
+ghost use Rattle.lrs_history.specs.Replies.{Says, body_bytes};
 ghost use Rattle.lrs_hall.specs.Responses.{Fixed, fixed, fixed_text, media_text, IsThrough, IsReplyText, route_response, framing_response, form_error};
 ghost use Rattle.lrs_hall.specs.Steps.{IsResponse, AreResponses, Wrote, IsSayable};
 

@@ -1,6 +1,6 @@
 use Rattle.std.proofs.Common.{refl}
 use Rattle.lrs_app.specs.declared.ending.Ending.TheVariants as ending
-use Rattle.lrs_app.proofs.Running.{init_leaves, same_doors}
+use Rattle.lrs_app.proofs.Running.{init_leaves, same_doors, takes_file}
 use Rattle.lrs_app.proofs.program.init.Goals as goal
 
 pub returns-in-Ok : goal.returns-in-Ok
@@ -8,6 +8,7 @@ returns-in-Ok g c left count = rw c.silent.ensures.length (
   c.now-clock.result,
   c.init_disk-ending.result.0,
   c.now-clock.ensures.read,
+  takes_file (g.S.Shelf.taken c.args.shelf.now) (g.S.Shelf.taken c.take.new.self) c.as_str.ensures.lent c.in-Ok.ensures.taken,
   same_doors c.now-clock.ensures.asked_kept c.now-clock.ensures.returned_kept c.now-clock.ensures.same,
   (c.silent.ensures.talks, c.silent.ensures.responses),
   init_leaves (g.S.Shelf.holds c.args.shelf.now) (g.S.Shelf.begins c.args.shelf.now) c.args.file.now c.as_str.result.now
@@ -21,6 +22,7 @@ returns-in-Err g c left count = rw c.silent-in-Err.ensures.length (
   c.now-clock.result,
   ending.DiskFault,
   c.now-clock.ensures.read,
+  takes_file (g.S.Shelf.taken c.args.shelf.now) (g.S.Shelf.taken c.take.new.self) c.as_str.ensures.lent c.in-Err.ensures.taken,
   same_doors c.now-clock.ensures.asked_kept c.now-clock.ensures.returned_kept c.now-clock.ensures.same,
   (c.silent-in-Err.ensures.talks, c.silent-in-Err.ensures.responses),
   (refl, c.in-Err.ensures.cause.failed refl, refl),

@@ -1,5 +1,6 @@
 use Rattle.std.proofs.Common.{ap, ◌∙◌}
 use Rattle.lrs_app.specs.Service.{responses_of}
+use Rattle.lrs_app.proofs.Running.{takes_file}
 use Rattle.lrs_app.proofs.Serving.{serve_leaves}
 use Rattle.lrs_app.proofs.program.serve.Goals as goal
 
@@ -7,9 +8,11 @@ pub returns-in-Ok : goal.returns-in-Ok
 returns-in-Ok g c left count = (
   c.serve_disk-service.result.ending,
   c.serve_disk-service.ensures.readings,
+  takes_file (g.S.Shelf.taken c.args.shelf.now) (g.S.Shelf.taken c.take.new.self) c.as_str.ensures.lent c.in-Ok.ensures.taken,
   c.count_responses-responses.ensures ∙ ap responses_of c.as_slice.ensures,
   serve_leaves (g.S.Shelf.holds c.args.shelf.now) (g.S.Shelf.begins c.args.shelf.now) c.args.file.now c.as_str.result.now c.args.address.now c.args.connections c.args.seed _ _
       _ _ _ c.serve_disk-service.result.talks c.serve_disk-service.result.length c.serve_disk-service.result.ending
-      c.as_str.ensures.lent c.in-Ok.ensures.told c.in-Ok.ensures.begins c.serve_disk-service.ensures.served c.serve_disk-service.ensures.cause,
+      c.as_str.ensures.lent c.in-Ok.ensures.told c.in-Ok.ensures.begins c.serve_disk-service.ensures.served c.serve_disk-service.ensures.cause
+      c.serve_disk-service.ensures.counts,
   c.finish.ensures,
 )

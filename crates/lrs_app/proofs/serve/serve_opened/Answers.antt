@@ -1,3 +1,4 @@
+use Rattle.std.proofs.Common.{arith}
 use Rattle.lrs_app.proofs.Serving.{closed, failed, rises_later}
 use Rattle.lrs_hall.specs.Serving.{all_receipts}
 use Rattle.lrs_app.proofs.serve.serve_opened.Goals as goal
@@ -17,3 +18,9 @@ pub returns-in-Err-clause-cause : goal.returns-in-Err-clause-cause
 returns-in-Err-clause-cause g c =
     rises_later (g.D.Disk.fault_count c.args.desk.disk) (all_receipts c.serve_desk-desk.result.1) (g.D.Disk.fault_count c.serve_desk-desk.result.0.disk) _
     c.serve_desk-desk.ensures.counts c.in-Err.ensures.cause.1
+
+pub returns-in-Ok-clause-counts : goal.returns-in-Ok-clause-counts
+returns-in-Ok-clause-counts g c = (g.D.Disk.fault_count c.serve_desk-desk.result.0.disk, c.serve_desk-desk.ensures.counts, omega (arith, c.in-Ok.ensures.kept))
+
+pub returns-in-Err-clause-counts : goal.returns-in-Err-clause-counts
+returns-in-Err-clause-counts g c = (g.D.Disk.fault_count c.serve_desk-desk.result.0.disk, c.serve_desk-desk.ensures.counts, c.in-Err.ensures.cause.0)
