@@ -2,16 +2,14 @@
 // What it reaches is what any server of one worker could reach here, whatever it does with a request.
 //
 //   cc -O2 -o bare_server bare_server.c && ./bare_server FILE PORT CONNECTIONS BYTES
+#include "six_calls.h"
+
 #include <arpa/inet.h>
 #include <fcntl.h>
 #include <netinet/in.h>
 #include <netinet/tcp.h>
-#include <stdint.h>
-#include <stdio.h>
-#include <stdlib.h>
 #include <string.h>
 #include <sys/socket.h>
-#include <unistd.h>
 
 enum { ROOM = 1 << 16 };
 
@@ -19,25 +17,6 @@ static int file;
 static off_t end = 17;
 static uint32_t length;
 static uint8_t *payload;
-
-static void must(int holds, const char *what) {
-  if (!holds) {
-    perror(what);
-    exit(1);
-  }
-}
-
-static void append(void) {
-  uint8_t open_gate = 1, closed_gate = 0;
-  uint8_t size[4] = {length >> 24, length >> 16, length >> 8, length};
-  must(pwrite(file, size, 4, end + 1) == 4, "pwrite");
-  must(pwrite(file, payload, length, end + 5) == (ssize_t)length, "pwrite");
-  must(pwrite(file, &closed_gate, 1, end + 5 + length) == 1, "pwrite");
-  must(fsync(file) == 0, "fsync");
-  must(pwrite(file, &open_gate, 1, end) == 1, "pwrite");
-  must(fsync(file) == 0, "fsync");
-  end += 5 + length;
-}
 
 // Answers each whole request of the link until it ends.
 static void serve(int link) {
@@ -57,7 +36,7 @@ static void serve(int link) {
       held += (size_t)more;
       continue;
     }
-    append();
+    end = append(file, end, payload, length);
     must(write(link, answer, sizeof answer - 1) == (ssize_t)(sizeof answer - 1), "write");
     memmove(come, come + whole, held - whole);
     held -= whole;
