@@ -29,7 +29,8 @@ pub trait Disk: Drop {
         ensures length { IfOk result (λ n. IfSome (told self.old) (λ b. n ≡ length b)) }
         ensures still { told self.new ≡ told self.old }
         ensures crash { Within (image self.old) (image self.new) }
-        ensures time { Elapses (time self.old) (time self.new) (image_since self.old) (image_since self.new) (image self.new) }
+        ensures time { Elapses (time self.old) (time self.new) (image_since self.old) (image_since self.new)
+            (image self.new) }
         ensures cause { HasCause (fault_count self.old) (fault_count self.new) result };
 
     /// Reads from a place on, and answers how many bytes there were, fewer than there is room for only at the end.
@@ -39,7 +40,8 @@ pub trait Disk: Drop {
         ensures bytes { IfOk result (λ n. IfSome (told self.old) (λ b. take n into.new ≡ take n (drop place b))) }
         ensures still { told self.new ≡ told self.old }
         ensures crash { Within (image self.old) (image self.new) }
-        ensures time { Elapses (time self.old) (time self.new) (image_since self.old) (image_since self.new) (image self.new) }
+        ensures time { Elapses (time self.old) (time self.new) (image_since self.old) (image_since self.new)
+            (image self.new) }
         ensures cause { HasCause (fault_count self.old) (fault_count self.new) result };
 
     /// Writes over what is there, and past the end. Until a sync, a crash may leave any bytes in the range.
@@ -48,7 +50,8 @@ pub trait Disk: Drop {
         ensures written { OnOk result (told self.new ≡ option_map (λ b. written b place bytes.now) (told self.old)) }
         ensures failed { OnErr result (BothTold (Torn place (length bytes.now)) (told self.old) (told self.new)) }
         ensures crash { Follows (Torn place (length bytes.now)) (image self.old) (image self.new) }
-        ensures time { Elapses (time self.old) (time self.new) (image_since self.old) (image_since self.new) (image self.new) }
+        ensures time { Elapses (time self.old) (time self.new) (image_since self.old) (image_since self.new)
+            (image self.new) }
         ensures cause { HasCause (fault_count self.old) (fault_count self.new) result };
 
     /// Cuts the disk to a length.
@@ -57,7 +60,8 @@ pub trait Disk: Drop {
         ensures cut { OnOk result (told self.new ≡ option_map (λ b. take to b) (told self.old)) }
         ensures failed { OnErr result (BothTold (Cut to) (told self.old) (told self.new)) }
         ensures crash { Follows (Cut to) (image self.old) (image self.new) }
-        ensures time { Elapses (time self.old) (time self.new) (image_since self.old) (image_since self.new) (image self.new) }
+        ensures time { Elapses (time self.old) (time self.new) (image_since self.old) (image_since self.new)
+            (image self.new) }
         ensures cause { HasCause (fault_count self.old) (fault_count self.new) result };
 
     /// After it, a crash leaves what a read gives.
@@ -65,7 +69,8 @@ pub trait Disk: Drop {
         ensures durable { OnOk result ((c : List ℕ) → image self.new c → told self.new ≡ Some c) }
         ensures still { told self.new ≡ told self.old }
         ensures crash { Within (image self.old) (image self.new) }
-        ensures time { Elapses (time self.old) (time self.new) (image_since self.old) (image_since self.new) (image self.new) }
+        ensures time { Elapses (time self.old) (time self.new) (image_since self.old) (image_since self.new)
+            (image self.new) }
         ensures cause { HasCause (fault_count self.old) (fault_count self.new) result };
 
     /// How often a call has failed. At the last value of u64 the count stands still.

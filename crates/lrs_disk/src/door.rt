@@ -41,7 +41,8 @@ pub trait Door: Drop {
     /// Takes back the link that `next` gave last, and ends its connection.
     fn done(&mut self, link: Self::Link)
         requires { (state self.old).out ≡ Some (Self.Link.name link) }
-        ensures { state self.new ≡ with_returned (state self.old) (link_returned (Self.Link.stream link) (Self.Link.taken link) (Self.Link.fault_count link)) };
+        ensures { state self.new ≡ with_returned (state self.old)
+            (link_returned (Self.Link.stream link) (Self.Link.taken link) (Self.Link.fault_count link)) };
 
     /// Milliseconds since 1970, as the clock shows them; a reading of before 1970 is 0. It can't fail.
     fn now(&mut self) -> u64

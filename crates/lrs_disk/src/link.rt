@@ -23,7 +23,8 @@ pub trait Link: Drop {
     /// Gives the next bytes, and answers how many. `Ok(0)` for a piece that isn't empty is the input's end.
     fn read(&mut self, into: &mut [u8]) -> Result<usize, Failed>
         ensures room { IfOk result (λ n. n ≤ length into.old) }
-        ensures given { IfOk result (λ n. left self.old ≡ option_map (λ rest. take n into.new ++ rest) (left self.new)) }
+        ensures given { IfOk result (λ n. left self.old ≡ option_map
+            (λ rest. take n into.new ++ rest) (left self.new)) }
         ensures end { IfOk result (λ n. n ≡ 0 → 0 < length into.old → IfSome (left self.old) (λ b. b ≡ [])) }
         ensures failed { OnErr result (left self.new ≡ left self.old) }
         ensures stream_kept { stream self.new ≡ stream self.old }
@@ -47,5 +48,6 @@ pub trait Link: Drop {
         ensures { result ≡ fault_count self.now };
 
     /// Where the bytes left are told, the whole stream is, too, and ends in them.
-    ghost tells_stream: { (link : Self) (rest : List ℕ) → left link ≡ Some rest → (before : List ℕ) × (stream link ≡ Some (before ++ rest)) };
+    ghost tells_stream: { (link : Self) (rest : List ℕ) → left link ≡ Some rest → (before : List ℕ)
+        × (stream link ≡ Some (before ++ rest)) };
 }

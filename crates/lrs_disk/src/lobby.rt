@@ -48,14 +48,16 @@ pub trait Lobby: Drop {
         requires { (1 ≤ count) × (count ≤ 16) }
         ensures number { IfOk result (λ doors. length doors.items ≡ count) }
         ensures fresh { IfOk result (λ doors. All (λ door. IsFresh (Self.Door.state door)) doors.items) }
-        ensures asked { Asks (record { address = address.now; count = count }) result (asked self.old) (asked self.new) }
+        ensures asked { Asks (record { address = address.now; count = count }) result (asked self.old)
+            (asked self.new) }
         ensures cause { HasDoorsCause (fault_count self.old) (fault_count self.new) result }
         ensures readings_kept { readings self.new ≡ readings self.old }
         ensures returned_kept { returned self.new ≡ returned self.old };
 
     /// Takes the doors back. No connection comes in by them any more.
     fn back(&mut self, doors: Vec<Self::Door>)
-        ensures returned { returned self.new ≡ option_map (λ before. map Self.Door.state doors.items) (returned self.old) }
+        ensures returned { returned self.new ≡ option_map (λ before.
+            map Self.Door.state doors.items) (returned self.old) }
         ensures cause { CountsFaults (fault_count self.old) (fault_count self.new) (map Self.Door.state doors.items) }
         ensures readings_kept { readings self.new ≡ readings self.old }
         ensures asked_kept { asked self.new ≡ asked self.old };

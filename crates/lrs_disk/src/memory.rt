@@ -15,8 +15,6 @@ mod plan;
 mod shelf;
 mod sink;
 mod source;
-#[cfg(test)]
-mod tests;
 
 pub use call::Pending;
 pub use disk::MemDisk;

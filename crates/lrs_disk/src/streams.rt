@@ -14,7 +14,8 @@ pub trait Source: Drop {
     /// Gives the next bytes, and answers how many. `Ok(0)` for a piece that isn't empty is the input's end.
     fn read(&mut self, into: &mut [u8]) -> Result<usize, Failed>
         ensures room { IfOk result (λ n. n ≤ length into.old) }
-        ensures given { IfOk result (λ n. left self.old ≡ option_map (λ rest. take n into.new ++ rest) (left self.new)) }
+        ensures given { IfOk result (λ n. left self.old ≡ option_map
+            (λ rest. take n into.new ++ rest) (left self.new)) }
         ensures end { IfOk result (λ n. n ≡ 0 → 0 < length into.old → IfSome (left self.old) (λ b. b ≡ [])) }
         ensures failed { OnErr result (left self.new ≡ left self.old) }
         ensures cause { HasCause (fault_count self.old) (fault_count self.new) result };

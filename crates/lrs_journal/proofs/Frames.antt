@@ -1,10 +1,10 @@
 -- What a replay reads.
-use Rattle.std.proofs.Common.{◌≡◌, ◌⊎◌, ⊎_elim, Bool, ℕ, ◌+◌, ◌-◌, ◌≤◌, ◌<◌, ◌^◌, min, List, [], ◌∷◌, ◌++◌, length, take, drop, refl, sym, ◌∙◌, ap, arith, subst, Option, Some, None, option_map, true, false, IfSome, length-append, length-drop, take-append-drop}
+use Rattle.std.proofs.Common.{◌≡◌, ◌⊎◌, ⊎_elim, Bool, ℕ, ◌+◌, ◌≤◌, ◌<◌, ◌^◌, min, List, [], ◌∷◌, ◌++◌, length, take, drop, refl, sym, ◌∙◌, ap, arith, subst, Option, Some, None, option_map, true, false, IfSome, length-append, length-drop, take-append-drop}
 use Rattle.std.proofs.lemmas.List.{take_all, take_min, take-take}
 use Rattle.std.proofs.lemmas.Nat.{from_be_bytes-to_be_bytes_4}
 use Rattle.std.specs.Int.{w32, to_be_bytes, from_be_bytes}
-use Rattle.lrs_journal.specs.Store.{store, header, body, Stands, HasHeader, IsDamaged, IsPayload, payloads_in}
-use Rattle.lrs_journal.specs.Replay.{HasReadTo}
+use Rattle.lrs_journal.specs.Store.{store, header, body, Stands, HasHeader, IsDamaged, IsEnd, IsPayload, payloads_in}
+use Rattle.lrs_journal.specs.Replay.{HasReadTo, IsWhole, IsTorn}
 use Rattle.lrs_journal.specs.Steps.{Reads, IsPlaced, IsSettled, IsSound, IsReplay, IsClosed, IsCutBack}
 use Rattle.lrs_journal.specs.Journal.{settled, frames_of, TellsAlike}
 use Rattle.lrs_journal.proofs.Told.{alike_told, alike_back}
@@ -64,26 +64,58 @@ read_more bytes limit place number ps head into word n m len h same five head_is
       counts = omega (arith, h.counts, length-append ps (into ∷ []));
     }
 
--- a frame whose length goes past the end
-pub not_whole : (bytes : List ℕ) (limit place number : ℕ) (ps : List (List ℕ)) (head word : List ℕ) (n len : ℕ) → HasReadTo bytes limit place number ps
-    → n ≡ min 5 (length bytes - place) → take n head ≡ take n (drop place bytes) → 2 ≤ n → head ≡ 1 ∷ word → length word ≡ 4 → to_be_bytes w32 len ≡ word → len < 2 ^ 32
-    → (n < 5) ⊎ (length bytes - place < 5 + len) → IsDamaged bytes limit ps
-not_whole bytes limit place number ps head word n len h is same some head_is four spelled small short = record {
-  sizes = h.sizes;
-  rest = drop 1 tail;
-  split = h.begins ∙ ap (λ (l : List ℕ). store limit ps ++ l) whole;
-  more = omega (arith, size, length-drop 1 tail);
-  torn = λ payload behind fits e. ⊎_elim
-      (λ lt. absurd (omega (arith, ap length e, length-drop 1 tail, size, length-append (body payload) behind, length-body payload)))
-      (λ lt. absurd (too_long payload behind fits e lt)) short;
-}
+-- the gate and the length of a whole frame
+pub whole_ahead : (tail head word : List ℕ) (n len : ℕ) → take n head ≡ take n tail → n ≡ 5 → head ≡ 1 ∷ word → length word ≡ 4 → to_be_bytes w32 len ≡ word → 5 + len ≤ length tail → IsWhole tail len
+whole_ahead tail head word n len same five head_is four spelled long = (
+  drop 5 tail,
+  sym (take-append-drop 5 tail) ∙ ap (λ (l : List ℕ). l ++ drop 5 tail) front,
+  omega (arith, long, length-drop 5 tail),
+)
   where
-    tail : List ℕ
-    tail = drop place bytes
+    front : take 5 tail ≡ 1 ∷ to_be_bytes w32 len
+    front = ap (λ (k : ℕ). take k tail) (sym five) ∙ sym same ∙ ap (λ (l : List ℕ). take n l) head_is ∙ take_all n (1 ∷ word) (omega (arith, five, four)) ∙ ap (λ (l : List ℕ). 1 ∷ l) (sym spelled)
 
-    size : length tail ≡ length bytes - place
-    size = length-drop place bytes
+-- a whole frame more was read
+pub read_whole : (bytes : List ℕ) (limit place number : ℕ) (ps : List (List ℕ)) (into : List ℕ) (len : ℕ) → HasReadTo bytes limit place number ps → len < 2 ^ 32
+    → IsWhole (drop place bytes) len → length into ≡ len → into ≡ take len (drop (place + 5) bytes) → HasReadTo bytes limit (place + (5 + len)) (number + 1) (ps ++ into ∷ [])
+read_whole bytes limit place number ps into len h small whole long is =
+    let word : List ℕ = to_be_bytes w32 len in
+    read_more bytes limit place number ps (1 ∷ word) into word 5 len len h (sym (ap (λ (l : List ℕ). take 5 l) whole.1)) refl refl (omega arith) refl long small
+    (take_all len into (omega (arith, long)) ∙ is) refl
 
+-- no open gate behind those that were read
+pub ended_stands : (bytes : List ℕ) (limit place number : ℕ) (ps : List (List ℕ)) → HasReadTo bytes limit place number ps → IsEnd (drop place bytes) → Stands bytes limit ps
+ended_stands bytes limit place number ps h ends = record {
+  least = h.least;
+  most = h.most;
+  sizes = h.sizes;
+  rest = drop place bytes;
+  split = h.begins;
+  ends = ends;
+}
+
+-- a frame that isn't whole behind those that were read
+pub damaged_behind : (bytes : List ℕ) (limit place number : ℕ) (ps : List (List ℕ)) → HasReadTo bytes limit place number ps → IsTorn (drop place bytes) → IsDamaged bytes limit ps
+damaged_behind bytes limit place number ps h torn = record {
+  sizes = h.sizes;
+  rest = torn.0;
+  split = h.begins ∙ ap (λ (l : List ℕ). store limit ps ++ l) torn.1;
+  more = torn.2;
+  torn = torn.3;
+}
+
+-- a frame whose length goes past the end
+pub torn_ahead : (tail head word : List ℕ) (n len : ℕ) → n ≡ min 5 (length tail) → take n head ≡ take n tail → 2 ≤ n → head ≡ 1 ∷ word → length word ≡ 4 → to_be_bytes w32 len ≡ word → len < 2 ^ 32
+    → (n < 5) ⊎ (length tail < 5 + len) → IsTorn tail
+torn_ahead tail head word n len is same some head_is four spelled small short = (
+  drop 1 tail,
+  whole,
+  omega (arith, is, some, length-drop 1 tail),
+  λ payload behind fits e. ⊎_elim
+      (λ lt. absurd (omega (arith, is, ap length e, length-drop 1 tail, length-append (body payload) behind, length-body payload)))
+      (λ lt. absurd (too_long payload behind fits e lt)) short,
+)
+  where
     length-body : (p : List ℕ) → length (body p) ≡ 4 + length p
     length-body p = omega arith
 
@@ -93,15 +125,44 @@ not_whole bytes limit place number ps head word n len h is same some head_is fou
     whole : tail ≡ 1 ∷ drop 1 tail
     whole = sym (take-append-drop 1 tail) ∙ ap (λ (l : List ℕ). l ++ drop 1 tail) front
 
-    too_long : (payload behind : List ℕ) → IsPayload payload → drop 1 tail ≡ body payload ++ behind → length bytes - place < 5 + len → ⊥
+    too_long : (payload behind : List ℕ) → IsPayload payload → drop 1 tail ≡ body payload ++ behind → length tail < 5 + len → ⊥
     too_long payload behind fits e lt =
-        let long : 5 ≤ length tail = omega (arith, ap length e, length-drop 1 tail, size, length-append (body payload) behind, length-body payload) in
-        let five : n ≡ 5 = omega (arith, is, size, long) in
+        let long : 5 ≤ length tail = omega (arith, ap length e, length-drop 1 tail, length-append (body payload) behind, length-body payload) in
+        let five : n ≡ 5 = omega (arith, is, long) in
         let head_whole : take 5 tail ≡ 1 ∷ word = ap (λ (k : ℕ). take k tail) (sym five) ∙ sym same ∙ ap (λ (l : List ℕ). take n l) head_is ∙ take_all n (1 ∷ word) (omega (arith, five, four)) in
         let words : to_be_bytes w32 (length payload) ≡ to_be_bytes w32 len =
         ap (λ (l : List ℕ). take 4 l) (sym e) ∙ sym (take-take 4 4 (drop 1 tail) (omega arith)) ∙ ap (λ (l : List ℕ). take 4 (drop 1 (take 5 l))) (sym whole) ∙ ap (λ (l : List ℕ). take 4 (drop 1 l)) head_whole ∙ take_all 4 word (omega (arith, four)) ∙ sym spelled in
         let same_len : length payload ≡ len = sym (from_be_bytes-to_be_bytes_4 (length payload) fits) ∙ ap (λ (l : List ℕ). from_be_bytes w32 l) words ∙ from_be_bytes-to_be_bytes_4 len small in
-        omega (arith, ap length e, length-drop 1 tail, size, length-append (body payload) behind, length-body payload, same_len, lt)
+        omega (arith, ap length e, length-drop 1 tail, length-append (body payload) behind, length-body payload, same_len, lt)
+
+-- ---- the fields of a replay
+
+-- calls that leave what a read gives, and no new image
+pub replay_kept : (old new : Option (List ℕ)) (before after : List ℕ → Type 0) (limit size place number : ℕ) (ended : Bool) → IsReplay old before limit size place number ended → new ≡ old
+    → ((c : List ℕ) → after c → before c) → IsReplay new after limit size place number ended
+replay_kept old new before after limit size place number ended r same within = record {
+  least = r.least;
+  most = r.most;
+  few = r.few;
+  synced = λ c left. same ∙ r.synced c (within c left);
+  size_is = λ b told_b. r.size_is b (sym same ∙ told_b);
+  tied = λ b told_b. r.tied b (sym same ∙ told_b);
+  ends = λ b told_b. r.ends b (sym same ∙ told_b);
+}
+
+-- one more frame was read
+pub replay_more : (told : Option (List ℕ)) (image : List ℕ → Type 0) (limit size place number : ℕ) (ended : Bool) (into : List ℕ) (len : ℕ) → IsReplay told image limit size place number ended
+    → len < 2 ^ 32 → length into ≡ len → ((b : List ℕ) → told ≡ Some b → IsWhole (drop place b) len) → ((b : List ℕ) → told ≡ Some b → into ≡ take len (drop (place + 5) b))
+    → IsReplay told image limit size (place + (5 + len)) (number + 1) false
+replay_more told image limit size place number ended into len r small long whole is = record {
+  least = r.least;
+  most = r.most;
+  few = omega (arith, r.few);
+  synced = r.synced;
+  size_is = r.size_is;
+  tied = λ b told_b. let tied = r.tied b told_b in (tied.0 ++ into ∷ [], read_whole b limit place number tied.0 into len tied.1 small (whole b told_b) long (is b told_b));
+  ends = λ b told_b no. cc no;
+}
 
 -- ---- the end
 

@@ -5,7 +5,7 @@ use Rattle.std.proofs.lemmas.List.{same_from_push}
 use Rattle.lrs_disk.specs.Disk.{written}
 use Rattle.lrs_journal.specs.Store.{body, Stands, IsBeforeOrAfter, payloads_in}
 use Rattle.lrs_journal.specs.Steps.{IsBehind, IsAtGate, IsSettled, IsDoubtful, IsSound, end_behind}
-use Rattle.lrs_journal.specs.Journal.{Held, settled, frames_of, StandsFor, IsHolding, IsJournal, TellsAlike, Stores}
+use Rattle.lrs_journal.specs.Journal.{Held, settled, frames_of, need_of, StandsFor, IsHolding, IsJournal, TellsAlike, Stores}
 use Rattle.lrs_journal.proofs.Told.{alike_back}
 use Rattle.lrs_journal.proofs.Doubt.{gate_within, doubt_within, behind_free, gate_keeps, gate_opens, staged_doubt, rest_stands, doubt_stands, placed_push}
 use Rattle.lrs_journal.proofs.Reading.{stands_read}
@@ -246,6 +246,12 @@ module _ {D : Type 0} (told : D → Option (List ℕ)) (image : D → List ℕ �
       let tied = sound.tied from.0 from.1 in
       let whole : x ≡ tied.0 = from.2 ∙ settled_read (image d0) limit end number tied.0 from.0 tied.1 (reads d0 from.0 from.1) in
       subst (λ (l : List (List ℕ)). Stands c limit l) (sym whole) (rest_stands limit end tied.0 c tied.1.placed (behind_free limit tied.0 [] end tied.1.placed.behind c now.0 (tied.1.each now.0 now.1) now.2))
+
+-- what has room behind the frames of a journal without doubt has it behind the gate
+pub room_behind : {D : Type 0} (disk : D) (limit gate number : ℕ) (doubt : Option ℕ) (p : List ℕ) (held : Held D) → seen disk limit gate number doubt ≡ held → doubt ≡ None
+    → need_of held p ≤ held.limit → gate + 6 + length p ≤ limit
+room_behind {D} disk limit gate number doubt p held view none fits =
+    omega (arith, fits, ap (λ (h : Held D). h.end) view, ap (λ (h : Held D). h.limit) view, ap (λ (o : Option ℕ). end_behind gate o) none)
 
 pub no_doubt : (o : Option ℕ) → is_some o ≡ false → o ≡ None
 no_doubt None none = refl

@@ -1,7 +1,10 @@
 -- What callers see of a replay, and what it has read.
-use Rattle.std.specs.Prelude.{◌≡◌, ◌≤◌, ◌^◌, ℕ, List, ◌++◌, length, drop, Bool}
+use Rattle.std.specs.Prelude.{◌≡◌, ◌≢◌, ◌<◌, ◌≤◌, ◌^◌, ℕ, List, ◌∷◌, ◌++◌, length, drop, Bool}
+use Rattle.std.specs.Int.{w32, to_be_bytes}
 use Rattle.std.specs.List.{AllByRecursion}
-use Rattle.lrs_journal.specs.Store.{store, IsPayload}
+use Rattle.lrs_journal.specs.Store.{store, body, IsPayload, IsEnd}
+use Rattle.lrs_journal.specs.declared.replay.Ahead.{Ahead}
+use Rattle.lrs_journal.specs.declared.replay.Ahead.TheVariants as ahead
 
 -- A replay over a disk.
 pub record Reading (D : Type 0) : Type 0 where
@@ -31,3 +34,17 @@ HasRead bytes replay payloads = HasReadTo bytes replay.limit replay.place replay
 -- nothing more was read
 abbrev pub IsSamePlace : {D : Type 0} → Reading D → Reading D → Type 0
 IsSamePlace old new = (new.place ≡ old.place) × (new.number ≡ old.number)
+
+-- a front of these bytes is an open gate and a whole frame with a payload of this length
+abbrev pub IsWhole : List ℕ → ℕ → Type 0
+IsWhole bytes size = (behind : List ℕ) × (bytes ≡ 1 ∷ to_be_bytes w32 size ++ behind) × (size ≤ length behind)
+
+-- an open gate and a byte, and no whole frame
+abbrev pub IsTorn : List ℕ → Type 0
+IsTorn bytes = (behind : List ℕ) × (bytes ≡ 1 ∷ behind) × (0 < length behind) × ((payload rest : List ℕ) → IsPayload payload → behind ≢ body payload ++ rest)
+
+-- what these bytes begin with
+abbrev pub IsAhead : List ℕ → Ahead → Type 0
+IsAhead bytes ahead.End = IsEnd bytes
+IsAhead bytes ahead.Torn = IsTorn bytes
+IsAhead bytes (ahead.Frame size) = IsWhole bytes size

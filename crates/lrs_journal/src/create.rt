@@ -93,7 +93,8 @@ fn build<D: Disk>(disk: &mut D, size: u64, limit: u64, first: &[u8]) -> Result<(
     requires size { (b : List ℕ) → Reads D.told disk.old b → size ≡ length b }
     ensures made { OnOk result ((c : List ℕ) → D.image disk.new c → AtRest limit (first.now ∷ []) c) }
     ensures tells { TellsAlike (D.told disk.old) (D.told disk.new) }
-    ensures any_moment { IsSynced D.told D.image disk.old → LeavesOnly D.time D.image_since disk.old disk.new (IsMade limit first.now) }
+    ensures any_moment { IsSynced D.told D.image disk.old → LeavesOnly D.time D.image_since disk.old disk.new
+        (IsMade limit first.now) }
     ensures cause { HasCause (D.fault_count disk.old) (D.fault_count disk.new) result }
 {
     shorten(disk, size)?;
@@ -101,6 +102,23 @@ fn build<D: Disk>(disk: &mut D, size: u64, limit: u64, first: &[u8]) -> Result<(
     head(disk, limit)?;
     stage(disk, 17, first)?;
     write_gate(disk, 0, 1)
+}
+
+// Looks whether a store may be made on a disk, and answers the number of its bytes.
+fn inspect<D: Disk>(disk: &mut D) -> Result<u64, CreateRefused>
+    ensures size { IfOk result (λ size. ForSome (D.told disk.old) (λ bytes. size ≡ length bytes)) }
+    ensures free { IsOk result → ForSome (D.told disk.old) IsOpenTo }
+    ensures refused { IfErr result (λ e. ForSome (D.told disk.old) (λ bytes. IsRefused bytes e)) }
+    ensures full { (need limit : ℕ) → result ≢ Err (CreateRefused.Full need limit) }
+    ensures untouched { IsUntouched D.told D.image D.time D.image_since disk.old disk.new }
+    ensures cause { HasCount (D.fault_count disk.old) (D.fault_count disk.new) (IsErrOf result CreateRefused.Failed)
+        (IsOk result) }
+{
+    let size = disk.len()?;
+    let mut head = [0; 8];
+    let number = disk.read_at(0, &mut head)?;
+    look(&head[..number.min(8)])?;
+    Ok(size)
 }
 
 // Makes a store of one frame on a disk, where there may be one.
@@ -111,18 +129,19 @@ fn make<D: Disk>(disk: &mut D, limit: u64, first: &[u8]) -> Result<(), CreateRef
     ensures free { IsOk result → ForSome (D.told disk.old) IsOpenTo }
     ensures room { IsOk result → length first.now + 23 ≤ limit }
     ensures refused { IfErr result (λ e. ForSome (D.told disk.old) (λ bytes. IsRefused bytes e)) }
-    ensures full { (need most : ℕ) → IsErrOf result (CreateRefused.Full need most) → (need ≡ length first.now + 23) × (most ≡ limit) × (limit < need) }
-    ensures spared { IfErr result (λ e. e ≢ CreateRefused.Failed → IsUntouched D.told D.image D.time D.image_since disk.old disk.new) }
-    ensures store { ForSome (D.told disk.old) (λ bytes. IsStore bytes → IsUntouched D.told D.image D.time D.image_since disk.old disk.new) }
+    ensures full { (need most : ℕ) → IsErrOf result (CreateRefused.Full need most) → (need ≡ length first.now + 23)
+        × (most ≡ limit) × (limit < need) }
+    ensures spared { IfErr result (λ e. e ≢ CreateRefused.Failed
+        → IsUntouched D.told D.image D.time D.image_since disk.old disk.new) }
+    ensures store { ForSome (D.told disk.old) (λ bytes. (IsOpenTo bytes → ⊥)
+        → IsUntouched D.told D.image D.time D.image_since disk.old disk.new) }
     ensures tells { TellsAlike (D.told disk.old) (D.told disk.new) }
     ensures any_moment { IsSynced D.told D.image disk.old → ForSome (D.told disk.old) (λ bytes. (IsStore bytes → ⊥)
         → LeavesOnly D.time D.image_since disk.old disk.new (IsMade limit first.now)) }
-    ensures cause { HasCount (D.fault_count disk.old) (D.fault_count disk.new) (IsErrOf result CreateRefused.Failed) (IsOk result) }
+    ensures cause { HasCount (D.fault_count disk.old) (D.fault_count disk.new) (IsErrOf result CreateRefused.Failed)
+        (IsOk result) }
 {
-    let size = disk.len()?;
-    let mut head = [0; 8];
-    let number = disk.read_at(0, &mut head)?;
-    look(&head[..number.min(8)])?;
+    let size = inspect(disk)?;
     let need = first.len() as u64 + 23;
     if need > limit {
         return Err(CreateRefused::Full { need, limit });
@@ -139,20 +158,30 @@ impl<D: Disk> Journal<D> {
     pub fn create(disk: D, limit: u64, first: &[u8]) -> Result<Journal<D>, (CreateRefused, D)>
         requires limit { (512 ≤ limit) × (limit ≤ 2 ^ 30) }
         requires first { length first.now < 2 ^ 32 }
-        ensures made { IfOk result (λ journal. frames_of D.told journal ≡ option_map (λ _. first.now ∷ []) (D.told disk)) }
-        ensures fields { IfOk result (λ journal. (journal.doubt ≡ false) × (journal.limit ≡ limit) × (journal.end ≡ length first.now + 22) × (journal.number ≡ 1)) }
+        ensures made { IfOk result (λ journal. frames_of D.told journal ≡ option_map
+            (λ _. first.now ∷ []) (D.told disk)) }
+        ensures fields { IfOk result (λ journal. (journal.doubt ≡ false) × (journal.limit ≡ limit)
+            × (journal.end ≡ length first.now + 22) × (journal.number ≡ 1)) }
         ensures sound { IfOk result (IsJournal D.told D.image) }
         ensures free { IsOk result → (length first.now + 23 ≤ limit) × ForSome (D.told disk) IsOpenTo }
         ensures refused { IfErr result (λ e. ForSome (D.told disk) (λ bytes. IsRefused bytes e.0)) }
-        ensures full { IfErr result (λ e. (need most : ℕ) → e.0 ≡ CreateRefused.Full need most → (need ≡ length first.now + 23) × (most ≡ limit) × (limit < need)) }
-        ensures spared { IfErr result (λ e. e.0 ≢ CreateRefused.Failed → IsUntouched D.told D.image D.time D.image_since disk e.1) }
-        ensures store { IfErr result (λ e. ForSome (D.told disk) (λ bytes. IsStore bytes → IsUntouched D.told D.image D.time D.image_since disk e.1)) }
+        ensures full { IfErr result (λ e. (need most : ℕ) → e.0 ≡ CreateRefused.Full need most
+            → (need ≡ length first.now + 23) × (most ≡ limit) × (limit < need)) }
+        ensures spared { IfErr result (λ e. e.0 ≢ CreateRefused.Failed
+            → IsUntouched D.told D.image D.time D.image_since disk e.1) }
+        // Where no store may be made nothing is written, whatever the answer is.
+        ensures store { IfErr result (λ e. ForSome (D.told disk) (λ bytes. (IsOpenTo bytes → ⊥)
+            → IsUntouched D.told D.image D.time D.image_since disk e.1)) }
         ensures tells { IfErr result (λ e. TellsAlike (D.told disk) (D.told e.1)) }
         // Where nothing was pending, a crash at any moment leaves no open header or the one frame.
-        ensures any_moment { IfOk result (λ journal. IsSynced D.told D.image disk → ForSome (D.told disk) (λ bytes. (IsStore bytes → ⊥) → LeavesOnly D.time D.image_since disk journal.disk (IsMade limit first.now))) }
-        ensures any_moment_err { IfErr result (λ e. IsSynced D.told D.image disk → ForSome (D.told disk) (λ bytes. (IsStore bytes → ⊥) → LeavesOnly D.time D.image_since disk e.1 (IsMade limit first.now))) }
+        ensures any_moment { IfOk result (λ journal. IsSynced D.told D.image disk → ForSome (D.told disk)
+            (λ bytes. (IsStore bytes → ⊥) → LeavesOnly D.time D.image_since disk journal.disk
+            (IsMade limit first.now))) }
+        ensures any_moment_err { IfErr result (λ e. IsSynced D.told D.image disk → ForSome (D.told disk)
+            (λ bytes. (IsStore bytes → ⊥) → LeavesOnly D.time D.image_since disk e.1 (IsMade limit first.now))) }
         ensures kept { IfOk result (λ journal. D.fault_count journal.disk ≡ D.fault_count disk) }
-        ensures cause { IfErr result (λ e. HasCount (D.fault_count disk) (D.fault_count e.1) (e.0 ≡ CreateRefused.Failed) ⊥) }
+        ensures cause { IfErr result (λ e. HasCount (D.fault_count disk) (D.fault_count e.1) (e.0
+            ≡ CreateRefused.Failed) ⊥) }
     {
         let mut disk = disk;
         match make(&mut disk, limit, first) {

@@ -1,8 +1,8 @@
-ghost use Rattle.std.specs.Prelude.{◌≡◌, ◌<◌, ◌≤◌, ◌+◌, ◌-◌, ◌^◌, ◌++◌, [], ◌∷◌, List, ℕ, length, Some, None, Ok, Err, IfOk, IsOk, IsErr, IsErrOf, true, false, min};
+ghost use Rattle.std.specs.Prelude.{◌≡◌, ◌<◌, ◌≤◌, ◌+◌, ◌-◌, ◌^◌, ◌++◌, [], ◌∷◌, List, ℕ, length, Some, None, Ok, Err, IfOk, IsOk, IsErr, IsErrOf, true, false, min, IfErr};
 ghost use Rattle.std.specs.Option.{ForSome};
 ghost use Rattle.lrs_disk.specs.Disk.{LeavesOnly};
 ghost use Rattle.lrs_disk.specs.Faults.{HasCause};
-ghost use Rattle.lrs_journal.specs.Store.{IsBeforeOrAfter};
+ghost use Rattle.lrs_journal.specs.Store.{IsBeforeOrAfter, Stands};
 ghost use Rattle.lrs_journal.specs.Journal.{frames_of, need_of, StandsFor, IsJournal, IsAppended, IsAppendFailed, IsUnchanged, HasCount, Stores};
 ghost use Rattle.lrs_journal.specs.declared.journal.AppendRefused.TheVariants as AppendRefused;
 
@@ -17,6 +17,26 @@ pub enum AppendRefused {
     Full { need: u64, limit: u64 },
     /// The disk failed. The journal may be in doubt now.
     Failed,
+}
+
+/// There is no room for a frame: the file would need more bytes than its header allows.
+#[derive(Clone, Copy, Debug, PartialEq, Eq)]
+pub struct Full {
+    /// The bytes that the file would have. A number beyond `u64` stays at its last value.
+    pub need: u64,
+    /// The bytes that it may have.
+    pub limit: u64,
+}
+
+impl From<Full> for AppendRefused {
+    ghost from_gives = { λ full e. e ≡ AppendRefused.Full full.need full.limit };
+
+    fn from(full: Full) -> Self {
+        AppendRefused::Full {
+            need: full.need,
+            limit: full.limit,
+        }
+    }
 }
 
 impl From<Failed> for AppendRefused {
@@ -49,7 +69,15 @@ impl<D: Disk> Model for Journal<D> {
 
     ghost Value = { Held D };
 
-    ghost view = { λ j. record { disk = j.disk; limit = j.limit; gate = j.gate; end = end_behind j.gate j.doubt; doubt = is_some j.doubt; number = j.number } };
+    ghost view = { λ j. record {
+      disk = j.disk;
+      limit = j.limit;
+      gate = j.gate;
+      end = end_behind j.gate j.doubt;
+      doubt =
+          is_some j.doubt;
+      number = j.number;
+    } };
 
     ghost invariant = { λ j. IsSound (D.told j.disk) (D.image j.disk) j.limit j.gate j.number j.doubt };
 }
@@ -75,6 +103,28 @@ impl<D: Disk> Journal<D> {
         ensures { result ≡ self.now.limit }
     {
         self.limit
+    }
+
+    /// Whether one more frame of this payload has room. `append` refuses a payload that has none in the same words: ask
+    /// here before anything is made ready for it.
+    pub fn room(&self, payload: &[u8]) -> Result<(), Full>
+        ensures fits { IsOk result → need_of self.now payload.now ≤ self.now.limit }
+        ensures full { IsErr result → self.now.limit < need_of self.now payload.now }
+        ensures told { IfErr result (λ full. (full.need ≡ min (need_of self.now payload.now) (2 ^ 64 - 1))
+            × (full.limit ≡ self.now.limit)) }
+    {
+        let end = match self.doubt {
+            None => self.gate,
+            Some(size) => self.gate + 5 + size,
+        };
+        let need = end.saturating_add(6).saturating_add(payload.len() as u64);
+        if need > self.limit {
+            return Err(Full {
+                need,
+                limit: self.limit,
+            });
+        }
+        Ok(())
     }
 
     /// How often a call of the disk has failed.
@@ -111,11 +161,14 @@ impl<D: Disk> Journal<D> {
     /// Without doubt it makes no call of the disk. After an error the frame is still in doubt.
     pub fn settle(&mut self) -> Result<Option<u64>, Failed>
         ensures none { self.old.doubt ≡ false → (result ≡ Ok None) × (self.new ≡ self.old) }
-        ensures some { self.old.doubt ≡ true → IfOk result (λ frame. (frame ≡ Some (self.old.number - 1)) × (self.new.doubt ≡ false)) }
+        ensures some { self.old.doubt ≡ true → IfOk result (λ frame. (frame ≡ Some (self.old.number - 1))
+            × (self.new.doubt ≡ false)) }
         ensures failed { IsErr result → self.new.doubt ≡ true }
         ensures frames { IsUnchanged D.told self.old self.new }
         ensures sound { IsJournal D.told D.image self.new }
-        ensures any_moment { ForSome (frames_of D.told self.old) (λ payloads. LeavesOnly D.time D.image_since self.old.disk self.new.disk (StandsFor self.old.limit self.old.doubt payloads)) }
+        ensures any_moment { ForSome (frames_of D.told self.old)
+            (λ payloads. LeavesOnly D.time D.image_since self.old.disk self.new.disk
+            (StandsFor self.old.limit self.old.doubt payloads)) }
         ensures cause { HasCause (D.fault_count self.old.disk) (D.fault_count self.new.disk) result }
     {
         let Some(size) = self.doubt else {
@@ -133,26 +186,29 @@ impl<D: Disk> Journal<D> {
     pub fn append(&mut self, payload: &[u8]) -> Result<u64, AppendRefused>
         requires { self.old.doubt ≡ false }
         ensures full { self.old.limit < need_of self.old payload.now
-            → (result ≡ Err (AppendRefused.Full (min (need_of self.old payload.now) (2 ^ 64 - 1)) self.old.limit)) × (self.new ≡ self.old) }
-        ensures fits { need_of self.old payload.now ≤ self.old.limit → IsErr result → IsErrOf result AppendRefused.Failed }
-        ensures appended { IfOk result (λ number. (number ≡ self.old.number) × (self.new.doubt ≡ false) × IsAppended D.told self.old self.new payload.now) }
-        ensures number { IfOk result (λ number. ForSome (frames_of D.told self.old) (λ payloads. number ≡ length payloads)) }
+            → (result ≡ Err (AppendRefused.Full (min (need_of self.old payload.now) (2 ^ 64 - 1)) self.old.limit))
+            × (self.new ≡ self.old) }
+        ensures fits { need_of self.old payload.now ≤ self.old.limit → IsErr result
+            → IsErrOf result AppendRefused.Failed }
+        ensures appended { IfOk result (λ number. (number ≡ self.old.number) × (self.new.doubt ≡ false)
+            × IsAppended D.told self.old self.new payload.now) }
+        ensures number { IfOk result (λ number. ForSome (frames_of D.told self.old)
+            (λ payloads. number ≡ length payloads)) }
         ensures failed { IsErrOf result AppendRefused.Failed → IsAppendFailed D.told self.old self.new payload.now }
         ensures sound { IsJournal D.told D.image self.new }
         // A crash at any moment of the call leaves the frames from before it, with the new one or without.
-        ensures any_moment { ForSome (frames_of D.told self.old) (λ payloads. LeavesOnly D.time D.image_since self.old.disk self.new.disk (IsBeforeOrAfter self.old.limit payloads payload.now)) }
-        ensures cause { HasCount (D.fault_count self.old.disk) (D.fault_count self.new.disk) (IsErrOf result AppendRefused.Failed) (IsOk result) }
+        ensures any_moment { ForSome (frames_of D.told self.old) (λ payloads.
+            LeavesOnly D.time D.image_since self.old.disk self.new.disk
+            (IsBeforeOrAfter self.old.limit payloads payload.now)) }
+        // Where the call fails and no frame is in doubt, it leaves the frames from before alone.
+        ensures any_moment_err { IsErr result → self.new.doubt ≡ false → ForSome (frames_of D.told self.old)
+            (λ payloads.
+            LeavesOnly D.time D.image_since self.old.disk self.new.disk
+            (λ image. Stands image self.old.limit payloads)) }
+        ensures cause { HasCount (D.fault_count self.old.disk) (D.fault_count self.new.disk)
+            (IsErrOf result AppendRefused.Failed) (IsOk result) }
     {
-        let need = self
-            .gate
-            .saturating_add(6)
-            .saturating_add(payload.len() as u64);
-        if need > self.limit {
-            return Err(AppendRefused::Full {
-                need,
-                limit: self.limit,
-            });
-        }
+        self.room(payload)?;
         stage(&mut self.disk, self.gate, payload)?;
         let number = self.number;
         self.number += 1;

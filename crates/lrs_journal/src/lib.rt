@@ -9,9 +9,7 @@ mod create;
 mod journal;
 mod replay;
 mod steps;
-#[cfg(test)]
-mod tests;
 
 pub use create::CreateRefused;
-pub use journal::{AppendRefused, Journal};
+pub use journal::{AppendRefused, Full, Journal};
 pub use replay::{RecoverRefused, Replay, ReplayRefused};

@@ -1,13 +1,15 @@
 // Reads the frames of a disk one by one, and makes its end a closed gate.
-ghost use Rattle.std.specs.Prelude.{◌≡◌, ◌≢◌, ◌⊎◌, ◌<◌, ◌≤◌, ◌+◌, ◌-◌, ◌^◌, ◌++◌, [], ◌∷◌, List, ℕ, length, IfOk, IfErr, IfSome, IsNone, IsOk, IsErr, IsErrOf, true, false, not};
+ghost use Rattle.std.specs.Prelude.{◌≡◌, ◌≢◌, ◌⊎◌, ◌<◌, ◌≤◌, ◌+◌, ◌-◌, ◌^◌, ◌++◌, [], ◌∷◌, List, ℕ, length, IfOk, IfErr, IfSome, Err, take, drop, IsNone, IsOk, IsErr, IsErrOf, true, false, not};
 ghost use Rattle.std.specs.Int.{w32, w64, to_be_bytes};
 ghost use Rattle.std.specs.Option.{ForSome};
 ghost use Rattle.lrs_disk.specs.Disk.{LeavesOnly};
-ghost use Rattle.lrs_disk.specs.Faults.{Rises};
+ghost use Rattle.lrs_disk.specs.Faults.{HasCause, Rises};
 ghost use Rattle.lrs_journal.specs.Store.{header, HasHeader, Stands, IsDamaged};
 ghost use Rattle.lrs_journal.specs.Journal.{frames_of, IsJournal, IsSynced, Stores, TellsAlike, HasCount};
-ghost use Rattle.lrs_journal.specs.Replay.{HasRead, IsSamePlace};
+ghost use Rattle.lrs_journal.specs.Steps.{Reads};
+ghost use Rattle.lrs_journal.specs.Replay.{HasRead, IsAhead, IsSamePlace};
 ghost use Rattle.lrs_journal.specs.declared.replay.RecoverRefused.TheVariants as RecoverRefused;
+ghost use Rattle.lrs_journal.specs.declared.replay.Ahead.TheVariants as Ahead;
 ghost use Rattle.lrs_journal.specs.declared.replay.ReplayRefused.TheVariants as ReplayRefused;
 
 use crate::Journal;
@@ -99,6 +101,64 @@ fn limit_of(head: &[u8]) -> Option<u64>
     }
 }
 
+// What stands where a gate is looked for.
+enum Ahead {
+    // No open gate: the list ends.
+    End,
+    // An open gate and no whole frame.
+    Torn,
+    // An open gate and a payload of so many bytes.
+    Frame { size: u32 },
+}
+
+// Looks at the gate and the length that stand at a place of a disk of so many bytes.
+fn look<D: Disk>(disk: &mut D, place: u64, total: u64) -> Result<Ahead, Failed>
+    requires { (b : List ℕ) → Reads D.told disk.old b → total ≡ length b }
+    ensures found { IfOk result (λ ahead. ForSome (D.told disk.old) (λ bytes. IsAhead (drop place bytes) ahead)) }
+    ensures fits { IfOk result (λ ahead. (size : ℕ) → ahead ≡ Ahead.Frame size → place + 5 + size ≤ total) }
+    ensures still { D.told disk.new ≡ D.told disk.old }
+    ensures any_moment { LeavesOnly D.time D.image_since disk.old disk.new (D.image disk.old) }
+    ensures cause { HasCause (D.fault_count disk.old) (D.fault_count disk.new) result }
+{
+    let mut head = [0; 5];
+    let number = disk.read_at(place, &mut head)?;
+    let [gate, a, b, c, d] = head;
+    // No byte, or a gate that is the last byte.
+    if number < 2 || gate != 1 {
+        return Ok(Ahead::End);
+    }
+    let size = word_of([a, b, c, d]);
+    let left = total.saturating_sub(place);
+    if number < 5 || left < 5 + u64::from(size) {
+        return Ok(Ahead::Torn);
+    }
+    Ok(Ahead::Frame { size })
+}
+
+// Reads so many bytes from a place on, and answers whether they were all there.
+fn load<D: Disk>(
+    disk: &mut D,
+    place: u64,
+    size: u32,
+    into: &mut Vec<u8>,
+) -> Result<bool, ReplayRefused>
+    ensures all { IfOk result (λ all. all ≡ true → ForSome (D.told disk.old)
+        (λ bytes. into.new.items ≡ take size (drop place bytes))) }
+    ensures length { IfOk result (λ _. length into.new.items ≡ size) }
+    ensures short { IfOk result (λ all. all ≡ false → ForSome (D.told disk.old)
+        (λ bytes. length bytes < place + size)) }
+    ensures damaged { (k : ℕ) → result ≢ Err (ReplayRefused.Damaged k) }
+    ensures still { D.told disk.new ≡ D.told disk.old }
+    ensures any_moment { LeavesOnly D.time D.image_since disk.old disk.new (D.image disk.old) }
+    ensures cause { HasCount (D.fault_count disk.old) (D.fault_count disk.new) (IsErrOf result ReplayRefused.Failed)
+        (IsOk result) }
+{
+    into.clear();
+    into.resize(size as usize, 0)?;
+    let number = disk.read_at(place, into)?;
+    Ok(number == size as usize)
+}
+
 /// The frames of a disk, read one by one.
 #[derive(Drop)]
 pub struct Replay<D: Disk> {
@@ -116,7 +176,14 @@ impl<D: Disk> Model for Replay<D> {
 
     ghost Value = { Reading D };
 
-    ghost view = { λ r. record { disk = r.disk; limit = r.limit; place = r.place; number = r.number; ended = r.ended } };
+    ghost view = { λ r. record {
+      disk = r.disk;
+      limit = r.limit;
+      place = r.place;
+      number = r.number;
+      ended =
+          r.ended;
+    } };
 
     ghost invariant = { λ r. IsReplay (D.told r.disk) (D.image r.disk) r.limit r.size r.place r.number r.ended };
 }
@@ -124,16 +191,19 @@ impl<D: Disk> Model for Replay<D> {
 impl<D: Disk> Journal<D> {
     /// Opens a disk that holds a store, to read its frames. It begins with a sync, so that what is read stays.
     pub fn recover(disk: D) -> Result<Replay<D>, (RecoverRefused, D)>
-        ensures opened { IfOk result (λ replay. ForSome (D.told disk) (λ bytes. HasHeader bytes replay.limit × HasRead bytes replay [])) }
+        ensures opened { IfOk result (λ replay. ForSome (D.told disk)
+            (λ bytes. HasHeader bytes replay.limit × HasRead bytes replay [])) }
         ensures begun { IfOk result (λ replay. (replay.number ≡ 0) × (replay.ended ≡ false)) }
         ensures synced { IfOk result (λ replay. IsSynced D.told D.image replay.disk) }
-        ensures not_a_store { IfErr result (λ e. e.0 ≡ RecoverRefused.NotAStore → ForSome (D.told disk) (λ bytes. (limit : ℕ) → HasHeader bytes limit → ⊥)) }
+        ensures not_a_store { IfErr result (λ e. e.0 ≡ RecoverRefused.NotAStore → ForSome (D.told disk)
+            (λ bytes. (limit : ℕ) → HasHeader bytes limit → ⊥)) }
         ensures still { IfOk result (λ replay. D.told replay.disk ≡ D.told disk) }
         ensures still_err { IfErr result (λ e. D.told e.1 ≡ D.told disk) }
         ensures any_moment { IfOk result (λ replay. LeavesOnly D.time D.image_since disk replay.disk (D.image disk)) }
         ensures any_moment_err { IfErr result (λ e. LeavesOnly D.time D.image_since disk e.1 (D.image disk)) }
         ensures kept { IfOk result (λ replay. D.fault_count replay.disk ≡ D.fault_count disk) }
-        ensures cause { IfErr result (λ e. HasCount (D.fault_count disk) (D.fault_count e.1) (e.0 ≡ RecoverRefused.Failed) (e.0 ≡ RecoverRefused.NotAStore)) }
+        ensures cause { IfErr result (λ e. HasCount (D.fault_count disk) (D.fault_count e.1) (e.0
+            ≡ RecoverRefused.Failed) (e.0 ≡ RecoverRefused.NotAStore)) }
     {
         let mut disk = disk;
         let Ok(()) = disk.sync() else {
@@ -185,58 +255,67 @@ impl<D: Disk> Replay<D> {
 
     /// Puts the next frame's payload into a vector and answers true, or answers false at the end of the list.
     pub fn next(&mut self, into: &mut Vec<u8>) -> Result<bool, ReplayRefused>
-        ensures frame { IfOk result (λ more. more ≡ true → ForSome (D.told self.old.disk) (λ bytes. (payloads : List (List ℕ)) → HasRead bytes self.old payloads → HasRead bytes self.new (payloads ++ into.new.items ∷ []))) }
-        ensures end { IfOk result (λ more. more ≡ false → IsSamePlace self.old self.new × ForSome (D.told self.old.disk) (λ bytes. (payloads : List (List ℕ)) → HasRead bytes self.old payloads → HasRead bytes self.new payloads × Stands bytes self.old.limit payloads)) }
+        ensures frame { IfOk result (λ more. more ≡ true → ForSome (D.told self.old.disk)
+            (λ bytes. (payloads : List (List ℕ)) → HasRead bytes self.old payloads
+            → HasRead bytes self.new (payloads ++ into.new.items ∷ []))) }
+        ensures end { IfOk result (λ more. more ≡ false → IsSamePlace self.old self.new × ForSome (D.told self.old.disk)
+            (λ bytes. (payloads : List (List ℕ)) → HasRead bytes self.old payloads → HasRead bytes self.new payloads
+            × Stands bytes self.old.limit payloads)) }
         ensures ended { IfOk result (λ more. self.new.ended ≡ not more) }
-        ensures damaged { (k : ℕ) → IsErrOf result (ReplayRefused.Damaged k) → (k ≡ self.old.number) × ForSome (D.told self.old.disk) (λ bytes. (payloads : List (List ℕ)) → HasRead bytes self.old payloads → IsDamaged bytes self.old.limit payloads) }
+        ensures damaged { (k : ℕ) → IsErrOf result (ReplayRefused.Damaged k) → (k ≡ self.old.number)
+            × ForSome (D.told self.old.disk) (λ bytes. (payloads : List (List ℕ)) → HasRead bytes self.old payloads
+            → IsDamaged bytes self.old.limit payloads) }
         ensures refused { IsErr result → IsSamePlace self.old self.new × (self.new.ended ≡ self.old.ended) }
         ensures limit { self.new.limit ≡ self.old.limit }
         ensures still { D.told self.new.disk ≡ D.told self.old.disk }
         ensures synced { IsSynced D.told D.image self.new.disk }
-        ensures any_moment { LeavesOnly D.time D.image_since self.old.disk self.new.disk (λ bytes. D.told self.old.disk ≡ Some bytes) }
-        ensures cause { HasCount (D.fault_count self.old.disk) (D.fault_count self.new.disk) (IsErrOf result ReplayRefused.Failed) (IsOk result) }
+        ensures any_moment { LeavesOnly D.time D.image_since self.old.disk self.new.disk
+            (λ bytes. D.told self.old.disk ≡ Some bytes) }
+        ensures cause { HasCount (D.fault_count self.old.disk) (D.fault_count self.new.disk)
+            (IsErrOf result ReplayRefused.Failed) (IsOk result) }
     {
-        let mut head = [0; 5];
-        let number = self.disk.read_at(self.place, &mut head)?;
-        let [gate, a, b, c, d] = head;
-        // No byte, or a gate that is the last byte.
-        if number < 2 || gate != 1 {
-            self.ended = true;
-            return Ok(false);
+        match look(&mut self.disk, self.place, self.size)? {
+            Ahead::End => {
+                self.ended = true;
+                Ok(false)
+            }
+            Ahead::Torn => Err(ReplayRefused::Damaged { k: self.number }),
+            Ahead::Frame { size } => {
+                if !load(&mut self.disk, self.place + 5, size, into)? {
+                    return Err(ReplayRefused::Damaged { k: self.number });
+                }
+                self.place += 5 + u64::from(size);
+                self.number += 1;
+                self.ended = false;
+                Ok(true)
+            }
         }
-        let length = word_of([a, b, c, d]);
-        let left = self.size.saturating_sub(self.place);
-        if number < 5 || left < 5 + u64::from(length) {
-            return Err(ReplayRefused::Damaged { k: self.number });
-        }
-        into.clear();
-        into.resize(length as usize, 0)?;
-        let read = self.disk.read_at(self.place + 5, into)?;
-        if read < length as usize {
-            return Err(ReplayRefused::Damaged { k: self.number });
-        }
-        self.place += 5 + u64::from(length);
-        self.number += 1;
-        self.ended = false;
-        Ok(true)
     }
 
     /// The journal that was read, with a closed gate at its end. `next` has answered false before.
     pub fn finish(self) -> Result<Journal<D>, (Failed, D)>
         requires { self.ended ≡ true }
-        ensures finished { IfOk result (λ journal. ForSome (D.told self.disk) (λ bytes. (payloads : List (List ℕ)) → HasRead bytes self payloads → frames_of D.told journal ≡ Some payloads)) }
-        ensures fields { IfOk result (λ journal. (journal.doubt ≡ false) × (journal.limit ≡ self.limit) × (journal.end ≡ self.place) × (journal.number ≡ self.number)) }
+        ensures finished { IfOk result (λ journal. ForSome (D.told self.disk)
+            (λ bytes. (payloads : List (List ℕ)) → HasRead bytes self payloads
+            → frames_of D.told journal ≡ Some payloads)) }
+        ensures fields { IfOk result (λ journal. (journal.doubt ≡ false) × (journal.limit ≡ self.limit)
+            × (journal.end ≡ self.place) × (journal.number ≡ self.number)) }
         ensures sound { IfOk result (IsJournal D.told D.image) }
         ensures tells { IfOk result (λ journal. TellsAlike (D.told self.disk) (D.told journal.disk)) }
         ensures tells_err { IfErr result (λ e. TellsAlike (D.told self.disk) (D.told e.1)) }
-        ensures failed { IfErr result (λ e. ForSome (D.told self.disk) (λ bytes. (payloads : List (List ℕ)) → HasRead bytes self payloads → Stores D.told e.1 self.limit payloads)) }
+        ensures failed { IfErr result (λ e. ForSome (D.told self.disk)
+            (λ bytes. (payloads : List (List ℕ)) → HasRead bytes self payloads
+            → Stores D.told e.1 self.limit payloads)) }
         // A crash at any moment leaves the frames that were read.
-        ensures any_moment { IfOk result (λ journal. ForSome (D.told self.disk) (λ bytes. (payloads : List (List ℕ)) → HasRead bytes self payloads
+        ensures any_moment { IfOk result (λ journal. ForSome (D.told self.disk)
+            (λ bytes. (payloads : List (List ℕ)) → HasRead bytes self payloads
             → LeavesOnly D.time D.image_since self.disk journal.disk (λ image. Stands image self.limit payloads))) }
-        ensures any_moment_err { IfErr result (λ e. ForSome (D.told self.disk) (λ bytes. (payloads : List (List ℕ)) → HasRead bytes self payloads
+        ensures any_moment_err { IfErr result (λ e. ForSome (D.told self.disk)
+            (λ bytes. (payloads : List (List ℕ)) → HasRead bytes self payloads
             → LeavesOnly D.time D.image_since self.disk e.1 (λ image. Stands image self.limit payloads))) }
         ensures kept { IfOk result (λ journal. D.fault_count journal.disk ≡ D.fault_count self.disk) }
-        ensures cause { IfErr result (λ e. (D.fault_count self.disk ≤ D.fault_count e.1) × Rises (D.fault_count self.disk) (D.fault_count e.1)) }
+        ensures cause { IfErr result (λ e. (D.fault_count self.disk ≤ D.fault_count e.1)
+            × Rises (D.fault_count self.disk) (D.fault_count e.1)) }
     {
         let Replay {
             mut disk,

@@ -12,7 +12,8 @@ use lrs_disk::{Disk, Failed};
 pub(crate) fn stage<D: Disk>(disk: &mut D, place: u64, payload: &[u8]) -> Result<(), Failed>
     requires fits { place + 6 + length payload.now < 2 ^ 32 }
     requires gate { (b : List ℕ) → Reads D.told disk.old b → place < length b }
-    ensures staged { OnOk result (Follows (λ b c. c ≡ written b (place + 1) (body payload.now ++ 0 ∷ [])) (Reads D.told disk.old) (D.image disk.new)) }
+    ensures staged { OnOk result (Follows (λ b c. c ≡ written b (place + 1) (body payload.now ++ 0
+        ∷ [])) (Reads D.told disk.old) (D.image disk.new)) }
     ensures tells { TellsAlike (D.told disk.old) (D.told disk.new) }
     ensures any_moment { LeavesOnly D.time D.image_since disk.old disk.new (IsBehind (place + 1) (D.image disk.old)) }
     ensures cause { HasCause (D.fault_count disk.old) (D.fault_count disk.new) result }
@@ -27,7 +28,8 @@ pub(crate) fn stage<D: Disk>(disk: &mut D, place: u64, payload: &[u8]) -> Result
 /// Writes a gate, and syncs.
 pub(crate) fn write_gate<D: Disk>(disk: &mut D, place: u64, gate: u8) -> Result<(), Failed>
     requires place { (b : List ℕ) → Reads D.told disk.old b → place ≤ length b }
-    ensures written { OnOk result (Follows (λ b c. c ≡ written b place (gate ∷ [])) (Reads D.told disk.old) (D.image disk.new)) }
+    ensures written { OnOk result (Follows (λ b c. c ≡ written b place (gate
+        ∷ [])) (Reads D.told disk.old) (D.image disk.new)) }
     ensures tells { TellsAlike (D.told disk.old) (D.told disk.new) }
     ensures any_moment { LeavesOnly D.time D.image_since disk.old disk.new (IsAtGate place (D.image disk.old)) }
     ensures cause { HasCause (D.fault_count disk.old) (D.fault_count disk.new) result }

@@ -18,7 +18,8 @@ impl Clock {
     }
 
     pub(crate) fn show(&mut self) -> u64
-        ensures read { AddsReading (told_readings self.old.numbers.items self.old.shown) (told_readings self.new.numbers.items self.new.shown) result }
+        ensures read { AddsReading (told_readings self.old.numbers.items self.old.shown)
+            (told_readings self.new.numbers.items self.new.shown) result }
         ensures shown { result ≡ reading_at self.old.numbers.items self.old.shown }
         ensures number { self.new.shown ≡ min (self.old.shown + 1) (2 ^ 64 - 1) }
         ensures numbers { self.new.numbers.items ≡ self.old.numbers.items }

@@ -21,7 +21,8 @@ pub struct MemDisk {
     bytes: Vec<u8>,
     ledger: Ledger,
     ghost reads: { bytes.items ≡ reads_after (steps_of ledger) first.items },
-    ghost bytes_fit: { length bytes.items + (ledger.history.byte_room - length ledger.history.log.items) ≤ vec_capacity bytes },
+    ghost bytes_fit: { length bytes.items + (ledger.history.byte_room - length ledger.history.log.items)
+        ≤ vec_capacity bytes },
 }
 
 impl MemDisk {
@@ -42,7 +43,8 @@ impl MemDisk {
         ensures steps { IfOk result (λ d. steps_made d ≡ []) }
         ensures moment { IfOk result (λ d. moment_of d ≡ 0) }
         ensures faults { IfOk result (λ d. faults_of d ≡ 0) }
-        ensures allowance { IfOk result (λ d. allowance_of d ≡ record { failing = failing.items; number = 0; calls = calls; bytes = written }) }
+        ensures allowance { IfOk result (λ d. allowance_of d ≡
+            record { failing = failing.items; number = 0; calls = calls; bytes = written }) }
     {
         let first = bytes.as_slice().to_vec(alloc)?;
         let mut bytes = bytes;
@@ -60,7 +62,8 @@ impl MemDisk {
     pub fn image(&self, moment: u64, pending: Pending) -> Result<Vec<u8>, Memory>
         requires { moment ≤ moment_of self.now }
         ensures image { IfOk result (λ v. LeavesSince self.now moment v.items) }
-        ensures pending { IfOk result (λ v. v.items ≡ crash_image pending (take moment (steps_made self.now)) (first_of self.now) (first_of self.now)) }
+        ensures pending { IfOk result (λ v. v.items ≡ crash_image pending (take moment (steps_made self.now))
+            (first_of self.now) (first_of self.now)) }
     {
         let history = &self.ledger.history;
         let kept = moment.min(history.calls.len() as u64) as usize;
@@ -96,7 +99,8 @@ impl Disk for MemDisk {
 
     ghost time = { moment_of };
 
-    ghost reads_image = { λ d b is. reads_image (steps_made d) (first_of d) b (told_reads (bytes_of d) b (reads_after (steps_made d) (first_of d)) is d.reads) };
+    ghost reads_image = { λ d b is. reads_image (steps_made d) (first_of d) b
+        (told_reads (bytes_of d) b (reads_after (steps_made d) (first_of d)) is d.reads) };
 
     ghost tells = { λ d c left. refl };
 
@@ -108,7 +112,8 @@ impl Disk for MemDisk {
         ensures length { IfOk result (λ n. n ≡ length (bytes_of self.old)) }
         ensures still { bytes_of self.new ≡ bytes_of self.old }
         ensures crash { Within (Leaves self.old) (Leaves self.new) }
-        ensures time { Elapses (moment_of self.old) (moment_of self.new) (LeavesSince self.old) (LeavesSince self.new) (Leaves self.new) }
+        ensures time { Elapses (moment_of self.old) (moment_of self.new) (LeavesSince self.old) (LeavesSince self.new)
+            (Leaves self.new) }
         ensures cause { HasCause (faults_of self.old) (faults_of self.new) result }
         ensures takes { Takes self.old self.new Nothing Nothing 0 result }
     {
@@ -122,7 +127,8 @@ impl Disk for MemDisk {
         ensures bytes { IfOk result (λ n. take n into.new ≡ take n (drop place (bytes_of self.old))) }
         ensures still { bytes_of self.new ≡ bytes_of self.old }
         ensures crash { Within (Leaves self.old) (Leaves self.new) }
-        ensures time { Elapses (moment_of self.old) (moment_of self.new) (LeavesSince self.old) (LeavesSince self.new) (Leaves self.new) }
+        ensures time { Elapses (moment_of self.old) (moment_of self.new) (LeavesSince self.old) (LeavesSince self.new)
+            (Leaves self.new) }
         ensures cause { HasCause (faults_of self.old) (faults_of self.new) result }
         ensures takes { Takes self.old self.new Nothing Nothing 0 result }
     {
@@ -135,9 +141,11 @@ impl Disk for MemDisk {
         ensures written { OnOk result (bytes_of self.new ≡ written (bytes_of self.old) place bytes.now) }
         ensures failed { OnErr result (bytes_of self.new ≡ bytes_of self.old) }
         ensures crash { Follows (Torn place (length bytes.now)) (Leaves self.old) (Leaves self.new) }
-        ensures time { Elapses (moment_of self.old) (moment_of self.new) (LeavesSince self.old) (LeavesSince self.new) (Leaves self.new) }
+        ensures time { Elapses (moment_of self.old) (moment_of self.new) (LeavesSince self.old) (LeavesSince self.new)
+            (Leaves self.new) }
         ensures cause { HasCause (faults_of self.old) (faults_of self.new) result }
-        ensures takes { Takes self.old self.new (Wrote place bytes.now) (FailedWrite place bytes.now) (length bytes.now) result }
+        ensures takes { Takes self.old self.new (Wrote place bytes.now) (FailedWrite place bytes.now) (length bytes.now)
+            result }
     {
         self.ledger.enter(Act::Write { place }, bytes)?;
         overwrite(&mut self.bytes, place, bytes).unwrap();
@@ -149,7 +157,8 @@ impl Disk for MemDisk {
         ensures cut { OnOk result (bytes_of self.new ≡ take to (bytes_of self.old)) }
         ensures failed { OnErr result (bytes_of self.new ≡ bytes_of self.old) }
         ensures crash { Follows (Cut to) (Leaves self.old) (Leaves self.new) }
-        ensures time { Elapses (moment_of self.old) (moment_of self.new) (LeavesSince self.old) (LeavesSince self.new) (Leaves self.new) }
+        ensures time { Elapses (moment_of self.old) (moment_of self.new) (LeavesSince self.old) (LeavesSince self.new)
+            (Leaves self.new) }
         ensures cause { HasCause (faults_of self.old) (faults_of self.new) result }
         ensures takes { Takes self.old self.new (CutTo to) (FailedCut to) 0 result }
     {
@@ -162,7 +171,8 @@ impl Disk for MemDisk {
         ensures durable { OnOk result ((c : List ℕ) → Leaves self.new c → c ≡ bytes_of self.new) }
         ensures still { bytes_of self.new ≡ bytes_of self.old }
         ensures crash { Within (Leaves self.old) (Leaves self.new) }
-        ensures time { Elapses (moment_of self.old) (moment_of self.new) (LeavesSince self.old) (LeavesSince self.new) (Leaves self.new) }
+        ensures time { Elapses (moment_of self.old) (moment_of self.new) (LeavesSince self.old) (LeavesSince self.new)
+            (Leaves self.new) }
         ensures cause { HasCause (faults_of self.old) (faults_of self.new) result }
         ensures takes { Takes self.old self.new Synced Nothing 0 result }
     {

@@ -75,7 +75,8 @@ impl Door for MemDoor {
 
     fn next(&mut self) -> Next<MemLink>
         requires { out_of self.old ≡ None }
-        ensures streams { Brings (λ link. Some (stream_of link)) result (state_of self.old).streams (state_of self.new).streams }
+        ensures streams { Brings (λ link. Some (stream_of link)) result (state_of self.old).streams
+            (state_of self.new).streams }
         ensures unread { IfJoined result (λ link. left_of link ≡ stream_of link) }
         ensures unwritten { IfJoined result (λ link. taken_of link ≡ []) }
         ensures unfailed { IfJoined result (λ link. link_faults_of link ≡ 0) }
@@ -89,7 +90,8 @@ impl Door for MemDoor {
         ensures fails { IsFailed result ↔ IsDue (schedule_of self.old) }
         ensures schedule { IsNext (schedule_of self.old) (schedule_of self.new) }
         ensures joins { JoinsFirst result (coming_of self.old) (coming_of self.new) (length (returned_of self.old)) }
-        ensures same { (returned_of self.new ≡ returned_of self.old) × (clock_of self.new ≡ clock_of self.old) × (shown_of self.new ≡ shown_of self.old) }
+        ensures same { (returned_of self.new ≡ returned_of self.old) × (clock_of self.new ≡ clock_of self.old)
+            × (shown_of self.new ≡ shown_of self.old) }
     {
         self.closed = false;
         if self.plan.is_due() {
@@ -111,7 +113,8 @@ impl Door for MemDoor {
 
     fn done(&mut self, link: MemLink)
         requires { out_of self.old ≡ Some (name_of link) }
-        ensures state { state_of self.new ≡ with_returned (state_of self.old) (link_returned (Some (stream_of link)) (Some (taken_of link)) (link_faults_of link)) }
+        ensures state { state_of self.new ≡ with_returned (state_of self.old)
+            (link_returned (Some (stream_of link)) (Some (taken_of link)) (link_faults_of link)) }
         ensures returned { returned_of self.new ≡ returned_of self.old ++ link ∷ [] }
         ensures coming { coming_of self.new ≡ coming_of self.old }
         ensures schedule { schedule_of self.new ≡ schedule_of self.old }

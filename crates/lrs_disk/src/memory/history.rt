@@ -42,7 +42,8 @@ impl History {
         requires size { call.size ≡ length bytes.now }
         requires call_room { length self.old.calls.items < self.old.call_room }
         requires byte_room { length bytes.now ≤ self.old.byte_room - length self.old.log.items }
-        ensures steps { steps self.new.calls.items self.new.log.items ≡ steps self.old.calls.items self.old.log.items ++ step_of call bytes.now ∷ [] }
+        ensures steps { steps self.new.calls.items self.new.log.items ≡ steps self.old.calls.items self.old.log.items
+            ++ step_of call bytes.now ∷ [] }
         ensures calls { length self.new.calls.items ≡ length self.old.calls.items + 1 }
         ensures bytes { length self.new.log.items ≡ length self.old.log.items + length bytes.now }
         ensures rooms { (self.new.call_room ≡ self.old.call_room) × (self.new.byte_room ≡ self.old.byte_room) }

@@ -33,7 +33,8 @@ impl Input {
         ensures cuts { self.new.cuts.items ≡ self.old.cuts.items }
         ensures place { self.new.place ≡ self.old.place + result }
         ensures pieces { All (λ cut. self.old.place < cut → self.new.place ≤ cut) self.old.cuts.items }
-        ensures filled { (result ≡ length into.old) ⊎ (self.new.place ≡ length self.old.bytes.items) ⊎ Contains self.old.cuts.items self.new.place }
+        ensures filled { (result ≡ length into.old) ⊎ (self.new.place ≡ length self.old.bytes.items)
+            ⊎ Contains self.old.cuts.items self.new.place }
     {
         let place = self.place;
         let stop = stop_after(&self.cuts, place, self.bytes.len());

@@ -29,7 +29,8 @@ impl Ledger {
         bytes: u64,
     ) -> Result<Self, AllocError>
         ensures steps { IfOk result (λ r. steps_of r ≡ []) }
-        ensures allowance { IfOk result (λ r. allowance_of r ≡ record { failing = failing.items; number = 0; calls = calls; bytes = bytes }) }
+        ensures allowance { IfOk result (λ r. allowance_of r ≡
+            record { failing = failing.items; number = 0; calls = calls; bytes = bytes }) }
         ensures faults { IfOk result (λ r. r.plan.faults ≡ 0) }
     {
         Ok(Ledger {
@@ -41,10 +42,13 @@ impl Ledger {
     // One call. It fails where its number says so, and where there is no room. While there is room it is kept.
     pub(crate) fn enter(&mut self, act: Act, bytes: &[u8]) -> Result<(), Failed>
         ensures made { OnOk result (steps_of self.new ≡ steps_of self.old ++ made act bytes.now ∷ []) }
-        ensures tried { OnErr result (HasRoom (allowance_of self.old) (length bytes.now) → steps_of self.new ≡ steps_of self.old ++ tried act bytes.now ∷ []) }
+        ensures tried { OnErr result (HasRoom (allowance_of self.old) (length bytes.now)
+            → steps_of self.new ≡ steps_of self.old ++ tried act bytes.now ∷ []) }
         ensures kept { OnErr result (MayAdd (steps_of self.old) (steps_of self.new) (tried act bytes.now)) }
         ensures spends { Spends (allowance_of self.old) (allowance_of self.new) (length bytes.now) result }
-        ensures time { (first : List ℕ) → Elapses self.old.plan.number self.new.plan.number (IsImageSince (steps_of self.old) first self.old.plan.number) (IsImageSince (steps_of self.new) first self.new.plan.number) (IsImage (steps_of self.new) first) }
+        ensures time { (first : List ℕ) → Elapses self.old.plan.number self.new.plan.number
+            (IsImageSince (steps_of self.old) first self.old.plan.number)
+            (IsImageSince (steps_of self.new) first self.new.plan.number) (IsImage (steps_of self.new) first) }
         ensures cause { HasCause self.old.plan.faults self.new.plan.faults result }
     {
         let number = self.plan.number;

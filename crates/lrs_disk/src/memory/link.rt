@@ -84,7 +84,8 @@ impl Link for MemLink {
         ensures schedule { IsNext (schedule_of self.old) (schedule_of self.new) }
         ensures place { IfOk result (λ n. place_of self.new ≡ place_of self.old + n) }
         ensures pieces { All (λ cut. place_of self.old < cut → place_of self.new ≤ cut) (cuts_of self.old) }
-        ensures filled { IfOk result (λ n. (n ≡ length into.old) ⊎ (place_of self.new ≡ length (stream_of self.old)) ⊎ Contains (cuts_of self.old) (place_of self.new)) }
+        ensures filled { IfOk result (λ n. (n ≡ length into.old) ⊎ (place_of self.new ≡ length (stream_of self.old))
+            ⊎ Contains (cuts_of self.old) (place_of self.new)) }
     {
         if self.plan.is_due() {
             return Err(self.plan.fail());
@@ -100,7 +101,8 @@ impl Link for MemLink {
         ensures same { IsSame self.old self.new }
         ensures place { place_of self.new ≡ place_of self.old }
         ensures cause { HasCause (faults_of self.old) (faults_of self.new) result }
-        ensures fails { IsErr result ↔ (IsDue (schedule_of self.old) ⊎ ((0 < length bytes.now) × (room_of self.old ≡ 0))) }
+        ensures fails { IsErr result ↔ (IsDue (schedule_of self.old)
+            ⊎ ((0 < length bytes.now) × (room_of self.old ≡ 0))) }
         ensures schedule { IsNext (schedule_of self.old) (schedule_of self.new) }
         ensures number { IfOk result (λ n. n ≡ min (length bytes.now) (room_of self.old)) }
         ensures room_left { IfOk result (λ n. room_of self.new ≡ room_of self.old - n) }

@@ -91,7 +91,8 @@ impl Lobby for MemLobby {
     ghost fault_count = { faults_of };
 
     fn now(&mut self) -> u64
-        ensures read { AddsReading (told_readings (clock_of self.old) (shown_of self.old)) (told_readings (clock_of self.new) (shown_of self.new)) result }
+        ensures read { AddsReading (told_readings (clock_of self.old) (shown_of self.old))
+            (told_readings (clock_of self.new) (shown_of self.new)) result }
         ensures same { faults_of self.new ≡ faults_of self.old }
         ensures asked_kept { asked_of self.new ≡ asked_of self.old }
         ensures returned_kept { returned_of self.new ≡ returned_of self.old }
@@ -113,15 +114,18 @@ impl Lobby for MemLobby {
         requires { (1 ≤ count) × (count ≤ 16) }
         ensures number { IfOk result (λ doors. length doors.items ≡ count) }
         ensures fresh { IfOk result (λ doors. All (λ door. IsFresh (state_of door)) doors.items) }
-        ensures asked { Asks (record { address = address.now; count = count }) result (Some (asked_of self.old)) (Some (asked_of self.new)) }
+        ensures asked { Asks (record { address = address.now; count = count }) result (Some (asked_of self.old))
+            (Some (asked_of self.new)) }
         ensures cause { HasDoorsCause (faults_of self.old) (faults_of self.new) result }
         ensures readings_kept { (clock_of self.new ≡ clock_of self.old) × (shown_of self.new ≡ shown_of self.old) }
         ensures returned_kept { returned_of self.new ≡ returned_of self.old }
         ensures given { IfOk result (λ doors. (doors.items ≡ doors_of self.old) × (doors_of self.new ≡ [])) }
         ensures not_given { OnErr result (doors_of self.new ≡ doors_of self.old) }
-        ensures fails { result ≡ Err DoorsRefused.Failed → IsDue (schedule_of self.old) ⊎ (length (doors_of self.old) ≢ count) }
+        ensures fails { result ≡ Err DoorsRefused.Failed → IsDue (schedule_of self.old)
+            ⊎ (length (doors_of self.old) ≢ count) }
         ensures schedule { OnOk result (IsNext (schedule_of self.old) (schedule_of self.new)) }
-        ensures schedule_failed { result ≡ Err DoorsRefused.Failed → IsNext (schedule_of self.old) (schedule_of self.new) }
+        ensures schedule_failed { result ≡ Err DoorsRefused.Failed
+            → IsNext (schedule_of self.old) (schedule_of self.new) }
         ensures schedule_kept { result ≡ Err DoorsRefused.Memory → schedule_of self.new ≡ schedule_of self.old }
         ensures succeeds { IfOk result (λ _. IsDue (schedule_of self.old) → ⊥) }
     {

@@ -104,8 +104,10 @@ fn take_named(
     ensures named { result ≡ disk_named disks.old.items spare.old.items name.now }
     ensures disks { disks.new.items ≡ remove disks.old.items (position_or_len (is_named name.now) disks.old.items) }
     ensures spare { IsSome (find (is_named name.now) disks.old.items) → spare.new.items ≡ spare.old.items }
-    ensures spare_used { IsNone (find (is_named name.now) disks.old.items) → spare.new.items ≡ take (length spare.old.items - 1) spare.old.items }
-    ensures settled { All (λ entry. IsSettled entry.1) disks.old.items → All IsSettled spare.old.items → IfSome result IsSettled }
+    ensures spare_used { IsNone (find (is_named name.now) disks.old.items)
+        → spare.new.items ≡ take (length spare.old.items - 1) spare.old.items }
+    ensures settled { All (λ entry. IsSettled entry.1) disks.old.items → All IsSettled spare.old.items
+        → IfSome result IsSettled }
 {
     let place = place_of(disks, name);
     if place < disks.len() {
@@ -132,7 +134,8 @@ impl Shelf for MemShelf {
 
     fn take(&mut self, name: &str) -> Result<MemDisk, Failed>
         ensures told { IfOk result (λ disk. Some (bytes_of disk) ≡ option_map bytes_of (disk_for self.old name.now)) }
-        ensures begins { IfOk result (λ disk. disk_faults_of disk ≡ option_map_or disk_faults_of (disk_for self.old name.now) 0) }
+        ensures begins { IfOk result (λ disk. disk_faults_of disk
+            ≡ option_map_or disk_faults_of (disk_for self.old name.now) 0) }
         ensures starts { IfOk result (λ disk. moment_of disk ≡ option_map_or moment_of (disk_for self.old name.now) 0) }
         ensures settled { IfOk result IsSettled }
         ensures taken { AddsName (taken_of self.old) (taken_of self.new) name.now }
@@ -140,10 +143,14 @@ impl Shelf for MemShelf {
         ensures given { IfOk result (λ disk. disk_for self.old name.now ≡ Some disk) }
         ensures fails { IsErr result ↔ (IsDue (schedule_of self.old) ⊎ (disk_for self.old name.now ≡ None)) }
         ensures schedule { IsNext (schedule_of self.old) (schedule_of self.new) }
-        ensures disks { IfOk result (λ _. disks_of self.new ≡ remove (disks_of self.old) (position_or_len (is_named name.now) (disks_of self.old))) }
-        ensures spare { IfOk result (λ _. IsSome (find (is_named name.now) (disks_of self.old)) → spare_of self.new ≡ spare_of self.old) }
-        ensures spare_used { IfOk result (λ _. IsNone (find (is_named name.now) (disks_of self.old)) → spare_of self.new ≡ take (length (spare_of self.old) - 1) (spare_of self.old)) }
-        ensures same { OnErr result ((disks_of self.new ≡ disks_of self.old) × (spare_of self.new ≡ spare_of self.old)) }
+        ensures disks { IfOk result (λ _. disks_of self.new ≡ remove (disks_of self.old)
+            (position_or_len (is_named name.now) (disks_of self.old))) }
+        ensures spare { IfOk result (λ _. IsSome (find (is_named name.now) (disks_of self.old))
+            → spare_of self.new ≡ spare_of self.old) }
+        ensures spare_used { IfOk result (λ _. IsNone (find (is_named name.now) (disks_of self.old))
+            → spare_of self.new ≡ take (length (spare_of self.old) - 1) (spare_of self.old)) }
+        ensures same { OnErr result ((disks_of self.new ≡ disks_of self.old)
+            × (spare_of self.new ≡ spare_of self.old)) }
     {
         note(&mut self.taken, name);
         if self.plan.is_due() {

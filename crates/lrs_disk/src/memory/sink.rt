@@ -52,7 +52,8 @@ impl Sink for MemSink {
         ensures taken { IfOk result (λ n. taken_of self.new ≡ taken_of self.old ++ take n bytes.now) }
         ensures failed { OnErr result (taken_of self.new ≡ taken_of self.old) }
         ensures cause { HasCause (faults_of self.old) (faults_of self.new) result }
-        ensures fails { IsErr result ↔ (IsDue (schedule_of self.old) ⊎ ((0 < length bytes.now) × (room_of self.old ≡ 0))) }
+        ensures fails { IsErr result ↔ (IsDue (schedule_of self.old)
+            ⊎ ((0 < length bytes.now) × (room_of self.old ≡ 0))) }
         ensures schedule { IsNext (schedule_of self.old) (schedule_of self.new) }
         ensures number { IfOk result (λ n. n ≡ min (length bytes.now) (room_of self.old)) }
         ensures room_left { IfOk result (λ n. room_of self.new ≡ room_of self.old - n) }

@@ -49,7 +49,8 @@ impl Source for MemSource {
         ensures same { (input_of self.new ≡ input_of self.old) × (cuts_of self.new ≡ cuts_of self.old) }
         ensures place { IfOk result (λ n. place_of self.new ≡ place_of self.old + n) }
         ensures pieces { All (λ cut. place_of self.old < cut → place_of self.new ≤ cut) (cuts_of self.old) }
-        ensures filled { IfOk result (λ n. (n ≡ length into.old) ⊎ (place_of self.new ≡ length (input_of self.old)) ⊎ Contains (cuts_of self.old) (place_of self.new)) }
+        ensures filled { IfOk result (λ n. (n ≡ length into.old) ⊎ (place_of self.new ≡ length (input_of self.old))
+            ⊎ Contains (cuts_of self.old) (place_of self.new)) }
     {
         if self.plan.is_due() {
             return Err(self.plan.fail());

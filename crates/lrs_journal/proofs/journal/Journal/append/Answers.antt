@@ -1,20 +1,20 @@
-use Rattle.std.proofs.Common.{◌≡◌, ◌+◌, ◌++◌, ◌∷◌, [], ◌∙◌, List, ℕ, Option, Some, None, option_map, true, ap, inl, inr, refl, sym, subst, arith}
+use Rattle.std.proofs.Common.{◌≡◌, ◌+◌, ◌++◌, ◌∷◌, [], ◌∙◌, List, ℕ, Option, Some, None, option_map, true, ap, inl, inr, refl, sym, subst}
 use Rattle.std.specs.Option.{is_some}
 use Rattle.lrs_disk.specs.Disk.{LeavesOnly}
 use Rattle.lrs_disk.proofs.Moments.{started, now_has, weaker_run, then_run}
-use Rattle.lrs_journal.specs.Store.{IsBeforeOrAfter}
+use Rattle.lrs_journal.specs.Store.{IsBeforeOrAfter, Stands}
 use Rattle.lrs_journal.specs.Steps.{IsBehind, IsSound}
 use Rattle.lrs_journal.specs.Journal.{Held, frames_of, StandsFor, IsJournal, IsAppended, IsUnchanged}
-use Rattle.lrs_journal.proofs.Kept.{seen, sound_journal, settled_journal, after_behind, after_staged, gate_there, behind_leaves, no_doubt, doubt_before_or_after}
+use Rattle.lrs_journal.proofs.Kept.{seen, sound_journal, settled_journal, after_behind, after_staged, gate_there, room_behind, behind_leaves, no_doubt, doubt_before_or_after}
 use Rattle.lrs_journal.proofs.journal.Journal.append.Goals as goal
 
-pub returns-then-need-self-clause-sound : goal.returns-then-need-self-clause-sound
-returns-then-need-self-clause-sound g c =
+pub returns-in_err-room-clause-sound : goal.returns-in_err-room-clause-sound
+returns-in_err-room-clause-sound g c =
     let i = c.self.inside in
     subst (IsJournal g.D.Disk.told g.D.Disk.image) c.self.view_is (sound_journal g.D.Disk.told g.D.Disk.image g.met.D.Disk.reads_image i.disk i.limit i.gate i.number i.doubt c.self.invariant)
 
-pub returns-then-need-self-clause-any_moment : goal.returns-then-need-self-clause-any_moment
-returns-then-need-self-clause-any_moment g c x is =
+pub returns-in_err-room-clause-any_moment : goal.returns-in_err-room-clause-any_moment
+returns-in_err-room-clause-any_moment g c x is =
     let T = g.D.Disk.time in
     let S = g.D.Disk.image_since in
     let I = g.D.Disk.image in
@@ -26,6 +26,19 @@ returns-then-need-self-clause-any_moment g c x is =
     let run : (x : List (List ℕ)) → frames_of told (seen i.disk i.limit i.gate i.number None) ≡ Some x → LeavesOnly T S i.disk i.disk (IsBeforeOrAfter i.limit x p) = λ x is.
     started T S I g.met.D.Disk.counts_now g.met.D.Disk.only_now i.disk (IsBeforeOrAfter i.limit x p) (λ f left. inl (behind_leaves told I g.met.D.Disk.reads_image i.disk i.limit i.gate i.number old x is f (f, left, refl))) in
     subst (λ (h : Held _). (x : List (List ℕ)) → frames_of told h ≡ Some x → LeavesOnly T S h.disk h.disk (IsBeforeOrAfter h.limit x p)) (ap (λ (o : Option ℕ). seen i.disk i.limit i.gate i.number o) (sym none) ∙ c.self.view_is) run x is
+
+pub returns-in_err-room-clause-any_moment_err : goal.returns-in_err-room-clause-any_moment_err
+returns-in_err-room-clause-any_moment_err g c _ _ x is =
+    let T = g.D.Disk.time in
+    let S = g.D.Disk.image_since in
+    let I = g.D.Disk.image in
+    let told = g.D.Disk.told in
+    let i = c.self.inside in
+    let none : i.doubt ≡ None = no_doubt i.doubt (ap (λ (h : Held _). h.doubt) c.self.view_is ∙ c.requires) in
+    let old = subst (λ (o : Option ℕ). IsSound (told i.disk) (I i.disk) i.limit i.gate i.number o) none c.self.invariant in
+    let run : (x : List (List ℕ)) → frames_of told (seen i.disk i.limit i.gate i.number None) ≡ Some x → LeavesOnly T S i.disk i.disk (λ image. Stands image i.limit x) = λ x is.
+    started T S I g.met.D.Disk.counts_now g.met.D.Disk.only_now i.disk (λ image. Stands image i.limit x) (λ f left. behind_leaves told I g.met.D.Disk.reads_image i.disk i.limit i.gate i.number old x is f (f, left, refl)) in
+    subst (λ (h : Held _). (x : List (List ℕ)) → frames_of told h ≡ Some x → LeavesOnly T S h.disk h.disk (λ image. Stands image h.limit x)) (ap (λ (o : Option ℕ). seen i.disk i.limit i.gate i.number o) (sym none) ∙ c.self.view_is) run x is
 
 pub stage-requires-clause-gate : goal.stage-requires-clause-gate
 stage-requires-clause-gate g c =
@@ -84,6 +97,21 @@ returns-in_err-stage-clause-any_moment g c x is =
     (λ f now. inl (behind_leaves told I g.met.D.Disk.reads_image i.disk i.limit i.gate i.number old x is f now)) in
     subst (λ (h : Held _). (x : List (List ℕ)) → frames_of told h ≡ Some x → LeavesOnly T S h.disk d1 (IsBeforeOrAfter h.limit x p)) (ap (λ (o : Option ℕ). seen i.disk i.limit i.gate i.number o) (sym none) ∙ c.self.view_is) run x is
 
+pub returns-in_err-stage-clause-any_moment_err : goal.returns-in_err-stage-clause-any_moment_err
+returns-in_err-stage-clause-any_moment_err g c _ _ x is =
+    let T = g.D.Disk.time in
+    let S = g.D.Disk.image_since in
+    let I = g.D.Disk.image in
+    let told = g.D.Disk.told in
+    let i = c.self.inside in
+    let d1 = c.stage.new.disk in
+    let none : i.doubt ≡ None = no_doubt i.doubt (ap (λ (h : Held _). h.doubt) c.self.view_is ∙ c.requires) in
+    let old = subst (λ (o : Option ℕ). IsSound (told i.disk) (I i.disk) i.limit i.gate i.number o) none c.self.invariant in
+    let run : (x : List (List ℕ)) → frames_of told (seen i.disk i.limit i.gate i.number None) ≡ Some x → LeavesOnly T S i.disk d1 (λ image. Stands image i.limit x) = λ x is.
+    weaker_run T S I g.met.D.Disk.counts_now g.met.D.Disk.only_now i.disk d1 (IsBehind (i.gate + 1) (I i.disk)) (λ image. Stands image i.limit x) c.stage.ensures.any_moment
+    (λ f now. behind_leaves told I g.met.D.Disk.reads_image i.disk i.limit i.gate i.number old x is f now) in
+    subst (λ (h : Held _). (x : List (List ℕ)) → frames_of told h ≡ Some x → LeavesOnly T S h.disk d1 (λ image. Stands image h.limit x)) (ap (λ (o : Option ℕ). seen i.disk i.limit i.gate i.number o) (sym none) ∙ c.self.view_is) run x is
+
 pub invariant_of-self-2 : goal.invariant_of-self-2
 invariant_of-self-2 g c =
     let i = c.self.inside in
@@ -93,7 +121,8 @@ invariant_of-self-2 g c =
     let p = c.args.payload.now in
     let none : i.doubt ≡ None = no_doubt i.doubt (ap (λ (h : Held _). h.doubt) c.self.view_is ∙ c.requires) in
     let old = subst (λ (o : Option ℕ). IsSound (told i.disk) (I i.disk) i.limit i.gate i.number o) none c.self.invariant in
-    (after_staged told I g.met.D.Disk.reads_image i.disk d1 i.limit i.gate i.number p old (omega (arith, c.if-need-self.false)) c.stage.ensures.tells c.in_ok-stage.ensures.staged).0
+    let fits = room_behind i.disk i.limit i.gate i.number i.doubt p _ c.self.view_is none (c.in_ok-room.ensures.fits refl) in
+    (after_staged told I g.met.D.Disk.reads_image i.disk d1 i.limit i.gate i.number p old fits c.stage.ensures.tells c.in_ok-stage.ensures.staged).0
 
 pub returns-in_err-settle-clause-failed : goal.returns-in_err-settle-clause-failed
 returns-in_err-settle-clause-failed g c _ =
@@ -104,7 +133,8 @@ returns-in_err-settle-clause-failed g c _ =
     let p = c.args.payload.now in
     let none : i.doubt ≡ None = no_doubt i.doubt (ap (λ (h : Held _). h.doubt) c.self.view_is ∙ c.requires) in
     let old = subst (λ (o : Option ℕ). IsSound (told i.disk) (I i.disk) i.limit i.gate i.number o) none c.self.invariant in
-    let staged = after_staged told I g.met.D.Disk.reads_image i.disk d1 i.limit i.gate i.number p old (omega (arith, c.if-need-self.false)) c.stage.ensures.tells c.in_ok-stage.ensures.staged in
+    let fits = room_behind i.disk i.limit i.gate i.number i.doubt p _ c.self.view_is none (c.in_ok-room.ensures.fits refl) in
+    let staged = after_staged told I g.met.D.Disk.reads_image i.disk d1 i.limit i.gate i.number p old fits c.stage.ensures.tells c.in_ok-stage.ensures.staged in
     let s = c.settle.ensures.frames in
     let more : IsAppended told (seen i.disk i.limit i.gate i.number None) c.settle.new.self p = record { frames = s.frames ∙ staged.1; number = s.number; end = s.end; limit = s.limit } in
     inl (c.in_err-settle.ensures.failed refl, subst (λ (h : Held _). IsAppended told h c.settle.new.self p) (ap (λ (o : Option ℕ). seen i.disk i.limit i.gate i.number o) (sym none) ∙ c.self.view_is) more)
@@ -121,7 +151,8 @@ returns-in_err-settle-clause-any_moment g c x is =
     let p = c.args.payload.now in
     let none : i.doubt ≡ None = no_doubt i.doubt (ap (λ (h : Held _). h.doubt) c.self.view_is ∙ c.requires) in
     let old = subst (λ (o : Option ℕ). IsSound (told i.disk) (I i.disk) i.limit i.gate i.number o) none c.self.invariant in
-    let staged = after_staged told I g.met.D.Disk.reads_image i.disk d1 i.limit i.gate i.number p old (omega (arith, c.if-need-self.false)) c.stage.ensures.tells c.in_ok-stage.ensures.staged in
+    let fits = room_behind i.disk i.limit i.gate i.number i.doubt p _ c.self.view_is none (c.in_ok-room.ensures.fits refl) in
+    let staged = after_staged told I g.met.D.Disk.reads_image i.disk d1 i.limit i.gate i.number p old fits c.stage.ensures.tells c.in_ok-stage.ensures.staged in
     let run : (x : List (List ℕ)) → frames_of told (seen i.disk i.limit i.gate i.number None) ≡ Some x → LeavesOnly T S i.disk d2 (IsBeforeOrAfter i.limit x p) = λ x is.
     then_run T S I g.met.D.Disk.counts_now g.met.D.Disk.only_now i.disk d1 d2 (IsBeforeOrAfter i.limit x p) (StandsFor i.limit true (x ++ p ∷ []))
     (weaker_run T S I g.met.D.Disk.counts_now g.met.D.Disk.only_now i.disk d1 (IsBehind (i.gate + 1) (I i.disk)) (IsBeforeOrAfter i.limit x p) c.stage.ensures.any_moment
@@ -139,7 +170,8 @@ returns-clause-appended g c =
     let p = c.args.payload.now in
     let none : i.doubt ≡ None = no_doubt i.doubt (ap (λ (h : Held _). h.doubt) c.self.view_is ∙ c.requires) in
     let old = subst (λ (o : Option ℕ). IsSound (told i.disk) (I i.disk) i.limit i.gate i.number o) none c.self.invariant in
-    let staged = after_staged told I g.met.D.Disk.reads_image i.disk d1 i.limit i.gate i.number p old (omega (arith, c.if-need-self.false)) c.stage.ensures.tells c.in_ok-stage.ensures.staged in
+    let fits = room_behind i.disk i.limit i.gate i.number i.doubt p _ c.self.view_is none (c.in_ok-room.ensures.fits refl) in
+    let staged = after_staged told I g.met.D.Disk.reads_image i.disk d1 i.limit i.gate i.number p old fits c.stage.ensures.tells c.in_ok-stage.ensures.staged in
     let s = c.settle.ensures.frames in
     let more : IsAppended told (seen i.disk i.limit i.gate i.number None) c.settle.new.self p = record { frames = s.frames ∙ staged.1; number = s.number; end = s.end; limit = s.limit } in (
       ap (λ (h : Held _). h.number) c.self.view_is,
@@ -159,7 +191,8 @@ returns-clause-any_moment g c x is =
     let p = c.args.payload.now in
     let none : i.doubt ≡ None = no_doubt i.doubt (ap (λ (h : Held _). h.doubt) c.self.view_is ∙ c.requires) in
     let old = subst (λ (o : Option ℕ). IsSound (told i.disk) (I i.disk) i.limit i.gate i.number o) none c.self.invariant in
-    let staged = after_staged told I g.met.D.Disk.reads_image i.disk d1 i.limit i.gate i.number p old (omega (arith, c.if-need-self.false)) c.stage.ensures.tells c.in_ok-stage.ensures.staged in
+    let fits = room_behind i.disk i.limit i.gate i.number i.doubt p _ c.self.view_is none (c.in_ok-room.ensures.fits refl) in
+    let staged = after_staged told I g.met.D.Disk.reads_image i.disk d1 i.limit i.gate i.number p old fits c.stage.ensures.tells c.in_ok-stage.ensures.staged in
     let run : (x : List (List ℕ)) → frames_of told (seen i.disk i.limit i.gate i.number None) ≡ Some x → LeavesOnly T S i.disk d2 (IsBeforeOrAfter i.limit x p) = λ x is.
     then_run T S I g.met.D.Disk.counts_now g.met.D.Disk.only_now i.disk d1 d2 (IsBeforeOrAfter i.limit x p) (StandsFor i.limit true (x ++ p ∷ []))
     (weaker_run T S I g.met.D.Disk.counts_now g.met.D.Disk.only_now i.disk d1 (IsBehind (i.gate + 1) (I i.disk)) (IsBeforeOrAfter i.limit x p) c.stage.ensures.any_moment
