@@ -2,27 +2,40 @@ ghost use Rattle.std.specs.Prelude.{◌≡◌, ◌≤◌, ◌+◌, ◌-◌, ◌^
 
 use crate::faults::Faults;
 use lrs_disk::{Disk, Failed};
-use std::fs::File;
-use std::io::ErrorKind;
-use std::os::unix::fs::FileExt;
+use std::alloc::Global;
+use std::fs::{File, OpenOptions};
+use std::io::{self, ErrorKind};
+use std::os::unix::fs::{FileExt, OpenOptionsExt};
+use std::path::Path;
+use std::rt::Files;
 
-/// A file as a disk.
+// The file of a store holds tokens as they are.
+const OWNER_ALONE: u32 = 0o600;
+
+// The file of a name, or the name while there is none.
 #[derive(Drop)]
-pub struct FileDisk {
-    file: File,
+pub(crate) enum Content<R> {
+    Held(File),
+    Missing { rt: R, name: String },
+}
+
+/// A file as a disk. A name that has no file reads as an empty one; the file is made when it is first written.
+#[derive(Drop)]
+pub struct FileDisk<R: Files<File = File> + Copy> {
+    content: Content<R>,
     moment: u64,
     faults: Faults,
 }
 
-impl FileDisk {
+impl<R: Files<File = File> + Copy> FileDisk<R> {
     ghost use Rattle.lrs_edge.specs.FileDisk.{moment_of, faults_of};
 
-    pub(crate) fn new(file: File) -> Self
+    pub(crate) fn new(content: Content<R>) -> Self
         ensures moment { moment_of result ≡ 0 }
         ensures faults { faults_of result ≡ 0 }
     {
         FileDisk {
-            file,
+            content,
             moment: 0,
             faults: Faults::none(),
         }
@@ -38,7 +51,7 @@ impl FileDisk {
     }
 }
 
-impl Disk for FileDisk {
+impl<R: Files<File = File> + Copy> Disk for FileDisk<R> {
     ghost use Rattle.lrs_edge.specs.FileDisk.{moment_of, faults_of};
     ghost use Rattle.lrs_edge.specs.Silent.{tells_none};
 
@@ -62,15 +75,15 @@ impl Disk for FileDisk {
 
     fn len(&mut self) -> Result<u64, Failed> {
         self.tick();
-        match self.file.metadata() {
-            Ok(metadata) => Ok(metadata.len()),
+        match self.content.len() {
+            Ok(number) => Ok(number),
             Err(_) => self.faults.failed(),
         }
     }
 
     fn read_at(&mut self, place: u64, into: &mut [u8]) -> Result<usize, Failed> {
         self.tick();
-        match read_on(&self.file, place, into) {
+        match self.content.read_at(place, into) {
             Some(number) => Ok(number),
             None => self.faults.failed(),
         }
@@ -78,7 +91,7 @@ impl Disk for FileDisk {
 
     fn write_at(&mut self, place: u64, bytes: &[u8]) -> Result<(), Failed> {
         self.tick();
-        match self.file.write_all_at(bytes, place) {
+        match self.content.write_at(place, bytes) {
             Ok(()) => Ok(()),
             Err(_) => self.faults.failed(),
         }
@@ -86,7 +99,7 @@ impl Disk for FileDisk {
 
     fn cut(&mut self, to: u64) -> Result<(), Failed> {
         self.tick();
-        match self.file.set_len(to) {
+        match self.content.cut(to) {
             Ok(()) => Ok(()),
             Err(_) => self.faults.failed(),
         }
@@ -94,7 +107,7 @@ impl Disk for FileDisk {
 
     fn sync(&mut self) -> Result<(), Failed> {
         self.tick();
-        match self.file.sync_all() {
+        match self.content.sync() {
             Ok(()) => Ok(()),
             Err(_) => self.faults.failed(),
         }
@@ -126,4 +139,91 @@ fn read_on(file: &File, place: u64, into: &mut [u8]) -> Option<usize>
         }
     }
     None
+}
+
+impl<R: Files<File = File> + Copy> Content<R> {
+    fn len(&self) -> io::Result<u64> {
+        match self {
+            Content::Held(file) => Ok(file.metadata()?.len()),
+            Content::Missing { .. } => Ok(0),
+        }
+    }
+
+    fn read_at(&self, place: u64, into: &mut [u8]) -> Option<usize>
+        ensures { IfSome result (λ n. n ≤ length into.old) }
+    {
+        match self {
+            Content::Held(file) => read_on(file, place, into),
+            Content::Missing { .. } => Some(0),
+        }
+    }
+
+    // Makes the file first, where there is none.
+    fn write_at(&mut self, place: u64, bytes: &[u8]) -> io::Result<()> {
+        let file = match self {
+            Content::Held(file) => return file.write_all_at(bytes, place),
+            Content::Missing { rt, name } => make(rt, name.as_str())?,
+        };
+        let written = file.write_all_at(bytes, place);
+        *self = Content::Held(file);
+        written
+    }
+
+    fn cut(&self, to: u64) -> io::Result<()> {
+        match self {
+            Content::Held(file) => file.set_len(to),
+            Content::Missing { .. } => Ok(()),
+        }
+    }
+
+    fn sync(&self) -> io::Result<()> {
+        match self {
+            Content::Held(file) => file.sync_all(),
+            Content::Missing { .. } => Ok(()),
+        }
+    }
+}
+
+// Opens the file of a name, where there is one. Two programs on one file would write over each other, so it is locked
+// for as long as its disk is there.
+pub(crate) fn open<R: Files<File = File> + Copy>(
+    alloc: Global,
+    rt: R,
+    name: &str,
+) -> io::Result<Content<R>> {
+    match OpenOptions::new().read(true).write(true).open(&rt, name) {
+        Ok(file) => {
+            file.try_lock()?;
+            sync_folder(&rt, name)?;
+            Ok(Content::Held(file))
+        }
+        Err(error) if error.kind() == ErrorKind::NotFound => {
+            sync_folder(&rt, name)?;
+            let name = String::from_str(alloc, name)?;
+            Ok(Content::Missing { rt, name })
+        }
+        Err(error) => Err(error),
+    }
+}
+
+// Makes the file of a name that has none, locked. Another program may have made one meanwhile: then this fails.
+fn make<R: Files<File = File>>(rt: &R, name: &str) -> io::Result<File> {
+    let file = OpenOptions::new()
+        .read(true)
+        .write(true)
+        .create_new(true)
+        .mode(OWNER_ALONE)
+        .open(rt, name)?;
+    file.try_lock()?;
+    sync_folder(rt, name)?;
+    Ok(file)
+}
+
+// A file that was made is found again after a crash only once its folder is on the disk.
+fn sync_folder<R: Files<File = File>>(rt: &R, name: &str) -> io::Result<()> {
+    let folder = match Path::new(name).parent() {
+        Some(folder) if !folder.as_str().is_empty() => folder.as_str(),
+        _ => ".",
+    };
+    File::open(rt, folder)?.sync_all()
 }

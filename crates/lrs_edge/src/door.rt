@@ -3,34 +3,42 @@ ghost use Rattle.lrs_disk.specs.Door.{IsFresh};
 use crate::clock::milliseconds;
 use crate::faults::Faults;
 use crate::link::TcpLink;
+use crate::pace::Patience;
 use lrs_disk::{Door, Next};
-use std::io::ErrorKind;
-use std::net::{TcpListener, TcpStream};
+use std::io::{self, ErrorKind};
+use std::net::{SocketAddr, TcpListener, TcpStream};
 use std::time::Clock;
 
 /// A TCP address on which connections come in. It never closes.
 #[derive(Drop)]
-pub struct TcpDoor<R: Clock + Drop> {
+pub struct TcpDoor<R: Clock + Copy> {
     rt: R,
-    pub(crate) listener: TcpListener,
+    patience: Patience,
+    listener: TcpListener,
     given: u64,
     out: Option<u64>,
     faults: Faults,
 }
 
-impl<R: Clock + Drop> TcpDoor<R> {
+impl<R: Clock + Copy> TcpDoor<R> {
     ghost use Rattle.lrs_edge.specs.TcpDoor.{state_of};
 
-    pub(crate) fn new(rt: R, listener: TcpListener) -> Self
+    pub(crate) fn new(rt: R, patience: Patience, listener: TcpListener) -> Self
         ensures { IsFresh (state_of result) }
     {
         TcpDoor {
             rt,
+            patience,
             listener,
             given: 0,
             out: None,
             faults: Faults::none(),
         }
+    }
+
+    /// The address on which its connections come in. Where port 0 was asked for it has the port that the system chose.
+    pub fn address(&self) -> io::Result<SocketAddr> {
+        self.listener.local_addr()
     }
 }
 
@@ -46,20 +54,20 @@ fn accept(listener: &TcpListener) -> Option<TcpStream> {
     None
 }
 
-impl<R: Clock + Drop> Door for TcpDoor<R> {
-    type Link = TcpLink;
+impl<R: Clock + Copy> Door for TcpDoor<R> {
+    type Link = TcpLink<R>;
 
     ghost use Rattle.lrs_edge.specs.TcpDoor.{state_of};
 
     ghost state = { state_of };
 
-    fn next(&mut self) -> Next<TcpLink> {
+    fn next(&mut self) -> Next<TcpLink<R>> {
         match accept(&self.listener) {
             Some(stream) => {
                 let name = self.given;
                 self.given = name.saturating_add(1);
                 self.out = Some(name);
-                Next::Joined(TcpLink::new(stream, name))
+                Next::Joined(TcpLink::new(self.rt, self.patience, stream, name))
             }
             None => {
                 self.faults.rise();
@@ -68,7 +76,7 @@ impl<R: Clock + Drop> Door for TcpDoor<R> {
         }
     }
 
-    fn done(&mut self, link: TcpLink) {
+    fn done(&mut self, link: TcpLink<R>) {
         self.out = None;
         link.end();
     }

@@ -10,14 +10,14 @@ mod door;
 mod faults;
 mod link;
 mod lobby;
+mod pace;
 mod shelf;
 mod streams;
-#[cfg(test)]
-mod tests;
 
 pub use disk::FileDisk;
 pub use door::TcpDoor;
 pub use link::TcpLink;
 pub use lobby::TcpLobby;
+pub use pace::{FIRST_BYTE_SECONDS, Patience, REQUEST_SECONDS, RESPONSE_SECONDS};
 pub use shelf::FileShelf;
 pub use streams::{StdSink, StdSource};

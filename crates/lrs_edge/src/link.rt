@@ -2,52 +2,55 @@ ghost use Rattle.std.specs.Prelude.{◌≡◌, None};
 ghost use Rattle.lrs_edge.specs.Silent.{tells_none};
 
 use crate::faults::Faults;
+use crate::pace::{Pace, Patience};
 use lrs_disk::{Failed, Link};
-use std::io::{Read, Write};
 use std::net::{Shutdown, TcpStream};
+use std::time::{Clock, Duration};
 
-/// A TCP connection.
+/// A TCP connection. It fails where its peer is slower than a `Patience`.
 #[derive(Drop)]
-pub struct TcpLink {
+pub struct TcpLink<R: Clock + Copy> {
     stream: TcpStream,
+    pace: Pace<R>,
     name: u64,
     faults: Faults,
 }
 
-impl TcpLink {
+// How long a connection that ends takes out what its peer still sends, and how many pieces of 16 KiB: 16 MiB.
+const LAST_SECONDS: u64 = 1;
+
+const LAST_PIECES: u64 = 1_024;
+
+impl<R: Clock + Copy> TcpLink<R> {
     ghost use Rattle.lrs_edge.specs.TcpLink.{name_of, faults_of};
 
     // A connection under a name. Its small writes go out at once, where the system allows it.
-    pub(crate) fn new(stream: TcpStream, name: u64) -> Self
+    pub(crate) fn new(rt: R, patience: Patience, stream: TcpStream, name: u64) -> Self
         ensures name { name_of result ≡ name }
         ensures faults { faults_of result ≡ 0 }
     {
         let _ = stream.set_nodelay(true);
         TcpLink {
             stream,
+            pace: Pace::new(rt, patience),
             name,
             faults: Faults::none(),
         }
     }
 
-    // Ends the connection. What has come unread is taken out of it first, at most 4 MiB and without waiting, since the
-    // system would else break the connection off and might lose the last response.
-    pub(crate) fn end(mut self) {
+    // Ends the connection. What comes unread is taken out of it first, since the system would else break the connection
+    // off and might lose the last response. Behind a fault no response is on its way.
+    pub(crate) fn end(self) {
         let _ = self.stream.shutdown(Shutdown::Write);
-        if self.stream.set_nonblocking(true).is_err() {
+        if self.faults.count > 0 {
             return;
         }
-        let mut piece = [0; 4096];
-        for _ in 0..1024 {
-            match self.stream.read(&mut piece) {
-                Ok(0) | Err(_) => return,
-                Ok(_) => (),
-            }
-        }
+        let time = Duration::from_secs(LAST_SECONDS);
+        let _ = self.pace.drain(&self.stream, time, LAST_PIECES);
     }
 }
 
-impl Link for TcpLink {
+impl<R: Clock + Copy> Link for TcpLink<R> {
     ghost use Rattle.lrs_edge.specs.TcpLink.{name_of, faults_of};
 
     ghost left = { λ l. None };
@@ -63,17 +66,16 @@ impl Link for TcpLink {
     ghost tells_stream = { λ l rest is. absurd (tells_none rest is) };
 
     fn read(&mut self, into: &mut [u8]) -> Result<usize, Failed> {
-        match self.stream.read(into) {
-            Ok(number) => Ok(number),
-            Err(_) => self.faults.failed(),
+        match self.pace.read(&self.stream, into) {
+            Some(number) => Ok(number),
+            None => self.faults.failed(),
         }
     }
 
     fn write(&mut self, bytes: &[u8]) -> Result<usize, Failed> {
-        match self.stream.write(bytes) {
-            Ok(0) if !bytes.is_empty() => self.faults.failed(),
-            Ok(number) => Ok(number),
-            Err(_) => self.faults.failed(),
+        match self.pace.write(&self.stream, bytes) {
+            Some(number) => Ok(number),
+            None => self.faults.failed(),
         }
     }
 

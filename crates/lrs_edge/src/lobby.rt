@@ -7,6 +7,7 @@ ghost use Rattle.lrs_edge.specs.TcpDoor.{state_of};
 use crate::clock::milliseconds;
 use crate::door::TcpDoor;
 use crate::faults::Faults;
+use crate::pace::Patience;
 use lrs_disk::{Door, DoorsRefused, Lobby};
 use std::alloc::Global;
 use std::net::{Net, TcpListener, TcpStream};
@@ -16,17 +17,27 @@ use std::time::Clock;
 #[derive(Drop)]
 pub struct TcpLobby<R: Clock + Net<Listener = TcpListener, Stream = TcpStream> + Copy + Send> {
     rt: R,
+    patience: Patience,
     faults: Faults,
 }
 
 impl<R: Clock + Net<Listener = TcpListener, Stream = TcpStream> + Copy + Send> TcpLobby<R> {
     ghost use Rattle.lrs_edge.specs.TcpLobby.{faults_of};
 
+    /// The addresses that this runtime reaches, with the usual times for peers.
     pub fn new(rt: R) -> Self
+        ensures { faults_of result ≡ 0 }
+    {
+        TcpLobby::with_patience(rt, Patience::usual())
+    }
+
+    /// The same with other times.
+    pub fn with_patience(rt: R, patience: Patience) -> Self
         ensures { faults_of result ≡ 0 }
     {
         TcpLobby {
             rt,
+            patience,
             faults: Faults::none(),
         }
     }
@@ -36,6 +47,7 @@ impl<R: Clock + Net<Listener = TcpListener, Stream = TcpStream> + Copy + Send> T
 fn open<R: Clock + Net<Listener = TcpListener, Stream = TcpStream> + Copy>(
     alloc: Global,
     rt: R,
+    patience: Patience,
     address: &str,
     count: usize,
 ) -> Result<Vec<TcpDoor<R>>, DoorsRefused>
@@ -52,7 +64,7 @@ fn open<R: Clock + Net<Listener = TcpListener, Stream = TcpStream> + Copy>(
         let Ok(listener) = listener.try_clone() else {
             return Err(DoorsRefused::Failed);
         };
-        doors.push_reserved(TcpDoor::new(rt, listener));
+        doors.push_reserved(TcpDoor::new(rt, patience, listener));
     }
     Ok(doors)
 }
@@ -98,7 +110,7 @@ impl<R: Clock + Net<Listener = TcpListener, Stream = TcpStream> + Copy + Send> L
         address: &str,
         count: usize,
     ) -> Result<Vec<TcpDoor<R>>, DoorsRefused> {
-        match open(alloc, self.rt, address, count) {
+        match open(alloc, self.rt, self.patience, address, count) {
             Ok(doors) => Ok(doors),
             Err(DoorsRefused::Memory) => Err(DoorsRefused::Memory),
             Err(DoorsRefused::Failed) => {

@@ -1,0 +1,170 @@
+use lrs_disk::{Disk, Failed, Shelf, Sink, Source};
+use lrs_edge::{FileDisk, FileShelf, StdSink, StdSource};
+use std::os::unix::fs::MetadataExt;
+use std::path::PathBuf;
+use std::test::Fail;
+use std::{env, fs};
+
+// A file of its own for a test, in the folder for temporary ones.
+fn path_of(rt: HostRuntime, test: &str) -> Result<PathBuf, Fail> {
+    let mut path = env::temp_dir(&rt)?;
+    let process = std::process::id(rt.process());
+    path.push(format!(in rt.alloc(); "kilnlime-lrs-edge-{process}-{test}")?.as_str())?;
+    Ok(path)
+}
+
+// The place of the first step that went otherwise than expected.
+fn first_wrong(steps: &[bool]) -> Option<usize> {
+    steps.iter().position(|step| !*step)
+}
+
+fn is_written(disk: &mut FileDisk<HostRuntime>) -> bool {
+    let steps = [
+        disk.len() == Ok(0),
+        disk.write_at(0, b"hello") == Ok(()),
+        disk.write_at(5, b" you") == Ok(()),
+        disk.cut(7) == Ok(()),
+        disk.sync() == Ok(()),
+        disk.faults() == 0,
+    ];
+    first_wrong(&steps).is_none()
+}
+
+fn is_read_again(disk: &mut FileDisk<HostRuntime>) -> bool {
+    let mut read = [0; 9];
+    let steps = [
+        disk.len() == Ok(7),
+        disk.read_at(1, &mut read) == Ok(6),
+        read == *b"ello y\0\0\0",
+        disk.faults() == 0,
+    ];
+    first_wrong(&steps).is_none()
+}
+
+fn is_empty(disk: &mut FileDisk<HostRuntime>) -> bool {
+    let steps = [
+        disk.len() == Ok(0),
+        disk.read_at(0, &mut [0; 9]) == Ok(0),
+        disk.sync() == Ok(()),
+        disk.cut(0) == Ok(()),
+        disk.faults() == 0,
+    ];
+    first_wrong(&steps).is_none()
+}
+
+// Whether the disk of a name can't be taken now.
+fn is_taken(shelf: &mut FileShelf<HostRuntime>, name: &str) -> bool {
+    match shelf.take(name) {
+        Ok(disk) => {
+            drop(disk);
+            false
+        }
+        Err(_) => true,
+    }
+}
+
+// Whether a file is there for its owner alone.
+fn is_private(rt: HostRuntime, name: &str) -> bool {
+    match fs::metadata(&rt, name) {
+        Ok(metadata) => metadata.mode() & 0o777 == 0o600,
+        Err(_) => false,
+    }
+}
+
+// A new name: a look at it leaves no file, a write makes one, which is locked while its disk is there.
+fn made(
+    rt: HostRuntime,
+    shelf: &mut FileShelf<HostRuntime>,
+    name: &str,
+) -> Result<Option<usize>, Failed> {
+    let mut disk = shelf.take(name)?;
+    let empty = is_empty(&mut disk);
+    let absent = fs::metadata(&rt, name).is_err();
+    let written = is_written(&mut disk);
+    let taken = is_taken(shelf, name);
+    drop(disk);
+    Ok(first_wrong(&[
+        empty,
+        absent,
+        written,
+        taken,
+        is_private(rt, name),
+        shelf.faults() == 1,
+    ]))
+}
+
+// The file that is there now. One that is made while its name is out as a missing one isn't written over.
+fn kept(shelf: &mut FileShelf<HostRuntime>, name: &str) -> Result<Option<usize>, Failed> {
+    let mut disk = shelf.take(name)?;
+    let read = is_read_again(&mut disk);
+    drop(disk);
+    Ok(first_wrong(&[
+        read,
+        is_taken(shelf, "/no/such/folder"),
+        shelf.faults() == 2,
+    ]))
+}
+
+// Two disks of one name without a file: the first that is written makes it, and the other fails.
+fn made_by_one(shelf: &mut FileShelf<HostRuntime>, name: &str) -> Result<Option<usize>, Failed> {
+    let mut first = shelf.take(name)?;
+    let steps = [
+        made_by_other(shelf, name),
+        first.write_at(0, b"mine").is_err(),
+        first.faults() == 1,
+    ];
+    drop(first);
+    Ok(first_wrong(&steps))
+}
+
+fn made_by_other(shelf: &mut FileShelf<HostRuntime>, name: &str) -> bool {
+    match shelf.take(name) {
+        Ok(mut disk) => {
+            let written = disk.write_at(0, b"other") == Ok(());
+            drop(disk);
+            written
+        }
+        Err(_) => false,
+    }
+}
+
+#[test]
+fn a_file_is_made_when_it_is_written_and_has_one_user(rt: HostRuntime) -> Result<(), Fail> {
+    let path = path_of(rt, "made")?;
+    let mut shelf = FileShelf::new(rt);
+    let new = made(rt, &mut shelf, path.as_path().as_str());
+    let again = kept(&mut shelf, path.as_path().as_str());
+    drop(shelf);
+    let removed = fs::remove_file(&rt, path.as_path().as_str()).is_ok();
+    assert_eq!(rt; (new?, again?, removed), (None, None, true));
+    Ok(())
+}
+
+#[test]
+fn a_file_that_was_made_meanwhile_is_left_alone(rt: HostRuntime) -> Result<(), Fail> {
+    let path = path_of(rt, "meanwhile")?;
+    let mut shelf = FileShelf::new(rt);
+    let wrong = made_by_one(&mut shelf, path.as_path().as_str());
+    drop(shelf);
+    let removed = fs::remove_file(&rt, path.as_path().as_str()).is_ok();
+    assert_eq!(rt; (wrong?, removed), (None, true));
+    Ok(())
+}
+
+#[test]
+fn streams_pass_bytes_on(rt: HostRuntime) -> Result<(), Fail> {
+    let mut source = StdSource::new(b"abc".as_slice());
+    let mut read = [0; 2];
+    let mut sink = StdSink::new(rt.stdout());
+    let steps = [
+        source.read(&mut read) == Ok(2),
+        read == *b"ab",
+        source.read(&mut read) == Ok(1),
+        source.read(&mut read) == Ok(0),
+        sink.write(b"\n") == Ok(1),
+        source.faults() == 0,
+        sink.faults() == 0,
+    ];
+    assert_eq!(rt; first_wrong(&steps), None);
+    Ok(())
+}
