@@ -5,3 +5,4 @@ pub mod Whole
 pub mod Comparing
 pub mod Exact
 pub mod Orders
+pub mod NumeralLemmas

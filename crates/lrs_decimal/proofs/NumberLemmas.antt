@@ -1,10 +1,11 @@
 -- A number is read as far as it goes, and is found again before what doesn't go on.
-use Rattle.std.proofs.Common.{◌≡◌, ◌≢◌, ◌≤◌, ℕ, ◌-◌, length, take, length-append, Option, ◌==◌, ◌||◌, inl, inr, List, [], ◌∷◌, ◌++◌, Bool, true, false, Some, None, option_and_then, if◌then◌else◌, refl, sym, ap, ◌∙◌, subst, IsTrue, arith, append_assoc}
+use Rattle.std.proofs.Common.{◌≡◌, ◌≢◌, ◌≤◌, ℕ, ◌-◌, length, take, drop, length-append, Option, ◌==◌, ◌||◌, inl, inr, List, [], ◌∷◌, ◌++◌, Bool, true, false, Some, None, option_and_then, if◌then◌else◌, refl, sym, ap, ◌∙◌, subst, IsTrue, arith, append_assoc}
 use Rattle.std.proofs.lemmas.Option.{option_and_then_some}
 use Rattle.std.proofs.lemmas.Grind.{common_steps}
 use Rattle.lrs_decimal.specs.Numbers.{is_digit, Each, IsDigits, IsWhole, IsFraction, IsExponent, IsNumber, without, unsigned, digits_end, whole_end, fraction_end, exponent_end, number_end}
 use Rattle.lrs_decimal.specs.Numbers.{Stops, Ends}
 use Rattle.lrs_decimal.proofs.Runs.{run, behind, Each-run, run-behind, behind_again, take_front}
+use Rattle.std.proofs.Math.Seq.{drop-append_seam}
 
 -- ---- again
 
@@ -258,6 +259,14 @@ len_found bs rest n e en =
     let f = number_found bs rest e in
     let is : n ≡ length f.0 = front_len bs f.0 rest n f.1 en in
     (omega (arith, is, ap length f.1, length-append f.0 rest), subst IsNumber (sym (front_taken bs f.0 rest n f.1 is)) f.2)
+
+front_dropped : (bs s rest : List ℕ) (n : ℕ) → bs ≡ s ++ rest → n ≡ length s → drop n bs ≡ rest
+front_dropped bs s rest n e en = rw (en, e) (drop-append_seam s rest)
+
+pub behind_len : (bs rest : List ℕ) (n : ℕ) → number_end bs ≡ Some rest → n ≡ length bs - length rest → drop n bs ≡ rest
+behind_len bs rest n e en =
+    let f = number_found bs rest e in
+    front_dropped bs f.0 rest n f.1 (front_len bs f.0 rest n f.1 en)
 
 pub len_again : (bs rest : List ℕ) (n : ℕ) → number_end bs ≡ Some rest → n ≡ length bs - length rest → (s end : List ℕ) → bs ≡ s ++ end → IsNumber s → Ends end → Some n ≡ Some (length s)
 len_again bs rest n e en s end is num ends =

@@ -85,7 +85,8 @@ impl Decimal {
 
     // The order of the values without their signs.
     fn cmp_size(&self, other: &Decimal) -> Ordering
-        ensures { result ≡ nat_cmp (self.now.coefficient * 10 ^ self.now.scale) (other.now.coefficient * 10 ^ other.now.scale) }
+        ensures { result ≡ nat_cmp (self.now.coefficient * 10 ^ self.now.scale)
+            (other.now.coefficient * 10 ^ other.now.scale) }
     {
         if self.scale >= other.scale {
             cmp_raised(

@@ -1,15 +1,14 @@
 //! The numbers of JSON: their grammar (RFC 8259, section 6), which of them are in range, which are
-//! whole, and their exact values.
+//! whole, and their exact values; and the number that a run of digits writes.
 #![tactic(auto)]
 
 mod decimal;
 mod numbers;
+mod numerals;
 mod parts;
 mod range;
 
 pub use decimal::Decimal;
 pub use numbers::number_len;
+pub use numerals::digits_value;
 pub use range::{is_in_range, is_whole};
-
-#[cfg(test)]
-mod tests;

@@ -1,4 +1,4 @@
-ghost use Rattle.std.specs.Prelude.{◌≡◌, ◌≤◌, ◌++◌, ℕ, List, take, length, option_map, Some, IfSome};
+ghost use Rattle.std.specs.Prelude.{◌≡◌, ◌≤◌, ◌++◌, ℕ, List, take, drop, length, option_map, Some, IfSome};
 ghost use Rattle.std.specs.List.{prefix_len};
 ghost use Rattle.lrs_decimal.specs.Numbers.{is_digit, IsNumber, Ends, digits_end, without, whole_end, fraction_end, unsigned, exponent_end, number_end};
 
@@ -88,6 +88,9 @@ pub fn number_len(bytes: &[u8]) -> Option<usize>
     ensures within { IfSome result (λ n. n ≤ length bytes.now) }
     ensures found { IfSome result (λ n. IsNumber (take n bytes.now)) }
     ensures all { (s rest : List ℕ) → bytes.now ≡ s ++ rest → IsNumber s → Ends rest → result ≡ Some (length s) }
+
+    // The same as a function of the bytes, also where more could follow.
+    ensures exact { option_map (λ n. drop n bytes.now) result ≡ number_end bytes.now }
 {
     let rest = number(bytes)?;
     Some(bytes.len().saturating_sub(rest.len()))

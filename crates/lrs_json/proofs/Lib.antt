@@ -16,6 +16,7 @@ pub mod Objects
 pub mod Names
 pub mod Scan
 pub mod Whole
+pub mod Escapes
 pub mod WrittenLemmas
 pub mod Judgement
 pub mod SameValues

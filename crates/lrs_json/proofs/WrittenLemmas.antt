@@ -1,21 +1,19 @@
 -- What is written from a value that fits is a text of it, and what some text spells fits.
-use Rattle.std.proofs.Common.{◌≡◌, ◌<◌, ℕ, ◌+◌, ◌*◌, ◌/◌, ◌%◌, ◌==◌, ◌||◌, nat_lt, length, if◌then◌else◌, Some, IsUtf8, List, [], ◌∷◌, ◌++◌, Bool, true, false, refl, sym, ap, subst, arith, append_assoc}
+use Rattle.std.proofs.Common.{◌≡◌, ℕ, length, if◌then◌else◌, IsUtf8, List, [], ◌∷◌, ◌++◌, Bool, true, false, refl, sym, ap, subst, append_assoc}
 use Rattle.std.proofs.lemmas.List.{append-nil}
 use Rattle.std.specs.List.{flat_map}
-use Rattle.std.proofs.lemmas.Str.{encode_ascii}
-use Rattle.std.proofs.lemmas.Grind.{common_steps}
 use Rattle.lrs_decimal.specs.Range.{is_in_range}
-use Rattle.lrs_json.specs.Strings.{is_high, is_low, piece_at, next_at, digit_at, unit_at, unicode_at, escape_at, letter_of, hex_value_of, piece_text}
+use Rattle.lrs_json.specs.Strings.{piece_text}
 use Rattle.lrs_json.specs.declared.strings.Piece.{Piece}
-use Rattle.lrs_json.specs.declared.strings.Piece.TheVariants.{Byte, Char}
 use Rattle.lrs_json.specs.Json.{Json, null, boolean, number, string, array, object, Elements, no_elements, element, Members, no_members, member}
 use Rattle.lrs_json.specs.Placed as Placed
 use Rattle.lrs_json.specs.Placed.{plain, plain_elements, plain_members}
 use Rattle.lrs_json.specs.Faults.{is_among, repeated_names, repeated_in_elements, repeated_in_members, out_of_range_numbers, out_of_range_in_elements, out_of_range_in_members}
 use Rattle.lrs_json.specs.Grammar.{Spaces, Comma, Chars, Quoted, Value, Listed, Paired, IsText}
-use Rattle.lrs_json.specs.Written.{escaped, hex_digit_of, quoted, comma_if, written, elements_text, members_text}
+use Rattle.lrs_json.specs.Written.{escaped, quoted, comma_if, written, elements_text, members_text}
 use Rattle.lrs_json.specs.Fits.{Fits, FitElements, FitMembers, IsReadable}
 use Rattle.lrs_json.specs.Refusals.{Spells}
+use Rattle.lrs_json.proofs.Escapes.{piece_of, piece_again, text_again}
 
 -- ---- what is spelled fits
 
@@ -69,59 +67,6 @@ Spells-IsReadable limit bytes j s = (subst Fits s.is (Value-Fits s.placed s.spel
 
 -- ---- texts
 
--- the piece that a byte of a text is written as
-abbrev is_short : ℕ → Bool
-is_short b = b == 34 || b == 92 || b == 8 || b == 9 || b == 10 || b == 12 || b == 13
-
-abbrev piece_of : ℕ → Piece
-piece_of b = if is_short b then Byte b else (if nat_lt b 32 then Char b else Byte b)
-
-hex_again : (n : ℕ) → n < 16 → hex_value_of (hex_digit_of n) ≡ Some n
-unfolding hex_value_of
-hex_again n l = grind (arith, common_steps)
-
-plain_again : (b : ℕ) (r : List ℕ) → is_short b ≡ false → nat_lt b 32 ≡ false → piece_at (escaped b ++ r) ≡ Some (piece_of b, r)
-unfolding escaped piece_at next_at
-plain_again b r s n = grind (arith, common_steps)
-
-short_again : (b : ℕ) (r : List ℕ) → is_short b ≡ true → piece_at (escaped b ++ r) ≡ Some (piece_of b, r)
-unfolding escaped piece_at next_at escape_at letter_of
-short_again b r s = grind (arith, common_steps)
-
-unit_again : (b : ℕ) (r : List ℕ) → b < 32 → unit_at (48 ∷ 48 ∷ hex_digit_of (b / 16) ∷ hex_digit_of (b % 16) ∷ r) ≡ Some (b, r)
-unfolding unit_at digit_at next_at
-unit_again b r l =
-    let high = hex_again (b / 16) (omega arith) in
-    let low = hex_again (b % 16) (omega arith) in
-    let zero : hex_value_of 48 ≡ Some 0 = hex_again 0 (omega arith) in
-    let sum : 0 * 4096 + 0 * 256 + b / 16 * 16 + b % 16 ≡ b = omega arith in
-    rw (zero, zero, high, low, sum) refl
-
-control_escaped : (b : ℕ) → is_short b ≡ false → nat_lt b 32 ≡ true → escaped b ≡ 92 ∷ 117 ∷ 48 ∷ 48 ∷ hex_digit_of (b / 16) ∷ hex_digit_of (b % 16) ∷ []
-unfolding escaped
-control_escaped b s n = grind (arith, common_steps)
-
-control_again : (b : ℕ) (r : List ℕ) → is_short b ≡ false → nat_lt b 32 ≡ true → piece_at (escaped b ++ r) ≡ Some (piece_of b, r)
-unfolding piece_at next_at escape_at unicode_at
-control_again b r s n =
-    let l : b < 32 = grind (arith, common_steps) in
-    let high : is_high b ≡ false = grind (arith, common_steps) in
-    let low : is_low b ≡ false = grind (arith, common_steps) in
-    rw (control_escaped b s n, unit_again b r l, high, low, s, n) refl
-
-piece_again_at : (b : ℕ) (r : List ℕ) (short low : Bool) → is_short b ≡ short → nat_lt b 32 ≡ low → piece_at (escaped b ++ r) ≡ Some (piece_of b, r)
-piece_again_at b r true low s n = short_again b r s
-piece_again_at b r false true s n = control_again b r s n
-piece_again_at b r false false s n = plain_again b r s n
-
-piece_again : (b : ℕ) (r : List ℕ) → piece_at (escaped b ++ r) ≡ Some (piece_of b, r)
-piece_again b r = piece_again_at b r (is_short b) (nat_lt b 32) refl refl
-
-text_again_at : (b : ℕ) (short low : Bool) → is_short b ≡ short → nat_lt b 32 ≡ low → piece_text (piece_of b) ≡ b ∷ []
-text_again_at b true low s n = rw s refl
-text_again_at b false true s n = let l : b < 128 = grind (arith, common_steps) in rw (s, n) (encode_ascii b l)
-text_again_at b false false s n = rw (s, n) refl
-
 pieces_of : List ℕ → List Piece
 pieces_of [] = []
 pieces_of (b ∷ s) = piece_of b ∷ pieces_of s
@@ -129,7 +74,7 @@ pieces_of (b ∷ s) = piece_of b ∷ pieces_of s
 pieces_text : (s : List ℕ) → s ≡ flat_map piece_text (pieces_of s)
 unfolding pieces_of
 pieces_text [] = refl
-pieces_text (b ∷ s) = rw (text_again_at b (is_short b) (nat_lt b 32) refl refl, ← pieces_text s) refl
+pieces_text (b ∷ s) = rw (text_again b, ← pieces_text s) refl
 
 pieces_Chars : (s rest : List ℕ) → Chars (pieces_of s) (flat_map escaped s ++ 34 ∷ rest) rest
 unfolding pieces_of

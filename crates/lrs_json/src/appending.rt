@@ -10,6 +10,7 @@ use crate::Memory;
 use crate::cursor::plain_len;
 pub use crate::writing::put_tree;
 
+/// The bytes as they are.
 pub fn put(bytes: &[u8], into: &mut Vec<u8>) -> Result<(), Memory>
     ensures ok { OnOk result (into.new.items ≡ into.old.items ++ bytes.now) }
     ensures kept { Extends into.old.items into.new.items }
@@ -29,6 +30,7 @@ pub fn put_comma(later: bool, into: &mut Vec<u8>) -> Result<(), Memory>
     Ok(())
 }
 
+/// The text in its quotes, with what has to be escaped.
 #[tactic(auto, using(crate::proofs::Extending::extends_trans))]
 pub fn put_quoted(text: &str, into: &mut Vec<u8>) -> Result<(), Memory>
     ensures ok { OnOk result (into.new.items ≡ into.old.items ++ quoted text.now) }
@@ -92,7 +94,8 @@ fn put_escaped(text: &str, into: &mut Vec<u8>) -> Result<(), Memory>
 #[tactic(auto, using(crate::proofs::Extending::extends_trans))]
 fn put_run<'a>(bytes: &'a [u8], into: &mut Vec<u8>) -> Result<&'a [u8], Memory>
     requires { 0 < length bytes.now }
-    ensures ok { IfOk result (λ left. into.new.items ++ flat_map escaped left.now ≡ into.old.items ++ flat_map escaped bytes.now) }
+    ensures ok { IfOk result
+        (λ left. into.new.items ++ flat_map escaped left.now ≡ into.old.items ++ flat_map escaped bytes.now) }
     ensures shorter { IfOk result (λ left. length left.now < length bytes.now) }
     ensures kept { Extends into.old.items into.new.items }
 {

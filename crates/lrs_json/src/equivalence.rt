@@ -14,7 +14,8 @@ use crate::tree::find_member;
 use crate::{Member, Text, Tree};
 use lrs_decimal::Decimal;
 
-/// Whether the trees are equal but for the order of members and the spelling of equal decimals, as `1.0` and `1`. Takes no memory.
+/// Whether the trees are equal but for the order of members and the spelling of equal decimals, as `1.0` and `1`.
+/// Takes no memory.
 pub fn same_value(a: &Tree, b: &Tree) -> bool
     requires a_fits { Fits (view a.now) }
     requires b_fits { Fits (view b.now) }
@@ -96,7 +97,8 @@ fn members_have_same_values(a: &[Member], b: &[Member]) -> bool
 fn has_same_value(member: &Member, members: &[Member]) -> bool
     requires member_fits { Fits (member_view member.now).1 }
     requires members_fit { (names : List (List ℕ)) × FitMembers names (members_of (map member_view members.now)) }
-    ensures { result ≡ option_map_or (same (member_view member.now).1) (find_member (member_view member.now).0 (members_of (map member_view members.now))) false }
+    ensures { result ≡ option_map_or (same (member_view member.now).1)
+        (find_member (member_view member.now).0 (members_of (map member_view members.now))) false }
 {
     match find_member(members, member.name.as_str()) {
         Some(value) => is_same_value(&member.value, value),

@@ -26,6 +26,7 @@ impl<T> Model for Items<T> {
 }
 
 impl<T> Items<T> {
+    /// No items yet; takes no memory.
     pub fn new(alloc: Global) -> Items<T>
         ensures { result ≡ [] }
     {
@@ -34,6 +35,7 @@ impl<T> Items<T> {
         }
     }
 
+    /// Takes the vector over as it is.
     pub fn from_vec(items: Vec<T>) -> Items<T>
         ensures { result ≡ items.items }
     {
@@ -48,24 +50,28 @@ impl<T> Items<T> {
         items
     }
 
+    /// The items, lent.
     pub fn as_slice(&self) -> &[T]
         ensures { result.now ≡ self.now }
     {
         self.items.as_slice()
     }
 
+    /// How many items there are.
     pub fn len(&self) -> usize
         ensures { result ≡ length self.now }
     {
         self.items.len()
     }
 
+    /// Whether there are none.
     pub fn is_empty(&self) -> bool
         ensures { IsTrue result ↔ (self.now ≡ []) }
     {
         self.items.is_empty()
     }
 
+    /// The item at a place, from 0.
     pub fn get(&self, at: usize) -> Option<&T>
         ensures value { option_copied result ≡ slice_get self.now at }
         ensures within { OnSome result (at < length self.now) }
@@ -73,6 +79,7 @@ impl<T> Items<T> {
         self.items.get(at)
     }
 
+    /// Goes over the items in their order.
     pub fn iter(&self) -> Iter<'_, T>
         ensures rest { iter_rest result ≡ self.now }
         ensures len { length (iter_rest result) ≡ length self.now }
@@ -90,6 +97,7 @@ impl<T> Items<T> {
 }
 
 impl<T: Drop> Items<T> {
+    /// One item more, at the end.
     pub fn push(&mut self, item: T) -> Result<(), Memory>
         ensures ok { OnOk result (self.new ≡ self.old ++ item ∷ []) }
         ensures err { OnErr result (self.new ≡ self.old) }

@@ -21,9 +21,6 @@ pub use items::Items;
 pub use lrs_decimal::Decimal;
 pub use memory::Memory;
 pub use reading::{ReadRefused, read, read_to};
-pub use text::Text;
+pub use text::{Text, utf8_text};
 pub use tree::{Member, Tree};
 pub use writing::write;
-
-#[cfg(test)]
-mod tests;

@@ -156,7 +156,8 @@ impl Reader<'_> {
     // Notes the names that equal an earlier one.
     fn note_repeated(&mut self, members: &[Member], lefts: &[usize]) -> Result<(), Memory>
         ensures cursor { self.new.cursor ≡ self.old.cursor }
-        ensures repeated { OnOk result (self.new.places.repeated ≡ earlier self.old.places.repeated (earliest (repeated_among [] (map (λ m. (member_view m).0) members.now) lefts.now))) }
+        ensures repeated { OnOk result (self.new.places.repeated ≡ earlier self.old.places.repeated
+            (earliest (repeated_among [] (map (λ m. (member_view m).0) members.now) lefts.now))) }
         ensures out_of_range { self.new.places.out_of_range ≡ self.old.places.out_of_range }
     {
         if let Some(left) = earliest_repeated(self.cursor.allocator(), members, lefts)? {

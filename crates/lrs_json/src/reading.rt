@@ -20,7 +20,8 @@ pub enum ReadRefused {
     TooDeep,
     /// The bytes are no JSON text.
     Bad,
-    /// A name equals an earlier name of the same object, once both are decoded. The place is the offset of the opening quote of the earliest such name.
+    /// A name equals an earlier name of the same object, once both are decoded. The place is the offset of the
+    /// opening quote of the earliest such name.
     Repeated { place: usize },
     /// A number is out of range. The place is the offset of the earliest such number.
     NumberRange { place: usize },
@@ -44,13 +45,15 @@ pub fn read(alloc: Global, bytes: &[u8]) -> Result<Tree, ReadRefused>
     ensures too_deep { (result ≡ Err ReadRefused.TooDeep) ↔ IsTrue (is_too_deep 64 bytes.now) }
     ensures bad { Refuses result ReadRefused.Bad (IsBad 64 bytes.now) }
     ensures repeated { (place : ℕ) → Refuses result (ReadRefused.Repeated place) (RepeatedAt 64 bytes.now place) }
-    ensures number_range { (place : ℕ) → Refuses result (ReadRefused.NumberRange place) (OutOfRangeAt 64 bytes.now place) }
+    ensures number_range { (place : ℕ) →
+        Refuses result (ReadRefused.NumberRange place) (OutOfRangeAt 64 bytes.now place) }
     ensures found { IfOk result (λ t. Spells 64 bytes.now (view t)) }
     ensures all { (j : Json) → Spells 64 bytes.now j → Gives result (λ t. view t ≡ j) }
 
     // A tree that is given can be read again, and what is written from it is read as the same tree.
     ensures readable { IfOk result (λ t. IsReadable 64 (view t)) }
-    ensures again { (t : SpecTree) → IsReadable 64 (view t) → bytes.now ≡ written (view t) → Gives result (λ u. u ≡ t) }
+    ensures again { (t : SpecTree) → IsReadable 64 (view t) → bytes.now ≡ written (view t) →
+        Gives result (λ u. u ≡ t) }
 {
     read_to(alloc, bytes, 64)
 }
@@ -61,13 +64,15 @@ pub fn read_to(alloc: Global, bytes: &[u8], depth: u32) -> Result<Tree, ReadRefu
     ensures too_deep { (result ≡ Err ReadRefused.TooDeep) ↔ IsTrue (is_too_deep depth bytes.now) }
     ensures bad { Refuses result ReadRefused.Bad (IsBad depth bytes.now) }
     ensures repeated { (place : ℕ) → Refuses result (ReadRefused.Repeated place) (RepeatedAt depth bytes.now place) }
-    ensures number_range { (place : ℕ) → Refuses result (ReadRefused.NumberRange place) (OutOfRangeAt depth bytes.now place) }
+    ensures number_range { (place : ℕ) →
+        Refuses result (ReadRefused.NumberRange place) (OutOfRangeAt depth bytes.now place) }
     ensures found { IfOk result (λ t. Spells depth bytes.now (view t)) }
     ensures all { (j : Json) → Spells depth bytes.now j → Gives result (λ t. view t ≡ j) }
 
     // A tree that is given can be read again, and what is written from it is read as the same tree.
     ensures readable { IfOk result (λ t. IsReadable depth (view t)) }
-    ensures again { (t : SpecTree) → IsReadable depth (view t) → bytes.now ≡ written (view t) → Gives result (λ u. u ≡ t) }
+    ensures again { (t : SpecTree) → IsReadable depth (view t) → bytes.now ≡ written (view t) →
+        Gives result (λ u. u ≡ t) }
 {
     if reaches(bytes, depth + 1) {
         return Err(ReadRefused::TooDeep);

@@ -1,3 +1,5 @@
+ghost use Rattle.std.specs.Prelude.{◌≡◌, IsUtf8};
+
 use crate::Memory;
 use std::alloc::{AllocError, Global};
 use std::cmp::Ordering;
@@ -30,6 +32,7 @@ impl Text {
         })
     }
 
+    /// The text, lent.
     pub fn as_str(&self) -> &str
         ensures lent { result.now ≡ self.now }
         ensures utf8 { IsUtf8 self.now }
@@ -37,6 +40,7 @@ impl Text {
         self.string.as_str()
     }
 
+    /// The text as UTF-8, lent.
     pub fn as_bytes(&self) -> &[u8]
         ensures lent { result.now ≡ self.now }
         ensures utf8 { IsUtf8 self.now }
@@ -47,6 +51,17 @@ impl Text {
     /// Where a copy of the text may stand.
     pub fn allocator(&self) -> Global {
         *self.string.allocator()
+    }
+}
+
+/// The text that the bytes are, where they are known to be UTF-8, as those of an id and of a moment are.
+pub fn utf8_text(bytes: &[u8]) -> &str
+    requires { IsUtf8 bytes.now }
+    ensures { result.now ≡ bytes.now }
+{
+    match str::from_utf8(bytes) {
+        Ok(text) => text,
+        Err(_) => unreachable!(),
     }
 }
 

@@ -32,8 +32,10 @@ impl Agent {
 
     /// The agent that the tree is.
     pub fn read(alloc: Global, tree: &Tree) -> Result<Agent, NameRefused>
-        ensures broken { IfSome (least (agent_faults (view tree.now))) (λ rule. result ≡ Err (NameRefused.Broken rule)) }
-        ensures read { IfNone (least (agent_faults (view tree.now))) (MatchResult result (λ agent. IsAgentOf (view tree.now) agent) (λ e. e ≡ NameRefused.Memory)) }
+        ensures broken { IfSome (least (agent_faults (view tree.now)))
+            (λ rule. result ≡ Err (NameRefused.Broken rule)) }
+        ensures read { IfNone (least (agent_faults (view tree.now)))
+            (MatchResult result (λ agent. IsAgentOf (view tree.now) agent) (λ e. e ≡ NameRefused.Memory)) }
     {
         match Agent::broken(tree) {
             Some(rule) => Err(NameRefused::Broken { rule }),

@@ -37,8 +37,10 @@ impl Group {
 
     /// The group that the tree is.
     pub fn read(alloc: Global, tree: &Tree) -> Result<Group, NameRefused>
-        ensures broken { IfSome (least (group_faults (view tree.now))) (λ rule. result ≡ Err (NameRefused.Broken rule)) }
-        ensures read { IfNone (least (group_faults (view tree.now))) (MatchResult result (λ group. IsGroupOf (view tree.now) group) (λ e. e ≡ NameRefused.Memory)) }
+        ensures broken { IfSome (least (group_faults (view tree.now)))
+            (λ rule. result ≡ Err (NameRefused.Broken rule)) }
+        ensures read { IfNone (least (group_faults (view tree.now)))
+            (MatchResult result (λ group. IsGroupOf (view tree.now) group) (λ e. e ≡ NameRefused.Memory)) }
     {
         match Group::broken(tree) {
             Some(rule) => Err(NameRefused::Broken { rule }),

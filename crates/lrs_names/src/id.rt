@@ -1,4 +1,4 @@
-ghost use Rattle.std.specs.Prelude.{◌≡◌, ◌<◌, ◌^◌, IfSome, Some, ℕ, length};
+ghost use Rattle.std.specs.Prelude.{◌≡◌, ◌<◌, ◌^◌, IfSome, IsUtf8, Some, ℕ, length};
 ghost use Rattle.lrs_names.specs.Ids.{IsId, id_of, id_of_word, id_text};
 
 use std::marker::Model;
@@ -46,6 +46,7 @@ impl Id {
         ensures text { result ≡ id_text self.now }
         ensures read_back { id_of result ≡ Some self.now }
         ensures whole { IsId self.now }
+        ensures utf8 { IsUtf8 result }
     {
         are_whole(&self.bytes);
         let mut buffer = [0; 36];

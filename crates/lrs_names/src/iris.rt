@@ -49,6 +49,7 @@ impl Iri {
         }
     }
 
+    /// The text, lent.
     pub fn text(&self) -> &Text
         ensures lent { result.now ≡ self.now }
         ensures iri { IsTrue (is_iri self.now) }
@@ -56,6 +57,7 @@ impl Iri {
         &self.text
     }
 
+    /// Gives the text back.
     pub fn into_text(self) -> Text
         ensures given { result ≡ self }
         ensures iri { IsTrue (is_iri self) }

@@ -5,6 +5,7 @@ ghost use Rattle.lrs_names.specs.Members.{is_string, is_word, text_of, member_te
 
 use lrs_json::{Member, Text, Tree};
 
+/// Whether the tree is a string.
 pub fn is_string(tree: &Tree) -> bool
     ensures { result ≡ is_string (view tree.now) }
 {
@@ -41,6 +42,7 @@ pub fn member_text<'a>(tree: &'a Tree, name: &str) -> Option<&'a Text>
     }
 }
 
+/// Whether the tree is an object with a member of that name.
 pub fn has_member(tree: &Tree, name: &str) -> bool
     ensures { result ≡ has_member name.now (view tree.now) }
 {
@@ -88,7 +90,8 @@ fn are_named_by(members: &[Member], names: &[&str]) -> bool
     true
 }
 
-fn is_one_of(names: &[&str], text: &str) -> bool
+/// Whether the text is one of these names.
+pub fn is_one_of(names: &[&str], text: &str) -> bool
     ensures { result ≡ is_one_of (map (λ name. name.now) names.now) text.now }
 {
     for name in names {

@@ -1,11 +1,10 @@
 -- Digits, runs of them, and the numbers that they stand for.
-use Rattle.std.proofs.Common.{◌≡◌, ℕ, zero, suc, ◌+◌, ◌-◌, ◌*◌, ◌^◌, ◌<◌, ◌≤◌, List, [], ◌∷◌, ◌++◌, Bool, true, false, length, take, drop, get_or, cond, ◌&&◌, nat_le, Some, refl, sym, ap, ◌∙◌, subst, lit≤, arith}
+use Rattle.std.proofs.Common.{◌≡◌, ℕ, zero, suc, ◌+◌, ◌-◌, ◌*◌, ◌^◌, ◌<◌, ◌≤◌, List, [], ◌∷◌, ◌++◌, Bool, true, false, length, take, drop, cond, ◌&&◌, nat_le, Some, refl, sym, ap, ◌∙◌, subst, lit≤, arith}
 use Rattle.std.specs.List.{prefix_len}
 use Rattle.std.specs.Char.{is_ascii_digit, digit_value}
-use Rattle.std.specs.Str.Parse.{AllDigits, digits_value}
-use Rattle.std.proofs.lemmas.Int.Digits.{digits_value_more}
+use Rattle.std.specs.Str.Parse.{AllDigits}
 use Rattle.std.proofs.lemmas.Nat.{pow-add}
-use Rattle.std.proofs.Math.Nat.{pow-le-pow_right, one-le-pow, mul-le-mul_right}
+use Rattle.std.proofs.Math.Nat.{one-le-pow, mul-le-mul_right}
 use Rattle.std.proofs.lemmas.Option.{cond_some}
 use Rattle.std.proofs.lemmas.List.{take-append-drop}
 use Rattle.std.proofs.lemmas.List.Folds.{length-prefix_len}
@@ -14,19 +13,11 @@ use Rattle.lrs_time.specs.Reading.{numeral_at}
 
 -- ---- one digit
 
-pub digit_range : (b : ℕ) → digit_value b < 10 → (48 ≤ b) × (b ≤ 57) × (digit_value b ≡ b - 48)
-digit_range b h = grind arith
-
 pub digit_test : (b : ℕ) → digit_value b < 10 → is_ascii_digit b ≡ true
 digit_test b h = grind arith
 
 pub test_digit : (b : ℕ) → is_ascii_digit b ≡ true → digit_value b < 10
 test_digit b h = grind arith
-
-pub digit_at : (ds : List ℕ) (i : ℕ) → AllDigits 10 ds → i < length ds → digit_value (get_or ds i 0) < 10
-digit_at [] i all lt = absurd (omega arith)
-digit_at (d ∷ ds) zero all lt = all.0
-digit_at (d ∷ ds) (suc i) all lt = digit_at ds i all.1 (omega arith)
 
 -- ---- runs
 
@@ -40,21 +31,6 @@ AllDigits-run [] = tt
 AllDigits-run (b ∷ bs) = run_at b bs (is_ascii_digit b) refl (AllDigits-run bs)
 
 -- ---- numbers
-
-pub pow_step : (i : ℕ) → 10 ^ (i + 1) ≡ 10 ^ i * 10
-pow_step i = pow-add 10 i 1
-
-pub pow_le : (i k : ℕ) → i ≤ k → 10 ^ i ≤ 10 ^ k
-pow_le i k h = pow-le-pow_right (lit≤ tt) h
-
--- one digit more of the number that nine digits write
-pub number_step : (ds : List ℕ) (i v : ℕ) → AllDigits 10 ds → length ds ≤ 9 → i < length ds → v ≡ digits_value 10 (take i ds) → v < 10 ^ i → (48 ≤ get_or ds i 0) × (v < 10 ^ 8) × (v * 10 + (get_or ds i 0 - 48) < 10 ^ 9) × (v * 10 + (get_or ds i 0 - 48) ≡ digits_value 10 (take (i + 1) ds)) × (v * 10 + (get_or ds i 0 - 48) < 10 ^ (i + 1))
-number_step ds i v all few lt is small =
-    let d = digit_range (get_or ds i 0) (digit_at ds i all lt) in
-    let top = pow_le i 8 (omega arith) in
-    let up = pow_step i in
-    let more = digits_value_more 10 ds i lt in
-    (d.0, omega arith, omega arith, omega arith, omega arith)
 
 -- a number of k digits, with noughts behind it up to p digits
 pub cut_fits : (v k p : ℕ) → v < 10 ^ k → k ≤ p → v * 10 ^ (p - k) < 10 ^ p

@@ -1,5 +1,5 @@
 -- What the text of a duration is, and when two durations are the same.
-use Rattle.std.specs.Prelude.{◌≡◌, ℕ, ◌+◌, ◌*◌, ◌/◌, ◌%◌, ◌==◌, ◌&&◌, ◌||◌, ◌⊎◌, IsTrue, Bool, true, false, List, [], ◌∷◌, ◌++◌, length, take, drop, Option, Some, None, option_map, unwrap_or, if◌then◌else◌, codes}
+use Rattle.std.specs.Prelude.{◌≡◌, ℕ, ◌+◌, ◌*◌, ◌/◌, ◌%◌, ◌==◌, ◌&&◌, ◌||◌, ◌⊎◌, IsTrue, Bool, true, false, List, [], ◌∷◌, ◌++◌, drop, Option, Some, None, option_map, unwrap_or, if◌then◌else◌, codes}
 use Rattle.std.specs.Str.Parse.{digits_value}
 use Rattle.std.specs.Fmt.{decimal}
 use Rattle.lrs_time.specs.Digits.{IsNumeral, cut_fraction, two_digits}
@@ -180,7 +180,3 @@ span_of_hundredths n = record {
   minutes = 0;
   seconds = n * 10_000_000;
 }
-
--- the new list is the old one with more behind it
-abbrev pub Extends : List ℕ → List ℕ → Type 0
-Extends old new = take (length old) new ≡ old

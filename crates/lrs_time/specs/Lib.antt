@@ -2,3 +2,4 @@ pub mod Digits
 pub mod Duration
 pub mod Reading
 pub mod Timestamp
+pub mod Moments

@@ -6,6 +6,8 @@ ghost use Rattle.std.specs.Str.Parse.{AllDigits, digits_value};
 ghost use Rattle.lrs_time.specs.Digits.{IsNumeral, cut_fraction, two_digits};
 ghost use Rattle.lrs_time.specs.Reading.{numeral_at, after, two_digits_at, below_at};
 
+use lrs_decimal::digits_value;
+
 /// How many digits stand at the front.
 fn digits_len(text: &[u8]) -> usize
     ensures bound { result ≤ length text.now }
@@ -32,20 +34,6 @@ pub(crate) fn read_numeral(most: usize, text: &[u8]) -> Option<(&[u8], &[u8])>
     Some(text.split_at(len))
 }
 
-/// The number that at most nine digits write.
-pub(crate) fn number(digits: &[u8]) -> u32
-    requires digits { AllDigits 10 digits.now }
-    requires few { length digits.now ≤ 9 }
-    ensures value { result ≡ digits_value 10 digits.now }
-    ensures bound { result < 10 ^ length digits.now }
-{
-    let mut value = 0u32;
-    for digit in digits {
-        value = value * 10 + (*digit - b'0') as u32;
-    }
-    value
-}
-
 /// The digits behind a decimal point as a count of the unit `10 ^ -places`, cut off.
 pub(crate) fn cut(places: usize, digits: &[u8]) -> u32
     requires digits { AllDigits 10 digits.now }
@@ -54,7 +42,7 @@ pub(crate) fn cut(places: usize, digits: &[u8]) -> u32
     ensures bound { result < 10 ^ places }
 {
     let kept = &digits[..digits.len().min(places)];
-    number(kept) * 10u32.pow((places - kept.len()) as u32)
+    digits_value(kept) as u32 * 10u32.pow((places - kept.len()) as u32)
 }
 
 /// What stands behind the byte `wanted`, where it comes first.

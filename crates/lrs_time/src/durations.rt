@@ -4,7 +4,8 @@ ghost use Rattle.std.specs.Cmp.{IsEquivalence};
 ghost use Rattle.lrs_time.specs.Duration.{Span, IsNoDuration, IsDurationOf, IsSame, same_span, date_units};
 ghost use Rattle.lrs_time.specs.Reading.{quantity_at, field_at, fields_at, clock_fields_at, duration_at};
 
-use crate::digits::{after, cut, number, read_numeral};
+use crate::digits::{after, cut, read_numeral};
+use lrs_decimal::digits_value;
 use std::marker::Model;
 
 /// A span of time in the fields of ISO 8601, each a number of its own unit. A missing field is 0.
@@ -61,7 +62,7 @@ fn read_quantity(text: &[u8]) -> Option<(Quantity, &[u8])>
     ensures { option_map (λ p. (p.0, p.1.now)) result ≡ quantity_at text.now }
 {
     let (digits, rest) = read_numeral(9, text)?;
-    let billionths = number(digits) as u64 * BILLION;
+    let billionths = digits_value(digits) * BILLION;
     match rest {
         [b'.' | b',', rest @ ..] => {
             let (digits, rest) = read_numeral(9, rest)?;

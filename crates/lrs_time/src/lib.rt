@@ -15,6 +15,3 @@ pub use instants::Instant;
 pub use moments::{Moment, moment_text};
 pub use seconds::{Memory, seconds_text};
 pub use timestamps::{TimeRefused, read_timestamp};
-
-#[cfg(test)]
-mod tests;

@@ -1,5 +1,6 @@
-ghost use Rattle.std.specs.Prelude.{◌≡◌, ◌*◌, ◌<◌, ◌≤◌, ◌≤ℤ◌, min, pos, unsigned_abs};
+ghost use Rattle.std.specs.Prelude.{◌≡◌, ◌*◌, ◌<◌, ◌≤◌, ◌≤ℤ◌, min, pos, unsigned_abs, IsUtf8};
 ghost use Rattle.jiff_core.specs.Date.{epoch_day};
+ghost use Rattle.lrs_time.specs.Moments.{moment_text};
 ghost use Rattle.lrs_time.specs.Timestamp.{stamp_text, utc_stamp, IsMomentText, IsTimestampOf};
 ghost use Rattle.lrs_time.specs.Reading.{timestamp_at};
 
@@ -98,6 +99,10 @@ pub fn moment_text(moment: Moment) -> [u8; 24]
     ensures text { IsMomentText moment result }
     ensures instant { IsTimestampOf result (pos (moment * 1_000_000)) }
     ensures reads_back { timestamp_at result ≡ Ok (pos (moment * 1_000_000)) }
+    ensures utf8 { IsUtf8 result }
+
+    // The same as a function of the moment.
+    ensures exact { result ≡ moment_text moment }
 {
     let milliseconds = moment.milliseconds();
     let date = date_of((milliseconds / 86_400_000) as u32);

@@ -1,10 +1,10 @@
 //! The seconds of a duration as a text.
-ghost use Rattle.std.specs.Prelude.{◌≡◌, ◌/◌, ◌≤◌, ◌<◌, ◌++◌, Some, OnOk, OnErr};
-ghost use Rattle.std.specs.Fmt.{decimal};
-ghost use Rattle.lrs_time.specs.Duration.{seconds_text, hundredths_text, IsDurationOf, span_of_hundredths, Extends};
+ghost use Rattle.std.specs.Prelude.{◌≡◌, ◌/◌, ◌≤◌, ◌<◌, ◌++◌, Some, OnOk, OnErr, take, length};
+ghost use Rattle.lrs_time.specs.Duration.{seconds_text, hundredths_text, IsDurationOf, span_of_hundredths};
 ghost use Rattle.lrs_time.specs.Reading.{duration_at};
 
 use crate::digits::in_two_digits;
+use itoa::Buffer;
 use std::alloc::AllocError;
 
 /// Memory ran out.
@@ -33,13 +33,13 @@ pub fn seconds_text(ms: u64, into: &mut Vec<u8>) -> Result<(), Memory>
     }
 }
 
-#[tactic(auto, using(crate::proofs::Extending::extends_trans))]
 fn push_seconds(ms: u64, into: &mut Vec<u8>) -> Result<(), AllocError>
     ensures ok { OnOk result (into.new.items ≡ into.old.items ++ seconds_text ms) }
-    ensures kept { Extends into.old.items into.new.items }
+    ensures kept { take (length into.old.items) into.new.items ≡ into.old.items }
 {
+    let mut digits = Buffer::new();
     into.extend_from_slice(b"PT")?;
-    push_decimal(ms / 1000, into)?;
+    into.extend_from_slice(digits.format(ms / 1000).as_bytes())?;
     push_hundredths((ms % 1000 / 10) as u8, into)?;
     into.extend_from_slice(b"S")
 }
@@ -47,23 +47,11 @@ fn push_seconds(ms: u64, into: &mut Vec<u8>) -> Result<(), AllocError>
 fn push_hundredths(hundredths: u8, into: &mut Vec<u8>) -> Result<(), AllocError>
     requires { hundredths < 100 }
     ensures ok { OnOk result (into.new.items ≡ into.old.items ++ hundredths_text hundredths) }
-    ensures kept { Extends into.old.items into.new.items }
+    ensures err { OnErr result (into.new.items ≡ into.old.items) }
 {
     if hundredths == 0 {
         return Ok(());
     }
     let [tens, ones] = in_two_digits(hundredths);
     into.extend_from_slice(&[b'.', tens, ones])
-}
-
-#[tactic(auto, using(crate::proofs::Extending::extends_trans))]
-fn push_decimal(number: u64, into: &mut Vec<u8>) -> Result<(), AllocError>
-    ensures ok { OnOk result (into.new.items ≡ into.old.items ++ decimal number) }
-    ensures kept { Extends into.old.items into.new.items }
-{
-    if number >= 10 {
-        push_decimal(number / 10, into)?;
-    }
-    into.push(b'0' + (number % 10) as u8)?;
-    Ok(())
 }

@@ -1,6 +1,8 @@
 use Rattle.std.proofs.Common.{pos, ℕ, ◌*◌, subst}
 use Rattle.lrs_time.specs.Timestamp.{IsMomentText}
 use Rattle.lrs_time.proofs.MomentLemmas.{moment_is, moment_instant}
+use Rattle.lrs_time.proofs.Ascii.{IsUtf8-moment}
+use Rattle.lrs_time.proofs.MomentTexts.{is_moment_text}
 use Rattle.lrs_time.proofs.TimestampLemmas.{read_back}
 use Rattle.lrs_time.proofs.moments.moment_text.Goals as goal
 
@@ -17,3 +19,9 @@ returns-clause-instant c = moment_instant c.args.moment c.utc_text.result (text_
 pub returns-clause-reads_back : goal.returns-clause-reads_back
 returns-clause-reads_back c =
     read_back c.utc_text.result (pos (c.args.moment * 1_000_000)) (moment_instant c.args.moment c.utc_text.result (text_of c))
+
+pub returns-clause-utf8 : goal.returns-clause-utf8
+returns-clause-utf8 c = IsUtf8-moment c.args.moment c.utc_text.result (text_of c)
+
+pub returns-clause-exact : goal.returns-clause-exact
+returns-clause-exact c = is_moment_text c.args.moment c.utc_text.result (text_of c)

@@ -1,0 +1,5 @@
+//! The tests of lrs_json.
+#![tactic(auto)]
+
+#[cfg(test)]
+mod tests;

@@ -1,0 +1,343 @@
+ghost use Rattle.std.specs.Prelude.{◌≤◌};
+
+use lrs_json::{Items, Memory, ReadRefused, Text, Tree, read, read_to, same_value, write};
+use std::alloc::Global;
+
+// Whether the written form of what is read is that text.
+fn is_rewritten_to(alloc: Global, text: &[u8], wanted: &[u8]) -> Result<bool, ReadRefused> {
+    let mut bytes = Vec::new(alloc);
+    let tree = read(alloc, text)?;
+    let written = write(&tree, &mut bytes);
+    drop(tree);
+    Ok(written.is_ok() && bytes.as_slice() == wanted)
+}
+
+// Texts, and how they are written again.
+const LAWFUL: [(&str, &str); 10] = [
+    ("{\"b\":1.50,\"a\":[]}", "{\"b\":1.50,\"a\":[]}"),
+    (" null ", "null"),
+    ("\t[ true\r,\nfalse ] ", "[true,false]"),
+    (
+        "{ \"a\" : { } , \"b\" : [ [ ] , 0 ] }",
+        "{\"a\":{},\"b\":[[],0]}",
+    ),
+    (
+        "[-0,0.0,-12.50E+3,1e-7,9e07]",
+        "[-0,0.0,-12.50E+3,1e-7,9e07]",
+    ),
+    ("\"\"", "\"\""),
+    (
+        "\"\\\"\\\\\\/\\b\\f\\n\\r\\t\"",
+        "\"\\\"\\\\/\\b\\f\\n\\r\\t\"",
+    ),
+    (
+        "\"\\u0000\\u001F\\u0041\\u00e9\\u20AC\"",
+        "\"\\u0000\\u001fA\u{e9}\u{20ac}\"",
+    ),
+    ("\"\\ud83d\\uDE00\u{1F600}\"", "\"\u{1F600}\u{1F600}\""),
+    ("\"\u{7f}\u{e9}\"", "\"\u{7f}\u{e9}\""),
+];
+
+// The place of the first row that is wrong.
+fn wrong_lawful(alloc: Global) -> Option<usize> {
+    for (i, (text, wanted)) in LAWFUL.iter().enumerate() {
+        let rewritten = is_rewritten_to(alloc, text.as_bytes(), wanted.as_bytes());
+        if rewritten != Ok(true) {
+            return Some(i);
+        }
+    }
+    None
+}
+
+#[test]
+fn lawful_texts_are_read_and_written(rt: HostRuntime) {
+    assert_eq!(rt; wrong_lawful(rt.alloc()), None);
+}
+
+fn refusal(alloc: Global, text: &[u8]) -> Option<ReadRefused> {
+    match read(alloc, text) {
+        Ok(_) => None,
+        Err(refused) => Some(refused),
+    }
+}
+
+const UNLAWFUL: [&[u8]; 45] = [
+    b"",
+    b" ",
+    b"[1,]",
+    b"[,1]",
+    b"[1 2]",
+    b"[1",
+    b"1]",
+    b"[1}",
+    b"{,}",
+    b"{\"a\":1,}",
+    b"{\"a\"}",
+    b"{\"a\" 1}",
+    b"{\"a\":}",
+    b"{a:1}",
+    b"{1:1}",
+    b"{\"a\":1 \"b\":2}",
+    b"nul",
+    b"nulll",
+    b"True",
+    b"+1",
+    b"01",
+    b"-",
+    b"1.",
+    b".5",
+    b"1e",
+    b"1e+",
+    b"0x1",
+    b"1 2",
+    b"'a'",
+    b"\"",
+    b"\"a",
+    b"a\"",
+    b"\"\\x\"",
+    b"\"\\u12g4\"",
+    b"\"\\u123\"",
+    b"\"\\ud83d\"",
+    b"\"\\ude00\"",
+    b"\"\\ud83d\\n\"",
+    b"\"\\ud83d\\ud83d\"",
+    b"\"\x1f\"",
+    b"\"\n\"",
+    b"\"\xc3\"",
+    b"\"\xc0\xaf\"",
+    b"\xef\xbb\xbfnull",
+    b"\x0bnull",
+];
+
+fn wrong_unlawful(alloc: Global) -> Option<usize> {
+    for (i, text) in UNLAWFUL.iter().enumerate() {
+        if refusal(alloc, text) != Some(ReadRefused::Bad) {
+            return Some(i);
+        }
+    }
+    None
+}
+
+#[test]
+fn unlawful_texts_are_bad(rt: HostRuntime) {
+    assert_eq!(rt; wrong_unlawful(rt.alloc()), None);
+}
+
+// The escape of each control character, as it may be read, and as it is written.
+const CONTROLS: [(&str, &str); 32] = [
+    ("\"\\u0000\"", "\"\\u0000\""),
+    ("\"\\u0001\"", "\"\\u0001\""),
+    ("\"\\u0002\"", "\"\\u0002\""),
+    ("\"\\u0003\"", "\"\\u0003\""),
+    ("\"\\u0004\"", "\"\\u0004\""),
+    ("\"\\u0005\"", "\"\\u0005\""),
+    ("\"\\u0006\"", "\"\\u0006\""),
+    ("\"\\u0007\"", "\"\\u0007\""),
+    ("\"\\u0008\"", "\"\\b\""),
+    ("\"\\u0009\"", "\"\\t\""),
+    ("\"\\u000A\"", "\"\\n\""),
+    ("\"\\u000B\"", "\"\\u000b\""),
+    ("\"\\u000C\"", "\"\\f\""),
+    ("\"\\u000D\"", "\"\\r\""),
+    ("\"\\u000E\"", "\"\\u000e\""),
+    ("\"\\u000F\"", "\"\\u000f\""),
+    ("\"\\u0010\"", "\"\\u0010\""),
+    ("\"\\u0011\"", "\"\\u0011\""),
+    ("\"\\u0012\"", "\"\\u0012\""),
+    ("\"\\u0013\"", "\"\\u0013\""),
+    ("\"\\u0014\"", "\"\\u0014\""),
+    ("\"\\u0015\"", "\"\\u0015\""),
+    ("\"\\u0016\"", "\"\\u0016\""),
+    ("\"\\u0017\"", "\"\\u0017\""),
+    ("\"\\u0018\"", "\"\\u0018\""),
+    ("\"\\u0019\"", "\"\\u0019\""),
+    ("\"\\u001A\"", "\"\\u001a\""),
+    ("\"\\u001B\"", "\"\\u001b\""),
+    ("\"\\u001C\"", "\"\\u001c\""),
+    ("\"\\u001D\"", "\"\\u001d\""),
+    ("\"\\u001E\"", "\"\\u001e\""),
+    ("\"\\u001F\"", "\"\\u001f\""),
+];
+
+fn wrong_escape(alloc: Global) -> Option<usize> {
+    for (i, (text, wanted)) in CONTROLS.iter().enumerate() {
+        let rewritten = is_rewritten_to(alloc, text.as_bytes(), wanted.as_bytes());
+        if rewritten != Ok(true) {
+            return Some(i);
+        }
+    }
+    None
+}
+
+#[test]
+fn control_characters_are_written_escaped(rt: HostRuntime) {
+    assert_eq!(rt; wrong_escape(rt.alloc()), None);
+}
+
+// The first control character that may stand raw in a string.
+fn raw_control(alloc: Global) -> Option<u8> {
+    for code in 0..32u8 {
+        let raw = [b'"', code, b'"'];
+        if refusal(alloc, &raw) != Some(ReadRefused::Bad) {
+            return Some(code);
+        }
+    }
+    None
+}
+
+#[test]
+fn control_characters_are_read_only_escaped(rt: HostRuntime) {
+    assert_eq!(rt; raw_control(rt.alloc()), None);
+}
+
+const FAULTS: [(&str, Option<ReadRefused>); 8] = [
+    (
+        "{\"a\":1,\"a\":2}",
+        Some(ReadRefused::Repeated { place: 7 }),
+    ),
+    (
+        "{\"a\":1,\"\\u0061\":2}",
+        Some(ReadRefused::Repeated { place: 7 }),
+    ),
+    (
+        " {\"a\":{\"b\":1,\"b\":2},\"a\":3,\"a\":4}",
+        Some(ReadRefused::Repeated { place: 13 }),
+    ),
+    (
+        "{\"a\":1e1000,\"a\":1}",
+        Some(ReadRefused::Repeated { place: 12 }),
+    ),
+    ("[1e1000]", Some(ReadRefused::NumberRange { place: 1 })),
+    (
+        "[{\"a\":1e1000},1e1001]",
+        Some(ReadRefused::NumberRange { place: 6 }),
+    ),
+    ("[1e1000,]", Some(ReadRefused::Bad)),
+    ("[{\"a\":1},{\"a\":2}]", None),
+];
+
+fn wrong_fault(alloc: Global) -> Option<usize> {
+    for (i, (text, refused)) in FAULTS.iter().enumerate() {
+        if refusal(alloc, text.as_bytes()) != *refused {
+            return Some(i);
+        }
+    }
+    None
+}
+
+#[test]
+fn faults_have_their_places(rt: HostRuntime) {
+    assert_eq!(rt; wrong_fault(rt.alloc()), None);
+}
+
+const BRACKETS: [u8; 65] = [b'['; 65];
+
+#[test]
+fn sixty_five_brackets_are_too_deep(rt: HostRuntime) {
+    assert_eq!(rt; refusal(rt.alloc(), &BRACKETS), Some(ReadRefused::TooDeep));
+}
+
+#[test]
+fn sixty_four_brackets_are_not_too_deep(rt: HostRuntime) {
+    assert_eq!(rt; refusal(rt.alloc(), &BRACKETS[1..]), Some(ReadRefused::Bad));
+}
+
+fn refusal_at_depth(alloc: Global, text: &[u8], depth: u32) -> Option<ReadRefused>
+    requires { depth ≤ 128 }
+{
+    match read_to(alloc, text, depth) {
+        Ok(_) => None,
+        Err(refused) => Some(refused),
+    }
+}
+
+#[test]
+fn brackets_in_a_string_do_not_nest(rt: HostRuntime) {
+    assert_eq!(rt;
+        refusal_at_depth(rt.alloc(), b"[[{\"[\":\"\\\"[\"}]]", 3),
+        None
+    );
+}
+
+#[test]
+fn depth_has_the_limit_that_is_given(rt: HostRuntime) {
+    assert_eq!(rt;
+        refusal_at_depth(rt.alloc(), b"[[[]]]", 2),
+        Some(ReadRefused::TooDeep)
+    );
+}
+
+const PAIRS: [(&str, &str, bool); 7] = [
+    (
+        "{\"a\":1.0,\"b\":[10e-1,true]}",
+        "{\"b\":[1,true],\"a\":100e-2}",
+        true,
+    ),
+    ("-0", "0e99", true),
+    ("[1,2]", "[2,1]", false),
+    ("{\"a\":1}", "{\"a\":1,\"b\":2}", false),
+    ("{\"a\":1}", "{\"b\":1}", false),
+    ("1", "\"1\"", false),
+    ("0.50", "0.51", false),
+];
+
+fn are_same_values(alloc: Global, first: &str, second: &str) -> Result<bool, ReadRefused> {
+    let first = read(alloc, first.as_bytes())?;
+    let second = read(alloc, second.as_bytes())?;
+    Ok(same_value(&first, &second))
+}
+
+fn wrong_pair(alloc: Global) -> Option<usize> {
+    for (i, (first, second, wanted)) in PAIRS.iter().enumerate() {
+        let there = are_same_values(alloc, first, second);
+        let back = are_same_values(alloc, second, first);
+        if there != Ok(*wanted) || back != Ok(*wanted) {
+            return Some(i);
+        }
+    }
+    None
+}
+
+#[test]
+fn values_are_the_same_in_any_order_and_spelling(rt: HostRuntime) {
+    assert_eq!(rt; wrong_pair(rt.alloc()), None);
+}
+
+// Whether a list of one text, made from a vector of it, has it under the name `a` of the tree alone.
+fn is_found(alloc: Global, tree: &Tree) -> Result<bool, Memory> {
+    let mut items = Items::new(alloc);
+    items.push(Tree::Words(Text::of(alloc, "x")?))?;
+    let list = Tree::List(Items::from_vec(items.into_vec()));
+    let found = tree.get("a").is_some_and(|a| a.same(&list));
+    drop(list);
+    Ok(found && tree.get("c").is_none())
+}
+
+fn is_copied(tree: &Tree) -> Result<bool, Memory> {
+    let copy = tree.clone()?;
+    let same = tree.same(&copy);
+    drop(copy);
+    Ok(same)
+}
+
+fn is_of_two_members(tree: &Tree) -> bool {
+    match tree {
+        Tree::Object(members) => members.iter().count() == 2 && members.len() == 2,
+        _ => false,
+    }
+}
+
+// Of a tree that is read, whether it is copied, looked up and counted.
+fn tree_is_used(alloc: Global) -> Result<bool, ReadRefused> {
+    let tree = read(alloc, b"{\"a\":[\"x\"],\"b\":1.0}")?;
+    let used = is_found(alloc, &tree) == Ok(true)
+        && is_copied(&tree) == Ok(true)
+        && is_of_two_members(&tree);
+    drop(tree);
+    Ok(used)
+}
+
+#[test]
+fn trees_are_built_copied_and_looked_up(rt: HostRuntime) {
+    assert_eq!(rt; tree_is_used(rt.alloc()), Ok(true));
+}

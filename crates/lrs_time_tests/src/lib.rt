@@ -1,0 +1,5 @@
+//! The tests of lrs_time.
+#![tactic(auto)]
+
+#[cfg(test)]
+mod tests;
