@@ -1,9 +1,10 @@
 -- The completed form of a statement: as it was received, with what the store adds (xAPI 1.0.3, part two, section 2.4).
-use Rattle.std.specs.Prelude.{ℕ, List, [], ◌∷◌, unwrap_or, codes, if◌then◌else◌}
+use Rattle.std.specs.Prelude.{◌≡◌, ℕ, List, [], ◌∷◌, unwrap_or, map, codes, if◌then◌else◌}
 use Rattle.std.specs.Str.{bytes_eq}
 use Rattle.lrs_json.specs.Json.{Json, null, boolean, number, string, array, object, no_elements, element, Members, no_members, member}
 use Rattle.lrs_json.specs.Find.{find}
-use Rattle.lrs_json.specs.View.{members_of}
+use Rattle.lrs_json.specs.View.{member_view, members_of}
+use Rattle.lrs_json.specs.declared.tree.Member.{Member}
 use Rattle.lrs_names.specs.Ids.{id_text}
 use Rattle.lrs_names.specs.Members.{is_one_of}
 use Rattle.xapi_format.specs.Nested.{is_nested}
@@ -72,6 +73,11 @@ kept_before (member name j ms) behind =
 abbrev pub followed_by : Members → Members → Members
 followed_by no_members behind = behind
 followed_by (member name j ms) behind = member name j (followed_by ms behind)
+
+-- one member more, behind those that stood there
+abbrev pub HasOneMore : List Member → List ℕ → Json → List Member → Type 0
+HasOneMore old name j new =
+    (behind : Members) → followed_by (members_of (map member_view new)) behind ≡ followed_by (members_of (map member_view old)) (member name j behind)
 
 -- What the store writes behind them. The time at which it happened is the one that was given, else the stored moment.
 abbrev pub added : Json → List ℕ → List ℕ → Json → Members

@@ -1,6 +1,5 @@
 pub mod Nested
 pub mod Party
-pub mod Moments
 pub mod Authorities
 pub mod Completed
 pub mod Reduced

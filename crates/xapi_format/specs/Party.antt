@@ -1,5 +1,5 @@
 -- An Agent or a Group, by its identifiers and those of its members (xAPI 1.0.3, part two, section 2.4.2.3).
-use Rattle.std.specs.Prelude.{Bool, true, false, ◌&&◌, ◌||◌, codes}
+use Rattle.std.specs.Prelude.{Bool, false, ◌&&◌, ◌||◌, codes}
 use Rattle.std.specs.Option.{option_map_or}
 use Rattle.std.specs.Str.{bytes_eq}
 use Rattle.lrs_json.specs.Json.{Json, Elements, no_elements, element}
@@ -7,7 +7,6 @@ use Rattle.lrs_names.specs.Members.{has_member_that, items_of}
 use Rattle.lrs_names.specs.Identifiers.{identifier_of}
 use Rattle.lrs_names.specs.declared.identifiers.Ifi.{Ifi}
 use Rattle.lrs_names.specs.declared.identifiers.Ifi.TheVariants.{Mbox, MboxSha1, OpenId, Account}
-use Rattle.xapi_values.specs.declared.kinds.Kind.{Kind}
 
 -- the same kind, with the same texts
 abbrev pub same_ifi : Ifi → Ifi → Bool
@@ -42,12 +41,3 @@ has_identified ifi j = any_identified ifi (items_of j)
 -- it has that identifier, or one of its members does
 unfoldable pub is_party : Ifi → Json → Bool
 is_party ifi j = is_identified ifi j || has_member_that (codes "member") (has_identified ifi) j
-
-abbrev pub is_group_kind : Kind → Bool
-is_group_kind Kind.Unstated = false
-is_group_kind Kind.Activity = false
-is_group_kind Kind.Agent = false
-is_group_kind Kind.Group = true
-is_group_kind Kind.StatementRef = false
-is_group_kind Kind.SubStatement = false
-is_group_kind Kind.Other = false

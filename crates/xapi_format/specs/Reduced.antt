@@ -6,9 +6,8 @@ use Rattle.std.specs.Str.{bytes_eq}
 use Rattle.lrs_json.specs.Json.{Json, null, boolean, number, string, array, object, Elements, no_elements, element, Members, no_members, member}
 use Rattle.lrs_names.specs.Agents.{identifiers}
 use Rattle.lrs_names.specs.Members.{has_member, is_one_of}
-use Rattle.xapi_values.specs.Kinds.{kind_of}
+use Rattle.xapi_values.specs.Kinds.{kind_of, same_kind}
 use Rattle.xapi_values.specs.declared.kinds.Kind.{Kind}
-use Rattle.xapi_format.specs.Party.{is_group_kind}
 use Rattle.xapi_format.specs.Nested.{is_nested}
 
 -- ---- parts of values
@@ -69,7 +68,7 @@ has_identifier j = list_any (λ name. has_member name j) identifiers
 
 -- a Group that is known by its members alone
 abbrev pub is_anonymous : Json → Bool
-is_anonymous j = is_group_kind (kind_of j) && not (has_identifier j)
+is_anonymous j = same_kind (kind_of j) Kind.Group && not (has_identifier j)
 
 abbrev pub reduced_group_member : List ℕ → Json → Json
 reduced_group_member name j = if bytes_eq name (codes "member") then with_each_item reduced_agent j else j

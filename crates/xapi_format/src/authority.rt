@@ -8,7 +8,7 @@ use lrs_names::Ifi;
 /// Under whose authority a statement stands.
 #[derive(Drop)]
 pub enum Authority {
-    /// An admin, or the store's own machine.
+    /// An admin: the operator, or who presents the token of the founding.
     Admin,
     /// The provider of that number, counted from 0 in the order in which providers were made, and its name.
     Provider { number: u32, name: Text },

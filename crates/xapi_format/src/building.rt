@@ -5,16 +5,17 @@ ghost use Rattle.lrs_json.specs.Find.{find};
 ghost use Rattle.lrs_json.specs.Json.{Members, no_members, member, object, string};
 ghost use Rattle.lrs_json.specs.View.{view, member_view, members_of};
 ghost use Rattle.xapi_format.specs.Authorities.{account_name, authority_json};
-ghost use Rattle.xapi_format.specs.Completed.{added, changed, completed, each_in_array, followed_by, in_array, kept_before, plural_activities, plural_context, plural_member, plural_object};
-ghost use Rattle.xapi_format.specs.Moments.{moment_text};
+ghost use Rattle.xapi_format.specs.Completed.{HasOneMore, added, changed, completed, each_in_array, followed_by, in_array, kept_before, plural_activities, plural_context, plural_member, plural_object};
+ghost use Rattle.lrs_time.specs.Moments.{moment_text};
 
 use crate::showing::is_added;
-use crate::{Authority, digits, is_nested};
-use lrs_json::{Items, Member, Memory, Text, Tree};
+use crate::{Authority, is_nested};
+use lrs_json::{Items, Member, Memory, Text, Tree, utf8_text};
 use lrs_names::Id;
-use lrs_time::Moment;
+use lrs_time::{Moment, moment_text};
 use std::alloc::Global;
 
+/// The completed form of a statement as a tree of its own: what was received, and behind it what the store adds.
 #[tactic(auto, unfolding(crate::specs::Completed::completed))]
 pub fn completed(
     alloc: Global,
@@ -23,7 +24,8 @@ pub fn completed(
     stored: Moment,
     authority: &Authority,
 ) -> Result<Tree, Memory>
-    ensures { IfOk result (λ tree. view tree ≡ completed (view received.now) id.now (moment_text stored) (authority_json authority.now)) }
+    ensures { IfOk result (λ tree. view tree
+        ≡ completed (view received.now) id.now (moment_text stored) (authority_json authority.now)) }
 {
     let Tree::Object(members) = received else {
         return Ok(received.clone()?);
@@ -42,7 +44,7 @@ pub fn whole(built: Items<Member>) -> Tree
 
 // One member more.
 fn push(name: &str, value: Tree, built: &mut Items<Member>) -> Result<(), Memory>
-    ensures { OnOk result ((behind : Members) → followed_by (members_of (map member_view built.new)) behind ≡ followed_by (members_of (map member_view built.old)) (member name.now (view value) behind)) }
+    ensures { OnOk result (HasOneMore built.old name.now (view value) built.new) }
 {
     push_last(name, value, built)
 }
@@ -56,7 +58,9 @@ fn push_last(name: &str, value: Tree, built: &mut Items<Member>) -> Result<(), M
 
 // The members that are kept.
 fn kept(alloc: Global, members: &[Member]) -> Result<Items<Member>, Memory>
-    ensures { IfOk result (λ built. (behind : Members) → kept_before (members_of (map member_view members.now)) behind ≡ followed_by (members_of (map member_view built)) behind) }
+    ensures { IfOk result (λ built. (behind : Members) →
+        kept_before (members_of (map member_view members.now)) behind
+        ≡ followed_by (members_of (map member_view built)) behind) }
 {
     let mut built = Items::new(alloc);
     for part in members {
@@ -66,7 +70,10 @@ fn kept(alloc: Global, members: &[Member]) -> Result<Items<Member>, Memory>
 }
 
 fn push_if_kept(alloc: Global, part: &Member, built: &mut Items<Member>) -> Result<(), Memory>
-    ensures { OnOk result ((ms behind : Members) → followed_by (members_of (map member_view built.old)) (kept_before (member part.now.name (view part.now.value) ms) behind) ≡ followed_by (members_of (map member_view built.new)) (kept_before ms behind)) }
+    ensures { OnOk result ((ms behind : Members) →
+        followed_by (members_of (map member_view built.old))
+        (kept_before (member part.now.name (view part.now.value) ms) behind)
+        ≡ followed_by (members_of (map member_view built.new)) (kept_before ms behind)) }
 {
     let name = part.name.as_str();
     if is_added(name) {
@@ -96,7 +103,8 @@ fn plural_object(alloc: Global, tree: &Tree) -> Result<Tree, Memory>
 
 // A SubStatement.
 fn plural_nested(alloc: Global, members: &[Member]) -> Result<Tree, Memory>
-    ensures { IfOk result (λ made. view made ≡ object (changed (codes "context") plural_context (members_of (map member_view members.now)))) }
+    ensures { IfOk result (λ made. view made
+        ≡ object (changed (codes "context") plural_context (members_of (map member_view members.now)))) }
 {
     let mut built = Items::new(alloc);
     for part in members {
@@ -106,7 +114,9 @@ fn plural_nested(alloc: Global, members: &[Member]) -> Result<Tree, Memory>
 }
 
 fn push_nested(alloc: Global, part: &Member, built: &mut Items<Member>) -> Result<(), Memory>
-    ensures { OnOk result ((behind : Members) → followed_by (members_of (map member_view built.new)) behind ≡ followed_by (members_of (map member_view built.old)) (member part.now.name (if bytes_eq part.now.name (codes "context") then plural_context (view part.now.value) else view part.now.value) behind)) }
+    ensures { OnOk result (HasOneMore built.old part.now.name
+        (if bytes_eq part.now.name (codes "context") then plural_context (view part.now.value) else view part.now.value)
+        built.new) }
 {
     let name = part.name.as_str();
     if name == "context" {
@@ -126,7 +136,8 @@ fn plural_context(alloc: Global, tree: &Tree) -> Result<Tree, Memory>
 }
 
 fn plural_context_members(alloc: Global, members: &[Member]) -> Result<Tree, Memory>
-    ensures { IfOk result (λ made. view made ≡ object (changed (codes "contextActivities") plural_activities (members_of (map member_view members.now)))) }
+    ensures { IfOk result (λ made. view made
+        ≡ object (changed (codes "contextActivities") plural_activities (members_of (map member_view members.now)))) }
 {
     let mut built = Items::new(alloc);
     for part in members {
@@ -136,7 +147,9 @@ fn plural_context_members(alloc: Global, members: &[Member]) -> Result<Tree, Mem
 }
 
 fn push_of_context(alloc: Global, part: &Member, built: &mut Items<Member>) -> Result<(), Memory>
-    ensures { OnOk result ((behind : Members) → followed_by (members_of (map member_view built.new)) behind ≡ followed_by (members_of (map member_view built.old)) (member part.now.name (if bytes_eq part.now.name (codes "contextActivities") then plural_activities (view part.now.value) else view part.now.value) behind)) }
+    ensures { OnOk result (HasOneMore built.old part.now.name
+        (if bytes_eq part.now.name (codes "contextActivities") then plural_activities (view part.now.value)
+        else view part.now.value) built.new) }
 {
     let name = part.name.as_str();
     if name == "contextActivities" {
@@ -166,7 +179,7 @@ fn each_in_array(alloc: Global, members: &[Member]) -> Result<Tree, Memory>
 }
 
 fn push_in_array(alloc: Global, part: &Member, built: &mut Items<Member>) -> Result<(), Memory>
-    ensures { OnOk result ((behind : Members) → followed_by (members_of (map member_view built.new)) behind ≡ followed_by (members_of (map member_view built.old)) (member part.now.name (in_array (view part.now.value)) behind)) }
+    ensures { OnOk result (HasOneMore built.old part.now.name (in_array (view part.now.value)) built.new) }
 {
     push(part.name.as_str(), in_array(alloc, &part.value)?, built)
 }
@@ -194,12 +207,14 @@ fn push_added(
     authority: &Authority,
     built: &mut Items<Member>,
 ) -> Result<(), Memory>
-    ensures { OnOk result (followed_by (members_of (map member_view built.new)) no_members ≡ followed_by (members_of (map member_view built.old)) (added (view received.now) id.now (moment_text stored) (authority_json authority.now))) }
+    ensures { OnOk result (followed_by (members_of (map member_view built.new)) no_members
+        ≡ followed_by (members_of (map member_view built.old))
+        (added (view received.now) id.now (moment_text stored) (authority_json authority.now))) }
 {
-    let moment = digits::moment_text(stored);
-    let moment = digits::ascii(&moment);
-    let id = digits::id_text(id);
-    push("id", words(alloc, digits::ascii(&id))?, built)?;
+    let moment = moment_text(stored);
+    let moment = utf8_text(&moment);
+    let id = id.text();
+    push("id", words(alloc, utf8_text(&id))?, built)?;
     push(
         "timestamp",
         given(alloc, received, "timestamp", moment)?,

@@ -4,7 +4,6 @@
 
 mod authority;
 mod building;
-mod digits;
 mod format;
 mod nested;
 mod reducing;
@@ -17,6 +16,3 @@ pub use lrs_json::Memory;
 pub use nested::is_nested;
 pub use reducing::reduced;
 pub use showing::put_completed;
-
-#[cfg(test)]
-mod tests;

@@ -1,15 +1,14 @@
 // The form of a completed statement with ids alone. Each of the following takes a value over and moves what stays.
-ghost use Rattle.std.specs.Prelude.{◌≡◌, ◌∷◌, ◌++◌, [], IfOk, OnOk, map};
-ghost use Rattle.lrs_json.specs.Json.{Members, member, object};
+ghost use Rattle.std.specs.Prelude.{◌≡◌, ◌∷◌, ◌++◌, [], ℕ, List, IfOk, OnOk, map};
+ghost use Rattle.lrs_json.specs.Json.{Json, object};
 ghost use Rattle.lrs_json.specs.View.{member_view, members_of, view};
-ghost use Rattle.lrs_names.specs.Members.{is_one_of};
-ghost use Rattle.xapi_format.specs.Completed.{followed_by};
-ghost use Rattle.xapi_format.specs.Reduced.{each_member, has_identifier, is_anonymous, only, reduced, reduced_activities, reduced_activity, reduced_agent, reduced_context, reduced_context_member, reduced_group, reduced_group_member, reduced_member, reduced_nested_member, reduced_object, reduced_part, reduced_party, reduced_plain_object, reduced_verb, with_each_item, with_each_member, with_only};
+ghost use Rattle.xapi_format.specs.Completed.{HasOneMore};
+ghost use Rattle.xapi_format.specs.Reduced.{each_member, has_identifier, is_anonymous, only, reduced, reduced_activities, reduced_context_member, reduced_group, reduced_group_member, reduced_member, reduced_nested_member, reduced_object, reduced_part, reduced_party, reduced_plain_object, with_each_item, with_each_member, with_only};
 
 use crate::building::whole;
 use crate::is_nested;
 use lrs_json::{Items, Member, Memory, Text, Tree};
-use lrs_names::has_member;
+use lrs_names::{has_member, is_one_of};
 use xapi_values::Kind;
 
 /// The form of a completed statement with ids alone.
@@ -17,37 +16,60 @@ use xapi_values::Kind;
 pub fn reduced(tree: Tree) -> Result<Tree, Memory>
     ensures { IfOk result (λ made. view made ≡ reduced (view tree)) }
 {
+    with_each_member::<OfStatement>(tree)
+}
+
+// ---- each member of an object
+
+// What becomes of the value of a member, by its name.
+trait Part {
+    ghost change: { List ℕ → Json → Json };
+
+    fn reduced(name: &str, value: Tree) -> Result<Tree, Memory>
+        ensures { IfOk result (λ made. view made ≡ change name.now (view value)) };
+}
+
+fn with_each_member<P: Part>(tree: Tree) -> Result<Tree, Memory>
+    ensures { IfOk result (λ made. view made ≡ with_each_member P.change (view tree)) }
+{
     match tree {
-        Tree::Object(members) => statement_members(members),
+        Tree::Object(members) => each_member::<P>(members),
         other => Ok(other),
     }
 }
 
-fn statement_members(members: Items<Member>) -> Result<Tree, Memory>
-    ensures { IfOk result (λ made. view made ≡ object (each_member reduced_member (members_of (map member_view members)))) }
+fn each_member<P: Part>(members: Items<Member>) -> Result<Tree, Memory>
+    ensures { IfOk result (λ made. view made ≡ object (each_member P.change (members_of (map member_view members)))) }
 {
     let mut built = Items::new(members.allocator());
     for member in members.into_vec() {
-        push_reduced_member(member, &mut built)?;
+        push_reduced::<P>(member, &mut built)?;
     }
     Ok(whole(built))
 }
 
-fn push_reduced_member(part: Member, built: &mut Items<Member>) -> Result<(), Memory>
-    ensures { let seen = member_view part in OnOk result ((behind : Members) → followed_by (members_of (map member_view built.new)) behind ≡ followed_by (members_of (map member_view built.old)) (member seen.0 (reduced_member seen.0 seen.1) behind)) }
+fn push_reduced<P: Part>(part: Member, built: &mut Items<Member>) -> Result<(), Memory>
+    ensures { let seen = member_view part in OnOk result (HasOneMore built.old seen.0 (P.change seen.0 seen.1)
+        built.new) }
 {
     let Member { name, value } = part;
-    let value = reduced_member(name.as_str(), value)?;
+    let value = P::reduced(name.as_str(), value)?;
     push(name, value, built)
 }
 
-fn reduced_member(name: &str, value: Tree) -> Result<Tree, Memory>
-    ensures { IfOk result (λ made. view made ≡ reduced_member name.now (view value)) }
-{
-    match name {
-        "object" => reduced_object(value),
-        "authority" => reduced_party(value),
-        _ => reduced_part(name, value),
+// ---- statements
+
+struct OfStatement;
+
+impl Part for OfStatement {
+    ghost change = { reduced_member };
+
+    fn reduced(name: &str, value: Tree) -> Result<Tree, Memory> {
+        match name {
+            "object" => reduced_object(value),
+            "authority" => reduced_party(value),
+            _ => reduced_part(name, value),
+        }
     }
 }
 
@@ -58,7 +80,7 @@ fn reduced_part(name: &str, value: Tree) -> Result<Tree, Memory>
     match name {
         "actor" => reduced_party(value),
         "verb" => with_only(&["id"], value),
-        "context" => reduced_context(value),
+        "context" => with_each_member::<OfContext>(value),
         _ => Ok(value),
     }
 }
@@ -70,47 +92,22 @@ fn reduced_object(object: Tree) -> Result<Tree, Memory>
     ensures { IfOk result (λ made. view made ≡ reduced_object (view object)) }
 {
     if is_nested(&object) {
-        reduced_nested(object)
+        with_each_member::<OfSubStatement>(object)
     } else {
         reduced_plain_object(object)
     }
 }
 
-// A SubStatement.
-fn reduced_nested(object: Tree) -> Result<Tree, Memory>
-    ensures { IfOk result (λ made. view made ≡ with_each_member reduced_nested_member (view object)) }
-{
-    match object {
-        Tree::Object(members) => nested_members(members),
-        other => Ok(other),
-    }
-}
+struct OfSubStatement;
 
-// The members of a SubStatement.
-fn nested_members(members: Items<Member>) -> Result<Tree, Memory>
-    ensures { IfOk result (λ made. view made ≡ object (each_member reduced_nested_member (members_of (map member_view members)))) }
-{
-    let mut built = Items::new(members.allocator());
-    for member in members.into_vec() {
-        push_reduced_nested_member(member, &mut built)?;
-    }
-    Ok(whole(built))
-}
+impl Part for OfSubStatement {
+    ghost change = { reduced_nested_member };
 
-fn push_reduced_nested_member(part: Member, built: &mut Items<Member>) -> Result<(), Memory>
-    ensures { let seen = member_view part in OnOk result ((behind : Members) → followed_by (members_of (map member_view built.new)) behind ≡ followed_by (members_of (map member_view built.old)) (member seen.0 (reduced_nested_member seen.0 seen.1) behind)) }
-{
-    let Member { name, value } = part;
-    let value = reduced_nested_member(name.as_str(), value)?;
-    push(name, value, built)
-}
-
-fn reduced_nested_member(name: &str, value: Tree) -> Result<Tree, Memory>
-    ensures { IfOk result (λ made. view made ≡ reduced_nested_member name.now (view value)) }
-{
-    match name {
-        "object" => reduced_plain_object(value),
-        _ => reduced_part(name, value),
+    fn reduced(name: &str, value: Tree) -> Result<Tree, Memory> {
+        match name {
+            "object" => reduced_plain_object(value),
+            _ => reduced_part(name, value),
+        }
     }
 }
 
@@ -119,7 +116,7 @@ fn reduced_plain_object(object: Tree) -> Result<Tree, Memory>
     ensures { IfOk result (λ made. view made ≡ reduced_plain_object (view object)) }
 {
     match Kind::of(&object) {
-        Kind::Unstated | Kind::Activity => reduced_activity(object),
+        Kind::Unstated | Kind::Activity => with_only(&ACTIVITY_NAMES, object),
         Kind::Agent | Kind::Group => reduced_party(object),
         Kind::StatementRef | Kind::SubStatement | Kind::Other => Ok(object),
     }
@@ -127,94 +124,28 @@ fn reduced_plain_object(object: Tree) -> Result<Tree, Memory>
 
 // ---- contexts
 
-fn reduced_context(context: Tree) -> Result<Tree, Memory>
-    ensures { IfOk result (λ made. view made ≡ reduced_context (view context)) }
-{
-    match context {
-        Tree::Object(members) => context_members(members),
-        other => Ok(other),
+struct OfContext;
+
+impl Part for OfContext {
+    ghost change = { reduced_context_member };
+
+    fn reduced(name: &str, value: Tree) -> Result<Tree, Memory> {
+        match name {
+            "instructor" | "team" => reduced_party(value),
+            "contextActivities" => with_each_member::<OfContextActivities>(value),
+            _ => Ok(value),
+        }
     }
 }
 
-fn context_members(members: Items<Member>) -> Result<Tree, Memory>
-    ensures { IfOk result (λ made. view made ≡ object (each_member reduced_context_member (members_of (map member_view members)))) }
-{
-    let mut built = Items::new(members.allocator());
-    for member in members.into_vec() {
-        push_reduced_context_member(member, &mut built)?;
+struct OfContextActivities;
+
+impl Part for OfContextActivities {
+    ghost change = { reduced_activities };
+
+    fn reduced(_: &str, value: Tree) -> Result<Tree, Memory> {
+        with_only_in_each(&ACTIVITY_NAMES, value)
     }
-    Ok(whole(built))
-}
-
-fn push_reduced_context_member(part: Member, built: &mut Items<Member>) -> Result<(), Memory>
-    ensures { let seen = member_view part in OnOk result ((behind : Members) → followed_by (members_of (map member_view built.new)) behind ≡ followed_by (members_of (map member_view built.old)) (member seen.0 (reduced_context_member seen.0 seen.1) behind)) }
-{
-    let Member { name, value } = part;
-    let value = reduced_context_member(name.as_str(), value)?;
-    push(name, value, built)
-}
-
-fn reduced_context_member(name: &str, value: Tree) -> Result<Tree, Memory>
-    ensures { IfOk result (λ made. view made ≡ reduced_context_member name.now (view value)) }
-{
-    match name {
-        "instructor" | "team" => reduced_party(value),
-        "contextActivities" => context_activities(value),
-        _ => Ok(value),
-    }
-}
-
-fn context_activities(tree: Tree) -> Result<Tree, Memory>
-    ensures { IfOk result (λ made. view made ≡ with_each_member reduced_activities (view tree)) }
-{
-    match tree {
-        Tree::Object(members) => activities_members(members),
-        other => Ok(other),
-    }
-}
-
-fn activities_members(members: Items<Member>) -> Result<Tree, Memory>
-    ensures { IfOk result (λ made. view made ≡ object (each_member reduced_activities (members_of (map member_view members)))) }
-{
-    let mut built = Items::new(members.allocator());
-    for member in members.into_vec() {
-        push_reduced_activities(member, &mut built)?;
-    }
-    Ok(whole(built))
-}
-
-fn push_reduced_activities(part: Member, built: &mut Items<Member>) -> Result<(), Memory>
-    ensures { let seen = member_view part in OnOk result ((behind : Members) → followed_by (members_of (map member_view built.new)) behind ≡ followed_by (members_of (map member_view built.old)) (member seen.0 (reduced_activities seen.0 seen.1) behind)) }
-{
-    let Member { name, value } = part;
-    let value = activities(value)?;
-    push(name, value, built)
-}
-
-// An array of Activities.
-fn activities(tree: Tree) -> Result<Tree, Memory>
-    ensures { IfOk result (λ made. view made ≡ with_each_item reduced_activity (view tree)) }
-{
-    match tree {
-        Tree::List(items) => Ok(Tree::List(activity_items(items)?)),
-        other => Ok(other),
-    }
-}
-
-fn activity_items(items: Items<Tree>) -> Result<Items<Tree>, Memory>
-    ensures { IfOk result (λ made. map view made ≡ map (λ t. reduced_activity (view t)) items) }
-{
-    let mut built = Items::new(items.allocator());
-    for item in items.into_vec() {
-        built.push(reduced_activity(item)?)?;
-    }
-    Ok(built)
-}
-
-fn reduced_activity(activity: Tree) -> Result<Tree, Memory>
-    ensures { IfOk result (λ made. view made ≡ reduced_activity (view activity)) }
-{
-    with_only(&["objectType", "id"], activity)
 }
 
 // ---- Agents and Groups
@@ -226,7 +157,7 @@ fn reduced_party(party: Tree) -> Result<Tree, Memory>
     if is_anonymous(&party) {
         reduced_group(party)
     } else {
-        reduced_agent(party)
+        with_only(&AGENT_NAMES, party)
     }
 }
 
@@ -249,73 +180,55 @@ fn has_identifier(party: &Tree) -> bool
         || has_member(party, "account")
 }
 
-fn reduced_agent(agent: Tree) -> Result<Tree, Memory>
-    ensures { IfOk result (λ made. view made ≡ reduced_agent (view agent)) }
-{
-    with_only(
-        &["objectType", "mbox", "mbox_sha1sum", "openid", "account"],
-        agent,
-    )
-}
-
 fn reduced_group(group: Tree) -> Result<Tree, Memory>
     ensures { IfOk result (λ made. view made ≡ reduced_group (view group)) }
 {
-    match with_only(&["objectType", "member"], group)? {
-        Tree::Object(members) => group_members(members),
-        other => Ok(other),
+    let group = with_only(&["objectType", "member"], group)?;
+    with_each_member::<OfGroup>(group)
+}
+
+struct OfGroup;
+
+impl Part for OfGroup {
+    ghost change = { reduced_group_member };
+
+    fn reduced(name: &str, value: Tree) -> Result<Tree, Memory> {
+        match name {
+            "member" => with_only_in_each(&AGENT_NAMES, value),
+            _ => Ok(value),
+        }
     }
 }
 
-fn group_members(members: Items<Member>) -> Result<Tree, Memory>
-    ensures { IfOk result (λ made. view made ≡ object (each_member reduced_group_member (members_of (map member_view members)))) }
-{
-    let mut built = Items::new(members.allocator());
-    for member in members.into_vec() {
-        push_reduced_group_member(member, &mut built)?;
-    }
-    Ok(whole(built))
-}
+// ---- the members of some names
 
-fn push_reduced_group_member(part: Member, built: &mut Items<Member>) -> Result<(), Memory>
-    ensures { let seen = member_view part in OnOk result ((behind : Members) → followed_by (members_of (map member_view built.new)) behind ≡ followed_by (members_of (map member_view built.old)) (member seen.0 (reduced_group_member seen.0 seen.1) behind)) }
-{
-    let Member { name, value } = part;
-    let value = reduced_group_member(name.as_str(), value)?;
-    push(name, value, built)
-}
+// What tells which Activity one is.
+const ACTIVITY_NAMES: [&str; 2] = ["objectType", "id"];
 
-fn reduced_group_member(name: &str, value: Tree) -> Result<Tree, Memory>
-    ensures { IfOk result (λ made. view made ≡ reduced_group_member name.now (view value)) }
-{
-    if name == "member" {
-        agents(value)
-    } else {
-        Ok(value)
-    }
-}
+// What tells which Agent or identified Group one is.
+const AGENT_NAMES: [&str; 5] = ["objectType", "mbox", "mbox_sha1sum", "openid", "account"];
 
-// An array of Agents.
-fn agents(tree: Tree) -> Result<Tree, Memory>
-    ensures { IfOk result (λ made. view made ≡ with_each_item reduced_agent (view tree)) }
+// Of each object in an array the members of these names.
+fn with_only_in_each(names: &[&str], tree: Tree) -> Result<Tree, Memory>
+    ensures { IfOk result (λ made. view made
+        ≡ with_each_item (with_only (map (λ name. name.now) names.now)) (view tree)) }
 {
     match tree {
-        Tree::List(items) => Ok(Tree::List(agent_items(items)?)),
+        Tree::List(items) => Ok(Tree::List(only_in_each(names, items)?)),
         other => Ok(other),
     }
 }
 
-fn agent_items(items: Items<Tree>) -> Result<Items<Tree>, Memory>
-    ensures { IfOk result (λ made. map view made ≡ map (λ t. reduced_agent (view t)) items) }
+fn only_in_each(names: &[&str], items: Items<Tree>) -> Result<Items<Tree>, Memory>
+    ensures { IfOk result (λ made. map view made
+        ≡ map (λ t. with_only (map (λ name. name.now) names.now) (view t)) items) }
 {
     let mut built = Items::new(items.allocator());
     for item in items.into_vec() {
-        built.push(reduced_agent(item)?)?;
+        built.push(with_only(names, item)?)?;
     }
     Ok(built)
 }
-
-// ---- members
 
 // Of an object the members of these names.
 fn with_only(names: &[&str], tree: Tree) -> Result<Tree, Memory>
@@ -328,7 +241,8 @@ fn with_only(names: &[&str], tree: Tree) -> Result<Tree, Memory>
 }
 
 fn only(names: &[&str], members: Items<Member>) -> Result<Tree, Memory>
-    ensures { IfOk result (λ made. view made ≡ object (only (map (λ name. name.now) names.now) (members_of (map member_view members)))) }
+    ensures { IfOk result (λ made. view made
+        ≡ object (only (map (λ name. name.now) names.now) (members_of (map member_view members)))) }
 {
     let mut built = Items::new(members.allocator());
     for member in members.into_vec() {
@@ -342,7 +256,7 @@ fn only(names: &[&str], members: Items<Member>) -> Result<Tree, Memory>
 
 // One member more.
 fn push(name: Text, value: Tree, built: &mut Items<Member>) -> Result<(), Memory>
-    ensures { OnOk result ((behind : Members) → followed_by (members_of (map member_view built.new)) behind ≡ followed_by (members_of (map member_view built.old)) (member name (view value) behind)) }
+    ensures { OnOk result (HasOneMore built.old name (view value) built.new) }
 {
     push_last(name, value, built)
 }
@@ -351,15 +265,4 @@ fn push_last(name: Text, value: Tree, built: &mut Items<Member>) -> Result<(), M
     ensures { OnOk result (map member_view built.new ≡ map member_view built.old ++ (name, view value) ∷ []) }
 {
     built.push(Member { name, value })
-}
-
-fn is_one_of(names: &[&str], text: &str) -> bool
-    ensures { result ≡ is_one_of (map (λ name. name.now) names.now) text.now }
-{
-    for name in names {
-        if *name == text {
-            return true;
-        }
-    }
-    false
 }

@@ -7,14 +7,14 @@ ghost use Rattle.lrs_json.specs.View.{view, member_view, members_of};
 ghost use Rattle.lrs_json.specs.Written.{Extends, members_text, quoted, written};
 ghost use Rattle.xapi_format.specs.Authorities.{account_name, authority_json, callers_page};
 ghost use Rattle.xapi_format.specs.Completed.{added, added_names, changed, completed, each_in_array, in_array, kept_before, plural_activities, plural_context, plural_member, plural_object};
-ghost use Rattle.xapi_format.specs.Moments.{moment_text};
+ghost use Rattle.lrs_time.specs.Moments.{moment_text};
 ghost use Rattle.lrs_names.specs.Members.{is_one_of};
 
-use crate::{Authority, digits, is_nested};
+use crate::{Authority, is_nested};
 use lrs_json::appending::{put, put_name, put_quoted, put_quoted_parts, put_text, put_tree};
-use lrs_json::{Member, Memory, Tree};
+use lrs_json::{Member, Memory, Tree, utf8_text};
 use lrs_names::Id;
-use lrs_time::Moment;
+use lrs_time::{Moment, moment_text};
 
 /// Appends the text of a completed statement. What stood before stays where memory runs out in the middle.
 #[tactic(auto, using(lrs_json::proofs::Extending::extends_trans), unfolding(crate::specs::Completed::completed))]
@@ -25,7 +25,8 @@ pub fn put_completed(
     authority: &Authority,
     into: &mut Vec<u8>,
 ) -> Result<(), Memory>
-    ensures ok { OnOk result (into.new.items ≡ into.old.items ++ written (completed (view received.now) id.now (moment_text stored) (authority_json authority.now))) }
+    ensures ok { OnOk result (into.new.items ≡ into.old.items
+        ++ written (completed (view received.now) id.now (moment_text stored) (authority_json authority.now))) }
     ensures kept { Extends into.old.items into.new.items }
 {
     let Tree::Object(members) = received else {
@@ -49,7 +50,9 @@ pub fn is_added(name: &str) -> bool
 // The members that are kept; whether there are any.
 #[tactic(auto, using(lrs_json::proofs::Extending::extends_trans))]
 fn put_kept(members: &[Member], into: &mut Vec<u8>) -> Result<bool, Memory>
-    ensures ok { IfOk result (λ later. (behind : Members) → into.old.items ++ members_text false (kept_before (members_of (map member_view members.now)) behind) ≡ into.new.items ++ members_text later behind) }
+    ensures ok { IfOk result (λ later. (behind : Members) →
+        into.old.items ++ members_text false (kept_before (members_of (map member_view members.now)) behind)
+        ≡ into.new.items ++ members_text later behind) }
     ensures kept { Extends into.old.items into.new.items }
 {
     let mut later = false;
@@ -62,7 +65,9 @@ fn put_kept(members: &[Member], into: &mut Vec<u8>) -> Result<bool, Memory>
 // The member, where it is kept; whether any stand now.
 #[tactic(auto, using(lrs_json::proofs::Extending::extends_trans))]
 fn put_if_kept(later: bool, part: &Member, into: &mut Vec<u8>) -> Result<bool, Memory>
-    ensures ok { IfOk result (λ now. (ms behind : Members) → into.old.items ++ members_text later (kept_before (member part.now.name (view part.now.value) ms) behind) ≡ into.new.items ++ members_text now (kept_before ms behind)) }
+    ensures ok { IfOk result (λ now. (ms behind : Members) → into.old.items
+        ++ members_text later (kept_before (member part.now.name (view part.now.value) ms) behind)
+        ≡ into.new.items ++ members_text now (kept_before ms behind)) }
     ensures kept { Extends into.old.items into.new.items }
 {
     if is_added(part.name.as_str()) {
@@ -74,7 +79,8 @@ fn put_if_kept(later: bool, part: &Member, into: &mut Vec<u8>) -> Result<bool, M
 
 #[tactic(auto, using(lrs_json::proofs::Extending::extends_trans))]
 fn put_member(later: bool, member: &Member, into: &mut Vec<u8>) -> Result<(), Memory>
-    ensures ok { OnOk result (into.new.items ≡ into.old.items ++ member_text later member.now.name (plural_member member.now.name (view member.now.value))) }
+    ensures ok { OnOk result (into.new.items ≡ into.old.items
+        ++ member_text later member.now.name (plural_member member.now.name (view member.now.value))) }
     ensures kept { Extends into.old.items into.new.items }
 {
     let name = member.name.as_str();
@@ -101,7 +107,8 @@ fn put_object(tree: &Tree, into: &mut Vec<u8>) -> Result<(), Memory>
 // A SubStatement.
 #[tactic(auto, using(lrs_json::proofs::Extending::extends_trans))]
 fn put_nested(members: &[Member], into: &mut Vec<u8>) -> Result<(), Memory>
-    ensures ok { OnOk result (into.new.items ≡ into.old.items ++ written (object (changed (codes "context") plural_context (members_of (map member_view members.now))))) }
+    ensures ok { OnOk result (into.new.items ≡ into.old.items
+        ++ written (object (changed (codes "context") plural_context (members_of (map member_view members.now))))) }
     ensures kept { Extends into.old.items into.new.items }
 {
     put(b"{", into)?;
@@ -130,7 +137,9 @@ fn put_context(tree: &Tree, into: &mut Vec<u8>) -> Result<(), Memory>
 
 #[tactic(auto, using(lrs_json::proofs::Extending::extends_trans))]
 fn put_context_members(members: &[Member], into: &mut Vec<u8>) -> Result<(), Memory>
-    ensures ok { OnOk result (into.new.items ≡ into.old.items ++ written (object (changed (codes "contextActivities") plural_activities (members_of (map member_view members.now))))) }
+    ensures ok { OnOk result (into.new.items ≡ into.old.items
+        ++ written (object (changed (codes "contextActivities") plural_activities
+        (members_of (map member_view members.now))))) }
     ensures kept { Extends into.old.items into.new.items }
 {
     put(b"{", into)?;
@@ -159,7 +168,8 @@ fn put_activities(tree: &Tree, into: &mut Vec<u8>) -> Result<(), Memory>
 
 #[tactic(auto, using(lrs_json::proofs::Extending::extends_trans))]
 fn put_each_in_array(members: &[Member], into: &mut Vec<u8>) -> Result<(), Memory>
-    ensures ok { OnOk result (into.new.items ≡ into.old.items ++ written (object (each_in_array (members_of (map member_view members.now))))) }
+    ensures ok { OnOk result (into.new.items ≡ into.old.items
+        ++ written (object (each_in_array (members_of (map member_view members.now))))) }
     ensures kept { Extends into.old.items into.new.items }
 {
     put(b"{", into)?;
@@ -195,13 +205,14 @@ fn put_added(
     authority: &Authority,
     into: &mut Vec<u8>,
 ) -> Result<(), Memory>
-    ensures ok { OnOk result (into.new.items ≡ into.old.items ++ members_text later (added (view received.now) id.now (moment_text stored) (authority_json authority.now))) }
+    ensures ok { OnOk result (into.new.items ≡ into.old.items
+        ++ members_text later (added (view received.now) id.now (moment_text stored) (authority_json authority.now))) }
     ensures kept { Extends into.old.items into.new.items }
 {
-    let id = digits::id_text(id);
-    put_text(later, "id", digits::ascii(&id), into)?;
-    let moment = digits::moment_text(stored);
-    let moment = digits::ascii(&moment);
+    let id = id.text();
+    put_text(later, "id", utf8_text(&id), into)?;
+    let moment = moment_text(stored);
+    let moment = utf8_text(&moment);
     put_given(received, "timestamp", moment, into)?;
     put_text(true, "stored", moment, into)?;
     put_authority(authority, into)?;
@@ -212,7 +223,8 @@ fn put_added(
 // The member of that name as it was given, else with this text.
 #[tactic(auto, using(lrs_json::proofs::Extending::extends_trans))]
 fn put_given(received: &Tree, name: &str, otherwise: &str, into: &mut Vec<u8>) -> Result<(), Memory>
-    ensures ok { OnOk result (into.new.items ≡ into.old.items ++ member_text true name.now (unwrap_or (find name.now (view received.now)) (string otherwise.now))) }
+    ensures ok { OnOk result (into.new.items ≡ into.old.items
+        ++ member_text true name.now (unwrap_or (find name.now (view received.now)) (string otherwise.now))) }
     ensures kept { Extends into.old.items into.new.items }
 {
     put_name(true, name, into)?;
@@ -224,7 +236,8 @@ fn put_given(received: &Tree, name: &str, otherwise: &str, into: &mut Vec<u8>) -
 
 #[tactic(auto, using(lrs_json::proofs::Extending::extends_trans))]
 fn put_authority(authority: &Authority, into: &mut Vec<u8>) -> Result<(), Memory>
-    ensures ok { OnOk result (into.new.items ≡ into.old.items ++ member_text true (codes "authority") (authority_json authority.now)) }
+    ensures ok { OnOk result (into.new.items ≡ into.old.items
+        ++ member_text true (codes "authority") (authority_json authority.now)) }
     ensures kept { Extends into.old.items into.new.items }
 {
     put_name(true, "authority", into)?;
@@ -238,7 +251,9 @@ fn put_authority(authority: &Authority, into: &mut Vec<u8>) -> Result<(), Memory
 
 #[tactic(auto, using(lrs_json::proofs::Extending::extends_trans))]
 fn put_account(authority: &Authority, into: &mut Vec<u8>) -> Result<(), Memory>
-    ensures ok { OnOk result (into.new.items ≡ into.old.items ++ written (object (members_of ((codes "homePage", string callers_page) ∷ (codes "name", string (account_name authority.now)) ∷ [])))) }
+    ensures ok { OnOk result (into.new.items ≡ into.old.items
+        ++ written (object (members_of ((codes "homePage", string callers_page)
+        ∷ (codes "name", string (account_name authority.now)) ∷ [])))) }
     ensures kept { Extends into.old.items into.new.items }
 {
     put(b"{", into)?;

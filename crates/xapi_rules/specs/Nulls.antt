@@ -1,10 +1,12 @@
--- Rule 3: no null stands outside extensions (xAPI 1.0.3, part two, section 2.2).
+-- Rule 3: no null stands outside extensions (xAPI 1.0.3, part two, section 2.2). Extensions are the objects at the member
+-- `extensions` of a result, of a context and of an Activity's definition. A null in place of them stands in their holder, an
+-- array in place of them is none, and a definition beside anything but an Activity frees nothing.
 use Rattle.std.specs.Prelude.{ℕ, List, Bool, true, false, ◌||◌, codes, if◌then◌else◌}
 use Rattle.std.specs.Str.{bytes_eq}
 use Rattle.lrs_json.specs.Json.{Json, null, boolean, number, string, array, object, Elements, no_elements, element, Members, no_members, member}
-use Rattle.xapi_values.specs.Kinds.{kind_of}
+use Rattle.xapi_values.specs.Kinds.{kind_of, is_activity_kind, same_kind}
 use Rattle.xapi_values.specs.declared.kinds.Kind.{Kind}
-use Rattle.xapi_values.specs.declared.kinds.Kind.TheVariants.{Unstated, Activity, Agent, Group, StatementRef, SubStatement, Other}
+use Rattle.xapi_values.specs.declared.kinds.Kind.TheVariants.{SubStatement}
 use Rattle.xapi_rules.specs.declared.nulls.Role.{Role}
 use Rattle.xapi_rules.specs.declared.nulls.Role.TheVariants.{Plain, Statement, Object, Described, Holder, Context, ContextActivities, Activities, Extensions}
 
@@ -23,59 +25,38 @@ role_of_member ContextActivities name =
 role_of_member Activities name = Plain
 role_of_member Extensions name = Plain
 
--- what a place makes of an item of an array that stands there
+-- What a place makes of an item of an array that stands there: context activities may stand in one.
 abbrev pub role_of_item : Role → Role
-role_of_item Plain = Plain
-role_of_item Statement = Plain
-role_of_item Object = Plain
-role_of_item Described = Plain
-role_of_item Holder = Plain
-role_of_item Context = Plain
-role_of_item ContextActivities = Plain
 role_of_item Activities = Described
-role_of_item Extensions = Plain
+role_of_item _ = Plain
 
--- an object at the place of a statement's object: a SubStatement, or something that may have a definition
-abbrev pub role_of_kind : Kind → Role
-role_of_kind Unstated = Described
-role_of_kind Activity = Described
-role_of_kind Agent = Described
-role_of_kind Group = Described
-role_of_kind StatementRef = Described
-role_of_kind SubStatement = Statement
-role_of_kind Other = Described
+-- an object where an Activity may stand: an Activity alone may have a definition
+abbrev pub role_of_activity : Kind → Role
+role_of_activity kind = if is_activity_kind kind then Described else Plain
 
 -- what a place makes of an object that stands there
 abbrev pub role_of_object : Role → Kind → Role
 role_of_object Plain kind = Plain
 role_of_object Statement kind = Statement
-role_of_object Object kind = role_of_kind kind
-role_of_object Described kind = Described
+role_of_object Object kind = if same_kind kind SubStatement then Statement else role_of_activity kind
+role_of_object Described kind = role_of_activity kind
 role_of_object Holder kind = Holder
 role_of_object Context kind = Context
 role_of_object ContextActivities kind = ContextActivities
-role_of_object Activities kind = Described
+role_of_object Activities kind = role_of_activity kind
 role_of_object Extensions kind = Extensions
 
 abbrev pub is_free : Role → Bool
-is_free Plain = false
-is_free Statement = false
-is_free Object = false
-is_free Described = false
-is_free Holder = false
-is_free Context = false
-is_free ContextActivities = false
-is_free Activities = false
 is_free Extensions = true
+is_free _ = false
 
--- A null in place of extensions stands in their holder; what extensions hold is free.
 abbrev mutual
   pub has_null : Role → Json → Bool
   has_null role null = true
   has_null role (boolean b) = false
   has_null role (number s) = false
   has_null role (string s) = false
-  has_null role (array js) = if is_free role then false else items_have_null (role_of_item role) js
+  has_null role (array js) = items_have_null (role_of_item role) js
   has_null role (object ms) = if is_free role then false else members_have_null (role_of_object role (kind_of (object ms))) ms
 
   pub items_have_null : Role → Elements → Bool

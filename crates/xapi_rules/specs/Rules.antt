@@ -1,5 +1,5 @@
 -- The thirty-two rules on a statement (xAPI 1.0.3, part two, section 2), by their numbers: those that it breaks, and the least.
-use Rattle.std.specs.Prelude.{ℕ, suc, List, [], ◌∷◌, ◌++◌, Bool, true, false, not, ◌&&◌, ◌||◌, ◌==◌, Option, codes}
+use Rattle.std.specs.Prelude.{ℕ, suc, List, [], ◌∷◌, ◌++◌, Bool, false, not, ◌&&◌, ◌||◌, ◌==◌, Option, codes}
 use Rattle.lrs_json.specs.Json.{Json, null, boolean, number, string, array, object, Elements, no_elements, element}
 use Rattle.lrs_names.specs.Rules.{unless, least}
 use Rattle.lrs_names.specs.Iris.{iri_faults}
@@ -7,7 +7,7 @@ use Rattle.lrs_names.specs.Languages.{language_map_faults}
 use Rattle.lrs_names.specs.Agents.{agent_faults, group_faults, agent_or_group_faults}
 use Rattle.lrs_names.specs.Members.{is_word, has_only, has_member, has_member_that, if_member, faults_of_member}
 use Rattle.xapi_values.specs.Shapes.{is_object, is_uuid, is_timestamp, is_version}
-use Rattle.xapi_values.specs.Kinds.{kind_of}
+use Rattle.xapi_values.specs.Kinds.{kind_of, is_activity_kind, same_kind}
 use Rattle.xapi_rules.specs.Objects.{object_faults_with, nested_object_faults}
 use Rattle.xapi_rules.specs.Contexts.{result_faults, context_faults, attachments_faults}
 use Rattle.xapi_rules.specs.Nulls.{has_null}
@@ -30,15 +30,6 @@ verb_faults j =
     unless (is_verb j) 16 ++ faults_of_member (codes "id") iri_faults j ++ faults_of_member (codes "display") language_map_faults j
 
 -- an Activity, by what it says that it is
-abbrev pub is_activity_kind : Kind → Bool
-is_activity_kind Unstated = true
-is_activity_kind Activity = true
-is_activity_kind Agent = false
-is_activity_kind Group = false
-is_activity_kind StatementRef = false
-is_activity_kind SubStatement = false
-is_activity_kind Other = false
-
 abbrev pub is_about_activity : Json → Bool
 is_about_activity j = is_activity_kind (kind_of j)
 
@@ -133,17 +124,8 @@ is_voided_verb j = has_member_that (codes "id") (is_word voided) j
 unfoldable pub is_voiding : Json → Bool
 is_voiding j = has_member_that (codes "verb") is_voided_verb j
 
-abbrev pub is_reference_kind : Kind → Bool
-is_reference_kind Unstated = false
-is_reference_kind Activity = false
-is_reference_kind Agent = false
-is_reference_kind Group = false
-is_reference_kind StatementRef = true
-is_reference_kind SubStatement = false
-is_reference_kind Other = false
-
 abbrev pub is_about_reference : Json → Bool
-is_about_reference j = is_object j && is_reference_kind (kind_of j)
+is_about_reference j = is_object j && same_kind (kind_of j) StatementRef
 
 -- Rule 22 on the statement: one that voids has a StatementRef as its object.
 unfoldable pub voids_reference : Json → Bool

@@ -188,7 +188,8 @@ fn broken_context_activities(alloc: Global, tree: &Tree) -> Result<Option<u8>, M
 }
 
 fn broken_activities_of(alloc: Global, tree: &Tree) -> Result<Option<u8>, Memory>
-    ensures { IfOk result (λ r. r ≡ least (faults_of_member (codes "contextActivities") context_activities_faults (view tree.now))) }
+    ensures { IfOk result (λ r. r ≡
+        least (faults_of_member (codes "contextActivities") context_activities_faults (view tree.now))) }
 {
     match tree.get("contextActivities") {
         Some(activities) => broken_context_activities(alloc, activities),

@@ -11,6 +11,3 @@ mod rules;
 
 pub use lrs_json::Memory;
 pub use rules::{broken_rule, is_voiding};
-
-#[cfg(test)]
-mod tests;

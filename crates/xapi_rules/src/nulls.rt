@@ -1,7 +1,7 @@
 // No null stands outside extensions (xAPI 1.0.3, part two, section 2.2).
 ghost use Rattle.std.specs.Prelude.{◌≡◌, map};
 ghost use Rattle.lrs_json.specs.View.{view, member_view, members_of, elements_of};
-ghost use Rattle.xapi_rules.specs.Nulls.{role_of_member, role_of_item, role_of_kind, role_of_object, is_free, has_null, items_have_null, members_have_null};
+ghost use Rattle.xapi_rules.specs.Nulls.{role_of_member, role_of_item, role_of_activity, role_of_object, has_null, items_have_null, members_have_null};
 
 use lrs_json::{Member, Tree};
 use xapi_values::Kind;
@@ -14,7 +14,7 @@ pub enum Role {
     Statement,
     /// The object of one.
     Object,
-    /// Something that may have a definition.
+    /// An Activity, which may have a definition.
     Described,
     /// A definition or a result.
     Holder,
@@ -67,12 +67,22 @@ impl Role {
         }
     }
 
+    fn of_activity(kind: Kind) -> Role
+        ensures { result ≡ role_of_activity kind }
+    {
+        if kind.is_activity() {
+            Role::Described
+        } else {
+            Role::Plain
+        }
+    }
+
     fn of_object(self, kind: Kind) -> Role
         ensures { result ≡ role_of_object self kind }
     {
         match (self, kind) {
             (Role::Object, Kind::SubStatement) => Role::Statement,
-            (Role::Object | Role::Activities, _) => Role::Described,
+            (Role::Object | Role::Described | Role::Activities, kind) => Role::of_activity(kind),
             (role, _) => role,
         }
     }
@@ -86,8 +96,7 @@ pub fn has_null(tree: &Tree, role: Role) -> bool
     match tree {
         Tree::Null => true,
         Tree::Bool(_) | Tree::Number(_) | Tree::Words(_) => false,
-        Tree::List(items) => role != Role::Extensions
-            && items_have_null(items.as_slice(), role.of_item()),
+        Tree::List(items) => items_have_null(items.as_slice(), role.of_item()),
         Tree::Object(members) => {
             role != Role::Extensions
                 && members_have_null(members.as_slice(), role.of_object(Kind::of(tree)))

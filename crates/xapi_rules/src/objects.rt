@@ -60,7 +60,8 @@ fn is_activity(tree: &Tree) -> bool
 }
 
 fn broken_definition_of(alloc: Global, tree: &Tree) -> Result<Option<u8>, Memory>
-    ensures { IfOk result (λ r. r ≡ least (faults_of_member (codes "definition") definition_faults (view tree.now))) }
+    ensures { IfOk result (λ r. r ≡
+        least (faults_of_member (codes "definition") definition_faults (view tree.now))) }
 {
     match tree.get("definition") {
         Some(definition) => broken_definition(alloc, definition),

@@ -51,7 +51,7 @@ fn has_no_revision(context: &Tree) -> bool
 fn is_about_activity(object: &Tree) -> bool
     ensures { result ≡ is_about_activity (view object.now) }
 {
-    matches!(Kind::of(object), Kind::Unstated | Kind::Activity)
+    Kind::of(object).is_activity()
 }
 
 #[tactic(auto, unfolding(crate::specs::Rules::is_fit_revision))]

@@ -5,7 +5,7 @@ use Rattle.lrs_json.specs.View.{view}
 use Rattle.lrs_json.specs.declared.tree.Tree.{Tree}
 use Rattle.xapi_format.specs.Authorities.{authority_json}
 use Rattle.xapi_format.specs.Completed.{completed}
-use Rattle.xapi_format.specs.Moments.{moment_text}
+use Rattle.lrs_time.specs.Moments.{moment_text}
 use Rattle.xapi_format.specs.declared.authority.Authority.{Authority}
 
 -- A statement as it was received, and what the store adds: its id, the moment at which it was accepted, and under whose

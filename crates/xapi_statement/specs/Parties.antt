@@ -1,23 +1,14 @@
 -- Who takes part in a statement, by their identifiers (xAPI 1.0.3, part two, section 2.4.2.3; part three, section 2.1.3).
-use Rattle.std.specs.Prelude.{Bool, true, false, ◌&&◌, ◌||◌, Option, None, option_and_then, codes, if◌then◌else◌}
+use Rattle.std.specs.Prelude.{Bool, ◌&&◌, ◌||◌, Option, None, option_and_then, codes, if◌then◌else◌}
 use Rattle.lrs_json.specs.Json.{Json}
 use Rattle.lrs_json.specs.Find.{find}
 use Rattle.lrs_names.specs.Members.{has_member_that}
 use Rattle.lrs_names.specs.Identifiers.{identifier_of}
 use Rattle.lrs_names.specs.declared.identifiers.Ifi.{Ifi}
-use Rattle.xapi_values.specs.Kinds.{kind_of}
+use Rattle.xapi_values.specs.Kinds.{kind_of, is_party_kind, same_kind}
 use Rattle.xapi_values.specs.declared.kinds.Kind.{Kind}
 use Rattle.xapi_format.specs.Nested.{is_nested}
-use Rattle.xapi_format.specs.Party.{is_group_kind, is_party}
-
-abbrev pub is_party_kind : Kind → Bool
-is_party_kind Kind.Unstated = false
-is_party_kind Kind.Activity = false
-is_party_kind Kind.Agent = true
-is_party_kind Kind.Group = true
-is_party_kind Kind.StatementRef = false
-is_party_kind Kind.SubStatement = false
-is_party_kind Kind.Other = false
+use Rattle.xapi_format.specs.Party.{is_party}
 
 -- an object that is an Agent or a Group
 unfoldable pub is_party_object : Ifi → Json → Bool
@@ -47,7 +38,7 @@ unfoldable pub has_agent : Ifi → Bool → Json → Bool
 has_agent ifi related j = has_direct_agent ifi j || (related && has_related_agent ifi j)
 
 abbrev pub agent_in : Json → Option Ifi
-agent_in j = if is_group_kind (kind_of j) then None else identifier_of j
+agent_in j = if same_kind (kind_of j) Kind.Group then None else identifier_of j
 
 -- the identifier of the actor, where it is an Agent
 unfoldable pub actor_of : Json → Option Ifi

@@ -22,7 +22,7 @@ fn has_id(tree: &Tree, id: &str) -> bool
 fn is_activity_of(tree: &Tree, id: &str) -> bool
     ensures { result ≡ is_activity_of id.now (view tree.now) }
 {
-    matches!(Kind::of(tree), Kind::Unstated | Kind::Activity) && has_id(tree, id)
+    Kind::of(tree).is_activity() && has_id(tree, id)
 }
 
 fn any_activity_of(items: &[Tree], id: &str) -> bool

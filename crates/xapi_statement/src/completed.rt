@@ -78,6 +78,7 @@ impl Completed {
         self.stored
     }
 
+    /// Under whose authority it stands: the caller who brought it.
     pub fn authority(&self) -> &Authority
         ensures { result.now ≡ self.now.authority }
     {
@@ -105,6 +106,7 @@ impl Completed {
         self.statement.verb()
     }
 
+    /// The registration that its context names, a UUID.
     pub fn registration(&self) -> Option<Id>
         ensures { result ≡ registration_of (view self.now.received) }
     {

@@ -20,7 +20,8 @@ pub fn is_too_long(statement: &Tree) -> bool
 // What is left of the room behind the tree's written form.
 #[cycle(room)]
 fn room_behind(tree: &Tree, room: usize) -> Option<usize>
-    ensures { MatchOption result (room < length (written_tree tree.now)) (λ left. left + length (written_tree tree.now) ≡ room) }
+    ensures { MatchOption result (room < length (written_tree tree.now))
+        (λ left. left + length (written_tree tree.now) ≡ room) }
 {
     match tree {
         Tree::Null => room.checked_sub(4),
@@ -36,7 +37,8 @@ fn room_behind(tree: &Tree, room: usize) -> Option<usize>
 // The items and the closing bracket.
 #[cycle(room)]
 fn room_behind_items(items: &[Tree], room: usize) -> Option<usize>
-    ensures { MatchOption result (room < length (list_text false items.now)) (λ left. left + length (list_text false items.now) ≡ room) }
+    ensures { MatchOption result (room < length (list_text false items.now))
+        (λ left. left + length (list_text false items.now) ≡ room) }
 {
     let mut left = room;
     for (i, item) in items.iter().enumerate() {
@@ -47,7 +49,8 @@ fn room_behind_items(items: &[Tree], room: usize) -> Option<usize>
 
 #[cycle(room)]
 fn room_behind_members(members: &[Member], room: usize) -> Option<usize>
-    ensures { MatchOption result (room < length (object_text false members.now)) (λ left. left + length (object_text false members.now) ≡ room) }
+    ensures { MatchOption result (room < length (object_text false members.now))
+        (λ left. left + length (object_text false members.now) ≡ room) }
 {
     let mut left = room;
     for (i, member) in members.iter().enumerate() {
@@ -58,7 +61,8 @@ fn room_behind_members(members: &[Member], room: usize) -> Option<usize>
 
 #[cycle(room)]
 fn room_behind_member(member: &Member, room: usize) -> Option<usize>
-    ensures { MatchOption result (room < length (text_of_member member.now)) (λ left. left + length (text_of_member member.now) ≡ room) }
+    ensures { MatchOption result (room < length (text_of_member member.now))
+        (λ left. left + length (text_of_member member.now) ≡ room) }
 {
     let left = room_behind_text(&member.name, room)?.checked_sub(1)?;
     room_behind(&member.value, left)

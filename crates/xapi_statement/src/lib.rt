@@ -18,6 +18,3 @@ pub use refused::{StatementRefused, judge};
 pub use statement::Statement;
 pub use xapi_format::{Authority, Format};
 pub use xapi_rules::{broken_rule, is_voiding};
-
-#[cfg(test)]
-mod tests;

@@ -1,8 +1,7 @@
 // The members of a statement.
-ghost use Rattle.std.specs.Prelude.{◌≡◌, option_map, MatchOption, IsSomeAnd, ℕ, List, Some, None, codes, false};
+ghost use Rattle.std.specs.Prelude.{◌≡◌, option_map, MatchOption, IsSomeAnd, ℕ, List, Some, None, false};
 ghost use Rattle.lrs_decimal.specs.Values.{Means};
 ghost use Rattle.lrs_json.specs.View.{view};
-ghost use Rattle.lrs_json.specs.Find.{find};
 ghost use Rattle.lrs_names.specs.Members.{has_member};
 ghost use Rattle.xapi_values.specs.Numbers.{is_decimal};
 ghost use Rattle.xapi_statement.specs.Statement.{id_in, own_id, verb_of, registration_in, registration_of, reference_in, target_of, activity_in, activity_of, extension_of, boolean_in, member_boolean, result_boolean, scaled_of, has_duration};
@@ -73,6 +72,7 @@ fn reference_in(object: &Tree) -> Option<Id>
     }
 }
 
+/// The statement to which the object refers, where it is a StatementRef.
 #[tactic(auto, unfolding(crate::specs::Statement::target_of))]
 pub fn target_of(statement: &Tree) -> Option<Id>
     ensures { result ≡ target_of (view statement.now) }
@@ -86,9 +86,10 @@ pub fn target_of(statement: &Tree) -> Option<Id>
 fn activity_in(object: &Tree) -> Option<&Text>
     ensures { option_map (λ t. t.now) result ≡ activity_in (view object.now) }
 {
-    match Kind::of(object) {
-        Kind::Unstated | Kind::Activity => member_text(object, "id"),
-        Kind::Agent | Kind::Group | Kind::StatementRef | Kind::SubStatement | Kind::Other => None,
+    if Kind::of(object).is_activity() {
+        member_text(object, "id")
+    } else {
+        None
     }
 }
 
@@ -157,7 +158,8 @@ fn scaled_spelling(statement: &Tree) -> Option<&[u8]>
 }
 
 pub fn scaled_of(statement: &Tree) -> Option<Decimal>
-    ensures { MatchOption result ((s : List ℕ) → scaled_of (view statement.now) ≡ Some s → is_decimal s ≡ false) (λ d. IsSomeAnd (scaled_of (view statement.now)) (λ s. Means d s)) }
+    ensures { MatchOption result ((s : List ℕ) → scaled_of (view statement.now) ≡ Some s → is_decimal s ≡ false)
+        (λ d. IsSomeAnd (scaled_of (view statement.now)) (λ s. Means d s)) }
 {
     match scaled_spelling(statement) {
         Some(spelling) => decimal_of(spelling),

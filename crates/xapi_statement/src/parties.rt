@@ -66,7 +66,7 @@ fn is_party_at(tree: &Tree, name: &str, ifi: &Ifi) -> bool
 fn is_party_object(object: &Tree, ifi: &Ifi) -> bool
     ensures { result ≡ is_party_object ifi.now (view object.now) }
 {
-    matches!(Kind::of(object), Kind::Agent | Kind::Group) && is_party(object, ifi)
+    Kind::of(object).is_party() && is_party(object, ifi)
 }
 
 fn object_is_party(statement: &Tree, ifi: &Ifi) -> bool
@@ -155,7 +155,8 @@ pub fn is_actor(statement: &Tree, ifi: &Ifi) -> bool
 
 /// Whether who has that identifier takes part in a statement at one of its related places, whoever its authority is.
 pub fn has_inner_agent(statement: &Tree, ifi: &Ifi) -> bool
-    ensures { result ≡ (has_context_agent ifi.now (view statement.now) || has_member_that (codes "object") (nested_has_agent ifi.now) (view statement.now)) }
+    ensures { result ≡ (has_context_agent ifi.now (view statement.now)
+        || has_member_that (codes "object") (nested_has_agent ifi.now) (view statement.now)) }
 {
     has_context_agent(statement, ifi) || object_has_agent(statement, ifi)
 }

@@ -30,7 +30,8 @@ impl From<Memory> for StatementRefused {
 /// Holds a value against the length and the rules of a statement.
 #[tactic(auto, unfolding(crate::specs::Statement::refusal))]
 pub fn judge(alloc: Global, tree: &Tree) -> Result<(), StatementRefused>
-    ensures judged { MatchResult result (λ _. refusal (view tree.now) ≡ None) (λ e. (refusal (view tree.now) ≡ Some e) ⊎ (e ≡ StatementRefused.Memory)) }
+    ensures judged { MatchResult result (λ _. refusal (view tree.now) ≡ None)
+        (λ e. (refusal (view tree.now) ≡ Some e) ⊎ (e ≡ StatementRefused.Memory)) }
     ensures too_long { (result ≡ Err StatementRefused.TooLong) ↔ IsTrue (is_too_long (view tree.now)) }
 {
     if is_too_long(tree) {

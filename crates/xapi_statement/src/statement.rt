@@ -25,7 +25,8 @@ impl Statement {
     /// Holds the tree against the rules, and keeps it as it is.
     #[tactic(auto, unfolding(crate::specs::Statement::is_statement))]
     pub fn read(alloc: Global, tree: Tree) -> Result<Statement, StatementRefused>
-        ensures read { MatchResult result (λ s. (s.tree ≡ tree) × (refusal (view tree) ≡ None)) (λ e. (refusal (view tree) ≡ Some e) ⊎ (e ≡ StatementRefused.Memory)) }
+        ensures read { MatchResult result (λ s. (s.tree ≡ tree) × (refusal (view tree) ≡ None))
+            (λ e. (refusal (view tree) ≡ Some e) ⊎ (e ≡ StatementRefused.Memory)) }
         ensures too_long { (result ≡ Err StatementRefused.TooLong) ↔ IsTrue (is_too_long (view tree)) }
     {
         match judge(alloc, &tree) {
@@ -63,6 +64,7 @@ impl Statement {
         members::verb_of(&self.tree)
     }
 
+    /// The registration that its context names, a UUID.
     pub fn registration(&self) -> Option<Id>
         ensures { result ≡ registration_of (view self.now.tree) }
     {
@@ -136,17 +138,21 @@ impl Statement {
 
     /// The scaled score of its result.
     pub fn scaled(&self) -> Option<Decimal>
-        ensures { MatchOption result ((s : List ℕ) → scaled_of (view self.now.tree) ≡ Some s → is_decimal s ≡ false) (λ d. IsSomeAnd (scaled_of (view self.now.tree)) (λ s. Means d s)) }
+        ensures { MatchOption result
+            ((s : List ℕ) → scaled_of (view self.now.tree) ≡ Some s → is_decimal s ≡ false)
+            (λ d. IsSomeAnd (scaled_of (view self.now.tree)) (λ s. Means d s)) }
     {
         members::scaled_of(&self.tree)
     }
 
+    /// Whether its result says that it was a success.
     pub fn success(&self) -> Option<bool>
         ensures { result ≡ result_boolean (codes "success") (view self.now.tree) }
     {
         members::result_boolean(&self.tree, "success")
     }
 
+    /// Whether its result says that what it is about was completed.
     pub fn completion(&self) -> Option<bool>
         ensures { result ≡ result_boolean (codes "completion") (view self.now.tree) }
     {

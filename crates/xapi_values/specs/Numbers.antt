@@ -1,9 +1,9 @@
 -- Numbers as the rules on scores and attachments ask of them, by their exact values.
-use Rattle.std.specs.Prelude.{ℕ, List, [], ◌∷◌, Bool, true, false, ◌&&◌, Option, Some, None, option_and_then, codes, if◌then◌else◌}
+use Rattle.std.specs.Prelude.{◌≡◌, IsTrue, ℕ, List, [], ◌∷◌, Bool, true, false, ◌&&◌, Option, Some, None, option_and_then, codes, if◌then◌else◌}
 use Rattle.std.specs.Option.{option_map_or}
 use Rattle.std.specs.Ordering.{is_lt, is_le}
 use Rattle.std.specs.declared.cmp.Ordering.{Ordering}
-use Rattle.lrs_decimal.specs.Numbers.{number_end}
+use Rattle.lrs_decimal.specs.Numbers.{IsNumber, number_end}
 use Rattle.lrs_decimal.specs.Range.{is_in_range, is_whole}
 use Rattle.lrs_decimal.specs.Values.{order}
 use Rattle.lrs_json.specs.Json.{Json, null, boolean, number, string, array, object}
@@ -28,6 +28,11 @@ spelling_of (string s) = None
 spelling_of (array js) = None
 spelling_of (object ms) = None
 
+-- a number in range, as it is written
+abbrev pub IsNumberInRange : Json → Type 0
+IsNumberInRange j = (spelling : List ℕ) × (j ≡ number spelling) × IsNumber spelling × IsTrue (is_in_range spelling)
+
+-- The same as a test: the clause `written` of the function `is_number` proves that they agree.
 abbrev pub is_number : Json → Bool
 is_number j = option_map_or is_decimal (spelling_of j) false
 

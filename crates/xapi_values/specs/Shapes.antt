@@ -1,12 +1,14 @@
 -- What is asked of a value by its kind, beyond the words of names.
-use Rattle.std.specs.Prelude.{ℕ, List, [], nat_eq, Bool, true, false, ◌&&◌, is_some, is_ok, codes}
+use Rattle.std.specs.Prelude.{◌≡◌, ℕ, ℤ, List, [], nat_eq, Bool, true, false, ◌&&◌, is_some, is_ok, codes}
 use Rattle.std.specs.List.{starts_with}
 use Rattle.lrs_json.specs.Json.{Json, null, boolean, number, string, array, object, Elements, no_elements, element, Members, no_members, member}
 use Rattle.lrs_names.specs.Ids.{id_of}
 use Rattle.lrs_names.specs.Iris.{is_iri}
 use Rattle.lrs_names.specs.Members.{is_string_that}
 use Rattle.lrs_names.specs.Rules.{unless}
+use Rattle.lrs_time.specs.Duration.{Span, IsDurationOf}
 use Rattle.lrs_time.specs.Reading.{timestamp_at, duration_at}
+use Rattle.lrs_time.specs.Timestamp.{IsTimestampOf}
 
 abbrev pub is_object : Json → Bool
 is_object null = false
@@ -41,11 +43,19 @@ is_string_array (object ms) = false
 abbrev pub is_uuid : Json → Bool
 is_uuid j = is_string_that (λ text. is_some (id_of text)) j
 
--- a timestamp (section 4.5)
+-- A timestamp (section 4.5), as it is written.
+abbrev pub IsTimestamp : Json → Type 0
+IsTimestamp j = (text : List ℕ) × (instant : ℤ) × (j ≡ string text) × IsTimestampOf text instant
+
+-- The same as a test: the clause `written` of the function `is_timestamp` proves that they agree.
 abbrev pub is_timestamp : Json → Bool
 is_timestamp j = is_string_that (λ text. is_ok (timestamp_at text)) j
 
--- a duration (section 4.6)
+-- A duration (section 4.6), as it is written.
+abbrev pub IsDuration : Json → Type 0
+IsDuration j = (text : List ℕ) × (span : Span) × (j ≡ string text) × IsDurationOf text span
+
+-- The same as a test: the clause `written` of the function `is_duration` proves that they agree.
 abbrev pub is_duration : Json → Bool
 is_duration j = is_string_that (λ text. is_some (duration_at text)) j
 

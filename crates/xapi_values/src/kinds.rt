@@ -9,16 +9,22 @@ use lrs_names::is_word;
 pub enum Kind {
     /// No `objectType` stands: an Agent or an Activity, by its place.
     Unstated,
+    /// The word `Activity`.
     Activity,
+    /// The word `Agent`.
     Agent,
+    /// The word `Group`.
     Group,
+    /// The word `StatementRef`.
     StatementRef,
+    /// The word `SubStatement`.
     SubStatement,
+    /// Another word, or no string.
     Other,
 }
 
 impl Kind {
-    ghost use Rattle.xapi_values.specs.Kinds.{kind_of, kind_named};
+    ghost use Rattle.xapi_values.specs.Kinds.{kind_of, kind_named, is_activity_kind, is_party_kind};
 
     /// An `objectType` that is no string, or that is none of the five words in their letters, is `Other`.
     #[tactic(auto, unfolding(crate::specs::Kinds::kind_of))]
@@ -29,6 +35,21 @@ impl Kind {
             Some(kind) => Kind::named(kind),
             None => Kind::Unstated,
         }
+    }
+
+    /// Whether it is an Activity at a place where an Activity may stand and no Agent without an `objectType`: the object
+    /// of a statement, or context activities.
+    pub fn is_activity(self) -> bool
+        ensures { result ≡ is_activity_kind self }
+    {
+        matches!(self, Kind::Unstated | Kind::Activity)
+    }
+
+    /// Whether it says that it is an Agent or a Group.
+    pub fn is_party(self) -> bool
+        ensures { result ≡ is_party_kind self }
+    {
+        matches!(self, Kind::Agent | Kind::Group)
     }
 
     fn named(kind: &Tree) -> Kind

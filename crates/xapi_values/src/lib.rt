@@ -4,11 +4,10 @@
 
 mod kinds;
 mod members;
+/// Numbers of a statement, by their exact values.
 pub mod numbers;
+/// What is asked of a value by its kind.
 pub mod shapes;
 
 pub use kinds::Kind;
 pub use members::{broken_extensions_of, broken_iri_at, broken_map_at};
-
-#[cfg(test)]
-mod tests;

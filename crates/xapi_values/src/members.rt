@@ -11,7 +11,7 @@ use crate::shapes::broken_extensions;
 use lrs_json::Tree;
 use lrs_names::{broken_iri, broken_language_map};
 
-/// Where the member of that name has to be an IRI.
+/// The rule (6) that the member of that name breaks, which has to be an IRI where it stands.
 pub fn broken_iri_at(tree: &Tree, name: &str) -> Option<u8>
     ensures { result ≡ least (faults_of_member name.now iri_faults (view tree.now)) }
 {
@@ -21,7 +21,7 @@ pub fn broken_iri_at(tree: &Tree, name: &str) -> Option<u8>
     }
 }
 
-/// Where the member of that name has to be a language map.
+/// The rule (14) that the member of that name breaks, which has to be a language map where it stands.
 pub fn broken_map_at(tree: &Tree, name: &str) -> Option<u8>
     ensures { result ≡ least (faults_of_member name.now language_map_faults (view tree.now)) }
 {
@@ -31,7 +31,7 @@ pub fn broken_map_at(tree: &Tree, name: &str) -> Option<u8>
     }
 }
 
-/// The names in the member `extensions`.
+/// The rule (6) that the names in the member `extensions` break, which have to be IRIs.
 pub fn broken_extensions_of(tree: &Tree) -> Option<u8>
     ensures { result ≡ least (faults_of_member (codes "extensions") extension_faults (view tree.now)) }
 {

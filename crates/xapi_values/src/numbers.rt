@@ -1,8 +1,8 @@
 // Numbers, by their exact values.
-ghost use Rattle.std.specs.Prelude.{◌≡◌, map, option_map, is_some, IfSome};
+ghost use Rattle.std.specs.Prelude.{◌≡◌, ◌↔◌, IsTrue, option_map, is_some, IfSome};
 ghost use Rattle.lrs_decimal.specs.Values.{Means};
 ghost use Rattle.lrs_json.specs.View.{view};
-ghost use Rattle.xapi_values.specs.Numbers.{is_decimal, is_number, spelling_of, member_number, compared, is_below, is_not_above, is_natural, is_count, are_numbers, are_in_order, is_score};
+ghost use Rattle.xapi_values.specs.Numbers.{IsNumberInRange, is_decimal, is_number, spelling_of, member_number, compared, is_below, is_not_above, is_natural, is_count, are_numbers, are_in_order, is_score};
 ghost use Rattle.lrs_names.specs.Members.{if_member};
 
 use lrs_decimal::{Decimal, is_whole};
@@ -45,7 +45,8 @@ fn is_decimal(spelling: &[u8]) -> bool
 
 /// A number in range.
 pub fn is_number(tree: &Tree) -> bool
-    ensures { result ≡ is_number (view tree.now) }
+    ensures test { result ≡ is_number (view tree.now) }
+    ensures written { IsTrue result ↔ IsNumberInRange (view tree.now) }
 {
     match spelling_of(tree) {
         Some(spelling) => is_decimal(spelling),

@@ -1,19 +1,21 @@
 // What is asked of a value by its kind.
-ghost use Rattle.std.specs.Prelude.{◌≡◌, map};
+ghost use Rattle.std.specs.Prelude.{◌≡◌, ◌↔◌, IsTrue, map};
 ghost use Rattle.lrs_json.specs.View.{view, member_view, members_of, elements_of};
 ghost use Rattle.lrs_names.specs.Rules.{least};
-ghost use Rattle.xapi_values.specs.Shapes.{is_object, is_boolean, are_strings, is_string_array, is_uuid, is_timestamp, is_duration, is_version, are_iris, extension_faults};
+ghost use Rattle.xapi_values.specs.Shapes.{IsTimestamp, IsDuration, is_object, is_boolean, are_strings, is_string_array, is_uuid, is_timestamp, is_duration, is_version, are_iris, extension_faults};
 
 use lrs_json::{Member, Tree};
 use lrs_names::{Id, Iri, is_string, unless};
 use lrs_time::{Duration, read_timestamp};
 
+/// A JSON object, whatever it holds.
 pub fn is_object(tree: &Tree) -> bool
     ensures { result ≡ is_object (view tree.now) }
 {
     matches!(tree, Tree::Object(_))
 }
 
+/// A truth value: `true` or `false`.
 pub fn is_boolean(tree: &Tree) -> bool
     ensures { result ≡ is_boolean (view tree.now) }
 {
@@ -53,7 +55,8 @@ pub fn is_uuid(tree: &Tree) -> bool
 
 /// A timestamp (xAPI 1.0.3, part two, section 4.5).
 pub fn is_timestamp(tree: &Tree) -> bool
-    ensures { result ≡ is_timestamp (view tree.now) }
+    ensures test { result ≡ is_timestamp (view tree.now) }
+    ensures written { IsTrue result ↔ IsTimestamp (view tree.now) }
 {
     match tree {
         Tree::Words(text) => read_timestamp(text.as_bytes()).is_ok(),
@@ -63,7 +66,8 @@ pub fn is_timestamp(tree: &Tree) -> bool
 
 /// A duration (xAPI 1.0.3, part two, section 4.6).
 pub fn is_duration(tree: &Tree) -> bool
-    ensures { result ≡ is_duration (view tree.now) }
+    ensures test { result ≡ is_duration (view tree.now) }
+    ensures written { IsTrue result ↔ IsDuration (view tree.now) }
 {
     match tree {
         Tree::Words(text) => Duration::read(text.as_bytes()).is_some(),

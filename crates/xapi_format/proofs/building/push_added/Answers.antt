@@ -6,7 +6,7 @@ use Rattle.lrs_json.specs.View.{view, member_view, members_of}
 use Rattle.lrs_names.specs.Ids.{id_text}
 use Rattle.xapi_format.specs.Authorities.{authority_json}
 use Rattle.xapi_format.specs.Completed.{followed_by}
-use Rattle.xapi_format.specs.Moments.{moment_text}
+use Rattle.lrs_time.specs.Moments.{moment_text}
 use Rattle.xapi_format.proofs.building.push_added.Goals as goal
 
 same_five : (f : Members → Members) (i t s u v : List ℕ) (a b c d e k l m n o : Json) → a ≡ k → b ≡ l → c ≡ m → d ≡ n → e ≡ o → f (member i a (member t b (member s c (member u d (member v e no_members))))) ≡ f (member i k (member t l (member s m (member u n (member v o no_members)))))
@@ -15,8 +15,8 @@ same_five f i t s u v a b c d e k l m n o ea eb ec ed ee = cc
 pub returns : goal.returns
 returns c =
     let received = view c.args.received.now in
-    let id_is : c.ascii.result.now ≡ id_text c.args.id.now = c.ascii.ensures ∙ c.id_text-id.ensures.text in
-    let stored_is : c.ascii-moment.result.now ≡ moment_text c.args.stored = c.ascii-moment.ensures ∙ c.moment_text-moment.ensures.text in
+    let id_is : c.utf8_text.result.now ≡ id_text c.args.id.now = c.utf8_text.ensures ∙ c.text-id.ensures.text in
+    let stored_is : c.utf8_text-moment.result.now ≡ moment_text c.args.stored = c.utf8_text-moment.ensures ∙ c.moment_text-moment.ensures.exact in
     let a = view c.in_ok-words.field-0 in
     let b = view c.in_ok-given.field-0 in
     let d = view c.in_ok-words-2.field-0 in

@@ -5,7 +5,7 @@ use Rattle.lrs_json.specs.View.{view, member_view, members_of}
 use Rattle.lrs_json.specs.Written.{members_text, written}
 use Rattle.xapi_format.specs.Authorities.{authority_json}
 use Rattle.xapi_format.specs.Completed.{added, completed, kept_before}
-use Rattle.xapi_format.specs.Moments.{moment_text}
+use Rattle.lrs_time.specs.Moments.{moment_text}
 use Rattle.lrs_json.proofs.Views.{view-Object}
 use Rattle.xapi_format.proofs.showing.put_completed.Goals as goal
 

@@ -1,0 +1,5 @@
+//! The tests of xapi_format.
+#![tactic(auto)]
+
+#[cfg(test)]
+mod tests;

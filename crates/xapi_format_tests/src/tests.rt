@@ -1,0 +1,236 @@
+use lrs_json::{Text, Tree, read, write};
+use lrs_names::{Id, Ifi};
+use lrs_time::Moment;
+use std::alloc::Global;
+use std::test::Fail;
+use xapi_format::{Authority, completed, is_nested, put_completed, reduced};
+
+// The first statement, its completed form under the admin's authority, one of a provider with a time and a version of
+// its own, and one whose context activities stand alone, also in a SubStatement.
+const COMPLETED: [(&str, Option<(u32, &str)>, &str); 4] = [
+    (
+        r#"{"id":"11111111-1111-4111-8111-111111111111","actor":{"mbox":"mailto:a@b"},"verb":{"id":"http://v/1"},"object":{"id":"http://a/1"}}"#,
+        None,
+        r#"{"actor":{"mbox":"mailto:a@b"},"verb":{"id":"http://v/1"},"object":{"id":"http://a/1"},"id":"11111111-1111-4111-8111-111111111111","timestamp":"2023-11-14T22:13:20.000Z","stored":"2023-11-14T22:13:20.000Z","authority":{"objectType":"Agent","name":"admin","account":{"homePage":"https://lrs.invalid/callers","name":"admin"}},"version":"1.0.0"}"#,
+    ),
+    (
+        r#"{"version":"1.0.3","timestamp":"2023-11-14T23:13:20+01:00","actor":{"mbox":"mailto:a@b"},"stored":"2001-01-01T00:00:00Z","verb":{"id":"http://v/1"},"authority":{"mbox":"mailto:c@d"},"object":{"id":"http://a/1"},"result":{"response":"a\"\u0001"}}"#,
+        Some((12, "p.1")),
+        r#"{"actor":{"mbox":"mailto:a@b"},"verb":{"id":"http://v/1"},"object":{"id":"http://a/1"},"result":{"response":"a\"\u0001"},"id":"11111111-1111-4111-8111-111111111111","timestamp":"2023-11-14T23:13:20+01:00","stored":"2023-11-14T22:13:20.000Z","authority":{"objectType":"Agent","name":"p.1","account":{"homePage":"https://lrs.invalid/callers","name":"provider:12"}},"version":"1.0.3"}"#,
+    ),
+    (
+        r#"{"actor":{"mbox":"mailto:a@b"},"context":{"platform":"x","contextActivities":{"parent":{"id":"http://c/1"},"other":[{"id":"http://c/2"},{"id":"http://c/3"}],"grouping":[]}},"verb":{"id":"http://v/1"},"object":{"id":"http://a/1"}}"#,
+        None,
+        r#"{"actor":{"mbox":"mailto:a@b"},"context":{"platform":"x","contextActivities":{"parent":[{"id":"http://c/1"}],"other":[{"id":"http://c/2"},{"id":"http://c/3"}],"grouping":[]}},"verb":{"id":"http://v/1"},"object":{"id":"http://a/1"},"id":"11111111-1111-4111-8111-111111111111","timestamp":"2023-11-14T22:13:20.000Z","stored":"2023-11-14T22:13:20.000Z","authority":{"objectType":"Agent","name":"admin","account":{"homePage":"https://lrs.invalid/callers","name":"admin"}},"version":"1.0.0"}"#,
+    ),
+    (
+        r#"{"actor":{"mbox":"mailto:a@b"},"verb":{"id":"http://v/1"},"object":{"objectType":"SubStatement","actor":{"mbox":"mailto:a@b"},"verb":{"id":"http://v/2"},"object":{"id":"http://a/2"},"context":{"contextActivities":{"category":{"id":"http://c/1"}}}}}"#,
+        None,
+        r#"{"actor":{"mbox":"mailto:a@b"},"verb":{"id":"http://v/1"},"object":{"objectType":"SubStatement","actor":{"mbox":"mailto:a@b"},"verb":{"id":"http://v/2"},"object":{"id":"http://a/2"},"context":{"contextActivities":{"category":[{"id":"http://c/1"}]}}},"id":"11111111-1111-4111-8111-111111111111","timestamp":"2023-11-14T22:13:20.000Z","stored":"2023-11-14T22:13:20.000Z","authority":{"objectType":"Agent","name":"admin","account":{"homePage":"https://lrs.invalid/callers","name":"admin"}},"version":"1.0.0"}"#,
+    ),
+];
+
+fn authority(alloc: Global, provider: Option<(u32, &str)>) -> Result<Authority, Fail> {
+    match provider {
+        Some((number, name)) => Ok(Authority::Provider {
+            number,
+            name: Text::of(alloc, name)?,
+        }),
+        None => Ok(Authority::Admin),
+    }
+}
+
+fn id() -> Result<Id, Fail> {
+    Ok(Id::read(b"11111111-1111-4111-8111-111111111111").ok_or("no id")?)
+}
+
+fn stored() -> Moment {
+    Moment::clamp(1_700_000_000_000)
+}
+
+// Whether the statement, completed under that authority, has this text.
+fn is_completed_as(
+    alloc: Global,
+    received: &Tree,
+    by: &Authority,
+    text: &str,
+) -> Result<bool, Fail> {
+    let mut bytes = Vec::new(alloc);
+    put_completed(received, &id()?, stored(), by, &mut bytes)?;
+    Ok(bytes.as_slice() == text.as_bytes())
+}
+
+// The same of the tree that it becomes.
+fn is_completed_to(
+    alloc: Global,
+    received: &Tree,
+    by: &Authority,
+    text: &str,
+) -> Result<bool, Fail> {
+    let tree = completed(alloc, received, &id()?, stored(), by)?;
+    is_written_as(alloc, &tree, text)
+}
+
+fn is_written_as(alloc: Global, tree: &Tree, text: &str) -> Result<bool, Fail> {
+    let mut bytes = Vec::new(alloc);
+    write(tree, &mut bytes)?;
+    Ok(bytes.as_slice() == text.as_bytes())
+}
+
+fn is_completed_both_ways(
+    alloc: Global,
+    received: &str,
+    by: &Authority,
+    text: &str,
+) -> Result<bool, Fail> {
+    let received = read(alloc, received.as_bytes())?;
+    Ok(is_completed_as(alloc, &received, by, text)? && is_completed_to(alloc, &received, by, text)?)
+}
+
+// The number of the first row that isn't so.
+fn first_completed_wrong(
+    alloc: Global,
+    rows: &[(&str, Option<(u32, &str)>, &str)],
+) -> Result<Option<usize>, Fail> {
+    for (i, (received, provider, text)) in rows.iter().enumerate() {
+        let by = authority(alloc, *provider)?;
+        if !is_completed_both_ways(alloc, received, &by, text)? {
+            return Ok(Some(i));
+        }
+    }
+    Ok(None)
+}
+
+#[test]
+fn a_completed_statement_has_what_the_store_adds(rt: HostRuntime) -> Result<(), Fail> {
+    assert_eq!(rt; first_completed_wrong(rt.alloc(), &COMPLETED)?, None);
+    Ok(())
+}
+
+// Statements with all that is dropped, and their forms with ids alone: the first statement; names, definitions and
+// displays; Groups with and without an identifier, a context, and a SubStatement; a reference, and what is free.
+const REDUCED: [(&str, &str); 5] = [
+    (
+        r#"{"id":"11111111-1111-4111-8111-111111111111","actor":{"mbox":"mailto:a@b"},"verb":{"id":"http://v/1"},"object":{"id":"http://a/1"}}"#,
+        r#"{"actor":{"mbox":"mailto:a@b"},"verb":{"id":"http://v/1"},"object":{"id":"http://a/1"}"#,
+    ),
+    (
+        r#"{"actor":{"name":"A","objectType":"Agent","account":{"homePage":"http://h","name":"n"}},"verb":{"display":{"en":"did"},"id":"http://v/1"},"object":{"definition":{"name":{"en":"x"}},"id":"http://a/1","objectType":"Activity"},"result":{"response":"r","extensions":{"http://e":{"name":"kept","id":1}}}}"#,
+        r#"{"actor":{"objectType":"Agent","account":{"homePage":"http://h","name":"n"}},"verb":{"id":"http://v/1"},"object":{"id":"http://a/1","objectType":"Activity"},"result":{"response":"r","extensions":{"http://e":{"name":"kept","id":1}}}"#,
+    ),
+    (
+        r#"{"actor":{"objectType":"Group","name":"G","member":[{"name":"M","mbox":"mailto:m@n"},{"objectType":"Agent","openid":"http://o"}]},"verb":{"id":"http://v/1"},"object":{"objectType":"Group","name":"H","mbox":"mailto:h@h","member":[{"mbox":"mailto:m@n"}]}}"#,
+        r#"{"actor":{"objectType":"Group","member":[{"mbox":"mailto:m@n"},{"objectType":"Agent","openid":"http://o"}]},"verb":{"id":"http://v/1"},"object":{"objectType":"Group","mbox":"mailto:h@h"}"#,
+    ),
+    (
+        r#"{"actor":{"mbox":"mailto:a@b"},"verb":{"id":"http://v/1"},"object":{"objectType":"SubStatement","actor":{"name":"S","mbox":"mailto:s@t"},"verb":{"id":"http://v/2","display":{}},"object":{"id":"http://a/2","definition":{}},"context":{"team":{"objectType":"Group","name":"T","member":[{"name":"U","mbox":"mailto:u@u"}]},"contextActivities":{"other":{"id":"http://o/1","definition":{}}}}},"context":{"instructor":{"name":"I","mbox":"mailto:i@j"},"language":"en","contextActivities":{"parent":[{"id":"http://p/1","definition":{}},{"objectType":"Activity","id":"http://p/2"}],"category":[]},"extensions":{"http://x":{"definition":1}}}}"#,
+        r#"{"actor":{"mbox":"mailto:a@b"},"verb":{"id":"http://v/1"},"object":{"objectType":"SubStatement","actor":{"mbox":"mailto:s@t"},"verb":{"id":"http://v/2"},"object":{"id":"http://a/2"},"context":{"team":{"objectType":"Group","member":[{"mbox":"mailto:u@u"}]},"contextActivities":{"other":[{"id":"http://o/1"}]}}},"context":{"instructor":{"mbox":"mailto:i@j"},"language":"en","contextActivities":{"parent":[{"id":"http://p/1"},{"objectType":"Activity","id":"http://p/2"}],"category":[]},"extensions":{"http://x":{"definition":1}}}"#,
+    ),
+    (
+        r#"{"actor":{"mbox":"mailto:a@b"},"verb":{"id":"http://v/1"},"object":{"id":"22222222-2222-4222-8222-222222222222","objectType":"StatementRef"},"attachments":[{"usageType":"http://u","display":{"en":"d"},"contentType":"text/plain","length":3,"sha2":"s","fileUrl":"http://f"}]}"#,
+        r#"{"actor":{"mbox":"mailto:a@b"},"verb":{"id":"http://v/1"},"object":{"id":"22222222-2222-4222-8222-222222222222","objectType":"StatementRef"},"attachments":[{"usageType":"http://u","display":{"en":"d"},"contentType":"text/plain","length":3,"sha2":"s","fileUrl":"http://f"}]"#,
+    ),
+];
+
+// What the store adds for an admin, with ids alone.
+const ADDED_IDS: &str =
+    r#","id":"11111111-1111-4111-8111-111111111111","timestamp":"2023-11-14T22:13:20.000Z","stored":"2023-11-14T22:13:20.000Z","authority":{"objectType":"Agent","account":{"homePage":"https://lrs.invalid/callers","name":"admin"}},"version":"1.0.0"}"#;
+
+fn reduced_tree(alloc: Global, received: &str) -> Result<Tree, Fail> {
+    let received = read(alloc, received.as_bytes())?;
+    let whole = completed(alloc, &received, &id()?, stored(), &Authority::Admin)?;
+    Ok(reduced(whole)?)
+}
+
+// Whether the statement, completed for an admin, has this text and what the store adds with ids alone.
+fn is_reduced_to(alloc: Global, received: &str, front: &str) -> Result<bool, Fail> {
+    let tree = reduced_tree(alloc, received)?;
+    let text = format!(in alloc; "{front}{ADDED_IDS}")?;
+    is_written_as(alloc, &tree, text.as_str())
+}
+
+// The number of the first row that isn't so.
+fn first_reduced_wrong(alloc: Global, rows: &[(&str, &str)]) -> Result<Option<usize>, Fail> {
+    for (i, (received, front)) in rows.iter().enumerate() {
+        if !is_reduced_to(alloc, received, front)? {
+            return Ok(Some(i));
+        }
+    }
+    Ok(None)
+}
+
+#[test]
+fn a_statement_with_ids_alone_tells_which_ones_they_are(rt: HostRuntime) -> Result<(), Fail> {
+    assert_eq!(rt; first_reduced_wrong(rt.alloc(), &REDUCED)?, None);
+    Ok(())
+}
+
+// A provider or an admin, the name of an account, and whether it is that one's.
+const ACCOUNTS: [(Option<(u32, &str)>, &str, bool); 7] = [
+    (None, "admin", true),
+    (None, "provider:12", false),
+    (Some((12, "p.1")), "provider:12", true),
+    (Some((12, "p.1")), "provider:1", false),
+    (Some((12, "p.1")), "provider:012", false),
+    (Some((12, "p.1")), "p.1", false),
+    (Some((12, "p.1")), "admin", false),
+];
+
+fn account(alloc: Global, home: &str, name: &str) -> Result<Ifi, Fail> {
+    Ok(Ifi::Account {
+        home: Text::of(alloc, home)?,
+        name: Text::of(alloc, name)?,
+    })
+}
+
+fn has_account(alloc: Global, by: &Authority, home: &str, name: &str) -> Result<bool, Fail> {
+    let account = account(alloc, home, name)?;
+    Ok(by.has_agent(&account))
+}
+
+fn has_mailbox(alloc: Global, by: &Authority, name: &str) -> Result<bool, Fail> {
+    let mailbox = Ifi::Mbox(Text::of(alloc, name)?);
+    Ok(by.has_agent(&mailbox))
+}
+
+// Whether the authority has the account of that name on the callers' page exactly where it should, and nothing else.
+fn is_found(alloc: Global, by: &Authority, name: &str, wanted: bool) -> Result<bool, Fail> {
+    Ok(
+        has_account(alloc, by, "https://lrs.invalid/callers", name)? == wanted
+            && !has_account(alloc, by, "http://h", name)?
+            && !has_mailbox(alloc, by, name)?,
+    )
+}
+
+// The number of the first row that isn't so.
+fn first_account_wrong(
+    alloc: Global,
+    rows: &[(Option<(u32, &str)>, &str, bool)],
+) -> Result<Option<usize>, Fail> {
+    for (i, (provider, name, wanted)) in rows.iter().enumerate() {
+        let by = authority(alloc, *provider)?;
+        if !is_found(alloc, &by, name, *wanted)? {
+            return Ok(Some(i));
+        }
+    }
+    Ok(None)
+}
+
+#[test]
+fn an_authority_has_one_account(rt: HostRuntime) -> Result<(), Fail> {
+    assert_eq!(rt; first_account_wrong(rt.alloc(), &ACCOUNTS)?, None);
+    Ok(())
+}
+
+fn is_substatement(alloc: Global, text: &[u8]) -> Result<bool, Fail> {
+    let object = read(alloc, text)?;
+    Ok(is_nested(&object))
+}
+
+#[test]
+fn a_substatement_is_told_by_its_type(rt: HostRuntime) -> Result<(), Fail> {
+    let nested = is_substatement(rt.alloc(), br#"{"objectType":"SubStatement"}"#)?;
+    let activity = is_substatement(rt.alloc(), br#"{"id":"http://a/1"}"#)?;
+    assert!(rt; nested && !activity);
+    Ok(())
+}

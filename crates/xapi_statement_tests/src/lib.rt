@@ -1,0 +1,5 @@
+//! The tests of xapi_statement.
+#![tactic(auto)]
+
+#[cfg(test)]
+mod tests;

@@ -1,0 +1,5 @@
+//! The tests of xapi_values.
+#![tactic(auto)]
+
+#[cfg(test)]
+mod tests;

@@ -1,0 +1,227 @@
+use lrs_json::{Tree, read};
+use std::alloc::Global;
+use std::test::Fail;
+use xapi_values::numbers::{is_count, is_score};
+use xapi_values::shapes::{is_duration, is_string_array, is_timestamp, is_uuid, is_version};
+use xapi_values::{Kind, broken_extensions_of};
+
+// Texts of JSON, and whether they are whole numbers that aren't negative.
+const COUNTS: [(&str, bool); 18] = [
+    ("0", true),
+    ("-0", true),
+    ("-0.0", true),
+    ("0.0e5", true),
+    ("0e-9", true),
+    ("7", true),
+    ("1.0", true),
+    ("10e-1", true),
+    ("1.5e1", true),
+    ("120E-1", true),
+    ("9007199254740993", true),
+    ("-1", false),
+    ("-1.0", false),
+    ("1.5", false),
+    ("15e-1", false),
+    ("1.25e1", false),
+    ("1e-1", false),
+    ("\"1\"", false),
+];
+
+fn is_wrong_count(alloc: Global, text: &str, counts: bool) -> Result<bool, Fail> {
+    let tree = read(alloc, text.as_bytes())?;
+    Ok(is_count(&tree) != counts)
+}
+
+// The number of the first row that isn't so.
+fn first_wrong_count(alloc: Global, rows: &[(&str, bool)]) -> Result<Option<usize>, Fail> {
+    for (i, (text, counts)) in rows.iter().enumerate() {
+        if is_wrong_count(alloc, text, *counts)? {
+            return Ok(Some(i));
+        }
+    }
+    Ok(None)
+}
+
+#[test]
+fn counts_are_known_by_their_value(rt: HostRuntime) -> Result<(), Fail> {
+    assert_eq!(rt; first_wrong_count(rt.alloc(), &COUNTS)?, None);
+    Ok(())
+}
+
+// Texts of JSON, and whether they are scores (xAPI 1.0.3, part two, section 2.4.5.1).
+const SCORES: [(&str, bool); 19] = [
+    ("{}", true),
+    ("{\"scaled\":1}", true),
+    ("{\"scaled\":10e-1}", true),
+    (
+        "{\"scaled\":-1.0,\"raw\":1e1,\"min\":10,\"max\":10.5}",
+        true,
+    ),
+    ("{\"raw\":2,\"min\":1,\"max\":2.0}", true),
+    ("{\"raw\":9,\"max\":10}", true),
+    ("{\"min\":-10,\"max\":-9.5}", true),
+    ("5", false),
+    ("[]", false),
+    ("{\"x\":1}", false),
+    ("{\"scaled\":2}", false),
+    ("{\"scaled\":-1.1}", false),
+    ("{\"scaled\":\"1\"}", false),
+    ("{\"scaled\":1.000000000000000000000000000000001}", false),
+    ("{\"min\":2,\"max\":2}", false),
+    ("{\"min\":3,\"max\":2}", false),
+    ("{\"raw\":0.5,\"min\":1}", false),
+    ("{\"raw\":10,\"max\":9}", false),
+    ("{\"raw\":true}", false),
+];
+
+fn is_wrong_score(alloc: Global, text: &str, scores: bool) -> Result<bool, Fail> {
+    let tree = read(alloc, text.as_bytes())?;
+    Ok(is_score(&tree) != scores)
+}
+
+// The number of the first row that isn't so.
+fn first_wrong_score(alloc: Global, rows: &[(&str, bool)]) -> Result<Option<usize>, Fail> {
+    for (i, (text, scores)) in rows.iter().enumerate() {
+        if is_wrong_score(alloc, text, *scores)? {
+            return Ok(Some(i));
+        }
+    }
+    Ok(None)
+}
+
+#[test]
+fn scores_are_held_against_their_order(rt: HostRuntime) -> Result<(), Fail> {
+    assert_eq!(rt; first_wrong_score(rt.alloc(), &SCORES)?, None);
+    Ok(())
+}
+
+// Objects, and what they say that they are.
+const KINDS: [(&str, Kind); 9] = [
+    ("{\"id\":\"http://a/1\"}", Kind::Unstated),
+    ("{\"objectType\":\"Activity\"}", Kind::Activity),
+    ("{\"objectType\":\"Agent\"}", Kind::Agent),
+    ("{\"objectType\":\"Group\"}", Kind::Group),
+    ("{\"objectType\":\"StatementRef\"}", Kind::StatementRef),
+    ("{\"objectType\":\"SubStatement\"}", Kind::SubStatement),
+    ("{\"objectType\":\"Statement\"}", Kind::Other),
+    ("{\"objectType\":\"agent\"}", Kind::Other),
+    ("{\"objectType\":5}", Kind::Other),
+];
+
+fn is_wrong_kind(alloc: Global, text: &str, kind: Kind) -> Result<bool, Fail> {
+    let tree = read(alloc, text.as_bytes())?;
+    Ok(Kind::of(&tree) != kind)
+}
+
+// The number of the first row that isn't so.
+fn first_wrong_kind(alloc: Global, rows: &[(&str, Kind)]) -> Result<Option<usize>, Fail> {
+    for (i, (text, kind)) in rows.iter().enumerate() {
+        if is_wrong_kind(alloc, text, *kind)? {
+            return Ok(Some(i));
+        }
+    }
+    Ok(None)
+}
+
+#[test]
+fn an_object_is_what_it_says_in_these_letters(rt: HostRuntime) -> Result<(), Fail> {
+    assert_eq!(rt; first_wrong_kind(rt.alloc(), &KINDS)?, None);
+    Ok(())
+}
+
+// Texts of JSON, and whether they are an id, a timestamp, a duration, a version and an array of strings.
+const SHAPES: [(&str, [bool; 5]); 16] = [
+    (
+        "\"ABCDEFAB-CDEF-4111-8111-111111111111\"",
+        [true, false, false, false, false],
+    ),
+    (
+        "\"00000000-0000-0000-0000-000000000000\"",
+        [true, false, false, false, false],
+    ),
+    ("\"11111111-1111-4111-8111-11111111111\"", [false; 5]),
+    ("\"{11111111-1111-4111-8111-111111111111}\"", [false; 5]),
+    (
+        "\"2024-02-29T23:59:59.123456789+14:00\"",
+        [false, true, false, false, false],
+    ),
+    ("\"2023-02-29T00:00:00Z\"", [false; 5]),
+    ("\"2024-01-01\"", [false; 5]),
+    ("\"P1Y2M3W4DT5H6M7S\"", [false, false, true, false, false]),
+    ("\"PT1.5S\"", [false, false, true, false, false]),
+    ("\"PT\"", [false; 5]),
+    ("\"1.0.3\"", [false, false, false, true, false]),
+    ("\"1.0\"", [false; 5]),
+    ("\"1.1.0\"", [false; 5]),
+    ("[]", [false, false, false, false, true]),
+    ("[\"1.0.3\",\"\"]", [false, false, false, false, true]),
+    ("[\"x\",5]", [false; 5]),
+];
+
+fn shapes_of(tree: &Tree) -> [bool; 5] {
+    [
+        is_uuid(tree),
+        is_timestamp(tree),
+        is_duration(tree),
+        is_version(tree),
+        is_string_array(tree),
+    ]
+}
+
+fn is_wrong_shape(alloc: Global, text: &str, shapes: [bool; 5]) -> Result<bool, Fail> {
+    let tree = read(alloc, text.as_bytes())?;
+    Ok(shapes_of(&tree) != shapes)
+}
+
+// The number of the first row that isn't so.
+fn first_wrong_shape(alloc: Global, rows: &[(&str, [bool; 5])]) -> Result<Option<usize>, Fail> {
+    for (i, (text, shapes)) in rows.iter().enumerate() {
+        if is_wrong_shape(alloc, text, *shapes)? {
+            return Ok(Some(i));
+        }
+    }
+    Ok(None)
+}
+
+#[test]
+fn texts_are_known_by_their_form(rt: HostRuntime) -> Result<(), Fail> {
+    assert_eq!(rt; first_wrong_shape(rt.alloc(), &SHAPES)?, None);
+    Ok(())
+}
+
+// Objects, and the rule that their extensions break: only their names have to be IRIs.
+const EXTENSIONS: [(&str, Option<u8>); 6] = [
+    ("{}", None),
+    ("{\"extensions\":[]}", None),
+    ("{\"extensions\":{}}", None),
+    (
+        "{\"extensions\":{\"http://e/1\":null,\"a:b\":{\"x\":null}}}",
+        None,
+    ),
+    ("{\"extensions\":{\"http://e/1\":1,\"e\":1}}", Some(6)),
+    ("{\"extensions\":{\"\":1}}", Some(6)),
+];
+
+fn is_wrong_extension(alloc: Global, text: &str, rule: Option<u8>) -> Result<bool, Fail> {
+    let tree = read(alloc, text.as_bytes())?;
+    Ok(broken_extensions_of(&tree) != rule)
+}
+
+// The number of the first row that isn't so.
+fn first_wrong_extension(
+    alloc: Global,
+    rows: &[(&str, Option<u8>)],
+) -> Result<Option<usize>, Fail> {
+    for (i, (text, rule)) in rows.iter().enumerate() {
+        if is_wrong_extension(alloc, text, *rule)? {
+            return Ok(Some(i));
+        }
+    }
+    Ok(None)
+}
+
+#[test]
+fn extensions_are_named_by_iris(rt: HostRuntime) -> Result<(), Fail> {
+    assert_eq!(rt; first_wrong_extension(rt.alloc(), &EXTENSIONS)?, None);
+    Ok(())
+}
