@@ -119,11 +119,18 @@ step_at true k x rest ns e = refl
 step_at false k x rest ns e = ap (λ (c : Bool). c && named_alike rest ns) e
 
 -- behind a member that is alike to one, what is left decides
-pub named_step : (p : Place) (k : List ℕ) (j : Json) (ms : Members) (ns : Named) → is_alike_within p k j ns ≡ true → named_alike (normal_members p (member k j ms)) ns ≡ named_alike (normal_members p ms) ns
+named_step : (p : Place) (k : List ℕ) (j : Json) (ms : Members) (ns : Named) → is_alike_within p k j ns ≡ true → named_alike (normal_members p (member k j ms)) ns ≡ named_alike (normal_members p ms) ns
 named_step p k j ms ns e = step_at (is_passed_over p k) k (normal (place_of_member p k) j) (normal_members p ms) ns e
 
-pub drop_member : (ms : List Member) (i : ℕ) (m : Member) → i < length ms → m ≡ get_or ms i m → drop i ms ≡ m ∷ drop (i + 1) ms
+drop_member : (ms : List Member) (i : ℕ) (m : Member) → i < length ms → m ≡ get_or ms i m → drop i ms ≡ m ∷ drop (i + 1) ms
 drop_member ms i m lt e = rw add-one (drop-cons ms i m lt ∙ ap (λ (z : Member). z ∷ drop (suc i) ms) (sym e))
+
+-- where the member at a place is alike to one, what is left behind it decides
+pub named_on : (p : Place) (ts : List Member) (i : ℕ) (m : Member) (ns : Named) (r : Bool) → i < length ts → m ≡ get_or ts i m → r ≡ is_alike_within p (member_view m).0 (member_view m).1 ns → r ≡ true
+    → named_alike (normal_members p (members_of (map member_view (drop i ts)))) ns ≡ named_alike (normal_members p (members_of (map member_view (drop (i + 1) ts)))) ns
+named_on p ts i m ns r lt at is found =
+    ap (λ (us : List Member). named_alike (normal_members p (members_of (map member_view us))) ns) (drop_member ts i m lt at)
+    ∙ named_step p (member_view m).0 (member_view m).1 (members_of (map member_view (drop (i + 1) ts))) ns (sym is ∙ found)
 
 pub size_items : (p : Place) (js : List Json) → size (normal_items p (elements_of js)) ≡ length js
 size_items p [] = refl

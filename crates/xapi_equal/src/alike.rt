@@ -8,12 +8,13 @@ ghost use Rattle.xapi_equal.specs.Steps.{is_alike_within, is_named_within, any_a
 ghost use Rattle.xapi_equal.specs.Ranks.{places_to, have_own_names};
 
 use crate::leaves::{is_same_amount, is_same_kind, is_same_text};
+use crate::partners::Partners;
 use crate::place::Place;
 use crate::ranks::{MOST, Places, first_extra, have_own_names, rank};
 use lrs_json::{Member, Tree};
 use xapi_values::Kind;
 
-// Fewer items are counted at once.
+// Fewer items are counted, and fewer members are looked for one by one.
 const FEW: usize = 32;
 
 /// Whether the values are the same at that place.
@@ -33,7 +34,8 @@ pub fn are_alike(place: Place, a: &Tree, b: &Tree) -> bool
 
 #[cycle(alike)]
 fn only_is_alike(items: &[Tree], b: &Tree) -> bool
-    ensures { result ≡ all_alike (normal_items Place.Activity (elements_of (map view items.now))) (more (normal_one Place.Activity (view b.now)) none) }
+    ensures { result ≡ all_alike (normal_items Place.Activity (elements_of (map view items.now)))
+        (more (normal_one Place.Activity (view b.now)) none) }
 {
     match items {
         [] => false,
@@ -44,7 +46,8 @@ fn only_is_alike(items: &[Tree], b: &Tree) -> bool
 
 #[cycle(alike)]
 fn is_alike_to_only(a: &Tree, items: &[Tree]) -> bool
-    ensures { result ≡ all_alike (more (normal_one Place.Activity (view a.now)) none) (normal_items Place.Activity (elements_of (map view items.now))) }
+    ensures { result ≡ all_alike (more (normal_one Place.Activity (view a.now)) none)
+        (normal_items Place.Activity (elements_of (map view items.now))) }
 {
     match items {
         [] => false,
@@ -81,7 +84,8 @@ fn values_are_alike(place: Place, a: &Tree, b: &Tree) -> bool
 
 #[cycle(alike)]
 fn items_are_alike(place: Place, a: &[Tree], b: &[Tree]) -> bool
-    ensures { result ≡ all_alike (normal_items place (elements_of (map view a.now))) (normal_items place (elements_of (map view b.now))) }
+    ensures { result ≡ all_alike (normal_items place (elements_of (map view a.now)))
+        (normal_items place (elements_of (map view b.now))) }
 {
     if a.len() != b.len() {
         return false;
@@ -96,7 +100,8 @@ fn items_are_alike(place: Place, a: &[Tree], b: &[Tree]) -> bool
 
 #[cycle(alike)]
 fn bags_are_alike(place: Place, a: &[Tree], b: &[Tree]) -> bool
-    ensures { result ≡ same_bag (normal_items place (elements_of (map view a.now))) (normal_items place (elements_of (map view b.now))) }
+    ensures { result ≡ same_bag (normal_items place (elements_of (map view a.now)))
+        (normal_items place (elements_of (map view b.now))) }
 {
     if a.len() != b.len() {
         return false;
@@ -114,7 +119,8 @@ fn bags_are_alike(place: Place, a: &[Tree], b: &[Tree]) -> bool
 #[cycle(alike)]
 fn ranked_are_alike(place: Place, a: &[Tree], b: &[Tree]) -> Option<bool>
     requires { length a.now ≡ length b.now }
-    ensures { IfSome result (λ answer. answer ≡ same_bag (normal_items place (elements_of (map view a.now))) (normal_items place (elements_of (map view b.now)))) }
+    ensures { IfSome result (λ answer. answer ≡ same_bag (normal_items place (elements_of (map view a.now)))
+        (normal_items place (elements_of (map view b.now)))) }
 {
     if a.len() < FEW || a.len() > MOST || !have_own_names(a) || !have_own_names(b) {
         return None;
@@ -130,7 +136,8 @@ fn ranks_are_alike(place: Place, a: &[Tree], b: &[Tree]) -> Option<bool>
     requires room { length a.now ≤ 16_384 }
     requires own_left { IsTrue (have_own_names (elements_of (map view a.now))) }
     requires own_right { IsTrue (have_own_names (elements_of (map view b.now))) }
-    ensures { IfSome result (λ answer. answer ≡ same_bag (normal_items place (elements_of (map view a.now))) (normal_items place (elements_of (map view b.now)))) }
+    ensures { IfSome result (λ answer. answer ≡ same_bag (normal_items place (elements_of (map view a.now)))
+        (normal_items place (elements_of (map view b.now)))) }
 {
     let mut left = Places::new();
     let mut right = Places::new();
@@ -150,7 +157,8 @@ fn are_alike_by_rank(place: Place, a: &[Tree], left: &[u16], b: &[Tree], right: 
     requires ranked_right { IsPermutation (places_to (length b.now)) right.now }
     requires own_left { IsTrue (have_own_names (elements_of (map view a.now))) }
     requires own_right { IsTrue (have_own_names (elements_of (map view b.now))) }
-    ensures { IsTrue result → IsTrue (same_bag (normal_items place (elements_of (map view a.now))) (normal_items place (elements_of (map view b.now)))) }
+    ensures { IsTrue result → IsTrue (same_bag (normal_items place (elements_of (map view a.now)))
+        (normal_items place (elements_of (map view b.now)))) }
 {
     for (i, j) in left.iter().zip(right) {
         let (Some(x), Some(y)) = (a.get(usize::from(*i)), b.get(usize::from(*j))) else {
@@ -166,7 +174,8 @@ fn are_alike_by_rank(place: Place, a: &[Tree], left: &[u16], b: &[Tree], right: 
 // Where the item at that place occurs in one more often than in the other, these aren't the same.
 #[cycle(alike)]
 fn is_told_apart(place: Place, a: &[Tree], b: &[Tree], at: u16) -> Option<bool>
-    ensures { IfSome result (λ answer. answer ≡ same_bag (normal_items place (elements_of (map view a.now))) (normal_items place (elements_of (map view b.now)))) }
+    ensures { IfSome result (λ answer. answer ≡ same_bag (normal_items place (elements_of (map view a.now)))
+        (normal_items place (elements_of (map view b.now)))) }
 {
     let item = a.get(usize::from(at))?;
     if occurs_as_often(place, item, a, b) {
@@ -194,7 +203,8 @@ fn are_identical(a: &[Tree], b: &[Tree]) -> bool
 // Whether each item occurs in both as often.
 #[cycle(alike)]
 fn each_occurs_as_often(place: Place, items: &[Tree], a: &[Tree], b: &[Tree]) -> bool
-    ensures { result ≡ as_often (normal_items place (elements_of (map view items.now))) (normal_items place (elements_of (map view a.now))) (normal_items place (elements_of (map view b.now))) }
+    ensures { result ≡ as_often (normal_items place (elements_of (map view items.now)))
+        (normal_items place (elements_of (map view a.now))) (normal_items place (elements_of (map view b.now))) }
 {
     for item in items {
         if !occurs_as_often(place, item, a, b) {
@@ -207,14 +217,16 @@ fn each_occurs_as_often(place: Place, items: &[Tree], a: &[Tree], b: &[Tree]) ->
 #[cycle(alike)]
 #[tactic(auto, unfolding(crate::specs::Alike::same_count))]
 fn occurs_as_often(place: Place, item: &Tree, a: &[Tree], b: &[Tree]) -> bool
-    ensures { result ≡ same_count (alike (normal place (view item.now))) (normal_items place (elements_of (map view a.now))) (normal_items place (elements_of (map view b.now))) }
+    ensures { result ≡ same_count (alike (normal place (view item.now)))
+        (normal_items place (elements_of (map view a.now))) (normal_items place (elements_of (map view b.now))) }
 {
     count_alike(place, item, a) == count_alike(place, item, b)
 }
 
 #[cycle(alike)]
 fn count_alike(place: Place, item: &Tree, items: &[Tree]) -> usize
-    ensures { result ≡ count (alike (normal place (view item.now))) (normal_items place (elements_of (map view items.now))) }
+    ensures { result ≡ count (alike (normal place (view item.now)))
+        (normal_items place (elements_of (map view items.now))) }
 {
     let mut found = 0;
     for other in items {
@@ -227,7 +239,32 @@ fn count_alike(place: Place, item: &Tree, items: &[Tree]) -> usize
 
 #[cycle(alike)]
 fn objects_are_alike(place: Place, a: &[Member], b: &[Member]) -> bool
-    ensures { result ≡ (named_alike (normal_members place (members_of (map member_view a.now))) (normal_members place (members_of (map member_view b.now))) && are_named (normal_members place (members_of (map member_view b.now))) (normal_members place (members_of (map member_view a.now)))) }
+    ensures { result ≡ (named_alike (normal_members place (members_of (map member_view a.now)))
+        (normal_members place (members_of (map member_view b.now))) && are_named
+        (normal_members place (members_of (map member_view b.now)))
+        (normal_members place (members_of (map member_view a.now)))) }
+{
+    members_are_alike(place, a, b) && are_named(place, b, a)
+}
+
+#[cycle(alike)]
+fn members_are_alike(place: Place, a: &[Member], b: &[Member]) -> bool
+    ensures { result
+        ≡ named_alike (normal_members place (members_of (map member_view a.now)))
+        (normal_members place (members_of (map member_view b.now))) }
+{
+    if a.len() < FEW {
+        few_are_alike(place, a, b)
+    } else {
+        many_are_alike(place, a, b)
+    }
+}
+
+#[cycle(alike)]
+fn few_are_alike(place: Place, a: &[Member], b: &[Member]) -> bool
+    ensures { result
+        ≡ named_alike (normal_members place (members_of (map member_view a.now)))
+        (normal_members place (members_of (map member_view b.now))) }
 {
     let mut at = 0_usize;
     for member in a {
@@ -236,13 +273,33 @@ fn objects_are_alike(place: Place, a: &[Member], b: &[Member]) -> bool
         }
         at = at.saturating_add(1);
     }
-    are_named(place, b, a)
+    true
+}
+
+// Not inlined, since the partners would then lie on the stack at each level of a value.
+#[cycle(alike)]
+#[inline(never)]
+fn many_are_alike(place: Place, a: &[Member], b: &[Member]) -> bool
+    ensures { result
+        ≡ named_alike (normal_members place (members_of (map member_view a.now)))
+        (normal_members place (members_of (map member_view b.now))) }
+{
+    let mut partners = Partners::new();
+    let mut at = 0_usize;
+    for member in a {
+        if !is_alike_within(place, member, b, partners.place(a, at, b)) {
+            return false;
+        }
+        at = at.saturating_add(1);
+    }
+    true
 }
 
 // The member mostly stands at that place, or soon behind it.
 #[cycle(alike)]
 fn is_alike_within(place: Place, member: &Member, members: &[Member], at: usize) -> bool
-    ensures { result ≡ is_alike_within place (member_view member.now).0 (member_view member.now).1 (normal_members place (members_of (map member_view members.now))) }
+    ensures { result ≡ is_alike_within place (member_view member.now).0 (member_view member.now).1
+        (normal_members place (members_of (map member_view members.now))) }
 {
     let name = member.name.as_str();
     if place.is_passed_over(name) {
@@ -273,12 +330,15 @@ fn any_is_alike(place: Place, name: &str, value: &Tree, members: &[Member]) -> b
 }
 
 // Whether each name that counts in the first stands in the second.
+#[inline(never)]
 fn are_named(place: Place, a: &[Member], b: &[Member]) -> bool
-    ensures { result ≡ are_named (normal_members place (members_of (map member_view a.now))) (normal_members place (members_of (map member_view b.now))) }
+    ensures { result ≡ are_named (normal_members place (members_of (map member_view a.now)))
+        (normal_members place (members_of (map member_view b.now))) }
 {
+    let mut partners = Partners::new();
     let mut at = 0_usize;
     for member in a {
-        if !is_named_within(place, member.name.as_str(), b, at) {
+        if !is_named_within(place, member.name.as_str(), b, partners.place(a, at, b)) {
             return false;
         }
         at = at.saturating_add(1);
@@ -288,7 +348,8 @@ fn are_named(place: Place, a: &[Member], b: &[Member]) -> bool
 
 #[tactic(auto, using(crate::proofs::Walks::has_normal))]
 fn is_named_within(place: Place, name: &str, members: &[Member], at: usize) -> bool
-    ensures { result ≡ is_named_within place name.now (normal_members place (members_of (map member_view members.now))) }
+    ensures { result ≡ is_named_within place name.now (normal_members place
+        (members_of (map member_view members.now))) }
 {
     place.is_passed_over(name) || has_member_from(name, members, at)
 }

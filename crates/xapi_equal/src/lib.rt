@@ -3,11 +3,9 @@
 
 mod alike;
 mod leaves;
+mod partners;
 mod place;
 mod ranks;
 mod statements;
 
 pub use statements::{same, same_received};
-
-#[cfg(test)]
-mod tests;

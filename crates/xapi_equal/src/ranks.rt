@@ -80,7 +80,7 @@ fn order(a: &Tree, b: &Tree) -> Ordering {
 
 fn order_of_texts(a: &Tree, b: &Tree, names: &[&str]) -> Ordering {
     for name in names {
-        let order = text_of(a, name).cmp(text_of(b, name));
+        let order = text_of(a, name).cmp(&text_of(b, name));
         if order.is_ne() {
             return order;
         }
@@ -88,10 +88,10 @@ fn order_of_texts(a: &Tree, b: &Tree, names: &[&str]) -> Ordering {
     Ordering::Equal
 }
 
-fn text_of<'a>(tree: &'a Tree, name: &str) -> &'a str {
+fn text_of<'a>(tree: &'a Tree, name: &str) -> Option<&'a str> {
     match tree.get(name) {
-        Some(Tree::Words(text)) => text.as_str(),
-        _ => "",
+        Some(Tree::Words(text)) => Some(text.as_str()),
+        _ => None,
     }
 }
 

@@ -1,27 +1,13 @@
 -- Numbers of a few digits.
-use Rattle.std.proofs.Common.{◌≡◌, ℕ, lit≤, ◌+◌, ◌-◌, ◌*◌, ◌^◌, ◌<◌, ◌≤◌, ◌&&◌, nat_le, true, false, List, [], ◌∷◌, length, take, get_or, Option, Some, None, arith, ap, ◌∙◌}
+use Rattle.std.proofs.Common.{◌≡◌, ℕ, ◌≤◌, ◌&&◌, nat_le, true, false, List, [], ◌∷◌, length, Option, Some, None, arith, ap, ◌∙◌}
 use Rattle.std.specs.Char.{is_ascii_digit}
 use Rattle.std.specs.List.{list_all}
-use Rattle.std.specs.Str.Parse.{AllDigits, digits_value}
+use Rattle.std.specs.Str.Parse.{AllDigits}
 use Rattle.std.specs.Option.{option_map_or}
 use Rattle.std.proofs.lemmas.Bool.{and_parts}
 use Rattle.std.proofs.lemmas.Bool.Decides.{nat_tests}
-use Rattle.std.proofs.lemmas.Int.Digits.{digits_value_more}
-use Rattle.std.proofs.lemmas.Nat.{pow-add}
-use Rattle.std.proofs.Math.Nat.{pow-le-pow_right}
 use Rattle.xapi_query.specs.Values.{is_limit, is_place}
-use Rattle.lrs_time.proofs.DigitLemmas.{digit_at, digit_range, test_digit}
-
--- one digit more of the number that eighteen digits write
-pub number_step : (ds : List ℕ) (i v : ℕ) → AllDigits 10 ds → length ds ≤ 18 → i < length ds → v ≡ digits_value 10 (take i ds) → v < 10 ^ i
-    → (48 ≤ get_or ds i 0) × (v < 10 ^ 17) × (get_or ds i 0 - 48 < 10) × (v * 10 + (get_or ds i 0 - 48) ≡ digits_value 10 (take (i + 1) ds)) × (v * 10 + (get_or ds i 0 - 48) < 10 ^ (i + 1))
-number_step ds i v all few lt is small =
-    let d = digit_range (get_or ds i 0) (digit_at ds i all lt) in
-    let below : i ≤ 17 = omega arith in
-    let top : 10 ^ i ≤ 10 ^ 17 = pow-le-pow_right (lit≤ tt) below in
-    let up : 10 ^ (i + 1) ≡ 10 ^ i * 10 = pow-add 10 i 1 in
-    let more = digits_value_more 10 ds i lt in
-    (d.0, omega arith, omega arith, omega arith, omega arith)
+use Rattle.lrs_time.proofs.DigitLemmas.{test_digit}
 
 digits_from_test : (ds : List ℕ) → list_all is_ascii_digit ds ≡ true → AllDigits 10 ds
 digits_from_test [] all = tt
@@ -39,16 +25,18 @@ few_digits most text is =
 
 -- of a text that is given as a place, and as a limit
 
-pub place_digits : (value : Option (List ℕ)) (text bytes : List ℕ) → Some text ≡ value → bytes ≡ text → option_map_or is_place value false ≡ true → AllDigits 10 bytes
+pub place_digits : (value : Option (List ℕ)) (text bytes : List ℕ) → Some text ≡ value → bytes ≡ text → option_map_or is_place value false ≡ true → AllDigits 10 bytes × (length bytes ≤ 19)
 place_digits None text bytes is lent test = absurd (cc is)
 place_digits (Some t) text bytes is lent test =
     let same : bytes ≡ t = lent ∙ cc is in
     let passed : is_place bytes ≡ true = ap is_place same ∙ test in
-    (few_digits 18 bytes passed).0
+    let few = few_digits 18 bytes passed in
+    (few.0, omega (arith, few.1))
 
-pub limit_digits : (value : Option (List ℕ)) (text bytes : List ℕ) → Some text ≡ value → bytes ≡ text → option_map_or is_limit value true ≡ true → AllDigits 10 bytes
+pub limit_digits : (value : Option (List ℕ)) (text bytes : List ℕ) → Some text ≡ value → bytes ≡ text → option_map_or is_limit value true ≡ true → AllDigits 10 bytes × (length bytes ≤ 19)
 limit_digits None text bytes is lent test = absurd (cc is)
 limit_digits (Some t) text bytes is lent test =
     let same : bytes ≡ t = lent ∙ cc is in
     let passed : is_limit bytes ≡ true = ap is_limit same ∙ test in
-    (few_digits 9 bytes passed).0
+    let few = few_digits 9 bytes passed in
+    (few.0, omega (arith, few.1))

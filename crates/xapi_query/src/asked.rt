@@ -1,6 +1,5 @@
 // What each parameter of a list asks for, where its value is one.
 ghost use Rattle.std.specs.Prelude.{◌≡◌, ◌≤◌, IfOk, IsTrue, codes, length};
-ghost use Rattle.std.specs.Str.Parse.{AllDigits, digits_value};
 ghost use Rattle.lrs_names.specs.Iris.{is_iri};
 ghost use Rattle.xapi_query.specs.Parameters.{Passes, given, has_place, has_places, number_under, passes};
 ghost use Rattle.xapi_query.specs.Queries.{IsActorGiven, capped, format_named, format_under, id_under, instant_in, instant_under, is_asked, page_size};
@@ -10,6 +9,7 @@ use crate::Pair;
 use crate::parameters::given;
 use crate::query::Given;
 use crate::values::{actor, are_digits};
+use lrs_decimal::digits_value;
 use lrs_json::{Memory, Text};
 use lrs_names::{Id, Ifi, Iri};
 use lrs_time::{Instant, read_timestamp};
@@ -39,6 +39,7 @@ pub fn actor_under(alloc: Global, pairs: &[Pair]) -> Result<Option<Given<Ifi>>, 
     }
 }
 
+/// The IRI that is given.
 pub fn iri_under(pairs: &[Pair], name: &str) -> Result<Option<Iri>, Memory>
     requires { IsTrue (passes is_iri name.now pairs.now) }
     ensures { IfOk result (λ found. found ≡ given name.now pairs.now) }
@@ -90,7 +91,7 @@ pub fn page_under(pairs: &[Pair]) -> u32
     ensures { result ≡ page_size pairs.now }
 {
     match given(pairs, "limit") {
-        Some(text) => capped(number(text.as_bytes())),
+        Some(text) => capped(digits_value(text.as_bytes())),
         None => MOST_OF_PAGE,
     }
 }
@@ -108,6 +109,7 @@ fn capped(n: u64) -> u32
     }
 }
 
+/// The form that is given, else the exact one.
 pub fn format_under(pairs: &[Pair]) -> Format
     ensures { result ≡ format_under pairs.now }
 {
@@ -153,25 +155,13 @@ fn is_place(digits: &[u8]) -> bool
     1 <= digits.len() && digits.len() <= 18 && are_digits(digits)
 }
 
+/// The number that a place of a link is given by.
 pub fn number_under(pairs: &[Pair], name: &str) -> u64
     requires { IsTrue (has_place name.now pairs.now) }
     ensures { result ≡ number_under name.now pairs.now }
 {
     match given(pairs, name) {
-        Some(text) => number(text.as_bytes()),
+        Some(text) => digits_value(text.as_bytes()),
         None => 0,
     }
-}
-
-// The number that at most eighteen digits write.
-fn number(digits: &[u8]) -> u64
-    requires digits { AllDigits 10 digits.now }
-    requires few { length digits.now ≤ 18 }
-    ensures { result ≡ digits_value 10 digits.now }
-{
-    let mut value = 0u64;
-    for digit in digits {
-        value = value * 10 + u64::from(*digit - b'0');
-    }
-    value
 }

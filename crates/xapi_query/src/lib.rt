@@ -24,6 +24,3 @@ pub use refused::QueryRefused;
 pub use sight::{Sight, sees};
 pub use wanted::{Wanted, no_parameters, put_id};
 pub use xapi_statement::Format;
-
-#[cfg(test)]
-mod tests;

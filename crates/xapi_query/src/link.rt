@@ -16,6 +16,7 @@ use std::alloc::Global;
 /// Where a list goes on (xAPI 1.0.3, part three, section 2.1.3).
 #[derive(Drop)]
 pub struct MoreLink {
+    /// The query of the first page, which each later one repeats.
     pub query: Query,
     /// How many statements there were at the first page.
     pub asof: u64,
@@ -33,7 +34,8 @@ impl MoreLink {
         ensures link { IfOk result (λ link. LeastOfLink None pairs.now × IsLink pairs.now link) }
 
         // The least broken rule, and a refusal by a rule only where one is broken.
-        ensures broken { (rule : ℕ) → result ≡ Err (QueryRefused.BadParameter rule) → LeastOfLink (Some rule) pairs.now × (rule ≢ 14) }
+        ensures broken { (rule : ℕ) → result ≡ Err (QueryRefused.BadParameter rule) → LeastOfLink (Some rule) pairs.now
+            × (rule ≢ 14) }
         ensures bad { result ≡ Err QueryRefused.BadLink → LeastOfLink (Some 14) pairs.now }
         ensures always { (found : Option ℕ) → LeastOfLink found pairs.now → Answers found result }
     {

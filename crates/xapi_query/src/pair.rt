@@ -11,6 +11,7 @@ use std::alloc::Global;
 /// A parameter of a request: its name and its value, decoded.
 #[derive(Drop)]
 pub struct Pair {
+    /// Upper and lower case are told apart, in the value too.
     pub name: Text,
     pub value: Text,
 }
@@ -22,7 +23,8 @@ pub fn pairs(alloc: Global, query: &Text) -> Result<Vec<Pair>, QueryRefused>
 
     // P1 exactly where a name or a value isn't UTF-8.
     ensures texts { IfOk result (λ pairs. AreTexts (pairs_of query.now)) }
-    ensures bad { IfErr result (λ refused. (refused ≡ QueryRefused.Memory) ⊎ ((refused ≡ QueryRefused.BadParameter 1) × (¬ AreTexts (pairs_of query.now)))) }
+    ensures bad { IfErr result (λ refused. (refused ≡ QueryRefused.Memory)
+        ⊎ ((refused ≡ QueryRefused.BadParameter 1) × (¬ AreTexts (pairs_of query.now)))) }
 {
     let mut pairs = Vec::new(alloc);
     for (name, value) in raw_pairs(query.as_bytes()) {
@@ -39,7 +41,8 @@ fn push(pairs: &mut Vec<Pair>, pair: Pair) -> Result<(), Memory>
 }
 
 fn pair_of(alloc: Global, name: &[u8], value: &[u8]) -> Result<Pair, QueryRefused>
-    ensures { let raw = pair_of (name.now, value.now) in MatchResult result (λ pair. (pair ≡ raw) × IsText raw) (λ refused. (refused ≡ QueryRefused.Memory) ⊎ ((refused ≡ QueryRefused.BadParameter 1) × (¬ IsText raw))) }
+    ensures { let raw = pair_of (name.now, value.now) in MatchResult result (λ pair. (pair ≡ raw) × IsText raw)
+        (λ refused. (refused ≡ QueryRefused.Memory) ⊎ ((refused ≡ QueryRefused.BadParameter 1) × (¬ IsText raw))) }
 {
     Ok(Pair {
         name: decoded(alloc, name)?,

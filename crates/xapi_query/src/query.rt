@@ -11,6 +11,7 @@ use xapi_statement::Format;
 /// What was given as a parameter: its text, and what that means.
 #[derive(Drop)]
 pub struct Given<T> {
+    /// As it was given, which is how a link repeats it.
     pub text: Text,
     pub value: T,
 }
@@ -39,6 +40,7 @@ pub struct Query {
     pub page: u32,
     /// The oldest first, else the newest.
     pub ascending: bool,
+    /// The form of each statement.
     pub format: Format,
 }
 
@@ -51,8 +53,8 @@ impl Query {
         requires { AreFilters pairs.now }
         ensures { IfOk result (λ query. IsQuery pairs.now query) }
     {
+        // The agent comes last: what an earlier `?` lets go is short then.
         Ok(Query {
-            agent: actor_under(alloc, pairs)?,
             verb: iri_under(pairs, "verb")?,
             activity: iri_under(pairs, "activity")?,
             registration: id_under(pairs, "registration"),
@@ -63,6 +65,7 @@ impl Query {
             page: page_under(pairs),
             ascending: is_asked(pairs, "ascending"),
             format: format_under(pairs),
+            agent: actor_under(alloc, pairs)?,
         })
     }
 }

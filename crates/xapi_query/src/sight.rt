@@ -7,6 +7,7 @@ use xapi_statement::{Authority, Completed};
 /// What a caller sees of the statements.
 #[derive(Clone, Copy, PartialEq, Eq)]
 pub enum Sight {
+    /// No statement.
     Nothing,
     /// Each statement.
     All,

@@ -36,7 +36,8 @@ pub fn passes_id(pairs: &[Pair], name: &str) -> bool
 
 /// P6
 pub fn has_actor(alloc: Global, pairs: &[Pair]) -> Result<bool, Memory>
-    ensures { IfOk result (λ met. MatchBool met (Passes IsActor (codes "agent") pairs.now) (¬ Passes IsActor (codes "agent") pairs.now)) }
+    ensures { IfOk result (λ met. MatchBool met (Passes IsActor (codes "agent") pairs.now)
+        (¬ Passes IsActor (codes "agent") pairs.now)) }
 {
     match given(pairs, "agent") {
         Some(text) => Ok(actor(alloc, text)?.is_some()),
@@ -59,7 +60,8 @@ pub fn actor(alloc: Global, text: &Text) -> Result<Option<Ifi>, Memory>
 
 // The one value that the bytes spell.
 fn json(alloc: Global, bytes: &[u8]) -> Result<Option<Tree>, Memory>
-    ensures { IfOk result (λ found. MatchOption found ((j : Json) → Spells 64 bytes.now j → ⊥) (λ tree. Spells 64 bytes.now (view tree) × ((j : Json) → Spells 64 bytes.now j → view tree ≡ j))) }
+    ensures { IfOk result (λ found. MatchOption found ((j : Json) → Spells 64 bytes.now j → ⊥)
+        (λ tree. Spells 64 bytes.now (view tree) × ((j : Json) → Spells 64 bytes.now j → view tree ≡ j))) }
 {
     match read(alloc, bytes) {
         Ok(tree) => Ok(Some(tree)),

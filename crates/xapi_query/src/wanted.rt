@@ -67,7 +67,8 @@ pub fn put_id(pairs: &[Pair]) -> Result<Id, QueryRefused>
     ensures id { IfOk result (λ id. LeastOfPut None pairs.now × (id_under (codes "statementId") pairs.now ≡ Some id)) }
 
     // The least broken rule, and nothing else.
-    ensures broken { IfErr result (λ refused. (rule : ℕ) × (refused ≡ QueryRefused.BadParameter rule) × LeastOfPut (Some rule) pairs.now) }
+    ensures broken { IfErr result (λ refused. (rule : ℕ) × (refused ≡ QueryRefused.BadParameter rule)
+        × LeastOfPut (Some rule) pairs.now) }
     ensures always { (found : Option ℕ) → LeastOfPut found pairs.now → Answers found result }
 {
     match broken_by_put(pairs) {
@@ -81,7 +82,8 @@ pub fn put_id(pairs: &[Pair]) -> Result<Id, QueryRefused>
 
 /// For a route without parameters: P2 exactly where there is one.
 pub fn no_parameters(pairs: &[Pair]) -> Result<(), QueryRefused>
-    ensures { MatchResult result (λ _. pairs.now ≡ []) (λ refused. (refused ≡ QueryRefused.BadParameter 2) × (pairs.now ≢ [])) }
+    ensures { MatchResult result (λ _. pairs.now ≡ []) (λ refused. (refused ≡ QueryRefused.BadParameter 2)
+        × (pairs.now ≢ [])) }
 {
     if pairs.is_empty() {
         Ok(())

@@ -1,4 +1,4 @@
-use Rattle.std.proofs.Common.{◌≡◌, ◌≤◌, ◌+◌, ℕ, List, [], ◌∷◌, length, true, false, drop, map, refl, sym, ap, ◌∙◌, subst, rules}
+use Rattle.std.proofs.Common.{◌≡◌, ◌≤◌, ℕ, List, [], ◌∷◌, length, true, false, map, refl, sym, ap, ◌∙◌, subst, rules}
 use Rattle.std.proofs.lemmas.Iterator.{empty_from_Zip}
 use Rattle.std.proofs.lemmas.List.{length-map}
 use Rattle.std.proofs.lemmas.Option.{slice_get_read}
@@ -6,15 +6,14 @@ use Rattle.std.specs.List.Sorted.{IsPermutation}
 use Rattle.lrs_json.specs.Json.{array, object}
 use Rattle.lrs_json.specs.View.{view, member_view, elements_of, members_of}
 use Rattle.lrs_json.specs.declared.tree.Tree.{Tree, the_lemmas}
-use Rattle.lrs_json.specs.declared.tree.Member.{Member}
 use Rattle.xapi_equal.specs.declared.place.Place.{Place}
 use Rattle.xapi_equal.specs.Normal.{Normals, normal_one, normal_items, normal_members}
-use Rattle.xapi_equal.specs.Alike.{same_bag, named_alike}
+use Rattle.xapi_equal.specs.Alike.{same_bag}
 use Rattle.xapi_equal.specs.Steps.{any_alike}
 use Rattle.xapi_equal.specs.Ranks.{places_to}
 use Rattle.xapi_equal.proofs.Ranking.{Ranked, ranked_first, ranked_next, ranked_last, told_apart}
 use Rattle.xapi_equal.proofs.Bags.{bag_refl}
-use Rattle.xapi_equal.proofs.Walks.{lengths_differ, sizes_differ, sizes_agree, too_many, too_few, any_behind, any_in_front, within, named_step, drop_member, is_activities, array_and_object, object_and_array}
+use Rattle.xapi_equal.proofs.Walks.{lengths_differ, sizes_differ, sizes_agree, too_many, too_few, any_behind, any_in_front, within, named_on, is_activities, array_and_object, object_and_array}
 use Rattle.xapi_equal.proofs.alike.+alike.Goals as goal
 
 pub items_are_alike-returns-then-a-b : goal.items_are_alike-returns-then-a-b
@@ -77,15 +76,17 @@ pub is_alike_to_only-returns-in-len2-up : goal.is_alike_to_only-returns-in-len2-
 is_alike_to_only-returns-in-len2-up t c =
     too_few (normal_one Place.Activity (view c.args.a.now)) (map view c.args.items.now) Place.Activity (subst (λ (n : ℕ). 2 ≤ n) (sym (length-map c.args.items.now view)) c.in-len2-up.len_at_least)
 
-pub objects_are_alike-loop-member-preserved : goal.objects_are_alike-loop-member-preserved
-objects_are_alike-loop-member-preserved t c =
-    let ns = normal_members c.args.place (members_of (map member_view c.args.b.now)) in
-    let seen = member_view c.member-item.result in
-    let rest = members_of (map member_view (drop (c.loop-member.member-index + 1) c.args.a.now)) in
-    let e = drop_member c.args.a.now c.loop-member.member-index c.member-item.result c.loop-member-test.true c.member-item.is in
-    let yes : c.is_alike_within.result ≡ true = search rules in
+pub few_are_alike-loop-member-preserved : goal.few_are_alike-loop-member-preserved
+few_are_alike-loop-member-preserved t c =
     c.loop-member.invariant
-    ∙ (ap (λ (ts : List Member). named_alike (normal_members c.args.place (members_of (map member_view ts))) ns) e ∙ named_step c.args.place seen.0 seen.1 rest ns (sym c.is_alike_within.ensures ∙ yes))
+    ∙ named_on c.args.place c.args.a.now c.loop-member.member-index c.member-item.result (normal_members c.args.place (members_of (map member_view c.args.b.now))) c.is_alike_within.result
+    c.loop-member-test.true c.member-item.is c.is_alike_within.ensures (search rules)
+
+pub many_are_alike-loop-member-preserved : goal.many_are_alike-loop-member-preserved
+many_are_alike-loop-member-preserved t c =
+    c.loop-member.invariant
+    ∙ named_on c.args.place c.args.a.now c.loop-member.member-index c.member-item.result (normal_members c.args.place (members_of (map member_view c.args.b.now))) c.is_alike_within.result
+    c.loop-member-test.true c.member-item.is c.is_alike_within.ensures (search rules)
 
 pub is_told_apart-returns-else-occurs_as_often : goal.is_told_apart-returns-else-occurs_as_often
 is_told_apart-returns-else-occurs_as_often t c =

@@ -27,8 +27,14 @@ invariant-count_alike-loop-other l =
     ≡ count test (normal_items l.place (elements_of (map view l.items))))
     × (l.found ≤ l.other-index)
 
-abbrev pub invariant-objects_are_alike-loop-member : goal.invariant-objects_are_alike-loop-member
-invariant-objects_are_alike-loop-member l =
+abbrev pub invariant-few_are_alike-loop-member : goal.invariant-few_are_alike-loop-member
+invariant-few_are_alike-loop-member l =
+    let ns = normal_members l.place (members_of (map member_view l.b)) in
+    named_alike (normal_members l.place (members_of (map member_view l.a))) ns
+    ≡ named_alike (normal_members l.place (members_of (map member_view (drop l.member-index l.a)))) ns
+
+abbrev pub invariant-many_are_alike-loop-member : goal.invariant-many_are_alike-loop-member
+invariant-many_are_alike-loop-member l =
     let ns = normal_members l.place (members_of (map member_view l.b)) in
     named_alike (normal_members l.place (members_of (map member_view l.a))) ns
     ≡ named_alike (normal_members l.place (members_of (map member_view (drop l.member-index l.a)))) ns

@@ -3,5 +3,8 @@ use Rattle.xapi_query.specs.Parameters.{given}
 use Rattle.xapi_query.proofs.Numbers.{limit_digits}
 use Rattle.xapi_query.proofs.asked.page_under.Goals as goal
 
-pub number-requires-clause-digits : goal.number-requires-clause-digits
-number-requires-clause-digits c = limit_digits (given (codes "limit") c.args.pairs.now) c.in-Some.text.now c.as_bytes.result.now c.in-Some.ensures c.as_bytes.ensures.lent c.requires
+pub digits_value-requires-clause-digits : goal.digits_value-requires-clause-digits
+digits_value-requires-clause-digits c = (limit_digits (given (codes "limit") c.args.pairs.now) c.in-Some.text.now c.as_bytes.result.now c.in-Some.ensures c.as_bytes.ensures.lent c.requires).0
+
+pub digits_value-requires-clause-few : goal.digits_value-requires-clause-few
+digits_value-requires-clause-few c = (limit_digits (given (codes "limit") c.args.pairs.now) c.in-Some.text.now c.as_bytes.result.now c.in-Some.ensures c.as_bytes.ensures.lent c.requires).1

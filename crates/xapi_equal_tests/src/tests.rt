@@ -1,7 +1,7 @@
-use crate::same;
 use lrs_json::read;
 use std::alloc::Global;
 use std::test::Fail;
+use xapi_equal::same;
 use xapi_statement::Statement;
 
 // The front of a statement, up to what the rows say.
@@ -532,6 +532,34 @@ fn statement(alloc: Global, front: &str, middle: &str, back: &str) -> Result<Sta
     Ok(Statement::read(alloc, tree)?)
 }
 
+// Whether the statement and that of the text are the same, or not, either way round.
+fn is_right(
+    alloc: Global,
+    a: &Statement,
+    text: (&str, &str, &str),
+    wanted: bool,
+) -> Result<bool, Fail> {
+    let b = statement(alloc, text.0, text.1, text.2)?;
+    let right = same(a, &b) == wanted && same(&b, a) == wanted && same(a, a);
+    drop(b);
+    Ok(right)
+}
+
+// The same of two texts, between what stands before and behind both.
+fn are_right(
+    alloc: Global,
+    front: &str,
+    one: &str,
+    other: &str,
+    back: &str,
+    wanted: bool,
+) -> Result<bool, Fail> {
+    let a = statement(alloc, front, one, back)?;
+    let right = is_right(alloc, &a, (front, other, back), wanted);
+    drop(a);
+    right
+}
+
 // The number of the first row, one statement, another and whether they are the same, that isn't so either way round.
 fn first_wrong(
     alloc: Global,
@@ -540,9 +568,7 @@ fn first_wrong(
     back: &str,
 ) -> Result<Option<usize>, Fail> {
     for (i, (one, other, wanted)) in rows.iter().enumerate() {
-        let a = statement(alloc, front, one, back)?;
-        let b = statement(alloc, front, other, back)?;
-        if same(&a, &b) != *wanted || same(&b, &a) != *wanted || !same(&a, &a) {
+        if !are_right(alloc, front, one, other, back, *wanted)? {
             return Ok(Some(i));
         }
     }
@@ -630,18 +656,125 @@ fn members(alloc: Global, letters: &str, front: &str, back: &str) -> Result<Stri
     Ok(text)
 }
 
-#[test]
-fn many_members_are_compared_in_any_order(rt: HostRuntime) -> Result<(), Fail> {
-    let alloc = rt.alloc();
+fn first_wrong_group(alloc: Global, before: &str, behind: &str) -> Result<Option<usize>, Fail> {
     let front = r#"{"actor":{"objectType":"Group","member":["#;
     let back = r#"]},"verb":{"id":"http://v/1"},"object":{"id":"http://a/1"}}"#;
-    for (before, behind) in &MEMBERS {
-        for (one, other, wanted) in &MANY {
-            let a = members(alloc, one, before, behind)?;
-            let b = members(alloc, other, before, behind)?;
-            let rows = [(a.as_str(), b.as_str(), *wanted)];
-            assert_eq!(rt; first_wrong(alloc, front, &rows, back)?, None);
+    for (i, (one, other, wanted)) in MANY.iter().enumerate() {
+        let a = members(alloc, one, before, behind)?;
+        let b = members(alloc, other, before, behind)?;
+        if !are_right(alloc, front, a.as_str(), b.as_str(), back, *wanted)? {
+            return Ok(Some(i));
         }
     }
+    Ok(None)
+}
+
+#[test]
+fn many_members_are_compared_in_any_order(rt: HostRuntime) -> Result<(), Fail> {
+    for (before, behind) in &MEMBERS {
+        assert_eq!(rt; first_wrong_group(rt.alloc(), before, behind)?, None);
+    }
+    Ok(())
+}
+
+// Members of two objects, each by the letter that is its name, the value of one more (1 in the first), and whether
+// these are the same.
+const MANY_NAMES: [(&str, &str, u8, bool); 5] = [
+    (
+        "abcdefghijklmnopqrstuvwxyz0123456789",
+        "9876543210zyxwvutsrqponmlkjihgfedcba",
+        1,
+        true,
+    ),
+    (
+        "abcdefghijklmnopqrstuvwxyz0123456789",
+        "z9m4ayl8bx3kcw7jdv2ieu6hft1gs5r0qnop",
+        1,
+        true,
+    ),
+    (
+        "abcdefghijklmnopqrstuvwxyz0123456789",
+        "9876543210zyxwvutsrqponmlkjihgfedcba",
+        2,
+        false,
+    ),
+    (
+        "abcdefghijklmnopqrstuvwxyz0123456789",
+        "A876543210zyxwvutsrqponmlkjihgfedcba",
+        1,
+        false,
+    ),
+    (
+        "abcdefghijklmnopqrstuvwxyz0123456789",
+        "876543210zyxwvutsrqponmlkjihgfedcba",
+        1,
+        false,
+    ),
+];
+
+const EXTENDED: &str =
+    r#"{"actor":{"mbox":"mailto:a@b"},"verb":{"id":"http://v/1"},"object":{"id":"http://a/1"},"result":{"extensions":{"http://e/1":"#;
+
+// What stands before and behind a letter.
+const NAMES: [(&str, &str); 2] = [("\"", "\":1"), ("\"http://long/", "\":[{}]")];
+
+// Objects with the members of these letters and one more, which stands last in one and first in the other.
+fn are_right_objects(
+    alloc: Global,
+    one: &str,
+    other: &str,
+    last: u8,
+    wanted: bool,
+) -> Result<bool, Fail> {
+    let one = format!(in alloc; "{{{one},\"!\":1}}")?;
+    let other = format!(in alloc; "{{\"!\":{last},{other}}}")?;
+    are_right(alloc, EXTENDED, one.as_str(), other.as_str(), "}}}", wanted)
+}
+
+fn first_wrong_object(alloc: Global, front: &str, back: &str) -> Result<Option<usize>, Fail> {
+    for (i, (one, other, last, wanted)) in MANY_NAMES.iter().enumerate() {
+        let one = members(alloc, one, front, back)?;
+        let other = members(alloc, other, front, back)?;
+        if !are_right_objects(alloc, one.as_str(), other.as_str(), *last, *wanted)? {
+            return Ok(Some(i));
+        }
+    }
+    Ok(None)
+}
+
+#[test]
+fn many_members_of_an_object_are_compared_in_any_order(rt: HostRuntime) -> Result<(), Fail> {
+    for (front, back) in &NAMES {
+        assert_eq!(rt; first_wrong_object(rt.alloc(), front, back)?, None);
+    }
+    Ok(())
+}
+
+// So many objects within one another, each with these members and the next object.
+fn nested(alloc: Global, letters: &str, levels: usize) -> Result<String, Fail> {
+    let members = members(alloc, letters, "\"", "\":1")?;
+    let mut text = String::new(alloc);
+    for _ in 0..levels {
+        text.push('{')?;
+        text.push_str(members.as_str())?;
+        text.push_str(",\"_\":")?;
+    }
+    text.push_str("{}")?;
+    for _ in 0..levels {
+        text.push('}')?;
+    }
+    Ok(text)
+}
+
+fn are_alike_at_each_level(alloc: Global) -> Result<bool, Fail> {
+    let a = nested(alloc, "abcdefghijklmnopqrstuvwxyz0123456789", 60)?;
+    let b = nested(alloc, "9876543210zyxwvutsrqponmlkjihgfedcba", 60)?;
+    are_right(alloc, EXTENDED, a.as_str(), b.as_str(), "}}}", true)
+}
+
+// As deep as a value may be.
+#[test]
+fn many_members_are_compared_at_each_level(rt: HostRuntime) -> Result<(), Fail> {
+    assert!(rt; are_alike_at_each_level(rt.alloc())?);
     Ok(())
 }

@@ -1,0 +1,5 @@
+//! The tests of xapi_equal.
+#![tactic(auto)]
+
+#[cfg(test)]
+mod tests;

@@ -1,0 +1,571 @@
+use lrs_json::{Text, read};
+use lrs_names::Id;
+use lrs_time::Moment;
+use std::alloc::Global;
+use std::test::Fail;
+use xapi_query::{
+    MoreLink, Pair, Query, QueryRefused, Sight, Wanted, direct, in_time, no_parameters, pairs,
+    put_id, sees,
+};
+use xapi_statement::{Authority, Completed, Statement};
+
+fn found_pairs(alloc: Global, query: &str) -> Result<Vec<Pair>, Fail> {
+    Ok(pairs(alloc, &Text::of(alloc, query)?)?)
+}
+
+// The number of the rule by which something was refused; 0 where memory was wanting.
+fn broken_by<T>(found: &Result<T, QueryRefused>) -> Option<u8> {
+    match found {
+        Ok(_) => None,
+        Err(refused) => Some(number_of(*refused)),
+    }
+}
+
+fn number_of(refused: QueryRefused) -> u8 {
+    match refused {
+        QueryRefused::BadParameter { number } => number,
+        QueryRefused::BadLink => 14,
+        QueryRefused::Memory => 0,
+    }
+}
+
+// ---- pairs
+
+const FORMS: [(&str, &[(&str, &str)]); 7] = [
+    ("", &[]),
+    ("&&", &[]),
+    ("=", &[("", "")]),
+    ("a", &[("a", "")]),
+    ("a=1&b=2&a=3", &[("a", "1"), ("b", "2"), ("a", "3")]),
+    ("a+b=c%20d=%2B", &[("a b", "c d=+")]),
+    ("%61=%C3%A9%2", &[("a", "é%2")]),
+];
+
+const NO_TEXTS: [&str; 3] = ["%FF=1", "a=%c3", "a=1&b=%ED%A0%80"];
+
+fn are_pairs(found: &[Pair], expected: &[(&str, &str)]) -> bool {
+    if found.len() != expected.len() {
+        return false;
+    }
+    for (pair, (name, value)) in found.iter().zip(expected) {
+        if pair.name.as_str() != *name || pair.value.as_str() != *value {
+            return false;
+        }
+    }
+    true
+}
+
+fn first_form_misread(alloc: Global) -> Result<Option<usize>, Fail> {
+    for (i, (query, expected)) in FORMS.iter().enumerate() {
+        let found = found_pairs(alloc, query)?;
+        if !are_pairs(found.as_slice(), expected) {
+            return Ok(Some(i));
+        }
+    }
+    Ok(None)
+}
+
+#[test]
+fn reads_pairs_as_a_form(rt: HostRuntime) -> Result<(), Fail> {
+    assert_eq!(rt; first_form_misread(rt.alloc())?, None);
+    Ok(())
+}
+
+fn first_let_through(alloc: Global) -> Result<Option<usize>, Fail> {
+    for (i, query) in NO_TEXTS.iter().enumerate() {
+        let query = Text::of(alloc, query)?;
+        if broken_by(&pairs(alloc, &query)) != Some(1) {
+            return Ok(Some(i));
+        }
+    }
+    Ok(None)
+}
+
+#[test]
+fn refuses_pairs_that_are_no_texts(rt: HostRuntime) -> Result<(), Fail> {
+    assert_eq!(rt; first_let_through(rt.alloc())?, None);
+    Ok(())
+}
+
+// ---- one statement
+
+// What stands behind `statementId=` and an id, and the least rule that is broken then.
+const GETS: [(&str, Option<u8>); 17] = [
+    ("", None),
+    ("&format=exact&attachments=false", None),
+    ("&stateId=a&statementId=1", Some(2)),
+    ("&statementId=11111111-1111-4111-8111-111111111111", Some(3)),
+    ("&registration=1&agent=x", Some(5)),
+    ("&agent=x&verb=x", Some(6)),
+    (
+        "&agent=%7B%22objectType%22:%22Group%22,%22member%22:%5B%5D%7D",
+        Some(6),
+    ),
+    ("&agent=%7B%22mbox%22:%22mailto:a@b%22%7D", Some(13)),
+    ("&verb=x&ascending=yes", Some(7)),
+    ("&related_agents=1&since=now", Some(8)),
+    ("&until=2023-02-30T00:00:00Z&limit=", Some(9)),
+    ("&since=2023-11-14T22:13:20Z&limit=1234567890", Some(10)),
+    ("&limit=5&format=canonical", Some(11)),
+    ("&format=ids", None),
+    ("&limit=5&format=ids", Some(13)),
+    ("&attachments=true", Some(12)),
+    (
+        "&voidedStatementId=11111111-1111-4111-8111-111111111111",
+        Some(13),
+    ),
+];
+
+// What stands behind `voidedStatementId=` and an id, and the least rule that is broken then.
+const GETS_OF_VOIDED: [(&str, Option<u8>); 6] = [
+    ("", None),
+    ("&format=exact&attachments=false", None),
+    ("&voidedStatementId=1", Some(3)),
+    ("&registration=1", Some(5)),
+    ("&limit=5", Some(13)),
+    (
+        "&statementId=11111111-1111-4111-8111-111111111111",
+        Some(13),
+    ),
+];
+
+const WANTED: [u8; 36] = *b"aaaaaaaa-1111-4111-8111-111111111111";
+
+fn is_answered(found: &Result<Wanted, QueryRefused>, number: Option<u8>, voided: bool) -> bool {
+    match found {
+        Ok(Wanted::One(id, _)) => number.is_none() && !voided && id.text() == WANTED,
+        Ok(Wanted::Voided(id, _)) => number.is_none() && voided && id.text() == WANTED,
+        Ok(Wanted::Many(_)) => false,
+        Err(refused) => number == Some(number_of(*refused)),
+    }
+}
+
+fn is_got(alloc: Global, pairs: &[Pair], number: Option<u8>, voided: bool) -> bool {
+    let found = Wanted::read(alloc, pairs);
+    let answered = is_answered(&found, number, voided);
+    drop(found);
+    answered
+}
+
+fn first_wrong_get(
+    alloc: Global,
+    name: &str,
+    rows: &[(&str, Option<u8>)],
+    voided: bool,
+) -> Result<Option<usize>, Fail> {
+    for (i, (more, number)) in rows.iter().enumerate() {
+        let query = format!(in alloc; "{name}=AAAAAAAA-1111-4111-8111-111111111111{more}")?;
+        let found = found_pairs(alloc, query.as_str())?;
+        if !is_got(alloc, found.as_slice(), *number, voided) {
+            return Ok(Some(i));
+        }
+    }
+    Ok(None)
+}
+
+#[test]
+fn reads_what_a_get_wants(rt: HostRuntime) -> Result<(), Fail> {
+    assert_eq!(rt;
+        first_wrong_get(rt.alloc(), "statementId", &GETS, false)?,
+        None
+    );
+    Ok(())
+}
+
+#[test]
+fn reads_what_a_get_of_a_voided_statement_wants(rt: HostRuntime) -> Result<(), Fail> {
+    assert_eq!(rt;
+        first_wrong_get(rt.alloc(), "voidedStatementId", &GETS_OF_VOIDED, true)?,
+        None
+    );
+    Ok(())
+}
+
+const PUTS: [(&str, Option<u8>); 5] = [
+    ("statementId=11111111-1111-4111-8111-111111111111", None),
+    ("", Some(4)),
+    ("statementId=1", Some(5)),
+    ("statementId=1&statementId=1", Some(3)),
+    ("statementId=1&format=exact", Some(2)),
+];
+
+fn is_put(pairs: &[Pair], number: Option<u8>) -> bool {
+    match put_id(pairs) {
+        Ok(id) => number.is_none() && id.text() == *b"11111111-1111-4111-8111-111111111111",
+        Err(refused) => number == Some(number_of(refused)),
+    }
+}
+
+fn first_wrong_put(alloc: Global) -> Result<Option<usize>, Fail> {
+    for (i, (query, number)) in PUTS.iter().enumerate() {
+        let found = found_pairs(alloc, query)?;
+        let none = no_parameters(found.as_slice()).is_ok();
+        if !is_put(found.as_slice(), *number) || none != query.is_empty() {
+            return Ok(Some(i));
+        }
+    }
+    Ok(None)
+}
+
+#[test]
+fn reads_the_parameters_of_writes(rt: HostRuntime) -> Result<(), Fail> {
+    assert_eq!(rt; first_wrong_put(rt.alloc())?, None);
+    Ok(())
+}
+
+// ---- lists and links
+
+// What a list is asked for with, the least rule that is broken, and what the link behind the ninth of ten statements is.
+const LISTS: [(&str, Option<u8>, &str); 31] = [
+    ("", None, ""),
+    (
+        "attachments=false&format=exact&limit=100&ascending=false",
+        None,
+        "",
+    ),
+    ("limit=0", None, ""),
+    ("limit=101", None, ""),
+    ("limit=999999999", None, ""),
+    ("limit=1", None, "&limit=1"),
+    ("limit=000000099", None, "&limit=99"),
+    ("limit=0000000099", Some(10), ""),
+    ("limit=-1", Some(10), ""),
+    ("limit=", Some(10), ""),
+    (
+        "verb=http://v/6&limit=2",
+        None,
+        "&verb=http%3A%2F%2Fv%2F6&limit=2",
+    ),
+    ("verb=http:", Some(7), ""),
+    ("activity=a", Some(7), ""),
+    (
+        "format=ids&ascending=true&until=2023-11-14T22:13:20Z&since=2001-01-01T00:00:00%2B01&related_agents=true&related_activities=true&registration=AAAAAAAA-1111-4111-8111-111111111111&activity=http://a/1&verb=http://v/1&agent=%7B%22mbox%22:%22mailto:a@b%22%7D",
+        None,
+        "&agent=%7B%22mbox%22%3A%22mailto%3Aa%40b%22%7D&verb=http%3A%2F%2Fv%2F1&activity=http%3A%2F%2Fa%2F1&registration=aaaaaaaa-1111-4111-8111-111111111111&related_activities=true&related_agents=true&since=2001-01-01T00%3A00%3A00%2B01&until=2023-11-14T22%3A13%3A20Z&ascending=true&format=ids",
+    ),
+    ("related_agents=false&related_activities=false", None, ""),
+    ("related_agents=True", Some(8), ""),
+    ("related_activities=", Some(8), ""),
+    ("ascending=1", Some(8), ""),
+    ("since=2023-02-29T00:00:00Z", Some(9), ""),
+    ("until=2023-11-14", Some(9), ""),
+    ("registration=1", Some(5), ""),
+    ("agent=%7B%22mbox%22:%22mailto:a@b%22", Some(6), ""),
+    ("agent=5", Some(6), ""),
+    ("agent=%7B%22name%22:%22n%22%7D", Some(6), ""),
+    (
+        "agent=%7B%22objectType%22:%22Group%22,%22mbox%22:%22mailto:a@b%22%7D",
+        None,
+        "&agent=%7B%22objectType%22%3A%22Group%22%2C%22mbox%22%3A%22mailto%3Aa%40b%22%7D",
+    ),
+    ("format=canonical", Some(11), ""),
+    ("attachments=true", Some(12), ""),
+    ("attachments=yes", Some(12), ""),
+    ("asof=10", Some(2), ""),
+    ("verb=http://v/6&verb=http://v/6", Some(3), ""),
+    ("verb=http://v/%C3%A9+", Some(7), ""),
+];
+
+// The text of a link.
+fn text_of(alloc: Global, link: &MoreLink) -> Result<Text, Fail> {
+    let mut text = Vec::new(alloc);
+    link.write(&mut text)?;
+    Ok(Text::of(alloc, str::from_utf8(text.as_slice())?)?)
+}
+
+// The link of a text.
+fn read_back(alloc: Global, text: &str) -> Result<MoreLink, Fail> {
+    let (_path, behind) = text.split_once('?').ok_or("no query")?;
+    Ok(MoreLink::read(alloc, found_pairs(alloc, behind)?.as_slice())?)
+}
+
+// Whether a link that was read back is that of the ninth of ten statements, and is written as before.
+fn is_again(alloc: Global, query: &Query, again: &MoreLink, text: &str) -> Result<bool, Fail> {
+    let same = again.asof == 10 && again.after == 8 && again.query.page == query.page;
+    Ok(same && text_of(alloc, again)?.as_str() == text)
+}
+
+fn is_read_back(alloc: Global, query: &Query, text: &str) -> Result<bool, Fail> {
+    let again = read_back(alloc, text)?;
+    let same = is_again(alloc, query, &again, text);
+    drop(again);
+    same
+}
+
+fn is_text_of(alloc: Global, link: &MoreLink, behind: &str) -> Result<bool, Fail> {
+    let text = text_of(alloc, link)?;
+    let expected = format!(in alloc; "/xapi/statements/more?asof=10&after=8{behind}")?;
+    Ok(text.as_str() == expected.as_str() && is_read_back(alloc, &link.query, text.as_str())?)
+}
+
+// Whether that is the link behind the ninth of ten statements, and is read as itself.
+fn is_linked(alloc: Global, query: Query, behind: &str) -> Result<bool, Fail> {
+    let link = MoreLink {
+        query,
+        asof: 10,
+        after: 8,
+    };
+    let linked = is_text_of(alloc, &link, behind);
+    drop(link);
+    linked
+}
+
+fn is_listed(
+    alloc: Global,
+    pairs: &[Pair],
+    number: Option<u8>,
+    behind: &str,
+) -> Result<bool, Fail> {
+    match Wanted::read(alloc, pairs) {
+        Ok(Wanted::Many(query)) => Ok(is_linked(alloc, query, behind)? && number.is_none()),
+        Ok(Wanted::One(_, _) | Wanted::Voided(_, _)) => Ok(false),
+        Err(refused) => Ok(number == Some(number_of(refused))),
+    }
+}
+
+fn first_wrong_list(alloc: Global) -> Result<Option<usize>, Fail> {
+    for (i, (query, number, behind)) in LISTS.iter().enumerate() {
+        let found = found_pairs(alloc, query)?;
+        if !is_listed(alloc, found.as_slice(), *number, behind)? {
+            return Ok(Some(i));
+        }
+    }
+    Ok(None)
+}
+
+#[test]
+fn lists_are_asked_for_and_linked(rt: HostRuntime) -> Result<(), Fail> {
+    assert_eq!(rt; first_wrong_list(rt.alloc())?, None);
+    Ok(())
+}
+
+const LINKS: [(&str, Option<u8>); 19] = [
+    ("asof=1&after=0", None),
+    ("after=0&asof=1&limit=0&related_agents=false", None),
+    ("asof=999999999999999999&after=000000000000000001", None),
+    ("asof=1000000000000000000&after=1", Some(14)),
+    ("asof=10&after=0000000000000000001", Some(14)),
+    ("asof=10&after=10", Some(14)),
+    ("asof=0&after=0", Some(14)),
+    ("asof=10", Some(14)),
+    ("after=1", Some(14)),
+    ("asof=&after=", Some(14)),
+    ("asof=+2&after=1", Some(14)),
+    ("asof=2&after=-1", Some(14)),
+    ("", Some(14)),
+    ("asof=x&format=no", Some(11)),
+    ("asof=2&after=1&limit=x", Some(10)),
+    ("asof=2&after=1&registration=x", Some(5)),
+    ("asof=2&after=1&asof=2", Some(3)),
+    ("asof=2&after=1&attachments=false", Some(2)),
+    (
+        "asof=2&after=1&statementId=11111111-1111-4111-8111-111111111111",
+        Some(2),
+    ),
+];
+
+fn link_broken_by(alloc: Global, pairs: &[Pair]) -> Option<u8> {
+    let found = MoreLink::read(alloc, pairs);
+    let number = broken_by(&found);
+    drop(found);
+    number
+}
+
+fn first_wrong_link(alloc: Global) -> Result<Option<usize>, Fail> {
+    for (i, (query, number)) in LINKS.iter().enumerate() {
+        let found = found_pairs(alloc, query)?;
+        if link_broken_by(alloc, found.as_slice()) != *number {
+            return Ok(Some(i));
+        }
+    }
+    Ok(None)
+}
+
+#[test]
+fn links_are_held_against_their_form(rt: HostRuntime) -> Result<(), Fail> {
+    assert_eq!(rt; first_wrong_link(rt.alloc())?, None);
+    Ok(())
+}
+
+// ---- filters
+
+const DID: &str =
+    r#"{"actor":{"mbox":"mailto:a@b"},"verb":{"id":"http://v/1"},"object":{"id":"http://a/1"},"context":{"registration":"AAAAAAAA-1111-4111-8111-111111111111","instructor":{"mbox":"mailto:i@j"},"contextActivities":{"parent":{"id":"http://p/1"}}}}"#;
+
+const REFERS: &str =
+    r#"{"actor":{"mbox":"mailto:c@d"},"verb":{"id":"http://v/2"},"object":{"objectType":"StatementRef","id":"11111111-1111-4111-8111-111111111111"}}"#;
+
+// Each filter, alone and beside others: whether the first and the second statement pass it.
+const FILTERS: [(&str, bool, bool); 17] = [
+    ("", true, true),
+    ("verb=http://v/1", true, false),
+    ("verb=http://v/2", false, true),
+    ("verb=http://v/", false, false),
+    ("activity=http://a/1", true, false),
+    ("activity=http://p/1", false, false),
+    ("activity=http://p/1&related_activities=true", true, false),
+    ("agent=%7B%22mbox%22:%22mailto:a@b%22%7D", true, false),
+    ("agent=%7B%22mbox%22:%22mailto:i@j%22%7D", false, false),
+    (
+        "agent=%7B%22mbox%22:%22mailto:i@j%22%7D&related_agents=true",
+        true,
+        false,
+    ),
+    (
+        "agent=%7B%22mbox%22:%22mailto:c@d%22%7D&related_agents=true",
+        false,
+        true,
+    ),
+    (
+        "agent=%7B%22account%22:%7B%22homePage%22:%22https://lrs.invalid/callers%22,%22name%22:%22admin%22%7D%7D&related_agents=true",
+        true,
+        true,
+    ),
+    (
+        "registration=aaaaaaaa-1111-4111-8111-111111111111",
+        true,
+        false,
+    ),
+    (
+        "registration=11111111-1111-4111-8111-111111111111",
+        false,
+        false,
+    ),
+    (
+        "registration=aaaaaaaa-1111-4111-8111-111111111111&verb=http://v/1",
+        true,
+        false,
+    ),
+    ("verb=http://v/1&activity=http://a/2", false, false),
+    (
+        "verb=http://v/2&agent=%7B%22mbox%22:%22mailto:a@b%22%7D",
+        false,
+        false,
+    ),
+];
+
+// Whether what was stored at 2023-11-14T22:13:20Z is within the times.
+const TIMES: [(&str, bool); 8] = [
+    ("since=2023-11-14T22:13:20Z", false),
+    ("since=2023-11-14T22:13:19.999999999Z", true),
+    ("since=2023-11-15T00:13:20%2B02", false),
+    ("until=2023-11-14T22:13:20Z", true),
+    ("until=2023-11-14T22:13:19.999999999Z", false),
+    ("until=0000-01-01T00:00:00Z", false),
+    (
+        "since=0000-01-01T00:00:00Z&until=9999-12-31T23:59:59Z",
+        true,
+    ),
+    (
+        "since=2023-11-14T22:13:20Z&until=9999-12-31T23:59:59Z",
+        false,
+    ),
+];
+
+fn kept(alloc: Global, text: &str, by: Authority) -> Result<Completed, Fail> {
+    let id = Id::read(b"11111111-1111-4111-8111-111111111111").ok_or("no id")?;
+    let statement = Statement::read(alloc, read(alloc, text.as_bytes())?)?;
+    Ok(statement.complete(id, Moment::clamp(1_700_000_000_000), by))
+}
+
+fn asked(alloc: Global, query: &str) -> Result<Query, Fail> {
+    let found = found_pairs(alloc, query)?;
+    match Wanted::read(alloc, found.as_slice()) {
+        Ok(Wanted::Many(query)) => Ok(query),
+        Ok(Wanted::One(_, _) | Wanted::Voided(_, _)) => Err(Fail::from("no list")),
+        Err(_) => Err(Fail::from("refused")),
+    }
+}
+
+fn first_wrong_filter(
+    alloc: Global,
+    did: &Completed,
+    refers: &Completed,
+) -> Result<Option<usize>, Fail> {
+    for (i, (query, first, second)) in FILTERS.iter().enumerate() {
+        let query = asked(alloc, query)?;
+        let right = direct(&query, did) == *first && direct(&query, refers) == *second;
+        drop(query);
+        if !right {
+            return Ok(Some(i));
+        }
+    }
+    Ok(None)
+}
+
+fn first_wrong_filter_of(alloc: Global, did: &Completed) -> Result<Option<usize>, Fail> {
+    let refers = kept(alloc, REFERS, Authority::Admin)?;
+    let wrong = first_wrong_filter(alloc, did, &refers);
+    drop(refers);
+    wrong
+}
+
+#[test]
+fn filters_are_held_against_one_statement(rt: HostRuntime) -> Result<(), Fail> {
+    let alloc = rt.alloc();
+    let did = kept(alloc, DID, Authority::Admin)?;
+    let wrong = first_wrong_filter_of(alloc, &did);
+    drop(did);
+    assert_eq!(rt; wrong?, None);
+    Ok(())
+}
+
+fn first_wrong_time(alloc: Global, did: &Completed) -> Result<Option<usize>, Fail> {
+    for (i, (query, within)) in TIMES.iter().enumerate() {
+        let query = asked(alloc, query)?;
+        let right = in_time(&query, did) == *within;
+        drop(query);
+        if !right {
+            return Ok(Some(i));
+        }
+    }
+    Ok(None)
+}
+
+#[test]
+fn times_are_held_at_their_edges(rt: HostRuntime) -> Result<(), Fail> {
+    let alloc = rt.alloc();
+    let did = kept(alloc, DID, Authority::Admin)?;
+    let wrong = first_wrong_time(alloc, &did);
+    drop(did);
+    assert_eq!(rt; wrong?, None);
+    Ok(())
+}
+
+// The place of the first sight that doesn't see the first or the second as it should.
+fn first_wrong_sight(first: &Completed, second: &Completed) -> Result<Option<usize>, Fail> {
+    let named = Id::read(b"aaaaaaaa-1111-4111-8111-111111111111").ok_or("no id")?;
+    let other = Id::read(b"11111111-1111-4111-8111-111111111111").ok_or("no id")?;
+    let rows = [
+        (Sight::Nothing, false, false),
+        (Sight::All, true, true),
+        (Sight::Provider(3), true, false),
+        (Sight::Provider(0), false, false),
+        (Sight::Registration(named), true, false),
+        (Sight::Registration(other), false, false),
+    ];
+    for (i, (sight, one, other)) in rows.iter().enumerate() {
+        if sees(sight, first) != *one || sees(sight, second) != *other {
+            return Ok(Some(i));
+        }
+    }
+    Ok(None)
+}
+
+fn first_wrong_sight_of(alloc: Global, first: &Completed) -> Result<Option<usize>, Fail> {
+    let own = kept(alloc, REFERS, Authority::Admin)?;
+    let wrong = first_wrong_sight(first, &own);
+    drop(own);
+    wrong
+}
+
+#[test]
+fn a_sight_sees_what_is_its_own(rt: HostRuntime) -> Result<(), Fail> {
+    let alloc = rt.alloc();
+    let name = Text::of(alloc, "p")?;
+    let given = kept(alloc, DID, Authority::Provider { number: 3, name })?;
+    let wrong = first_wrong_sight_of(alloc, &given);
+    drop(given);
+    assert_eq!(rt; wrong?, None);
+    Ok(())
+}
