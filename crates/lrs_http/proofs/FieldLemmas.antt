@@ -1,14 +1,11 @@
 -- What fields say, one after the other.
-use Rattle.std.proofs.Common.{◌≡◌, ℕ, zero, suc, lit≤, ◌+◌, ◌-◌, ◌*◌, ◌^◌, ◌<◌, ◌≤◌, Bool, true, false, cond, List, [], ◌∷◌, length, take, drop, get_or, Some, None, Result, Err, refl, sym, ap, ◌∙◌, arith, rules, inl, inr, ⊎_elim, add-one, drop-cons}
+use Rattle.std.proofs.Common.{◌≡◌, ℕ, ◌+◌, ◌<◌, ◌≤◌, Bool, true, false, cond, List, [], ◌∷◌, length, take, drop, get_or, Some, None, Result, Err, refl, sym, ap, ◌∙◌, arith, rules, inl, inr, ⊎_elim, add-one, drop-cons}
 use Rattle.std.specs.Prelude.{IsTrue, ◌↔◌, map, nat_lt, ◌&&◌, ◌||◌, IsUtf8}
 use Rattle.std.specs.List.{list_all, list_any, slice_split, position_or_len}
 use Rattle.std.proofs.lemmas.List.Splits.{slice_split_first}
 use Rattle.std.specs.Str.{str_eq_ignore_ascii_case, bytes_eq, is_utf8}
 use Rattle.std.specs.Char.{to_ascii_lowercase, is_ascii_digit, digit_value}
-use Rattle.std.specs.Str.Parse.{AllDigits, digits_value}
-use Rattle.std.proofs.lemmas.Int.Digits.{digits_value_more}
-use Rattle.std.proofs.lemmas.Nat.{pow-add}
-use Rattle.std.proofs.Math.Nat.{pow-le-pow_right}
+use Rattle.std.specs.Str.Parse.{AllDigits}
 use Rattle.std.proofs.lemmas.Slice.Eq.{bytes_eq-Decides}
 use Rattle.std.proofs.lemmas.Str.{IsUtf8-from_is_utf8}
 use Rattle.std.proofs.lemmas.Bool.{cases_Bool, cases_lt, and_parts}
@@ -18,11 +15,11 @@ use Rattle.httparse.specs.Spans.{header_bytes}
 use Rattle.httparse.specs.Grammar.{skip_ows, is_ows}
 use Rattle.lrs_http.specs.declared.request.RequestRefused.{RequestRefused}
 use Rattle.lrs_http.specs.declared.request.RequestRefused.TheVariants as refused
-use Rattle.lrs_http.specs.Fields.{NameAndValue, is_named, first_value, count_named, is_length, is_close, is_comma, asks_to_close}
+use Rattle.lrs_http.specs.Fields.{NameAndValue, is_named, first_value, count_named, is_length, is_close, trims_to, is_comma, asks_to_close}
 use Rattle.lrs_http.specs.Head.{HeadParts, most_fields, announced, has_texts, body_length, method_of}
 use Rattle.lrs_http.specs.Reading.{IsNoText}
 use Rattle.lrs_http.proofs.FrontLemmas.{take_min, drop_min}
-use Rattle.std.specs.Prelude.{codes, nat_le, ◌⊎◌, min}
+use Rattle.std.specs.Prelude.{nat_le, ◌⊎◌, min}
 use Rattle.std.specs.List.{fold}
 use Rattle.std.proofs.lemmas.List.{length-map, length-take, take_all}
 
@@ -80,27 +77,8 @@ named_at r a name field same is = named_is r a name same ∙ ap (λ (l : List �
 
 -- ---- the number of a length
 
-digit_range : (b : ℕ) → digit_value b < 10 → (48 ≤ b) × (b ≤ 57) × (digit_value b ≡ b - 48)
-digit_range b h = grind arith
-
 test_digit : (b : ℕ) → is_ascii_digit b ≡ true → digit_value b < 10
 test_digit b h = grind arith
-
-digit_at : (ds : List ℕ) (i : ℕ) → AllDigits 10 ds → i < length ds → digit_value (get_or ds i 0) < 10
-digit_at [] i all lt = absurd (omega arith)
-digit_at (d ∷ ds) zero all lt = all.0
-digit_at (d ∷ ds) (suc i) all lt = digit_at ds i all.1 (omega arith)
-
--- one digit more of the number that ten digits write
-pub number_step : (ds : List ℕ) (i v : ℕ) → AllDigits 10 ds → length ds ≤ 10 → i < length ds → v ≡ digits_value 10 (take i ds) → v < 10 ^ i
-    → (48 ≤ get_or ds i 0) × (v < 10 ^ 9) × (get_or ds i 0 - 48 < 10) × (v * 10 + (get_or ds i 0 - 48) ≡ digits_value 10 (take (i + 1) ds)) × (v * 10 + (get_or ds i 0 - 48) < 10 ^ (i + 1))
-number_step ds i v all few lt is small =
-    let d = digit_range (get_or ds i 0) (digit_at ds i all lt) in
-    let below : i ≤ 9 = omega arith in
-    let top : 10 ^ i ≤ 10 ^ 9 = pow-le-pow_right (lit≤ tt) below in
-    let up : 10 ^ (i + 1) ≡ 10 ^ i * 10 = pow-add 10 i 1 in
-    let more = digits_value_more 10 ds i lt in
-    (d.0, omega arith, omega arith, omega arith, omega arith)
 
 -- bytes that pass the test are digits
 pub digits_from_test : (ds : List ℕ) → list_all is_ascii_digit ds ≡ true → AllDigits 10 ds
@@ -117,17 +95,18 @@ length_parts value is =
     let few : length value ≤ 10 = grind (arith, nat_tests, two.0) in
     (few, digits_from_test value two.1)
 
-pub close_is : (element word front : List ℕ) (end : ℕ) (r : Bool) → word ≡ skip_ows element → end ≡ min (length word) 5 → front ≡ take end word
-    → (IsTrue r ↔ (map to_ascii_lowercase front ≡ map to_ascii_lowercase (codes "close"))) → (r && list_all is_ows (drop end word)) ≡ is_close element
-unfolding is_close
-close_is element word front end r is bound part same =
-    let fronts : take end word ≡ take 5 word = take_min 5 end word bound in
-    let backs : drop end word ≡ drop 5 word = drop_min 5 end word bound in
-    let test : r ≡ str_eq_ignore_ascii_case front (codes "close") = named_is r front (codes "close") same in
-    let word_is : front ≡ take 5 (skip_ows element) = part ∙ fronts ∙ ap (take 5) is in
-    ap (λ (b : Bool). b && list_all is_ows (drop end word)) test
-    ∙ ap (λ (l : List ℕ). str_eq_ignore_ascii_case l (codes "close") && list_all is_ows (drop end word)) word_is
-    ∙ ap (λ (l : List ℕ). str_eq_ignore_ascii_case (take 5 (skip_ows element)) (codes "close") && list_all is_ows l) (backs ∙ ap (drop 5) is)
+pub trimmed_is : (text word rest front : List ℕ) (end : ℕ) (r : Bool) → rest ≡ skip_ows text → end ≡ min (length rest) (length word) → front ≡ take end rest
+    → (IsTrue r ↔ (map to_ascii_lowercase front ≡ map to_ascii_lowercase word)) → (r && list_all is_ows (drop end rest)) ≡ trims_to text word
+unfolding trims_to
+trimmed_is text word rest front end r is bound part same =
+    let n = length word in
+    let fronts : take end rest ≡ take n rest = take_min n end rest bound in
+    let backs : drop end rest ≡ drop n rest = drop_min n end rest bound in
+    let test : r ≡ str_eq_ignore_ascii_case front word = named_is r front word same in
+    let front_is : front ≡ take n (skip_ows text) = part ∙ fronts ∙ ap (take n) is in
+    ap (λ (b : Bool). b && list_all is_ows (drop end rest)) test
+    ∙ ap (λ (l : List ℕ). str_eq_ignore_ascii_case l word && list_all is_ows (drop end rest)) front_is
+    ∙ ap (λ (l : List ℕ). str_eq_ignore_ascii_case (take n (skip_ows text)) word && list_all is_ows l) (backs ∙ ap (drop n) is)
 
 -- ---- what a head announces
 

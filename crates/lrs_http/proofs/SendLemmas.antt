@@ -149,6 +149,13 @@ status_code status is = among status statuses is refl
 pub written_as : (text other waiting : List ℕ) (failed : Bool) (start now : LinkView) → text ≡ other → IsWritten text waiting failed start now → IsWritten other waiting failed start now
 written_as text other waiting failed start now is w = subst (λ (l : List ℕ). IsWritten l waiting failed start now) is w
 
+-- nothing more was written
+pub written_still : (text waiting : List ℕ) (failed : Bool) (start now : LinkView) → IsWritten text waiting failed start now → IsWritten (text ++ []) waiting failed start now
+written_still text waiting failed start now w = written_as text (text ++ []) waiting failed start now (sym (append-nil text)) w
+
+pub written_only : (text waiting : List ℕ) (failed : Bool) (start now : LinkView) → IsWritten (text ++ []) waiting failed start now → IsWritten text waiting failed start now
+written_only text waiting failed start now w = written_as (text ++ []) text waiting failed start now (append-nil text) w
+
 -- the same bytes wait
 pub written_waits : (text waiting other : List ℕ) (failed : Bool) (start now : LinkView) → waiting ≡ other → IsWritten text waiting failed start now → IsWritten text other failed start now
 written_waits text waiting other failed start now is w = subst (λ (l : List ℕ). IsWritten text l failed start now) is w

@@ -20,10 +20,14 @@ first_value name fields = option_map (λ (field : NameAndValue). field.1) (find 
 unfoldable pub count_named : List ℕ → List NameAndValue → ℕ
 count_named name fields = count_by (is_named name) fields
 
--- an element of a list: white space, `close` in any case, white space
+-- white space, the word in any case, white space
+unfoldable pub trims_to : List ℕ → List ℕ → Bool
+trims_to text word =
+    str_eq_ignore_ascii_case (take (length word) (skip_ows text)) word && list_all is_ows (drop (length word) (skip_ows text))
+
+-- an element of a list
 unfoldable pub is_close : List ℕ → Bool
-is_close element =
-    str_eq_ignore_ascii_case (take 5 (skip_ows element)) (codes "close") && list_all is_ows (drop 5 (skip_ows element))
+is_close element = trims_to element (codes "close")
 
 abbrev pub is_comma : ℕ → Bool
 is_comma b = b == 44

@@ -7,3 +7,4 @@ pub mod Links
 pub mod OneList
 pub mod Prospect
 pub mod Response
+pub mod Gathered

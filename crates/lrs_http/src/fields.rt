@@ -3,17 +3,17 @@ ghost use Rattle.std.specs.Prelude.{◌≡◌, ◌≤◌, ◌<◌, ◌+◌, ◌�
 ghost use Rattle.std.specs.Char.{is_ascii_digit};
 ghost use Rattle.std.specs.List.{list_all, position_or_len};
 ghost use Rattle.std.specs.Option.{option_copied};
-ghost use Rattle.std.specs.Str.Parse.{AllDigits, digits_value};
 ghost use Rattle.httparse.specs.Grammar.{skip_ows, is_ows};
 ghost use Rattle.httparse.specs.Spans.{IsHeaderWithin, IsRequestWithin, header_bytes, span_bytes};
-ghost use Rattle.lrs_http.specs.Fields.{is_comma, first_value, count_named, is_close, asks_to_close, is_length, is_text};
+ghost use Rattle.lrs_http.specs.Fields.{is_comma, first_value, count_named, is_close, trims_to, asks_to_close, is_length, is_text};
 ghost use Rattle.lrs_http.specs.Head.{HeadParts, method_of, path_of, query_of, closes_of, request_of, has_texts, stated_length, body_length, announced, most_fields, longest_body};
 ghost use Rattle.lrs_http.specs.Prospect.{parts_at};
 ghost use Rattle.lrs_http.specs.Reading.{IsNoText, IsQuiet};
 
-use crate::{Body, Method, Request, RequestRefused};
+use crate::{Method, Request, RequestRefused};
 use httparse::spans::{HeaderSpan, RequestSpans};
-use lrs_json::{Memory, Text};
+use lrs_decimal::digits_value;
+use lrs_json::{Items, Memory, Text};
 use std::alloc::Global;
 
 /// The most bytes that a body may have.
@@ -66,12 +66,20 @@ fn all_white(bytes: &[u8]) -> bool
     bytes.iter().all(|b| is_white(*b))
 }
 
+/// Whether the text is the word, in any case, once the white space round it is off (RFC 9110, section 5.6.3).
+pub fn trims_to(text: &[u8], word: &[u8]) -> bool
+    ensures { result ≡ trims_to text.now word.now }
+{
+    let rest = skip_white(text);
+    let end = rest.len().min(word.len());
+    rest[..end].eq_ignore_ascii_case(word) && all_white(&rest[end..])
+}
+
+#[tactic(auto, unfolding(crate::specs::Fields::is_close))]
 fn is_close(element: &[u8]) -> bool
     ensures { result ≡ is_close element.now }
 {
-    let word = skip_white(element);
-    let end = word.len().min(5);
-    word[..end].eq_ignore_ascii_case(b"close") && all_white(&word[end..])
+    trims_to(element, b"close")
 }
 
 // Where the first comma stands, or the end.
@@ -148,19 +156,6 @@ fn is_length(value: &[u8]) -> bool
     0 < value.len() && value.len() <= 10 && all_digits(value)
 }
 
-// The number that at most ten digits write.
-fn number(digits: &[u8]) -> u64
-    requires digits { AllDigits 10 digits.now }
-    requires few { length digits.now ≤ 10 }
-    ensures { result ≡ digits_value 10 digits.now }
-{
-    let mut value = 0u64;
-    for digit in digits {
-        value = value * 10 + u64::from(*digit - b'0');
-    }
-    value
-}
-
 #[tactic(auto, unfolding(crate::specs::Head::stated_length))]
 fn stated_length(method: Method, value: Option<&[u8]>) -> Result<usize, RequestRefused>
     ensures value { result ≡ stated_length method (option_copied value.entry) }
@@ -176,7 +171,7 @@ fn stated_length(method: Method, value: Option<&[u8]>) -> Result<usize, RequestR
     if !is_length(value) {
         return Err(RequestRefused::Malformed { rule: 2 });
     }
-    let length = number(value);
+    let length = digits_value(value);
     if length > LONGEST_BODY {
         return Err(RequestRefused::BodyTooLong);
     }
@@ -201,7 +196,8 @@ fn body_length(bytes: &[u8], fields: &[HeaderSpan], method: Method) -> Result<us
 
 #[tactic(auto, unfolding(crate::specs::Fields::is_text))]
 fn text_of(alloc: Global, value: Option<&[u8]>) -> Result<Option<Text>, RequestRefused>
-    ensures text { IfOk result (λ text. (text ≡ option_copied value.entry) × (is_text (option_copied value.entry) ≡ true)) }
+    ensures text { IfOk result (λ text. (text ≡ option_copied value.entry)
+        × (is_text (option_copied value.entry) ≡ true)) }
     ensures refused { IfErr result (IsNoText (is_text (option_copied value.entry))) }
     ensures quiet { IfErr result IsQuiet }
 {
@@ -225,9 +221,12 @@ struct Texts {
 #[tactic(auto, unfolding(crate::specs::Head::has_texts))]
 fn texts_of(alloc: Global, bytes: &[u8], fields: &[HeaderSpan]) -> Result<Texts, RequestRefused>
     requires { All (IsHeaderWithin (length bytes.now)) fields.now }
-    ensures version { IfOk result (λ t. t.version ≡ first_value (codes "x-experience-api-version") (map (header_bytes bytes.now) fields.now)) }
-    ensures credential { IfOk result (λ t. t.credential ≡ first_value (codes "authorization") (map (header_bytes bytes.now) fields.now)) }
-    ensures media { IfOk result (λ t. t.media ≡ first_value (codes "content-type") (map (header_bytes bytes.now) fields.now)) }
+    ensures version { IfOk result
+        (λ t. t.version ≡ first_value (codes "x-experience-api-version") (map (header_bytes bytes.now) fields.now)) }
+    ensures credential { IfOk result
+        (λ t. t.credential ≡ first_value (codes "authorization") (map (header_bytes bytes.now) fields.now)) }
+    ensures media { IfOk result (λ t. t.media ≡ first_value (codes "content-type")
+        (map (header_bytes bytes.now) fields.now)) }
     ensures texts { IfOk result (λ t. has_texts (map (header_bytes bytes.now) fields.now) ≡ true) }
     ensures refused { IfErr result (IsNoText (has_texts (map (header_bytes bytes.now) fields.now))) }
     ensures quiet { IfErr result IsQuiet }
@@ -274,7 +273,9 @@ pub(crate) fn take_head(
     ensures request { IfOk result (λ taken. taken.0 ≡ request_of (parts_at bytes.now fields.now spans) []) }
     ensures length { IfOk result (λ taken. announced (parts_at bytes.now fields.now spans) ≡ Ok taken.1) }
     ensures bound { IfOk result (λ taken. taken.1 ≤ longest_body) }
-    ensures refused { IfErr result (λ refusal. (refusal ≡ RequestRefused.Memory) ⊎ (announced (parts_at bytes.now fields.now spans) ≡ Err refusal)) }
+    ensures refused { IfErr result
+        (λ refusal. (refusal ≡ RequestRefused.Memory)
+        ⊎ (announced (parts_at bytes.now fields.now spans) ≡ Err refusal)) }
     ensures quiet { IfErr result IsQuiet }
 {
     let fields = &fields[..spans.headers];
@@ -290,7 +291,7 @@ pub(crate) fn take_head(
         credential: texts.credential,
         media: texts.media,
         closes: closes(bytes, fields, spans.version),
-        body: Body::new(alloc),
+        body: Items::new(alloc),
     };
     Ok((request, length))
 }

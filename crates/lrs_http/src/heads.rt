@@ -157,7 +157,8 @@ pub(crate) fn look(
 
 // Why bytes without a head are refused.
 fn refusal_of(bytes: &[u8], may_become: bool) -> RequestRefused
-    ensures { result ≡ refusal_for (nat_lt (length bytes.now) longest_head) (list_all is_line_end bytes.now) may_become }
+    ensures { result ≡ refusal_for (nat_lt (length bytes.now) longest_head)
+        (list_all is_line_end bytes.now) may_become }
 {
     if bytes.len() < LONGEST_HEAD && is_blank(bytes) {
         RequestRefused::End

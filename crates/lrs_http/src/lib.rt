@@ -1,7 +1,6 @@
 //! HTTP/1.1 on a link (RFC 9112): requests are read and responses written, however their bytes are cut.
 #![tactic(auto)]
 
-mod body;
 mod fields;
 mod heads;
 mod laws;
@@ -9,11 +8,8 @@ mod reading;
 mod request;
 mod response;
 
-pub use body::Body;
+pub use fields::trims_to;
 pub use laws::law_of_one_list;
 pub use reading::read_request;
 pub use request::{Method, Request, RequestRefused};
 pub use response::{LinkFault, Reply2, write_response};
-
-#[cfg(test)]
-mod tests;

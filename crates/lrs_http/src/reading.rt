@@ -8,9 +8,10 @@ ghost use Rattle.lrs_http.specs.Stream.{longest_head};
 
 use crate::fields::take_head;
 use crate::heads::{LONGEST_HEAD, MOST_FIELDS, judge, look, window_of};
-use crate::{Body, Request, RequestRefused};
+use crate::{Request, RequestRefused};
 use httparse::spans::{EMPTY_HEADER_SPAN, HeaderSpan, RequestSpans};
 use lrs_disk::{Failed, Link};
+use lrs_json::Items;
 use std::alloc::{AllocError, Global};
 
 // As many bytes are asked for in one read while a head is read.
@@ -51,10 +52,13 @@ impl Search {
 fn read_behind<L: Link>(link: &mut L, bytes: &mut [u8], held: usize) -> Result<usize, Failed>
     requires { held ≤ length bytes.old }
     ensures room { IfOk result (λ n. held + n ≤ length bytes.old) }
-    ensures given { IfOk result (λ n. stream_left (take (held + n) bytes.new) (L.left link.new) ≡ stream_left (take held bytes.old) (L.left link.old)) }
+    ensures given { IfOk result
+        (λ n. stream_left (take (held + n) bytes.new) (L.left link.new) ≡ stream_left (take held bytes.old)
+        (L.left link.old)) }
     ensures end { IfOk result (λ n. n ≡ 0 → held < length bytes.old → IsAtEnd (L.left link.old)) }
     ensures ended { IfOk result (λ n. n ≡ 0 → held < length bytes.old → IsAtEnd (L.left link.new)) }
-    ensures failed { OnErr result (stream_left (take held bytes.new) (L.left link.new) ≡ stream_left (take held bytes.old) (L.left link.old)) }
+    ensures failed { OnErr result
+        (stream_left (take held bytes.new) (L.left link.new) ≡ stream_left (take held bytes.old) (L.left link.old)) }
     ensures stream_kept { L.stream link.new ≡ L.stream link.old }
     ensures taken_kept { L.taken link.new ≡ L.taken link.old }
     ensures name_kept { L.name link.new ≡ L.name link.old }
@@ -123,7 +127,8 @@ fn read_head<L: Link>(
 // Reads until the body is full, of which the first bytes are there.
 fn fill<L: Link>(link: &mut L, body: &mut [u8], held: usize) -> Result<(), RequestRefused>
     requires { held ≤ length body.old }
-    ensures left { OnOk result (stream_left body.new (L.left link.new) ≡ stream_left (take held body.old) (L.left link.old)) }
+    ensures left { OnOk result (stream_left body.new (L.left link.new)
+        ≡ stream_left (take held body.old) (L.left link.old)) }
     ensures refused { IfErr result (IsEarlyEnd (length body.old) (stream_left (take held body.old) (L.left link.old))) }
     ensures stream_kept { L.stream link.new ≡ L.stream link.old }
     ensures taken_kept { L.taken link.new ≡ L.taken link.old }
@@ -164,9 +169,11 @@ fn body_front(alloc: Global, front: &[u8], size: usize) -> Result<Vec<u8>, Alloc
 
 fn fill_vector<L: Link>(link: &mut L, body: &mut Vec<u8>, held: usize) -> Result<(), RequestRefused>
     requires { held ≤ vec_len body.old }
-    ensures left { OnOk result (stream_left body.new.items (L.left link.new) ≡ stream_left (take held body.old.items) (L.left link.old)) }
+    ensures left { OnOk result
+        (stream_left body.new.items (L.left link.new) ≡ stream_left (take held body.old.items) (L.left link.old)) }
     ensures size { vec_len body.new ≡ vec_len body.old }
-    ensures refused { IfErr result (IsEarlyEnd (vec_len body.old) (stream_left (take held body.old.items) (L.left link.old))) }
+    ensures refused { IfErr result (IsEarlyEnd (vec_len body.old)
+        (stream_left (take held body.old.items) (L.left link.old))) }
     ensures stream_kept { L.stream link.new ≡ L.stream link.old }
     ensures taken_kept { L.taken link.new ≡ L.taken link.old }
     ensures name_kept { L.name link.new ≡ L.name link.old }
@@ -182,9 +189,11 @@ fn read_body<L: Link>(
     kept: &mut Vec<u8>,
     start: usize,
     size: usize,
-) -> Result<Body, RequestRefused>
+) -> Result<Items<u8>, RequestRefused>
     requires { start ≤ vec_len kept.old }
-    ensures body { IfOk result (IsBodyAt start size (stream_left kept.old.items (L.left link.old)) (stream_left kept.new.items (L.left link.new))) }
+    ensures body { IfOk result
+        (IsBodyAt start size (stream_left kept.old.items (L.left link.old))
+        (stream_left kept.new.items (L.left link.new))) }
     ensures refused { IfErr result (IsNoBody start size (stream_left kept.old.items (L.left link.old))) }
     ensures stream_kept { L.stream link.new ≡ L.stream link.old }
     ensures taken_kept { L.taken link.new ≡ L.taken link.old }
@@ -195,7 +204,7 @@ fn read_body<L: Link>(
     let mut body = body_front(alloc, &kept.as_slice()[start..start + held], size)?;
     remove_front(kept, start + held);
     fill_vector(link, &mut body, held)?;
-    Ok(Body::from_vec(body))
+    Ok(Items::from_vec(body))
 }
 
 /// Reads the next request of a connection (RFC 9112). `kept` holds what was read behind the last one, and is empty at first.
@@ -205,7 +214,8 @@ pub fn read_request<L: Link>(
     link: &mut L,
     kept: &mut Vec<u8>,
 ) -> Result<Request, RequestRefused>
-    ensures next { GivesNext (stream_left kept.old.items (L.left link.old)) result (stream_left kept.new.items (L.left link.new)) }
+    ensures next { GivesNext (stream_left kept.old.items (L.left link.old)) result
+        (stream_left kept.new.items (L.left link.new)) }
     ensures cause { HasLinkCause (L.fault_count link.old) (L.fault_count link.new) result }
     ensures stream_kept { L.stream link.new ≡ L.stream link.old }
     ensures taken_kept { L.taken link.new ≡ L.taken link.old }

@@ -1,6 +1,5 @@
-use crate::Body;
 use lrs_disk::Failed;
-use lrs_json::{Memory, Text};
+use lrs_json::{Items, Memory, Text};
 use std::alloc::{AllocError, AllocFailed};
 
 /// A request's method (RFC 9110, section 9), as far as a route can tell them apart. Methods are compared in their case.
@@ -29,7 +28,7 @@ pub struct Request {
     pub media: Option<Text>,
     /// The connection ends behind the response: HTTP/1.0, or `Connection: close`.
     pub closes: bool,
-    pub body: Body,
+    pub body: Items<u8>,
 }
 
 /// Why no request is read. Behind each of these the connection ends.

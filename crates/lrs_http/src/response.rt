@@ -2,6 +2,7 @@
 ghost use Rattle.std.specs.Prelude.{◌≡◌, ◌≢◌, ◌<◌, ◌≤◌, [], ◌++◌, List, ℕ, IfOk, OnOk, OnErr, length, drop, codes};
 ghost use Rattle.lrs_disk.specs.Faults.{HasCause};
 ghost use Rattle.lrs_http.specs.Links.{Sends, SendsPart, HasWriteCause, LinkView, view, IsWritten};
+ghost use Rattle.lrs_http.specs.Gathered.{Puts};
 ghost use Rattle.lrs_http.specs.Response.{IsStatus, phrase_of, status_line, field, field_of, where_so, response_of};
 ghost use Rattle.http.specs.StatusCode.{IsStatusCode};
 
@@ -35,7 +36,8 @@ struct Output {
 fn write_from<L: Link>(link: &mut L, bytes: &[u8], done: usize) -> Result<usize, Failed>
     requires { done < length bytes.now }
     ensures more { IfOk result (λ place. (done < place) × (place ≤ length bytes.now)) }
-    ensures taken { IfOk result (λ place. Sends (drop done bytes.now) (drop place bytes.now) (L.taken link.old) (L.taken link.new)) }
+    ensures taken { IfOk result
+        (λ place. Sends (drop done bytes.now) (drop place bytes.now) (L.taken link.old) (L.taken link.new)) }
     ensures failed { OnErr result (L.taken link.new ≡ L.taken link.old) }
     ensures left_kept { L.left link.new ≡ L.left link.old }
     ensures stream_kept { L.stream link.new ≡ L.stream link.old }
@@ -73,8 +75,11 @@ fn phrase(status: u16) -> &'static [u8]
 
 // Writes what waits, unless the link failed before, and answers whether it has failed.
 fn send<L: Link>(link: &mut L, waiting: &[u8], failed: bool) -> bool
-    ensures { (text : List ℕ) (start : LinkView) → IsWritten text waiting.now failed start (view (L.taken link.old) (L.left link.old) (L.stream link.old) (L.name link.old) (L.fault_count link.old))
-        → IsWritten text [] result start (view (L.taken link.new) (L.left link.new) (L.stream link.new) (L.name link.new) (L.fault_count link.new)) }
+    ensures { (text : List ℕ) (start : LinkView)
+        → IsWritten text waiting.now failed start
+        (view (L.taken link.old) (L.left link.old) (L.stream link.old) (L.name link.old) (L.fault_count link.old))
+        → IsWritten text [] result start
+        (view (L.taken link.new) (L.left link.new) (L.stream link.new) (L.name link.new) (L.fault_count link.new)) }
 {
     if failed {
         return true;
@@ -89,8 +94,8 @@ impl Output {
     // Writes what waits.
     fn flush<L: Link>(&mut self, link: &mut L)
         ensures empty { self.new.gathered.items ≡ [] }
-        ensures sent { (text : List ℕ) (start : LinkView) → IsWritten text self.old.gathered.items self.old.failed start (view (L.taken link.old) (L.left link.old) (L.stream link.old) (L.name link.old) (L.fault_count link.old))
-            → IsWritten text [] self.new.failed start (view (L.taken link.new) (L.left link.new) (L.stream link.new) (L.name link.new) (L.fault_count link.new)) }
+        ensures sent { Puts [] (λ l. view (L.taken l) (L.left l) (L.stream l) (L.name l) (L.fault_count l))
+            self.old link.old self.new link.new }
     {
         self.failed = send(link, self.gathered.as_slice(), self.failed);
         self.gathered.clear();
@@ -98,8 +103,8 @@ impl Output {
 
     // Writes what waits, and the piece behind it.
     fn put_behind<L: Link>(&mut self, link: &mut L, piece: &[u8])
-        ensures { (text : List ℕ) (start : LinkView) → IsWritten text self.old.gathered.items self.old.failed start (view (L.taken link.old) (L.left link.old) (L.stream link.old) (L.name link.old) (L.fault_count link.old))
-            → IsWritten (text ++ piece.now) self.new.gathered.items self.new.failed start (view (L.taken link.new) (L.left link.new) (L.stream link.new) (L.name link.new) (L.fault_count link.new)) }
+        ensures { Puts piece.now (λ l. view (L.taken l) (L.left l) (L.stream l) (L.name l) (L.fault_count l))
+            self.old link.old self.new link.new }
     {
         self.flush(link);
         self.failed = send(link, piece, self.failed);
@@ -107,8 +112,8 @@ impl Output {
 
     // Gathers a piece behind what waits, or writes both where there is no room.
     fn put<L: Link>(&mut self, link: &mut L, piece: &[u8])
-        ensures { (text : List ℕ) (start : LinkView) → IsWritten text self.old.gathered.items self.old.failed start (view (L.taken link.old) (L.left link.old) (L.stream link.old) (L.name link.old) (L.fault_count link.old))
-            → IsWritten (text ++ piece.now) self.new.gathered.items self.new.failed start (view (L.taken link.new) (L.left link.new) (L.stream link.new) (L.name link.new) (L.fault_count link.new)) }
+        ensures { Puts piece.now (λ l. view (L.taken l) (L.left l) (L.stream l) (L.name l) (L.fault_count l))
+            self.old link.old self.new link.new }
     {
         match self.gathered.try_extend_from_slice(piece) {
             Ok(()) => {}
@@ -118,8 +123,8 @@ impl Output {
 
     fn put_status_line<L: Link>(&mut self, link: &mut L, status: u16)
         requires { IsStatusCode status }
-        ensures { (text : List ℕ) (start : LinkView) → IsWritten text self.old.gathered.items self.old.failed start (view (L.taken link.old) (L.left link.old) (L.stream link.old) (L.name link.old) (L.fault_count link.old))
-            → IsWritten (text ++ status_line status) self.new.gathered.items self.new.failed start (view (L.taken link.new) (L.left link.new) (L.stream link.new) (L.name link.new) (L.fault_count link.new)) }
+        ensures { Puts (status_line status) (λ l. view (L.taken l) (L.left l) (L.stream l) (L.name l) (L.fault_count l))
+            self.old link.old self.new link.new }
     {
         let mut digits = Buffer::new();
         self.put(link, b"HTTP/1.1 ");
@@ -130,8 +135,9 @@ impl Output {
     }
 
     fn put_field<L: Link>(&mut self, link: &mut L, applies: bool, name: &str, value: &[u8])
-        ensures { (text : List ℕ) (start : LinkView) → IsWritten text self.old.gathered.items self.old.failed start (view (L.taken link.old) (L.left link.old) (L.stream link.old) (L.name link.old) (L.fault_count link.old))
-            → IsWritten (text ++ where_so applies (field name.now value.now)) self.new.gathered.items self.new.failed start (view (L.taken link.new) (L.left link.new) (L.stream link.new) (L.name link.new) (L.fault_count link.new)) }
+        ensures { Puts (where_so applies (field name.now value.now))
+            (λ l. view (L.taken l) (L.left l) (L.stream l) (L.name l) (L.fault_count l))
+            self.old link.old self.new link.new }
     {
         if applies {
             self.put(link, name.as_bytes());
@@ -142,8 +148,9 @@ impl Output {
     }
 
     fn put_moment<L: Link>(&mut self, link: &mut L, moment: &Option<[u8; 24]>)
-        ensures { (text : List ℕ) (start : LinkView) → IsWritten text self.old.gathered.items self.old.failed start (view (L.taken link.old) (L.left link.old) (L.stream link.old) (L.name link.old) (L.fault_count link.old))
-            → IsWritten (text ++ field_of (codes "X-Experience-API-Consistent-Through") moment.now) self.new.gathered.items self.new.failed start (view (L.taken link.new) (L.left link.new) (L.stream link.new) (L.name link.new) (L.fault_count link.new)) }
+        ensures { Puts (field_of (codes "X-Experience-API-Consistent-Through") moment.now)
+            (λ l. view (L.taken l) (L.left l) (L.stream l) (L.name l) (L.fault_count l))
+            self.old link.old self.new link.new }
     {
         if let Some(text) = moment {
             self.put_field(link, true, "X-Experience-API-Consistent-Through", text);
@@ -154,7 +161,10 @@ impl Output {
 // Writes the response, and answers whether the link has failed.
 fn write_fields<L: Link>(link: &mut L, reply: &Reply2, closes: bool) -> bool
     requires { IsStatus reply.now.status }
-    ensures { IsWritten (response_of reply.now.status reply.now.media.now reply.now.body.now reply.now.through reply.now.allow.now closes) [] result (view (L.taken link.old) (L.left link.old) (L.stream link.old) (L.name link.old) (L.fault_count link.old))
+    ensures { IsWritten
+        (response_of reply.now.status reply.now.media.now reply.now.body.now reply.now.through reply.now.allow.now
+        closes) [] result
+        (view (L.taken link.old) (L.left link.old) (L.stream link.old) (L.name link.old) (L.fault_count link.old))
         (view (L.taken link.new) (L.left link.new) (L.stream link.new) (L.name link.new) (L.fault_count link.new)) }
 {
     let mut digits = Buffer::new();
@@ -185,8 +195,13 @@ pub fn write_response<L: Link>(link: &mut L, reply: &Reply2, closes: bool) -> Re
     requires status { IsStatus reply.now.status }
     requires bare { reply.now.status ≡ 204 → (reply.now.media.now ≡ []) × (reply.now.body.now ≡ []) }
     requires methods { reply.now.status ≢ 405 → reply.now.allow.now ≡ [] }
-    ensures whole { OnOk result (Sends (response_of reply.now.status reply.now.media.now reply.now.body.now reply.now.through reply.now.allow.now closes) [] (L.taken link.old) (L.taken link.new)) }
-    ensures part { OnErr result (SendsPart (response_of reply.now.status reply.now.media.now reply.now.body.now reply.now.through reply.now.allow.now closes) (L.taken link.old) (L.taken link.new)) }
+    ensures whole { OnOk result
+        (Sends (response_of reply.now.status reply.now.media.now reply.now.body.now reply.now.through
+        reply.now.allow.now closes) [] (L.taken link.old) (L.taken link.new)) }
+    ensures part { OnErr result
+        (SendsPart
+        (response_of reply.now.status reply.now.media.now reply.now.body.now reply.now.through reply.now.allow.now
+        closes) (L.taken link.old) (L.taken link.new)) }
     ensures left_kept { L.left link.new ≡ L.left link.old }
     ensures stream_kept { L.stream link.new ≡ L.stream link.old }
     ensures name_kept { L.name link.new ≡ L.name link.old }

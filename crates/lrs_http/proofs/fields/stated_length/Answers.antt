@@ -1,9 +1,9 @@
-use Rattle.std.proofs.Common.{◌∙◌, sym}
+use Rattle.std.proofs.Common.{◌∙◌, sym, arith}
 use Rattle.lrs_http.proofs.FieldLemmas.{length_parts}
 use Rattle.lrs_http.proofs.fields.stated_length.Goals as goal
 
-pub number-length-requires-clause-digits : goal.number-length-requires-clause-digits
-number-length-requires-clause-digits c = (length_parts c.in-Some.value.now (sym c.is_length.ensures ∙ c.if-not-is_length.false)).1
+pub digits_value-length-requires-clause-digits : goal.digits_value-length-requires-clause-digits
+digits_value-length-requires-clause-digits c = (length_parts c.in-Some.value.now (sym c.is_length.ensures ∙ c.if-not-is_length.false)).1
 
-pub number-length-requires-clause-few : goal.number-length-requires-clause-few
-number-length-requires-clause-few c = (length_parts c.in-Some.value.now (sym c.is_length.ensures ∙ c.if-not-is_length.false)).0
+pub digits_value-length-requires-clause-few : goal.digits_value-length-requires-clause-few
+digits_value-length-requires-clause-few c = let parts = length_parts c.in-Some.value.now (sym c.is_length.ensures ∙ c.if-not-is_length.false) in omega (arith, parts.0)
