@@ -1,0 +1,42 @@
+-- A list whose items are found by key.
+use Rattle.std.specs.Prelude.{◌≡◌, ◌≤◌, ℕ, Bool, List, [], ◌∷◌, ◌++◌, if◌then◌else◌, position, Option, Some, None}
+use Rattle.std.specs.BTreeMap.{is_at}
+use Rattle.std.specs.declared.cmp.Ordering.{Ordering}
+use Rattle.lrs_register.specs.Places.{HasPlace, place_of}
+
+-- What is seen of a register: its items, the places by key, and for how many items more there is room in the list.
+pub record Registered (K T : Type 0) : Type 0 where
+  pub held : List T
+  pub places : List (K × Option ℕ)
+  pub spare : ℕ
+
+-- the place of the first item under a key
+abbrev pub place_under : {K T : Type 0} → (K → K → Ordering) → (T → K) → K → List T → Option ℕ
+place_under cmp key_of key held = position (λ x. is_at (cmp (key_of x)) key) held
+
+-- each key has the place of the first item under it
+pub record IsIndexed {K T : Type 0} (cmp : K → K → Ordering) (key_of : T → K) (places : List (K × Option ℕ)) (held : List T) : Type 0 where
+  pub found : (k : K) → place_of cmp places k ≡ place_under cmp key_of k held
+
+-- ---- room
+
+-- there is room for an item
+abbrev pub HasRoomFor : {K T : Type 0} → (K → K → Ordering) → (T → K) → Registered K T → T → Type 0
+HasRoomFor cmp key_of r item = (1 ≤ r.spare) × HasPlace cmp r.places (key_of item)
+
+-- there is room for an item that may come
+abbrev pub HasRoomForNew : {K T : Type 0} → (K → K → Ordering) → (T → K) → Registered K T → Option T → Type 0
+HasRoomForNew cmp key_of r None = Unit {0}
+HasRoomForNew cmp key_of r (Some item) = HasRoomFor cmp key_of r item
+
+-- ---- changes
+
+-- a list, and behind it one more where there is one
+abbrev pub with_new : {A : Type 0} → List A → Option A → List A
+with_new xs None = xs
+with_new xs (Some x) = xs ++ x ∷ []
+
+-- an item in the place of the first that passes, where there is one
+abbrev pub with_first : {A : Type 0} → (A → Bool) → A → List A → List A
+with_first p y [] = []
+with_first p y (x ∷ xs) = if p x then y ∷ xs else x ∷ with_first p y xs

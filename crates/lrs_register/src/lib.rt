@@ -1,0 +1,8 @@
+//! Lists that are found by key, with room made ahead: what is taken in then takes no memory.
+#![tactic(auto)]
+
+mod places;
+mod register;
+
+pub use places::Places;
+pub use register::{Keyed, Register};

@@ -1,0 +1,151 @@
+// A list that is found by key.
+ghost use Rattle.std.specs.Prelude.{◌≡◌, ◌≤◌, ◌+◌, ◌<◌, [], ◌∷◌, ◌++◌, length, slice_get, slice_set, get_or, find, IfOk, OnOk};
+ghost use Rattle.std.specs.Option.{option_copied};
+ghost use Rattle.std.specs.BTreeMap.{is_at};
+ghost use Rattle.lrs_register.specs.Places.{KeepsPlaces};
+ghost use Rattle.lrs_register.specs.Register.{place_under, with_first, with_new, HasRoomFor, HasRoomForNew};
+
+use crate::Places;
+use std::alloc::{AllocError, Global};
+use std::marker::Model;
+
+/// What is found by a key of its own.
+pub trait Keyed<K> {
+    ghost key: { Self → K };
+
+    fn key(&self) -> &K
+        ensures { result.now ≡ key self.now };
+
+    /// A second copy of the key, under which its place is made.
+    fn key_copy(&self) -> Result<K, AllocError>
+        ensures { IfOk result (λ copy. copy ≡ key self.now) };
+}
+
+/// Items in the order in which they came, found by key: of equal keys the first counts.
+#[derive(Drop)]
+pub struct Register<K: Ord + Drop, T: Keyed<K> + Drop> {
+    places: Places<K>,
+    held: Vec<T>,
+}
+
+impl<K: Ord + Drop, T: Keyed<K> + Drop> Model for Register<K, T> {
+    ghost use Rattle.std.specs.Prelude.{vec_len, vec_capacity, ◌-◌};
+    ghost use Rattle.lrs_register.specs.Register.{Registered, IsIndexed};
+
+    ghost Value = { Registered K T };
+
+    ghost view = { λ r. record {
+      held = r.held.items;
+      places = r.places;
+      spare = vec_capacity r.held - vec_len
+          r.held;
+    } };
+
+    ghost invariant = { λ r. IsIndexed K.cmp T.key r.places r.held.items };
+}
+
+impl<K: Ord + Drop, T: Keyed<K> + Drop> Register<K, T> {
+    pub fn new(alloc: Global) -> Register<K, T>
+        ensures { result.held ≡ [] }
+    {
+        Register {
+            places: Places::new(alloc),
+            held: Vec::new(alloc),
+        }
+    }
+
+    /// How many items there are.
+    pub fn len(&self) -> usize
+        ensures { result ≡ length self.now.held }
+    {
+        self.held.len()
+    }
+
+    /// The place of the first item under a key.
+    pub fn place(&self, key: &K) -> Option<usize>
+        ensures { result ≡ place_under K.cmp T.key key.now self.now.held }
+    {
+        self.places.get(key)
+    }
+
+    /// The first item under a key.
+    pub fn find(&self, key: &K) -> Option<&T>
+        ensures { option_copied result ≡ find (λ x. is_at (K.cmp (T.key x)) key.now) self.now.held }
+    {
+        match self.place(key) {
+            Some(place) => self.get(place),
+            None => None,
+        }
+    }
+
+    /// The item at a place.
+    pub fn get(&self, place: usize) -> Option<&T>
+        ensures { option_copied result ≡ slice_get self.now.held place }
+    {
+        self.held.get(place)
+    }
+
+    /// Makes room for an item.
+    pub fn ready(&mut self, item: &T) -> Result<(), AllocError>
+        ensures held { self.new.held ≡ self.old.held }
+        ensures room { OnOk result (HasRoomFor K.cmp T.key self.new item.now) }
+    {
+        self.held.reserve(1)?;
+        self.places.make(item.key_copy()?)
+    }
+
+    /// Takes an item in for which there is room. It takes no memory.
+    pub fn install(&mut self, item: T)
+        requires { HasRoomFor K.cmp T.key self.old item }
+        ensures held { self.new.held ≡ self.old.held ++ item ∷ [] }
+        ensures spare { self.new.spare + 1 ≡ self.old.spare }
+        ensures kept { KeepsPlaces K.cmp self.old.places self.new.places }
+    {
+        self.places.fill(item.key(), self.held.len());
+        self.held.push_reserved(item);
+    }
+
+    /// Makes room for an item that may come.
+    pub fn ready_new(&mut self, item: &Option<T>) -> Result<(), AllocError>
+        ensures held { self.new.held ≡ self.old.held }
+        ensures room { OnOk result (HasRoomForNew K.cmp T.key self.new item.now) }
+    {
+        match item {
+            Some(item) => self.ready(item),
+            None => Ok(()),
+        }
+    }
+
+    /// Takes in what came, for which there is room. It takes no memory.
+    pub fn install_new(&mut self, item: Option<T>)
+        requires { HasRoomForNew K.cmp T.key self.old item }
+        ensures { self.new.held ≡ with_new self.old.held item }
+    {
+        if let Some(item) = item {
+            self.install(item);
+        }
+    }
+
+    /// Puts an item in the place of one with its key. It takes no memory.
+    pub fn replace(&mut self, place: usize, item: T)
+        requires within { place < length self.old.held }
+        requires same { (q : K) →
+            is_at (K.cmp (T.key item)) q ≡ is_at (K.cmp (T.key (get_or self.old.held place item))) q }
+        ensures held { self.new.held ≡ slice_set self.old.held place item }
+        ensures spare { self.new.spare ≡ self.old.spare }
+        ensures places { self.new.places ≡ self.old.places }
+    {
+        self.held[place] = item;
+    }
+
+    /// Puts an item in the place of the first with its key, where there is one. It takes no memory.
+    pub fn replace_first(&mut self, item: T)
+        ensures held { self.new.held ≡ with_first (λ x. is_at (K.cmp (T.key x)) (T.key item)) item self.old.held }
+        ensures spare { self.new.spare ≡ self.old.spare }
+        ensures places { self.new.places ≡ self.old.places }
+    {
+        if let Some(place) = self.place(item.key()) {
+            self.replace(place, item);
+        }
+    }
+}

@@ -1,0 +1,48 @@
+-- Statements that come together: the ids under which they go, and how they are kept.
+use Rattle.std.specs.Prelude.{ℕ, List, [], ◌∷◌, map, Option, Some, None}
+use Rattle.lrs_json.specs.View.{view}
+use Rattle.lrs_json.specs.declared.tree.Tree.{Tree}
+use Rattle.xapi_format.specs.declared.authority.Authority.{Authority}
+use Rattle.xapi_statement.specs.Completed.{HeldStatement}
+use Rattle.xapi_statement.specs.Statement.{own_id}
+use Rattle.xapi_index.specs.Ids.{Supply, rest_of}
+
+-- a statement, and the id under which it goes
+pub record Named : Type 0 where
+  pub id : List ℕ
+  pub tree : Tree
+
+abbrev pub with_given : Option (List ℕ) → List (List ℕ) → List (List ℕ)
+with_given None ids = ids
+with_given (Some id) ids = id ∷ ids
+
+-- the ids that they give themselves
+abbrev pub given_ids : List Tree → List (List ℕ)
+given_ids [] = []
+given_ids (t ∷ ts) = with_given (own_id (view t)) (given_ids ts)
+
+-- the id that it gives itself, else the made one
+abbrev pub id_for : List ℕ → Option (List ℕ) → List ℕ
+id_for made None = made
+id_for made (Some own) = own
+
+-- what is left behind a statement: one less where none is its own
+abbrev pub supply_behind : Supply → Option (List ℕ) → Supply
+supply_behind supply None = rest_of supply
+supply_behind supply (Some own) = supply
+
+-- Each goes under the id that it gives itself, else under the next one that is made.
+abbrev pub named : Supply → List Tree → List Named
+named supply [] = []
+named supply (t ∷ ts) = record { id = id_for (supply 0) (own_id (view t)); tree = t } ∷ named (supply_behind supply (own_id (view t))) ts
+
+abbrev pub names_of : List Named → List (List ℕ)
+names_of named = map (λ (s : Named). s.id) named
+
+abbrev pub held_of : ℕ → Authority → Named → HeldStatement
+held_of moment by s = record { received = s.tree; id = s.id; stored = moment; authority = by }
+
+-- the statements as they are kept, where their caller has an authority
+abbrev pub kept_by : ℕ → Option Authority → List Named → List HeldStatement
+kept_by moment None named = []
+kept_by moment (Some by) named = map (held_of moment by) named

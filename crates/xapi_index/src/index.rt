@@ -1,0 +1,278 @@
+// The statements by id, with room made ahead.
+ghost use Rattle.std.specs.Prelude.{◌≡◌, List, ℕ, OnOk, [], ◌≤◌, ◌<◌, ◌+◌, ◌-◌, position, length, slice_get, take, vec_len, vec_capacity};
+ghost use Rattle.std.specs.List.{AllByRecursion};
+ghost use Rattle.std.specs.Option.{option_copied};
+ghost use Rattle.std.specs.Str.{bytes_eq};
+ghost use Rattle.std.specs.Cmp.Lexicographic.{slice_cmp};
+ghost use Rattle.std.specs.Ordering.{nat_cmp};
+ghost use Rattle.lrs_register.specs.Places.{KeepsPlaces, SamePlaces};
+ghost use Rattle.xapi_statement.specs.Completed.{HeldStatement};
+ghost use Rattle.xapi_index.specs.Statements.{add, add_each, held_under, is_held, is_target, is_voided, voided_by, voids};
+ghost use Rattle.xapi_index.specs.Chains.{place_referred, referred_at};
+ghost use Rattle.xapi_index.specs.Index.{FillsTarget, FindsIds, FindsTargets, HasPlaceFor, HasPlaces, IsReadyFor};
+
+use lrs_json::Memory;
+use lrs_names::Id;
+use lrs_register::Places;
+use std::alloc::Global;
+use std::marker::Model;
+use xapi_statement::Completed;
+
+/// The statements in their order, found by id; and of each id the first voiding statement that has it as its target.
+#[derive(Drop)]
+pub struct Index {
+    ids: Places<Id>,
+    targets: Places<Id>,
+    held: Vec<Completed>,
+}
+
+impl Model for Index {
+    ghost use Rattle.std.specs.Prelude.{vec_len, vec_capacity, ◌-◌};
+    ghost use Rattle.std.specs.Coded.{codes};
+    ghost use Rattle.lrs_json.specs.contracts.tree.Tree as tree;
+    ghost use Rattle.xapi_index.specs.Index.{Indexed, IsIndex};
+
+    ghost Value = { Indexed };
+
+    ghost coded = { Prim.hlevel (codes, tree.the_row.coded) };
+
+    ghost view = { λ i. record {
+      held = i.held.items;
+      ids = i.ids;
+      targets = i.targets;
+      spare = vec_capacity i.held -
+          vec_len i.held;
+    } };
+
+    ghost invariant = { λ i. IsIndex i.ids i.targets i.held.items };
+}
+
+impl Index {
+    pub fn new(alloc: Global) -> Index
+        ensures { result.held ≡ [] }
+    {
+        Index {
+            ids: Places::new(alloc),
+            targets: Places::new(alloc),
+            held: Vec::new(alloc),
+        }
+    }
+
+    /// How many statements there are.
+    pub fn len(&self) -> usize
+        ensures { result ≡ length self.now.held }
+    {
+        self.held.len()
+    }
+
+    // The place of the statement that is held under an id, in their order.
+    fn place(&self, id: &Id) -> Option<usize>
+        ensures { result ≡ position (λ s. bytes_eq s.id id.now) self.now.held }
+    {
+        self.ids.get(id)
+    }
+
+    /// The statement that is held under an id.
+    pub fn find(&self, id: &Id) -> Option<&Completed>
+        ensures { option_copied result ≡ held_under id.now self.now.held }
+    {
+        match self.place(id) {
+            Some(place) => self.get(place),
+            None => None,
+        }
+    }
+
+    /// Whether a statement is held under an id.
+    pub fn is_held(&self, id: &Id) -> bool
+        ensures { result ≡ is_held id.now self.now.held }
+    {
+        self.find(id).is_some()
+    }
+
+    /// The statement at a position.
+    pub fn get(&self, place: usize) -> Option<&Completed>
+        ensures { option_copied result ≡ slice_get self.now.held place }
+    {
+        self.held.get(place)
+    }
+
+    // The place of the statement under an id among the first n.
+    fn place_in(&self, n: usize, id: &Id) -> Option<usize>
+        ensures { result ≡ position (λ s. bytes_eq s.id id.now) (take n self.now.held) }
+    {
+        match self.place(id) {
+            Some(place) => { if place < n { Some(place) } else { None } }
+            None => None,
+        }
+    }
+
+    /// The place of the statement to which the one at a place refers, among the first n.
+    pub(crate) fn referred_at(&self, n: usize, place: usize) -> Option<usize>
+        requires { place < n }
+        ensures { result ≡ referred_at (take n self.now.held) place }
+    {
+        match self.held.get(place) {
+            Some(statement) => self.place_referred(n, statement),
+            None => None,
+        }
+    }
+
+    fn place_referred(&self, n: usize, statement: &Completed) -> Option<usize>
+        ensures { result ≡ place_referred (take n self.now.held) statement.now }
+    {
+        match statement.target() {
+            Some(id) => self.place_in(n, &id),
+            None => None,
+        }
+    }
+
+    // The place of the first voiding statement that has that id as its target.
+    fn voiding(&self, id: &Id) -> Option<usize>
+        ensures { result ≡ position (voids id.now) self.now.held }
+    {
+        self.targets.get(id)
+    }
+
+    /// Whether a statement is voided by one that is held.
+    pub fn is_voided(&self, statement: &Completed) -> bool
+        ensures { result ≡ is_voided self.now.held statement.now }
+    {
+        !statement.is_voiding() && self.is_target(&statement.id())
+    }
+
+    fn is_target(&self, id: &Id) -> bool
+        ensures { result ≡ is_target id.now self.now.held }
+    {
+        self.voiding(id).is_some()
+    }
+
+    /// Whether a statement is voided by one of the first n.
+    pub(crate) fn is_voided_in(&self, n: usize, statement: &Completed) -> bool
+        ensures { result ≡ is_voided (take n self.now.held) statement.now }
+    {
+        !statement.is_voiding() && self.is_target_in(n, &statement.id())
+    }
+
+    // Whether one of the first n that void has that id as its target.
+    fn is_target_in(&self, n: usize, id: &Id) -> bool
+        ensures { result ≡ is_target id.now (take n self.now.held) }
+    {
+        match self.voiding(id) {
+            Some(place) => place < n,
+            None => false,
+        }
+    }
+
+    /// Makes room for these statements.
+    pub fn ready(&mut self, statements: &[Completed]) -> Result<(), Memory>
+        ensures held { self.new.held ≡ self.old.held }
+        ensures ready { OnOk result (IsReadyFor self.new statements.now) }
+    {
+        self.held.reserve(statements.len())?;
+        make_places(&mut self.ids, &mut self.targets, statements)
+    }
+
+    /// Takes statements in for which there is room, each but for one whose id is held. It takes no memory.
+    pub fn install(&mut self, statements: Vec<Completed>)
+        requires { IsReadyFor self.old statements.items }
+        ensures { self.new.held ≡ add_each self.old.held statements.items }
+    {
+        install_each(&mut self.ids, &mut self.targets, &mut self.held, statements);
+    }
+}
+
+// Makes places for statements that are to come.
+fn make_places(
+    ids: &mut Places<Id>,
+    targets: &mut Places<Id>,
+    statements: &[Completed],
+) -> Result<(), Memory>
+    ensures ids { SamePlaces (slice_cmp nat_cmp) ids.old ids.new }
+    ensures targets { SamePlaces (slice_cmp nat_cmp) targets.old targets.new }
+    ensures ready { OnOk result (AllByRecursion (HasPlaces ids.new targets.new) statements.now) }
+{
+    for statement in statements {
+        ids.make(statement.id())?;
+        make_target(targets, voided_by(statement))?;
+    }
+    Ok(())
+}
+
+fn make_target(targets: &mut Places<Id>, target: Option<Id>) -> Result<(), Memory>
+    ensures same { SamePlaces (slice_cmp nat_cmp) targets.old targets.new }
+    ensures there { OnOk result (HasPlaceFor targets.new target) }
+    ensures kept { KeepsPlaces (slice_cmp nat_cmp) targets.old targets.new }
+{
+    match target {
+        Some(target) => Ok(targets.make(target)?),
+        None => Ok(()),
+    }
+}
+
+fn install_each(
+    ids: &mut Places<Id>,
+    targets: &mut Places<Id>,
+    held: &mut Vec<Completed>,
+    statements: Vec<Completed>,
+)
+    requires places { AllByRecursion (HasPlaces ids.old targets.old) statements.items }
+    requires spare { length statements.items ≤ vec_capacity held.old - vec_len held.old }
+    requires found { FindsIds ids.old held.old.items }
+    requires voided { FindsTargets targets.old held.old.items }
+    ensures held { held.new.items ≡ add_each held.old.items statements.items }
+    ensures found { FindsIds ids.new held.new.items }
+    ensures voided { FindsTargets targets.new held.new.items }
+{
+    for statement in statements {
+        install_one(ids, targets, held, statement);
+    }
+}
+
+fn install_one(
+    ids: &mut Places<Id>,
+    targets: &mut Places<Id>,
+    held: &mut Vec<Completed>,
+    statement: Completed,
+)
+    requires places { HasPlaces ids.old targets.old statement }
+    requires spare { 1 ≤ vec_capacity held.old - vec_len held.old }
+    requires found { FindsIds ids.old held.old.items }
+    requires voided { FindsTargets targets.old held.old.items }
+    ensures held { held.new.items ≡ add held.old.items statement }
+    ensures found { FindsIds ids.new held.new.items }
+    ensures voided { FindsTargets targets.new held.new.items }
+    ensures kept { (s : HeldStatement) → HasPlaces ids.old targets.old s → HasPlaces ids.new targets.new s }
+    ensures spare { (vec_capacity held.new ≡ vec_capacity held.old) × (vec_len held.new ≤ vec_len held.old + 1) }
+{
+    let id = statement.id();
+    match ids.get(&id) {
+        Some(_) => drop(statement),
+        None => {
+            fill_target(targets, voided_by(&statement), held.len());
+            ids.fill(&id, held.len());
+            held.push_reserved(statement);
+        }
+    }
+}
+
+// Fills the place of what a statement at that place voids, where no earlier one voids it.
+fn fill_target(targets: &mut Places<Id>, target: Option<Id>, place: usize)
+    requires { HasPlaceFor targets.old target }
+    ensures filled { FillsTarget target place targets.old targets.new }
+    ensures kept { KeepsPlaces (slice_cmp nat_cmp) targets.old targets.new }
+{
+    if let Some(target) = target {
+        targets.fill(&target, place);
+    }
+}
+
+// The id of the statement that this one voids.
+fn voided_by(statement: &Completed) -> Option<Id>
+    ensures { result ≡ voided_by statement.now }
+{
+    if statement.is_voiding() {
+        statement.target()
+    } else {
+        None
+    }
+}
