@@ -1,14 +1,14 @@
 -- An entry for which there is room, and one for which there is none.
-use Rattle.std.proofs.Common.{◌≡◌, ◌<◌, ◌≤◌, ◌-◌, ◌^◌, ℕ, min, refl, arith, Some, None, Bool, true, false, nat_lt}
+use Rattle.std.proofs.Common.{◌≡◌, ◌<◌, ◌≤◌, ◌-◌, ◌^◌, ℕ, min, refl, arith, Some, Bool, true, false, nat_lt}
 use Rattle.std.specs.Prelude.{if◌then◌else◌}
 use Rattle.std.proofs.lemmas.Grind.{common_steps}
 use Rattle.lrs_record.specs.declared.entry.Entry.{Entry}
-use Rattle.lrs_history.specs.declared.answered.Answered.{Answered}
-use Rattle.lrs_history.specs.declared.answered.Refusal.TheVariants as refusal
-use Rattle.lrs_history.specs.History.{Answer, kept, refused, need}
+use Rattle.lrs_history.specs.History.{Answer, kept, only, refused, need}
+use Rattle.lrs_replies.specs.declared.answered.Answered.{Answered}
+use Rattle.lrs_replies.specs.declared.answered.Refusal.TheVariants as refusal
 
 abbrev pub no_room : ℕ → ℕ → Entry → Answer
-no_room limit place e = record { said = refused (refusal.Full (min (need place e) (2 ^ 64 - 1)) limit); entry = None }
+no_room limit place e = only (refused (refusal.Full (min (need place e) (2 ^ 64 - 1)) limit))
 
 abbrev pub kept_answer : Answered → Entry → Answer
 kept_answer t e = record { said = t; entry = Some e }

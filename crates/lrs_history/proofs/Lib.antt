@@ -1,3 +1,2 @@
-pub mod Ids
-pub mod Adding
 pub mod Kept
+pub mod Verdicts

@@ -1,7 +1,5 @@
-pub mod Founding
-pub mod Texts
-pub mod Statements
-pub mod Batches
-pub mod Listings
+pub mod Whose
+pub mod Effects
+pub mod Refusals
+pub mod Answers
 pub mod History
-pub mod Replies

@@ -1,32 +1,35 @@
 // Who is let in, and what is refused before a statement is looked at.
 ghost use Rattle.std.specs.Prelude.{◌≡◌};
-ghost use Rattle.std.specs.List.{list_all};
-ghost use Rattle.lrs_history.specs.History.{area_of, barred, refused_with, refused_name};
-ghost use Rattle.lrs_history.specs.Texts.{is_name, is_name_byte};
+ghost use Rattle.lrs_history.specs.Refusals.{area_of, barred, read_area, refused_name, refused_with};
+ghost use Rattle.lrs_history.specs.Whose.{sight_of};
 
-use crate::Refusal;
+use lrs_command::{Area, Read, Rule, Who};
 use lrs_json::Text;
-use lrs_record::{Area, Command, Rule, Who};
+use lrs_parts::is_name;
+use lrs_record::Write;
+use lrs_replies::Refusal;
+use xapi_query::Sight;
 
-/// Where a command goes, by what it asks of its caller.
-pub fn area_of(command: &Command) -> Area
-    ensures { result ≡ area_of command.now }
+/// How many statements may come together.
+pub const MOST_OF_BATCH: usize = 500;
+
+/// Where a write goes, by what it asks of its caller.
+pub fn area_of(write: &Write) -> Area
+    ensures { result ≡ area_of write.now }
 {
-    match command {
-        Command::Found { admin: _, base: _ } => Area::Desk,
-        Command::Provider { name: _ } => Area::Desk,
-        Command::Put {
-            id: _,
-            statement: _,
-        } => Area::Store,
-        Command::Post { statements: _ } => Area::Store,
-        Command::Get(_) | Command::More(_) => Area::Store,
-        Command::About => Area::Free,
-        Command::Refused {
-            area,
-            status: _,
-            rule: _,
-        } => *area,
+    match write {
+        Write::Put { .. } | Write::Post { .. } => Area::Store,
+        Write::Found { .. } | Write::Provider { .. } => Area::Desk,
+    }
+}
+
+/// Where a question goes, by what it asks of its caller.
+pub fn read_area(read: &Read) -> Area
+    ensures { result ≡ read_area read.now }
+{
+    match read {
+        Read::Statements(_) | Read::More(_) => Area::Store,
+        Read::About => Area::Free,
     }
 }
 
@@ -43,11 +46,19 @@ pub fn barred(area: Area, who: Who) -> Option<Refusal>
         Area::Desk => match who {
             Who::Unknown => Some(Refusal::Unauthorized),
             Who::Admin => None,
-            Who::Provider(_) => Some(Refusal::Forbidden(Rule {
-                family: b'A',
-                number: 2,
-            })),
+            Who::Provider(_) => Some(Refusal::Forbidden(Rule::A(2))),
         },
+    }
+}
+
+/// What a caller sees of the statements.
+pub fn sight_of(who: Who) -> Sight
+    ensures { result ≡ sight_of who }
+{
+    match who {
+        Who::Unknown => Sight::Nothing,
+        Who::Admin => Sight::All,
+        Who::Provider(number) => Sight::Provider(number),
     }
 }
 
@@ -68,24 +79,8 @@ pub fn refused_with(status: u16, rule: Rule) -> Refusal
 pub fn refused_name(name: &Text) -> Option<Refusal>
     ensures { result ≡ refused_name name.now }
 {
-    if is_name(name.as_bytes()) {
+    if is_name(name) {
         return None;
     }
-    Some(Refusal::Broken(Rule {
-        family: b'B',
-        number: 2,
-    }))
-}
-
-fn is_name(name: &[u8]) -> bool
-    ensures { result ≡ is_name name.now }
-{
-    !name.is_empty() && name.len() <= 64 && has_name_bytes(name)
-}
-
-fn has_name_bytes(name: &[u8]) -> bool
-    ensures { result ≡ list_all is_name_byte name.now }
-{
-    name.iter()
-        .all(|b| b.is_ascii_alphanumeric() || *b == b'.' || *b == b'_')
+    Some(Refusal::Broken(Rule::B(2)))
 }

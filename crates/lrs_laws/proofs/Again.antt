@@ -1,95 +1,176 @@
 -- What is told of statements whose ids are held.
-use Rattle.std.proofs.Common.{◌≡◌, ℕ, List, [], ◌∷◌, ◌++◌, Bool, true, false, ◌&&◌, Option, Some, None, refl, ap, ◌∙◌}
-use Rattle.std.specs.Prelude.{if◌then◌else◌, is_some, max}
+use Rattle.std.proofs.Common.{◌≡◌, ℕ, List, [], ◌∷◌, ◌++◌, Bool, true, false, not, Option, Some, None, refl, sym, ap, ◌∙◌}
+use Rattle.std.specs.Prelude.{is_some, option_map, if◌then◌else◌}
 use Rattle.std.specs.List.{AllByRecursion}
+use Rattle.std.specs.Option.{option_or}
+use Rattle.lrs_command.specs.declared.command.Area.TheVariants.{Store}
+use Rattle.lrs_command.specs.declared.command.Command.TheVariants as command
+use Rattle.lrs_command.specs.declared.who.Who.{Who}
+use Rattle.lrs_history.specs.Answers.{acceptance}
+use Rattle.lrs_history.specs.Effects.{Occasion, effect}
+use Rattle.lrs_history.specs.History.{answer, answer_of, end_place, next_entry, only, refused, said_at_once, state, verdict_by}
+use Rattle.lrs_history.specs.Refusals.{barred, conflict, met, met_in, met_over, refusal}
+use Rattle.lrs_history.specs.Whose.{authority_of}
 use Rattle.lrs_json.specs.View.{view}
 use Rattle.lrs_json.specs.declared.tree.Tree.{Tree}
+use Rattle.lrs_laws.specs.Laws.{BatchConflictsAreTold, ComeTogether, ConflictsAreTold, Contradicts, Meets, Repeats, RepeatedBatchesAreTaken, RepeatsAreTaken, occasion_of, who_in}
 use Rattle.lrs_names.specs.declared.draw.Draw.{Draw}
+use Rattle.lrs_parts.specs.State.{State, changes_nothing, is_empty}
 use Rattle.lrs_record.specs.declared.entry.Caller.{Caller}
-use Rattle.lrs_record.specs.declared.entry.Command.{Command}
-use Rattle.lrs_record.specs.declared.entry.Command.TheVariants.{Put, Post}
 use Rattle.lrs_record.specs.declared.entry.Entry.{Entry}
-use Rattle.lrs_record.specs.declared.who.Who.{Who}
-use Rattle.lrs_record.specs.Moments.{clamped}
+use Rattle.lrs_record.specs.declared.entry.Write.{Write}
+use Rattle.lrs_record.specs.declared.entry.Write.TheVariants.{Put, Post}
+use Rattle.lrs_replies.specs.Texts.{ids_body}
+use Rattle.lrs_replies.specs.declared.answered.Answered.{Answered}
+use Rattle.lrs_replies.specs.declared.answered.Answered.TheVariants.{Kept, Same, Shown}
+use Rattle.lrs_replies.specs.declared.answered.Refusal.{Refusal}
+use Rattle.lrs_replies.specs.declared.answered.Refusal.TheVariants.{Conflict}
 use Rattle.xapi_equal.specs.Same.{same}
+use Rattle.xapi_format.specs.declared.authority.Authority.{Authority}
+use Rattle.xapi_index.specs.Batches.{Named, given_ids, held_of, id_for, kept_by, named, names_of, supply_behind, with_given}
+use Rattle.xapi_index.specs.Choices.{first_some, when}
+use Rattle.xapi_index.specs.Ids.{Supply}
+use Rattle.xapi_index.specs.Statements.{add_each, is_held, new_ones}
 use Rattle.xapi_statement.specs.Completed.{HeldStatement}
 use Rattle.xapi_statement.specs.Statement.{own_id}
-use Rattle.lrs_history.specs.declared.answered.Answered.{Answered}
-use Rattle.lrs_history.specs.declared.answered.Answered.TheVariants.{Same, Shown}
-use Rattle.lrs_history.specs.declared.answered.Refusal.{Refusal}
-use Rattle.lrs_history.specs.declared.answered.Refusal.TheVariants.{Conflict}
-use Rattle.lrs_history.specs.Batches.{are_old, first_of, given_ids, is_old, refused_in, refused_over, refused_under}
-use Rattle.lrs_history.specs.History.{answer, answer_by, end_place, entry_at, post_said, put_said, refused, said_at_once, said_inside, state, thanks, unless_barred}
-use Rattle.lrs_history.specs.Statements.{held_under}
-use Rattle.lrs_history.specs.Texts.{ids_body}
-use Rattle.lrs_laws.specs.Laws.{BatchConflictsAreTold, ComeTogether, ConflictsAreTold, Contradicts, Meets, Repeats, RepeatedBatchesAreTaken, RepeatsAreTaken, who_in}
 
 -- what is said at once is all that is answered
-pub at_once : (limit : ℕ) (h : List Entry) (caller : Caller) (command : Command) (clock : ℕ) (draw : Draw) (s : Answered) → said_at_once (state h) caller command ≡ Some s
-    → answer limit h caller command clock draw ≡ record { said = s; entry = None }
-at_once limit h caller command clock draw s is = ap (λ o. answer_by o limit (end_place limit h) (thanks (state h) command draw) (entry_at caller command (max (clamped clock) (state h).last) draw)) is
+pub at_once : (limit : ℕ) (h : List Entry) (caller : Caller) (write : Write) (clock : ℕ) (draw : Draw) (s : Answered) → said_at_once (state h) (next_entry (state h) caller write clock draw) ≡ Some s
+    → answer limit h caller (command.Write write) clock draw ≡ only s
+at_once limit h caller write clock draw s is =
+    let e = next_entry (state h) caller write clock draw in
+    ap (λ o. answer_of limit (end_place limit h) (verdict_by o e (acceptance (state h) write (effect (state h) e)))) is
+
+-- what is refused is told so
+said_refused : (st : State) (e : Entry) (r : Refusal) → refusal st e ≡ Some r → said_at_once st e ≡ Some (refused r)
+said_refused st e r is = ap (λ o. option_or (option_map refused o) (when (changes_nothing (effect st e)) (acceptance st e.write (effect st e)))) is
+
+-- what changes nothing is accepted at once
+said_unchanged : (st : State) (e : Entry) → refusal st e ≡ None → changes_nothing (effect st e) ≡ true → said_at_once st e ≡ Some (acceptance st e.write (effect st e))
+said_unchanged st e none same =
+    ap (λ o. option_or (option_map refused o) (when (changes_nothing (effect st e)) (acceptance st e.write (effect st e)))) none
+    ∙ ap (λ b. when b (acceptance st e.write (effect st e))) same
+
+-- the last of the reasons, where there is none before it
+last_reason : (a b c : Option Refusal) → a ≡ None → b ≡ None → first_some (a ∷ b ∷ c ∷ []) ≡ c
+last_reason a b c none neither =
+    ap (λ o. first_some (o ∷ b ∷ c ∷ [])) none ∙ (ap (λ o. first_some (o ∷ c ∷ [])) neither ∙ alone c)
+  where
+    alone : (o : Option Refusal) → first_some (o ∷ []) ≡ o
+    alone None = refl
+    alone (Some r) = refl
 
 -- ---- alone
 
-met : (h : List Entry) (caller : Caller) (id : List ℕ) (t : Tree) (s : HeldStatement) (b : Bool) → Meets h caller id t s → same (view s.received) (view t) ≡ b
-    → said_at_once (state h) caller (Put id t) ≡ Some (if b then Same else refused (Conflict id))
-met h caller id t s b meets is =
-    ap (λ o. unless_barred o (said_inside (state h) (who_in h caller) (Put id t))) meets.let_in
-    ∙ (ap (λ o. put_said (who_in h caller) id (view t) o (held_under id (state h).statements)) meets.formed
-    ∙ (ap (λ o. put_said (who_in h caller) id (view t) None o) meets.held ∙ ap (λ c. Some (if c then Same else refused (Conflict id))) is))
+abbrev put_entry : List Entry → Caller → List ℕ → Tree → ℕ → Draw → Entry
+put_entry h caller id t clock draw = next_entry (state h) caller (Put id t) clock draw
+
+put_met : (h : List Entry) (caller : Caller) (id : List ℕ) (t : Tree) (s : HeldStatement) (clock : ℕ) (draw : Draw) (b : Bool) → Meets h caller id t s → same (view s.received) (view t) ≡ b
+    → refusal (state h) (put_entry h caller id t clock draw) ≡ when (not b) (Conflict id)
+put_met h caller id t s clock draw b meets is =
+    let held : List HeldStatement = (state h).statements in
+    last_reason (barred Store (who_in h caller)) _ (met (who_in h caller) held held (Some id) (view t)) meets.let_in meets.formed
+    ∙ (ap (λ o. met_over (who_in h caller) held id (view t) o) meets.held ∙ ap (λ c. when (not c) (Conflict id)) is)
+
+-- where it is held, it isn't new
+old_one : (moment : ℕ) (o : Option Authority) (held : List HeldStatement) (n : Named) → is_held n.id held ≡ true → new_ones held (kept_by moment o (n ∷ [])) ≡ []
+old_one moment None held n is = refl
+old_one moment (Some by) held n is = ap (λ b. if b then [] else held_of moment by n ∷ []) is
+
+put_unchanged : (h : List Entry) (caller : Caller) (id : List ℕ) (t : Tree) (s : HeldStatement) (clock : ℕ) (draw : Draw) → Meets h caller id t s
+    → changes_nothing (effect (state h) (put_entry h caller id t clock draw)) ≡ true
+put_unchanged h caller id t s clock draw meets =
+    let e = put_entry h caller id t clock draw in
+    ap (λ xs. is_empty xs) (old_one e.moment (authority_of (state h) (who_in h caller)) (state h).statements (record { id = id; tree = t }) (ap (λ o. is_some o) meets.held))
 
 pub repeats_are_taken : RepeatsAreTaken
-repeats_are_taken limit h caller id t s clock draw meets is = at_once limit h caller (Put id t) clock draw Same (met h caller id t s true meets is)
+repeats_are_taken limit h caller id t s clock draw meets is =
+    let e = put_entry h caller id t clock draw in
+    let same_still = put_unchanged h caller id t s clock draw meets in
+    at_once limit h caller (Put id t) clock draw Same
+    (said_unchanged (state h) e (put_met h caller id t s clock draw true meets is) same_still ∙ ap (λ b. Some (if b then Same else Kept)) same_still)
 
 pub conflicts_are_told : ConflictsAreTold
-conflicts_are_told limit h caller id t s clock draw meets is = at_once limit h caller (Put id t) clock draw (refused (Conflict id)) (met h caller id t s false meets is)
+conflicts_are_told limit h caller id t s clock draw meets is =
+    at_once limit h caller (Put id t) clock draw (refused (Conflict id))
+    (said_refused (state h) (put_entry h caller id t clock draw) (Conflict id) (put_met h caller id t s clock draw false meets is))
 
 -- ---- together
 
-come : (h : List Entry) (caller : Caller) (trees : List Tree) (o : Option Refusal) → ComeTogether h caller trees → refused_in (who_in h caller) (state h).statements trees ≡ o
-    → said_at_once (state h) caller (Post trees) ≡ post_said (state h).statements trees None o
-come h caller trees o together is =
-    ap (λ o. unless_barred o (said_inside (state h) (who_in h caller) (Post trees))) together.let_in
-    ∙ (ap (λ o. post_said (state h).statements trees o (refused_in (who_in h caller) (state h).statements trees)) together.formed ∙ ap (λ o. post_said (state h).statements trees None o) is)
+abbrev post_entry : List Entry → Caller → List Tree → ℕ → Draw → Entry
+post_entry h caller trees clock draw = next_entry (state h) caller (Post trees) clock draw
 
-repeated_under : (by : Who) (held : List HeldStatement) (t : Tree) → Repeats held t → refused_under by held (view t) (own_id (view t)) ≡ None
-repeated_under by held t again =
-    ap (λ o. refused_under by held (view t) o) again.own
-    ∙ (ap (λ o. refused_over by again.id (view t) o) again.there ∙ ap (λ b. if b then None else Some (Conflict again.id)) again.equal)
+post_met : (h : List Entry) (caller : Caller) (trees : List Tree) (clock : ℕ) (draw : Draw) (o : Option Refusal) → ComeTogether h caller trees
+    → conflict (state h) (occasion_of h caller trees clock draw) (Post trees) ≡ o → refusal (state h) (post_entry h caller trees clock draw) ≡ o
+post_met h caller trees clock draw o together is =
+    last_reason (barred Store (who_in h caller)) _ (conflict (state h) (occasion_of h caller trees clock draw) (Post trees)) together.let_in together.formed ∙ is
 
-none_refused : (by : Who) (held : List HeldStatement) (ts : List Tree) → AllByRecursion (Repeats held) ts → refused_in by held ts ≡ None
-none_refused by held [] each = refl
-none_refused by held (t ∷ ts) each = ap (λ o. first_of o (refused_in by held ts)) (repeated_under by held t each.0) ∙ none_refused by held ts each.1
+-- the statements that are held or earlier in the batch, behind one more
+abbrev behind_one : State → Occasion → List HeldStatement → Named → List HeldStatement
+behind_one st at before n = add_each before (kept_by at.moment (authority_of st at.by) (n ∷ []))
 
-all_old : (held : List HeldStatement) (ts : List Tree) → AllByRecursion (Repeats held) ts → are_old held ts ≡ true
-all_old held [] each = refl
-all_old held (t ∷ ts) each =
-    ap (λ b. b && are_old held ts) (ap (λ o. is_old held o) each.0.own ∙ ap (λ o. is_some o) each.0.there) ∙ all_old held ts each.1
+repeated : (by : Who) (held before : List HeldStatement) (t : Tree) → Repeats held t → met by held before (own_id (view t)) (view t) ≡ None
+repeated by held before t again =
+    ap (λ o. met by held before o (view t)) again.own
+    ∙ (ap (λ o. met_over by before again.id (view t) o) again.there ∙ ap (λ b. when (not b) (Conflict again.id)) again.equal)
+
+none_refused : (st : State) (at : Occasion) (before : List HeldStatement) (supply : Supply) (ts : List Tree) → AllByRecursion (Repeats st.statements) ts → met_in st at before (named supply ts) ≡ None
+none_refused st at before supply [] each = refl
+none_refused st at before supply (t ∷ ts) each =
+    let n : Named = record { id = id_for (supply 0) (own_id (view t)); tree = t } in
+    ap (λ o. option_or o (met_in st at (behind_one st at before n) (named (supply_behind supply (own_id (view t))) ts))) (repeated at.by st.statements before t each.0)
+    ∙ none_refused st at (behind_one st at before n) (supply_behind supply (own_id (view t))) ts each.1
+
+-- they go under the ids that they give themselves
+own_names : (held : List HeldStatement) (supply : Supply) (ts : List Tree) → AllByRecursion (Repeats held) ts → names_of (named supply ts) ≡ given_ids ts
+own_names held supply [] each = refl
+own_names held supply (t ∷ ts) each =
+    ap (λ o. id_for (supply 0) o ∷ names_of (named (supply_behind supply o) ts)) each.0.own
+    ∙ (ap (λ ids. each.0.id ∷ ids) (own_names held supply ts each.1) ∙ sym (ap (λ o. with_given o (given_ids ts)) each.0.own))
+
+none_new : (moment : ℕ) (o : Option Authority) (held : List HeldStatement) (supply : Supply) (ts : List Tree) → AllByRecursion (Repeats held) ts → new_ones held (kept_by moment o (named supply ts)) ≡ []
+none_new moment None held supply ts each = refl
+none_new moment (Some by) held supply [] each = refl
+none_new moment (Some by) held supply (t ∷ ts) each =
+    let n : Named = record { id = id_for (supply 0) (own_id (view t)); tree = t } in
+    let rest = kept_by moment (Some by) (named (supply_behind supply (own_id (view t))) ts) in
+    ap (λ b. if b then new_ones held rest else held_of moment by n ∷ new_ones held rest) (ap (λ o. is_held (id_for (supply 0) o) held) each.0.own ∙ ap (λ o. is_some o) each.0.there)
+    ∙ none_new moment (Some by) held (supply_behind supply (own_id (view t))) ts each.1
 
 pub repeated_batches_are_taken : RepeatedBatchesAreTaken
 repeated_batches_are_taken limit h caller trees clock draw together each =
+    let e = post_entry h caller trees clock draw in
+    let at = occasion_of h caller trees clock draw in
     at_once limit h caller (Post trees) clock draw (Shown (ids_body (given_ids trees)) None)
-    (come h caller trees None together (none_refused (who_in h caller) (state h).statements trees each)
-    ∙ ap (λ b. if b then Some (Shown (ids_body (given_ids trees)) None) else None) (all_old (state h).statements trees each))
+    (said_unchanged (state h) e (post_met h caller trees clock draw None together (none_refused (state h) at (state h).statements at.supply trees each))
+    (ap (λ xs. is_empty xs) (none_new at.moment (authority_of (state h) at.by) (state h).statements at.supply trees each))
+    ∙ ap (λ ids. Some (Shown (ids_body ids) None)) (own_names (state h).statements at.supply trees each))
 
-contradicted : (by : Who) (held : List HeldStatement) (t : Tree) (id : List ℕ) → Contradicts held t id → refused_under by held (view t) (own_id (view t)) ≡ Some (Conflict id)
-contradicted by held t id against =
-    ap (λ o. refused_under by held (view t) o) against.own
-    ∙ (ap (λ o. refused_over by id (view t) o) against.there ∙ ap (λ b. if b then None else Some (Conflict id)) against.other)
+contradicted : (by : Who) (held before : List HeldStatement) (t : Tree) (id : List ℕ) → Contradicts held t id → met by held before (own_id (view t)) (view t) ≡ Some (Conflict id)
+contradicted by held before t id against =
+    ap (λ o. met by held before o (view t)) against.own
+    ∙ (ap (λ o. met_over by before id (view t) o) against.there ∙ ap (λ b. when (not b) (Conflict id)) against.other)
 
-first_none : (o p : Option Refusal) → first_of o p ≡ None → (o ≡ None) × (p ≡ None)
+pub first_none : (o p : Option Refusal) → option_or o p ≡ None → (o ≡ None) × (p ≡ None)
 first_none None p is = (refl, is)
 first_none (Some r) p is = cc is
 
-first_refused : (by : Who) (held : List HeldStatement) (before behind : List Tree) (t : Tree) (r : Refusal) → refused_in by held before ≡ None → refused_under by held (view t) (own_id (view t)) ≡ Some r
-    → refused_in by held (before ++ t ∷ behind) ≡ Some r
-first_refused by held [] behind t r none is = ap (λ o. first_of o (refused_in by held behind)) is
-first_refused by held (x ∷ before) behind t r none is =
-    let both = first_none (refused_under by held (view x) (own_id (view x))) (refused_in by held before) none in
-    ap (λ o. first_of o (refused_in by held (before ++ t ∷ behind))) both.0 ∙ first_refused by held before behind t r both.1 is
+first_refused : (st : State) (at : Occasion) (before : List HeldStatement) (supply : Supply) (ts behind : List Tree) (t : Tree) (r : Refusal) → met_in st at before (named supply ts) ≡ None
+    → ((those : List HeldStatement) → met at.by st.statements those (own_id (view t)) (view t) ≡ Some r) → met_in st at before (named supply (ts ++ t ∷ behind)) ≡ Some r
+first_refused st at before supply [] behind t r none is =
+    let n : Named = record { id = id_for (supply 0) (own_id (view t)); tree = t } in
+    ap (λ o. option_or o (met_in st at (behind_one st at before n) (named (supply_behind supply (own_id (view t))) behind))) (is before)
+first_refused st at before supply (x ∷ ts) behind t r none is =
+    let n : Named = record { id = id_for (supply 0) (own_id (view x)); tree = x } in
+    let both = first_none (met at.by st.statements before (own_id (view x)) (view x)) (met_in st at (behind_one st at before n) (named (supply_behind supply (own_id (view x))) ts)) none in
+    ap (λ o. option_or o (met_in st at (behind_one st at before n) (named (supply_behind supply (own_id (view x))) (ts ++ t ∷ behind)))) both.0
+    ∙ first_refused st at (behind_one st at before n) (supply_behind supply (own_id (view x))) ts behind t r both.1 is
 
 pub batch_conflicts_are_told : BatchConflictsAreTold
 batch_conflicts_are_told limit h caller before behind t id clock draw together none against =
-    at_once limit h caller (Post (before ++ t ∷ behind)) clock draw (refused (Conflict id))
-    (come h caller (before ++ t ∷ behind) (Some (Conflict id)) together
-    (first_refused (who_in h caller) (state h).statements before behind t (Conflict id) none (contradicted (who_in h caller) (state h).statements t id against)))
+    let trees : List Tree = before ++ t ∷ behind in
+    let at = occasion_of h caller trees clock draw in
+    at_once limit h caller (Post trees) clock draw (refused (Conflict id))
+    (said_refused (state h) (post_entry h caller trees clock draw) (Conflict id)
+    (post_met h caller trees clock draw (Some (Conflict id)) together
+    (first_refused (state h) at (state h).statements at.supply before behind t (Conflict id) none (λ those. contradicted at.by (state h).statements those t id against))))

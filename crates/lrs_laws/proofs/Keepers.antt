@@ -1,5 +1,5 @@
 -- An id names one statement, for good.
-use Rattle.std.proofs.Common.{◌≡◌, ℕ, List, [], ◌∷◌, ◌++◌, map, Bool, true, false, not, ◌&&◌, ◌||◌, Option, Some, cond, refl, sym, ap, ◌∙◌}
+use Rattle.std.proofs.Common.{◌≡◌, ℕ, List, [], ◌∷◌, ◌++◌, Bool, true, false, not, ◌&&◌, ◌||◌, Option, Some, cond, refl, sym, ap, ◌∙◌}
 use Rattle.std.specs.Prelude.{is_some, if◌then◌else◌}
 use Rattle.std.specs.Option.{option_or}
 use Rattle.std.specs.Str.{bytes_eq}
@@ -11,13 +11,12 @@ use Rattle.lrs_names.specs.Members.{is_one_of}
 use Rattle.lrs_record.specs.declared.entry.Entry.{Entry}
 use Rattle.xapi_rules.specs.Rules.{is_voiding}
 use Rattle.xapi_statement.specs.Completed.{HeldStatement}
-use Rattle.lrs_history.specs.Batches.{are_distinct}
-use Rattle.lrs_history.specs.History.{State, brought, nothing, state, state_from, step}
-use Rattle.lrs_history.specs.Statements.{add, add_each, held_under, is_held, is_target, is_voided, voids}
+use Rattle.lrs_history.specs.Effects.{effect}
+use Rattle.lrs_history.specs.History.{state, state_from, step}
+use Rattle.lrs_parts.specs.State.{State, nothing}
+use Rattle.xapi_index.specs.Ids.{are_distinct}
+use Rattle.xapi_index.specs.Statements.{add, add_each, held_under, ids_of, is_held, is_target, is_voided, voids}
 use Rattle.lrs_laws.specs.Laws.{NamesForGood, NamesOne, StaysVoided}
-
-abbrev pub ids_of : List HeldStatement → List (List ℕ)
-ids_of held = map (λ (s : HeldStatement). s.id) held
 
 -- ---- one list
 
@@ -96,15 +95,15 @@ target_each id held (s ∷ more) is = target_each id (add held s) more (target_a
 
 distinct_from : (st : State) (h : List Entry) → are_distinct (ids_of st.statements) ≡ true → are_distinct (ids_of (state_from st h).statements) ≡ true
 distinct_from st [] is = is
-distinct_from st (e ∷ h) is = distinct_from (step st e) h (distinct_each st.statements (brought st e) is)
+distinct_from st (e ∷ h) is = distinct_from (step st e) h (distinct_each st.statements (effect st e).statements is)
 
 stays_from : (st : State) (h : List Entry) (id : List ℕ) (x : HeldStatement) → held_under id st.statements ≡ Some x → held_under id (state_from st h).statements ≡ Some x
 stays_from st [] id x is = is
-stays_from st (e ∷ h) id x is = stays_from (step st e) h id x (stays_each id st.statements (brought st e) x is)
+stays_from st (e ∷ h) id x is = stays_from (step st e) h id x (stays_each id st.statements (effect st e).statements x is)
 
 target_from : (st : State) (h : List Entry) (id : List ℕ) → is_target id st.statements ≡ true → is_target id (state_from st h).statements ≡ true
 target_from st [] id is = is
-target_from st (e ∷ h) id is = target_from (step st e) h id (target_each id st.statements (brought st e) is)
+target_from st (e ∷ h) id is = target_from (step st e) h id (target_each id st.statements (effect st e).statements is)
 
 pub state_from-append : (st : State) (h more : List Entry) → state_from st (h ++ more) ≡ state_from (state_from st h) more
 state_from-append st [] more = refl

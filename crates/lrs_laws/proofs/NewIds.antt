@@ -1,6 +1,6 @@
 -- Made ids are new.
-use Rattle.std.proofs.Common.{◌≡◌, ℕ, zero, suc, ◌+◌, ◌^◌, ◌%◌, ◌<◌, ◌≤◌, List, [], ◌∷◌, ◌++◌, length, map, Bool, true, false, not, ◌&&◌, ◌||◌, ◌⊎◌, inl, inr, Option, Some, None, cond, refl, sym, ap, subst, ◌∙◌, arith, length-append}
-use Rattle.std.specs.Prelude.{find, unwrap_or, if◌then◌else◌}
+use Rattle.std.proofs.Common.{◌≡◌, ℕ, zero, suc, ◌+◌, ◌^◌, ◌%◌, ◌<◌, ◌≤◌, List, [], ◌∷◌, ◌++◌, length, Bool, true, false, not, ◌&&◌, ◌||◌, ◌⊎◌, inl, inr, Option, Some, None, cond, refl, sym, ap, subst, ◌∙◌, arith, length-append}
+use Rattle.std.specs.Prelude.{find, unwrap_or}
 use Rattle.std.specs.List.{AllByRecursion}
 use Rattle.std.specs.Str.{bytes_eq}
 use Rattle.std.specs.Cmp.Lexicographic.{same_text}
@@ -8,24 +8,27 @@ use Rattle.std.proofs.lemmas.Bool.{false≢true}
 use Rattle.std.proofs.lemmas.Cmp.{nat_list_eq_equiv}
 use Rattle.std.proofs.lemmas.List.{length-map}
 use Rattle.std.proofs.lemmas.List.Folds.{list_any-append}
+use Rattle.lrs_command.specs.declared.rule.Rule.TheVariants as rule
+use Rattle.lrs_history.specs.History.{state}
+use Rattle.lrs_history.specs.Refusals.{broken, broken_in, is_too_large, refused_batch}
 use Rattle.lrs_json.specs.View.{view}
 use Rattle.lrs_json.specs.declared.tree.Tree.{Tree}
+use Rattle.lrs_laws.specs.Laws.{MadeIdsAreNew}
+use Rattle.lrs_laws.proofs.Keepers.{held_one, left_false, right_false}
 use Rattle.lrs_names.specs.Ids.{id_of_word}
 use Rattle.lrs_names.specs.Members.{is_one_of}
-use Rattle.lrs_names.specs.declared.draw.Draw.{Draw}
 use Rattle.lrs_names.proofs.FreshLemmas.{not_all_used}
+use Rattle.lrs_replies.specs.declared.answered.Refusal.TheVariants.{Broken, TooLong}
+use Rattle.xapi_index.specs.Batches.{Named, given_ids, id_for, named, names_of, supply_behind, with_given}
+use Rattle.xapi_index.specs.Choices.{first_some, when}
+use Rattle.xapi_index.specs.Ids.{Supply, Used, IsCounted, are_distinct, free_word, is_free, made_id, supply_of, those, words_from}
+use Rattle.xapi_index.specs.Statements.{ids_of, is_held}
 use Rattle.xapi_statement.specs.Completed.{HeldStatement}
 use Rattle.xapi_statement.specs.Statement.{own_id}
-use Rattle.lrs_history.specs.declared.answered.Refusal.TheVariants.{Broken, TooLong}
-use Rattle.lrs_history.specs.Batches.{Named, are_distinct, broken_in, doubled_or, free_word, given_ids, id_for, ids_behind, is_free, is_too_large, named_batch, named_from, refused_batch, rule, with_given, word_behind, words_from}
-use Rattle.lrs_history.specs.History.{state}
-use Rattle.lrs_history.specs.Statements.{is_held}
-use Rattle.lrs_laws.specs.Laws.{MadeIdsAreNew}
-use Rattle.lrs_laws.proofs.Keepers.{held_one, ids_of, left_false, right_false}
 
 -- the ids under which statements go that come together
-abbrev ids_from : List HeldStatement → List (List ℕ) → ℕ → ℕ → List Tree → List (List ℕ)
-ids_from held ids most word ts = map (λ (s : Named). s.id) (named_from held ids most word ts)
+abbrev ids_from : Supply → List Tree → List (List ℕ)
+ids_from supply ts = names_of (named supply ts)
 
 -- ---- the search
 
@@ -61,20 +64,20 @@ not_true true is = cc is
 not_true false is = refl
 
 -- where no more ids are used than are tried, one is free
-pub free_word-free : (held : List HeldStatement) (ids : List (List ℕ)) (most word : ℕ) → length held + length ids ≤ most → most < 2 ^ 122 → is_free held ids (free_word held ids most word) ≡ true
-free_word-free held ids most word fits small = by_end (search_ends (is_free held ids) most word)
+pub free_word-free : (used : Used) → IsCounted used → (ids : List (List ℕ)) (most word : ℕ) → used.count + length ids ≤ most → most < 2 ^ 122 → is_free used ids (free_word used ids most word) ≡ true
+free_word-free used counted ids most word fits small = by_end (search_ends (is_free used ids) most word)
   where
-    used : (q : List ℕ) → is_one_of (ids_of held ++ ids) q ≡ is_held q held || is_one_of ids q
-    used q = list_any-append (λ name. bytes_eq name q) (ids_of held) ids ∙ ap (λ b. b || is_one_of ids q) (sym (held_one q held))
+    there : (q : List ℕ) → is_one_of (counted.ids ++ ids) q ≡ used.is_used q || is_one_of ids q
+    there q = list_any-append (λ name. bytes_eq name q) counted.ids ids ∙ ap (λ b. b || is_one_of ids q) (sym (counted.same q))
 
-    fewer : length (ids_of held ++ ids) < most + 1
-    fewer = omega (arith, length-append (ids_of held) ids, length-map held (λ (s : HeldStatement). s.id))
+    fewer : length (counted.ids ++ ids) < most + 1
+    fewer = omega (arith, fits, length-append counted.ids ids, counted.count)
 
-    by_end : (is_free held ids (free_word held ids most word) ≡ true) ⊎ ((k : ℕ) → k ≤ most → is_free held ids (word + k) ≡ false) → is_free held ids (free_word held ids most word) ≡ true
+    by_end : (is_free used ids (free_word used ids most word) ≡ true) ⊎ ((k : ℕ) → k ≤ most → is_free used ids (word + k) ≡ false) → is_free used ids (free_word used ids most word) ≡ true
     by_end (inl is) = is
     by_end (inr none) =
-        absurd (not_all_used (ids_of held ++ ids) word (most + 1) (omega arith) fewer
-        (record { used = λ k less. used (id_of_word (word + k)) ∙ not_false (is_held (id_of_word (word + k)) held || is_one_of ids (id_of_word (word + k))) (none k (omega arith)) }))
+        absurd (not_all_used (counted.ids ++ ids) word (most + 1) (omega arith) fewer
+        (record { used = λ k less. there (id_of_word (word + k)) ∙ not_false (used.is_used (id_of_word (word + k)) || is_one_of ids (id_of_word (word + k))) (none k (omega arith)) }))
 
 -- ---- the ids of a batch
 
@@ -95,21 +98,25 @@ given_missing (t ∷ ts) = by_own (own_id (view t)) (given_missing ts)
     by_own None rest = omega (arith, rest)
     by_own (Some id) rest = omega (arith, rest)
 
--- enough words are tried for the ids that are used and those that are to be made
-abbrev Suffices : List HeldStatement → List (List ℕ) → ℕ → ℕ → Type 0
-Suffices held ids n most = (length held + length ids) + n ≤ most
+-- Enough words are tried for the ids that are used, and there are enough for those that are to be made.
+abbrev Suffices : Used → List (List ℕ) → ℕ → ℕ → Type 0
+Suffices used ids most n = (used.count + length ids ≤ most) × (most + n < 2 ^ 122)
 
-behind : (held : List HeldStatement) (ids : List (List ℕ)) (made n most : ℕ) (o : Option (List ℕ)) → Suffices held ids (count o n) most → Suffices held (ids_behind ids made o) n most
-behind held ids made n most None fits = omega (arith, fits)
-behind held ids made n most (Some id) fits = fits
+one_made : (used : Used) (id : List ℕ) (ids : List (List ℕ)) (most n : ℕ) → Suffices used ids most (suc n) → Suffices used (id ∷ ids) (most + 1) n
+one_made used id ids most n fits = (omega (arith, fits.0), omega (arith, fits.1))
 
-made_free : (held : List HeldStatement) (ids : List (List ℕ)) (most word n : ℕ) → most < 2 ^ 122 → Suffices held ids (suc n) most
-    → (is_held (id_of_word (free_word held ids most word)) held ≡ false) × (is_one_of ids (id_of_word (free_word held ids most word)) ≡ false)
-made_free held ids most word n small fits =
-    let free = not_true (is_held (id_of_word (free_word held ids most word)) held || is_one_of ids (id_of_word (free_word held ids most word))) (free_word-free held ids most word (omega (arith, fits)) small) in (
-      left_false (is_held (id_of_word (free_word held ids most word)) held) (is_one_of ids (id_of_word (free_word held ids most word))) free,
-      right_false (is_held (id_of_word (free_word held ids most word)) held) (is_one_of ids (id_of_word (free_word held ids most word))) free,
+made_free : (used : Used) → IsCounted used → (ids : List (List ℕ)) (most word n : ℕ) → Suffices used ids most (suc n)
+    → (used.is_used (id_of_word (free_word used ids most word)) ≡ false) × (is_one_of ids (id_of_word (free_word used ids most word)) ≡ false)
+made_free used counted ids most word n fits =
+    let free = not_true (used.is_used (id_of_word (free_word used ids most word)) || is_one_of ids (id_of_word (free_word used ids most word)))
+    (free_word-free used counted ids most word fits.0 (omega (arith, fits.1))) in (
+      left_false (used.is_used (id_of_word (free_word used ids most word))) (is_one_of ids (id_of_word (free_word used ids most word))) free,
+      right_false (used.is_used (id_of_word (free_word used ids most word))) (is_one_of ids (id_of_word (free_word used ids most word))) free,
     )
+
+-- where the next made id begins
+abbrev next_word : ℕ → ℕ
+next_word free = (free + 1) % 2 ^ 122
 
 or_right : (a b : Bool) → b ≡ true → a || b ≡ true
 or_right true b is = refl
@@ -137,91 +144,125 @@ differs ids x q new used = by_test (bytes_eq x q) refl
 here : (x : List ℕ) (ids : List (List ℕ)) → is_one_of (x ∷ ids) x ≡ true
 here x ids = ap (λ b. b || is_one_of ids x) (nat_list_eq_equiv.refl x)
 
--- what is used and isn't given by one of them is none of theirs
-elsewhere : (held : List HeldStatement) (ids : List (List ℕ)) (most word : ℕ) (ts : List Tree) (q : List ℕ) → most < 2 ^ 122 → Suffices held ids (missing ts) most
-    → is_one_of ids q ≡ true → is_one_of (given_ids ts) q ≡ false → is_one_of (ids_from held ids most word ts) q ≡ false
-elsewhere held ids most word [] q small fits used new = refl
-elsewhere held ids most word (t ∷ ts) q small fits used new =
-    by_own (own_id (view t)) fits new (λ others next fit there none. elsewhere held others most next ts q small fit there none)
+-- what is among the ids and isn't given by one of them is none of theirs
+elsewhere : (used : Used) → IsCounted used → (ids : List (List ℕ)) (most word : ℕ) (ts : List Tree) (q : List ℕ) → Suffices used ids most (missing ts)
+    → is_one_of ids q ≡ true → is_one_of (given_ids ts) q ≡ false → is_one_of (ids_from (made_id used ids most word) ts) q ≡ false
+elsewhere used counted ids most word [] q fits there new = refl
+elsewhere used counted ids most word (t ∷ ts) q fits there new =
+    by_own (own_id (view t)) fits new (λ others more next fit still none. elsewhere used counted others more next ts q fit still none)
   where
-    by_own : (o : Option (List ℕ)) → Suffices held ids (count o (missing ts)) most → is_one_of (with_given o (given_ids ts)) q ≡ false
-        → ((others : List (List ℕ)) (next : ℕ) → Suffices held others (missing ts) most → is_one_of others q ≡ true → is_one_of (given_ids ts) q ≡ false → is_one_of (ids_from held others most next ts) q ≡ false)
-        → is_one_of (id_for (free_word held ids most word) o ∷ ids_from held (ids_behind ids (free_word held ids most word) o) most (word_behind word (free_word held ids most word) o) ts) q ≡ false
-    by_own None fit none more =
-        ap (λ b. b || is_one_of (ids_from held (id_of_word (free_word held ids most word) ∷ ids) most (word_behind word (free_word held ids most word) None) ts) q)
-        (differs ids (id_of_word (free_word held ids most word)) q (made_free held ids most word (missing ts) small fit).1 used)
-        ∙ more (id_of_word (free_word held ids most word) ∷ ids) (word_behind word (free_word held ids most word) None) (behind held ids (free_word held ids most word) (missing ts) most None fit)
-        (or_right (bytes_eq (id_of_word (free_word held ids most word)) q) (is_one_of ids q) used) none
-    by_own (Some own) fit none more =
-        ap (λ b. b || is_one_of (ids_from held ids most word ts) q) (left_false (bytes_eq own q) (is_one_of (given_ids ts) q) none)
-        ∙ more ids word fit used (right_false (bytes_eq own q) (is_one_of (given_ids ts) q) none)
+    id : List ℕ
+    id = id_of_word (free_word used ids most word)
 
--- the ids that they give themselves are used
+    next : ℕ
+    next = next_word (free_word used ids most word)
+
+    by_own : (o : Option (List ℕ)) → Suffices used ids most (count o (missing ts)) → is_one_of (with_given o (given_ids ts)) q ≡ false
+        → ((others : List (List ℕ)) (more after : ℕ) → Suffices used others more (missing ts) → is_one_of others q ≡ true → is_one_of (given_ids ts) q ≡ false → is_one_of (ids_from (made_id used others more after) ts) q ≡ false)
+        → is_one_of (id_for id o ∷ ids_from (supply_behind (made_id used ids most word) o) ts) q ≡ false
+    by_own None fit none more =
+        ap (λ b. b || is_one_of (ids_from (made_id used (id ∷ ids) (most + 1) next) ts) q) (differs ids id q (made_free used counted ids most word (missing ts) fit).1 there)
+        ∙ more (id ∷ ids) (most + 1) next (one_made used id ids most (missing ts) fit) (or_right (bytes_eq id q) (is_one_of ids q) there) none
+    by_own (Some own) fit none more =
+        ap (λ b. b || is_one_of (ids_from (made_id used ids most word) ts) q) (left_false (bytes_eq own q) (is_one_of (given_ids ts) q) none)
+        ∙ more ids most word fit there (right_false (bytes_eq own q) (is_one_of (given_ids ts) q) none)
+
+-- the ids that they give themselves are among these
 abbrev Given : List (List ℕ) → List (List ℕ) → Type 0
 Given ids given = (g : List ℕ) → is_one_of given g ≡ true → is_one_of ids g ≡ true
 
-distinct_ids : (held : List HeldStatement) (ids : List (List ℕ)) (most word : ℕ) (ts : List Tree) → most < 2 ^ 122 → Suffices held ids (missing ts) most
-    → are_distinct (given_ids ts) ≡ true → Given ids (given_ids ts) → are_distinct (ids_from held ids most word ts) ≡ true
-distinct_ids held ids most word [] small fits apart given = refl
-distinct_ids held ids most word (t ∷ ts) small fits apart given =
-    by_own (own_id (view t)) fits apart given (λ others next fit still all. distinct_ids held others most next ts small fit still all)
+distinct_ids : (used : Used) → IsCounted used → (ids : List (List ℕ)) (most word : ℕ) (ts : List Tree) → Suffices used ids most (missing ts)
+    → are_distinct (given_ids ts) ≡ true → Given ids (given_ids ts) → are_distinct (ids_from (made_id used ids most word) ts) ≡ true
+distinct_ids used counted ids most word [] fits apart given = refl
+distinct_ids used counted ids most word (t ∷ ts) fits apart given =
+    by_own (own_id (view t)) fits apart given (λ others more next fit still all. distinct_ids used counted others more next ts fit still all)
   where
-    by_own : (o : Option (List ℕ)) → Suffices held ids (count o (missing ts)) most → are_distinct (with_given o (given_ids ts)) ≡ true → Given ids (with_given o (given_ids ts))
-        → ((others : List (List ℕ)) (next : ℕ) → Suffices held others (missing ts) most → are_distinct (given_ids ts) ≡ true → Given others (given_ids ts) → are_distinct (ids_from held others most next ts) ≡ true)
-        → are_distinct (id_for (free_word held ids most word) o ∷ ids_from held (ids_behind ids (free_word held ids most word) o) most (word_behind word (free_word held ids most word) o) ts) ≡ true
+    id : List ℕ
+    id = id_of_word (free_word used ids most word)
+
+    next : ℕ
+    next = next_word (free_word used ids most word)
+
+    by_own : (o : Option (List ℕ)) → Suffices used ids most (count o (missing ts)) → are_distinct (with_given o (given_ids ts)) ≡ true → Given ids (with_given o (given_ids ts))
+        → ((others : List (List ℕ)) (more after : ℕ) → Suffices used others more (missing ts) → are_distinct (given_ids ts) ≡ true → Given others (given_ids ts) → are_distinct (ids_from (made_id used others more after) ts) ≡ true)
+        → are_distinct (id_for id o ∷ ids_from (supply_behind (made_id used ids most word) o) ts) ≡ true
     by_own None fit still all more =
-        let id = id_of_word (free_word held ids most word) in
-        let next = word_behind word (free_word held ids most word) None in
-        let unused : is_one_of ids id ≡ false = (made_free held ids most word (missing ts) small fit).1 in
-        let room : Suffices held (id ∷ ids) (missing ts) most = behind held ids (free_word held ids most word) (missing ts) most None fit in
-        both_true (not (is_one_of (ids_from held (id ∷ ids) most next ts) id)) (are_distinct (ids_from held (id ∷ ids) most next ts))
-        (ap (λ b. not b) (elsewhere held (id ∷ ids) most next ts id small room (here id ids) (not_given id unused all)))
-        (more (id ∷ ids) next room still (λ g there. or_right (bytes_eq id g) (is_one_of ids g) (all g there)))
+        let unused : is_one_of ids id ≡ false = (made_free used counted ids most word (missing ts) fit).1 in
+        let room : Suffices used (id ∷ ids) (most + 1) (missing ts) = one_made used id ids most (missing ts) fit in
+        both_true (not (is_one_of (ids_from (made_id used (id ∷ ids) (most + 1) next) ts) id)) (are_distinct (ids_from (made_id used (id ∷ ids) (most + 1) next) ts))
+        (ap (λ b. not b) (elsewhere used counted (id ∷ ids) (most + 1) next ts id room (here id ids) (not_given unused all)))
+        (more (id ∷ ids) (most + 1) next room still (λ g there. or_right (bytes_eq id g) (is_one_of ids g) (all g there)))
       where
-        not_given : (id : List ℕ) → is_one_of ids id ≡ false → Given ids (given_ids ts) → is_one_of (given_ids ts) id ≡ false
-        not_given id unused all = by_test (is_one_of (given_ids ts) id) refl
+        not_given : is_one_of ids id ≡ false → Given ids (given_ids ts) → is_one_of (given_ids ts) id ≡ false
+        not_given unused all = by_test (is_one_of (given_ids ts) id) refl
           where
             by_test : (b : Bool) → is_one_of (given_ids ts) id ≡ b → b ≡ false
             by_test true is = absurd (false≢true (sym unused ∙ all id is))
             by_test false is = refl
     by_own (Some own) fit still all more =
-        both_true (not (is_one_of (ids_from held ids most word ts) own)) (are_distinct (ids_from held ids most word ts))
-        (ap (λ b. not b) (elsewhere held ids most word ts own small fit (all own (here own (given_ids ts))) (not_true (is_one_of (given_ids ts) own) (and_left (not (is_one_of (given_ids ts) own)) (are_distinct (given_ids ts)) still))))
-        (more ids word fit (and_right (not (is_one_of (given_ids ts) own)) (are_distinct (given_ids ts)) still) (λ g there. all g (or_right (bytes_eq own g) (is_one_of (given_ids ts) g) there)))
+        both_true (not (is_one_of (ids_from (made_id used ids most word) ts) own)) (are_distinct (ids_from (made_id used ids most word) ts))
+        (ap (λ b. not b) (elsewhere used counted ids most word ts own fit (all own (here own (given_ids ts))) (not_true (is_one_of (given_ids ts) own) (and_left (not (is_one_of (given_ids ts) own)) (are_distinct (given_ids ts)) still))))
+        (more ids most word fit (and_right (not (is_one_of (given_ids ts) own)) (are_distinct (given_ids ts)) still) (λ g there. all g (or_right (bytes_eq own g) (is_one_of (given_ids ts) g) there)))
 
-made_new : (held : List HeldStatement) (ids : List (List ℕ)) (most word : ℕ) (ts : List Tree) → most < 2 ^ 122 → Suffices held ids (missing ts) most
-    → AllByRecursion (λ (n : Named). own_id (view n.tree) ≡ None → is_held n.id held ≡ false) (named_from held ids most word ts)
-made_new held ids most word [] small fits = tt
-made_new held ids most word (t ∷ ts) small fits = (
-  λ none. ap (λ o. is_held (id_for (free_word held ids most word) o) held) none ∙ (made_free held ids most word (missing ts) small (subst (λ o. Suffices held ids (count o (missing ts)) most) none fits)).0,
-  made_new held (ids_behind ids (free_word held ids most word) (own_id (view t))) most (word_behind word (free_word held ids most word) (own_id (view t))) ts small
-      (behind held ids (free_word held ids most word) (missing ts) most (own_id (view t)) fits),
+-- where none is its own, the id isn't used
+abbrev IsNew : Used → Named → Type 0
+IsNew used n = own_id (view n.tree) ≡ None → used.is_used n.id ≡ false
+
+made_new : (used : Used) → IsCounted used → (ids : List (List ℕ)) (most word : ℕ) (ts : List Tree) → Suffices used ids most (missing ts) → AllByRecursion (IsNew used) (named (made_id used ids most word) ts)
+made_new used counted ids most word [] fits = tt
+made_new used counted ids most word (t ∷ ts) fits = (
+  λ none. ap (λ o. used.is_used (id_for (id_of_word (free_word used ids most word)) o)) none
+      ∙ (made_free used counted ids most word (missing ts) (subst (λ o. Suffices used ids most (count o (missing ts))) none fits)).0,
+  by_own (own_id (view t)) fits (λ others more next fit. made_new used counted others more next ts fit),
 )
+  where
+    by_own : (o : Option (List ℕ)) → Suffices used ids most (count o (missing ts))
+        → ((others : List (List ℕ)) (more after : ℕ) → Suffices used others more (missing ts) → AllByRecursion (IsNew used) (named (made_id used others more after) ts))
+        → AllByRecursion (IsNew used) (named (supply_behind (made_id used ids most word) o) ts)
+    by_own None fit more =
+        more (id_of_word (free_word used ids most word) ∷ ids) (most + 1) (next_word (free_word used ids most word)) (one_made used (id_of_word (free_word used ids most word)) ids most (missing ts) fit)
+    by_own (Some own) fit more = more ids most word fit
 
 distinct_given : (ts : List Tree) → refused_batch ts ≡ None → are_distinct (given_ids ts) ≡ true
 distinct_given ts formed = by_size (is_too_large ts) formed
   where
-    by_ids : (b : Bool) → (if b then None else Some (Broken (rule 66 9))) ≡ None → b ≡ true
+    by_ids : (b : Bool) → first_some (when (not b) (Broken (rule.B 9)) ∷ []) ≡ None → b ≡ true
     by_ids true is = refl
     by_ids false is = cc is
 
-    by_rule : (o : Option ℕ) → doubled_or o ts ≡ None → are_distinct (given_ids ts) ≡ true
+    by_rule : (o : Option ℕ) → first_some (broken o ∷ when (not (are_distinct (given_ids ts))) (Broken (rule.B 9)) ∷ []) ≡ None → are_distinct (given_ids ts) ≡ true
     by_rule None is = by_ids (are_distinct (given_ids ts)) is
     by_rule (Some n) is = cc is
 
-    by_size : (b : Bool) → (if b then Some TooLong else doubled_or (broken_in ts) ts) ≡ None → are_distinct (given_ids ts) ≡ true
+    by_size : (b : Bool) → first_some (when b TooLong ∷ broken (broken_in ts) ∷ when (not (are_distinct (given_ids ts))) (Broken (rule.B 9)) ∷ []) ≡ None → are_distinct (given_ids ts) ≡ true
     by_size true is = cc is
     by_size false is = by_rule (broken_in ts) is
 
-suffices_at_first : (held : List HeldStatement) (ts : List Tree) → Suffices held (given_ids ts) (missing ts) (length held + length ts)
-suffices_at_first held ts = omega (arith, given_missing ts)
+-- ---- the law
 
-pub batch_distinct : (held : List HeldStatement) (draw : Draw) (ts : List Tree) → length held + length ts < 2 ^ 122 → refused_batch ts ≡ None → are_distinct (map (λ (n : Named). n.id) (named_batch held draw ts)) ≡ true
-batch_distinct held draw ts small formed =
-    distinct_ids held (given_ids ts) (length held + length ts) (draw.name % 2 ^ 122) ts small (suffices_at_first held ts) (distinct_given ts formed) (λ g there. there)
+-- the ids of statements are counted
+pub counted : (held : List HeldStatement) → IsCounted (those (ids_of held))
+counted held = record { ids = ids_of held; same = λ id. refl; count = refl }
 
-pub batch_new : (held : List HeldStatement) (draw : Draw) (ts : List Tree) → length held + length ts < 2 ^ 122 → AllByRecursion (λ (n : Named). own_id (view n.tree) ≡ None → is_held n.id held ≡ false) (named_batch held draw ts)
-batch_new held draw ts small = made_new held (given_ids ts) (length held + length ts) (draw.name % 2 ^ 122) ts small (suffices_at_first held ts)
+suffices_at_first : (held : List HeldStatement) (ts : List Tree) → length held + length ts < 2 ^ 122 → Suffices (those (ids_of held)) (given_ids ts) (length (ids_of held) + length (given_ids ts)) (missing ts)
+suffices_at_first held ts small = (omega arith, omega (arith, small, given_missing ts, length-map held (λ (s : HeldStatement). s.id)))
+
+-- the statements of a batch, as a store of these would name them
+abbrev pub batch : List HeldStatement → ℕ → List Tree → List Named
+batch held name ts = named (supply_of (those (ids_of held)) (given_ids ts) name) ts
+
+pub batch_distinct : (held : List HeldStatement) (name : ℕ) (ts : List Tree) → length held + length ts < 2 ^ 122 → refused_batch ts ≡ None → are_distinct (names_of (batch held name ts)) ≡ true
+batch_distinct held name ts small formed =
+    distinct_ids (those (ids_of held)) (counted held) (given_ids ts) (length (ids_of held) + length (given_ids ts)) (name % 2 ^ 122) ts (suffices_at_first held ts small) (distinct_given ts formed) (λ g there. there)
+
+each_implied : (P Q : Named → Type 0) → ((n : Named) → P n → Q n) → (ns : List Named) → AllByRecursion P ns → AllByRecursion Q ns
+each_implied P Q from [] each = tt
+each_implied P Q from (n ∷ ns) each = (from n each.0, each_implied P Q from ns each.1)
+
+pub batch_new : (held : List HeldStatement) (name : ℕ) (ts : List Tree) → length held + length ts < 2 ^ 122 → AllByRecursion (λ (n : Named). own_id (view n.tree) ≡ None → is_held n.id held ≡ false) (batch held name ts)
+batch_new held name ts small =
+    each_implied (IsNew (those (ids_of held))) (λ (n : Named). own_id (view n.tree) ≡ None → is_held n.id held ≡ false) (λ n new none. held_one n.id held ∙ new none) (batch held name ts)
+    (made_new (those (ids_of held)) (counted held) (given_ids ts) (length (ids_of held) + length (given_ids ts)) (name % 2 ^ 122) ts (suffices_at_first held ts small))
 
 pub made_ids_are_new : MadeIdsAreNew
-made_ids_are_new h trees draw small formed = (batch_distinct (state h).statements draw trees small formed, batch_new (state h).statements draw trees small)
+made_ids_are_new h trees draw small formed = (batch_distinct (state h).statements draw.name trees small formed, batch_new (state h).statements draw.name trees small)

@@ -1,39 +1,50 @@
 -- The pages of a list give it whole, and a link is told the same page for ever.
-use Rattle.std.proofs.Common.{◌≡◌, ◌≢◌, ℕ, zero, suc, ◌+◌, ◌-◌, ◌<◌, ◌≤◌, List, [], ◌∷◌, ◌++◌, length, take, drop, map, reverse, Bool, true, false, Option, Some, None, cond, refl, sym, ap, subst, ◌∙◌, arith, nat_lt, length-append, append_assoc}
-use Rattle.std.specs.Prelude.{filter, filter_map, position, slice_get, MatchOption, IsTrue, if◌then◌else◌}
+use Rattle.std.proofs.Common.{◌≡◌, ◌≢◌, ℕ, zero, suc, ◌+◌, ◌-◌, ◌<◌, ◌≤◌, List, [], ◌∷◌, ◌++◌, length, take, map, reverse, Bool, true, false, Option, Some, None, cond, refl, sym, ap, subst, ◌∙◌, arith, nat_lt, length-append, append_assoc}
+use Rattle.std.specs.Prelude.{filter, filter_map, position, slice_get, MatchOption, if◌then◌else◌}
 use Rattle.std.specs.List.{AllByRecursion, cons_option, position_from, range_with_len}
 use Rattle.std.specs.Str.{bytes_eq}
 use Rattle.std.proofs.lemmas.Bool.Decides.{nat_tests}
 use Rattle.std.proofs.lemmas.Iterator.Adapters.{position_from-zero}
 use Rattle.std.proofs.lemmas.List.{append-nil, length-drop, length-take, reverse-append, take-append-drop, take-append-le}
 use Rattle.std.proofs.Math.Seq.{take-append_seam, take-length}
+use Rattle.lrs_command.specs.declared.command.Area.TheVariants.{Store}
+use Rattle.lrs_command.specs.declared.command.Read.TheVariants as read
+use Rattle.lrs_command.specs.declared.who.Who.{Who}
+use Rattle.lrs_command.specs.declared.who.Who.TheVariants as who
+use Rattle.lrs_command.specs.declared.rule.Rule.TheVariants as rule
+use Rattle.lrs_history.specs.Answers.{page_said, reading}
+use Rattle.lrs_history.specs.Effects.{effect}
+use Rattle.lrs_history.specs.History.{only, refused_or, state, state_from, step, Founds, IsLegal}
+use Rattle.lrs_history.specs.Refusals.{barred, read_refusal, too_late}
+use Rattle.lrs_history.specs.Whose.{provider_at, sight_of, who_is}
 use Rattle.lrs_json.specs.Written.{written}
-use Rattle.lrs_names.specs.declared.draw.Draw.{Draw}
+use Rattle.lrs_laws.specs.Laws.{FirstPagesAreTold, Follows, LinksGoOn, LinksStay, LinksWhereMoreComes, PagesEnd, PagesGiveTheList, PositionsComeOnce, IsLetIn, sight_in, who_in}
+use Rattle.lrs_laws.proofs.Keepers.{state_from-append}
+use Rattle.lrs_laws.proofs.Paging.{IsInOrder, Links, distinct_in_order, each_at, each_filtered, filtered_in_order, linked, positions_in_order, unlinked}
+use Rattle.lrs_parts.specs.Callers.{callers_after, place_of_token}
+use Rattle.lrs_parts.specs.Founding.{founding_after, is_admin}
+use Rattle.lrs_parts.specs.State.{State, nothing}
+use Rattle.lrs_parts.specs.declared.callers.CallersChange.{CallersChange}
+use Rattle.lrs_parts.specs.declared.callers.HeldCaller.{HeldCaller}
+use Rattle.lrs_parts.specs.declared.founding.Founding.{Founding}
+use Rattle.lrs_register.specs.Register.{with_new}
 use Rattle.lrs_record.specs.declared.entry.Caller.{Caller}
 use Rattle.lrs_record.specs.declared.entry.Caller.TheVariants.{Nobody, Operator, Token}
-use Rattle.lrs_record.specs.declared.entry.Command.{Command}
-use Rattle.lrs_record.specs.declared.entry.Command.TheVariants.{Found, Get, More, Provider}
 use Rattle.lrs_record.specs.declared.entry.Entry.{Entry}
-use Rattle.lrs_record.specs.declared.rule.Area.TheVariants.{Store}
-use Rattle.lrs_record.specs.declared.who.Who.{Who}
-use Rattle.lrs_record.specs.declared.who.Who.TheVariants as who
+use Rattle.lrs_record.specs.declared.entry.Write.{Write}
+use Rattle.lrs_record.specs.declared.entry.Write.TheVariants.{Found}
+use Rattle.lrs_replies.specs.declared.answered.Answered.{Answered}
+use Rattle.lrs_replies.specs.declared.answered.Answered.TheVariants.{Shown}
+use Rattle.lrs_replies.specs.declared.answered.Refusal.{Refusal}
+use Rattle.lrs_replies.specs.declared.answered.Refusal.TheVariants.{Broken}
+use Rattle.xapi_index.specs.Choices.{first_some, when}
+use Rattle.xapi_index.specs.Listings.{is_behind, is_listed_at, list_json, listing, listing_behind, more_text, page_behind, page_body, positions_of}
+use Rattle.xapi_index.specs.Statements.{add, add_each, is_held}
 use Rattle.xapi_query.specs.declared.link.MoreLink.{MoreLink}
 use Rattle.xapi_query.specs.declared.query.Query.{Query}
 use Rattle.xapi_query.specs.declared.sight.Sight.{Sight}
 use Rattle.xapi_query.specs.declared.wanted.Wanted.TheVariants.{Many}
 use Rattle.xapi_statement.specs.Completed.{HeldStatement}
-use Rattle.lrs_history.specs.declared.answered.Answered.{Answered}
-use Rattle.lrs_history.specs.declared.answered.Answered.TheVariants.{Shown}
-use Rattle.lrs_history.specs.declared.answered.Refusal.TheVariants.{Broken}
-use Rattle.lrs_history.specs.declared.held_caller.HeldCaller.{HeldCaller}
-use Rattle.lrs_history.specs.Batches.{rule}
-use Rattle.lrs_history.specs.History.{State, admin_after, barred, brought, callers_after, is_admin, more_said, nothing, page_said, place_of_token, provider_at, refused, said_at_once, said_inside, state, state_from, step, unless_barred, who_is, Founds, IsLegal}
-use Rattle.lrs_history.specs.Listings.{Paged, first_page, is_behind, is_listed_at, list_json, listing, listing_behind, more_text, page_behind, page_body, positions_of, statements_at}
-use Rattle.lrs_history.specs.Statements.{add, add_each, is_held, sight_of}
-use Rattle.lrs_laws.specs.Laws.{FirstPagesAreTold, Follows, LinksGoOn, LinksStay, LinksWhereMoreComes, PagesEnd, PagesGiveTheList, PositionsComeOnce, IsLetIn, sight_in, who_in}
-use Rattle.lrs_laws.proofs.Again.{at_once}
-use Rattle.lrs_laws.proofs.Keepers.{state_from-append}
-use Rattle.lrs_laws.proofs.Paging.{IsInOrder, Links, behind, distinct_in_order, each_at, each_filtered, filtered_in_order, linked, positions_in_order, unlinked}
 
 -- ---- one list
 
@@ -121,17 +132,20 @@ each_on : (held more : List HeldStatement) → GoesOn held (add_each held more)
 each_on held [] = ([], sym (append-nil held))
 each_on held (s ∷ more) = on_and_on held (add held s) (add_each (add held s) more) (add_on held s) (each_on (add held s) more)
 
-callers_on : (callers : List HeldCaller) (place : ℕ) (command : Command) (draw : Draw) → GoesOn callers (callers_after callers place command draw)
-callers_on callers place (Provider name) draw = (_, refl)
-callers_on callers place other draw = ([], sym (append-nil callers))
+callers_on : (callers : List HeldCaller) (change : CallersChange) → GoesOn callers (callers_after callers change)
+callers_on callers change = by_new change.new
+  where
+    by_new : (o : Option HeldCaller) → GoesOn callers (with_new callers o)
+    by_new None = ([], sym (append-nil callers))
+    by_new (Some c) = (c ∷ [], refl)
 
 pub statements_on : (st : State) (more : List Entry) → GoesOn st.statements (state_from st more).statements
 statements_on st [] = ([], sym (append-nil st.statements))
-statements_on st (e ∷ more) = on_and_on st.statements (step st e).statements (state_from (step st e) more).statements (each_on st.statements (brought st e)) (statements_on (step st e) more)
+statements_on st (e ∷ more) = on_and_on st.statements (step st e).statements (state_from (step st e) more).statements (each_on st.statements (effect st e).statements) (statements_on (step st e) more)
 
 known_on : (st : State) (more : List Entry) → GoesOn st.callers (state_from st more).callers
 known_on st [] = ([], sym (append-nil st.callers))
-known_on st (e ∷ more) = on_and_on st.callers (step st e).callers (state_from (step st e) more).callers (callers_on st.callers st.length e.command e.draw) (known_on (step st e) more)
+known_on st (e ∷ more) = on_and_on st.callers (step st e).callers (state_from (step st e) more).callers (callers_on st.callers (effect st e).callers) (known_on (step st e) more)
 
 grown_on : (h more : List Entry) → take (length (state h).statements) (state (h ++ more)).statements ≡ (state h).statements
 grown_on h more =
@@ -206,30 +220,33 @@ links_where_more_comes query sight s after some = by_link (page_behind query sig
 
 -- ---- what callers are told
 
+-- what is told of a question to a caller who is let in, where it comes in time
+asked : (by : Who) (late : Option Refusal) (said : Answered) → barred Store by ≡ None → late ≡ None → only (refused_or (first_some (barred Store by ∷ late ∷ [])) said) ≡ only said
+asked by late said let_in none =
+    ap (λ o. only (refused_or (first_some (o ∷ late ∷ [])) said)) let_in ∙ ap (λ o. only (refused_or (first_some (o ∷ [])) said)) none
+
 pub first_pages_are_told : FirstPagesAreTold
 first_pages_are_told limit h caller query clock draw let_in =
-    at_once limit h caller (Get (Many query)) clock draw
-    (Shown (page_body query (length (state h).statements) (state h).statements (page_behind query (sight_in h caller) (state h).statements None)) (Some (state h).last))
-    (ap (λ o. unless_barred o (said_inside (state h) (who_in h caller) (Get (Many query)))) let_in
-    ∙ ap (λ s. Some (Shown (page_body query (length (state h).statements) (state h).statements (page_behind query (sight_in h caller) s None)) (Some (state h).last))) (take-length (state h).statements))
+    asked (who_in h caller) None (reading (state h) (who_in h caller) (read.Statements (Many query))) let_in refl
+    ∙ ap (λ s. only (Shown (page_body query (length (state h).statements) (state h).statements (page_behind query (sight_in h caller) s None)) (Some (state h).last))) (take-length (state h).statements)
 
--- the admin's token stays
-admin_kept : (token : List ℕ) (command : Command) → admin_after (Some token) command ≡ Some token
-admin_kept token command = refl
+-- what the store was founded with stays
+founding_on : (st : State) (more : List Entry) (founding : Founding) → st.founding ≡ Some founding → (state_from st more).founding ≡ Some founding
+founding_on st [] founding is = is
+founding_on st (e ∷ more) founding is = founding_on (step st e) more founding (ap (λ o. founding_after o (effect st e).founding) is)
 
-admin_on : (st : State) (more : List Entry) (token : List ℕ) → st.admin ≡ Some token → (state_from st more).admin ≡ Some token
-admin_on st [] token is = is
-admin_on st (e ∷ more) token is = admin_on (step st e) more token (ap (λ o. admin_after o e.command) is ∙ admin_kept token e.command)
+founded : (e : Entry) → Founds e.write → (founding : Founding) × ((step nothing e).founding ≡ Some founding)
+founded e founds = by_write e.write founds
+  where
+    by_write : (w : Write) → Founds w → (founding : Founding) × ((step nothing (record e { write = w })).founding ≡ Some founding)
+    by_write (Found admin base) founds = (record { admin = admin; base = base }, refl)
+    by_write other founds = absurd founds
 
-founded : (command : Command) → Founds command → (token : List ℕ) × (admin_after None command ≡ Some token)
-founded (Found admin base) founds = (admin, refl)
-founded other founds = absurd founds
-
-has_admin : (limit : ℕ) (h : List Entry) → IsLegal limit h → (token : List ℕ) × ((state h).admin ≡ Some token)
-has_admin limit [] legal = absurd (omega (arith, legal.0))
-has_admin limit (e ∷ h) legal =
-    let first = founded e.command legal.1.1.command in
-    (first.0, admin_on (step nothing e) h first.0 first.1)
+has_founding : (limit : ℕ) (h : List Entry) → IsLegal limit h → (founding : Founding) × ((state h).founding ≡ Some founding)
+has_founding limit [] legal = absurd (omega (arith, legal.0))
+has_founding limit (e ∷ h) legal =
+    let first = founded e legal.1.1.write in
+    (first.0, founding_on (step nothing e) h first.0 first.1)
 
 place_from : (p : HeldCaller → Bool) (i : ℕ) (xs ys : List HeldCaller) (k : ℕ) → position_from p i xs ≡ Some k → position_from p i (xs ++ ys) ≡ Some k
 place_from p i [] ys k is = cc is
@@ -244,27 +261,28 @@ place_on : (p : HeldCaller → Bool) (xs ys : List HeldCaller) (k : ℕ) → pos
 place_on p xs ys k is = position_from-zero p (xs ++ ys) ∙ place_from p 0 xs ys k (sym (position_from-zero p xs) ∙ is)
 
 -- who is let in stays who he is
-who_on : (admin : Option (List ℕ)) (callers more : List HeldCaller) (caller : Caller) → barred Store (who_is admin callers caller) ≡ None → who_is admin (callers ++ more) caller ≡ who_is admin callers caller
-who_on admin callers more Nobody is = refl
-who_on admin callers more Operator is = refl
-who_on admin callers more (Token token) is = by_admin (is_admin admin token) is
+who_on : (st su : State) (more : List HeldCaller) (caller : Caller) → su.founding ≡ st.founding → su.callers ≡ st.callers ++ more → barred Store (who_is st caller) ≡ None → who_is su caller ≡ who_is st caller
+who_on st su more Nobody founding callers is = refl
+who_on st su more Operator founding callers is = refl
+who_on st su more (Token token) founding callers is =
+    ap (λ f. if is_admin f token then who.Admin else provider_at (place_of_token token su.callers)) founding
+    ∙ (ap (λ cs. if is_admin st.founding token then who.Admin else provider_at (place_of_token token cs)) callers ∙ by_admin (is_admin st.founding token) is)
   where
-    by_place : (o : Option ℕ) → place_of_token token callers ≡ o → barred Store (provider_at o) ≡ None → provider_at (place_of_token token (callers ++ more)) ≡ provider_at o
+    by_place : (o : Option ℕ) → place_of_token token st.callers ≡ o → barred Store (provider_at o) ≡ None → provider_at (place_of_token token (st.callers ++ more)) ≡ provider_at o
     by_place None at let_in = cc let_in
-    by_place (Some k) at let_in = ap provider_at (place_on (λ (c : HeldCaller). bytes_eq c.token token) callers more k at)
+    by_place (Some k) at let_in = ap provider_at (place_on (λ (c : HeldCaller). bytes_eq c.token token) st.callers more k at)
 
-    by_admin : (b : Bool) → barred Store (if b then who.Admin else provider_at (place_of_token token callers)) ≡ None
-        → (if b then who.Admin else provider_at (place_of_token token (callers ++ more))) ≡ (if b then who.Admin else provider_at (place_of_token token callers))
+    by_admin : (b : Bool) → barred Store (if b then who.Admin else provider_at (place_of_token token st.callers)) ≡ None
+        → (if b then who.Admin else provider_at (place_of_token token (st.callers ++ more))) ≡ (if b then who.Admin else provider_at (place_of_token token st.callers))
     by_admin true let_in = refl
-    by_admin false let_in = by_place (place_of_token token callers) refl let_in
+    by_admin false let_in = by_place (place_of_token token st.callers) refl let_in
 
 who_stays : (limit : ℕ) (h more : List Entry) (caller : Caller) → IsLegal limit h → IsLetIn h caller → who_in (h ++ more) caller ≡ who_in h caller
 who_stays limit h more caller legal let_in =
-    let admin = has_admin limit h legal in
+    let founding = has_founding limit h legal in
     let known = known_on (state h) more in
-    ap (λ st. who_is st.admin st.callers caller) (state_from-append nothing h more)
-    ∙ (ap (λ o. who_is o (state_from (state h) more).callers caller) (admin_on (state h) more admin.0 admin.1 ∙ sym admin.1)
-    ∙ (ap (λ callers. who_is (state h).admin callers caller) known.1 ∙ who_on (state h).admin (state h).callers known.0 caller let_in))
+    ap (λ st. who_is st caller) (state_from-append nothing h more)
+    ∙ who_on (state h) (state_from (state h) more) known.0 caller (founding_on (state h) more founding.0 founding.1 ∙ sym founding.1) known.1 let_in
 
 same_at : {A B : Type 0} (f g : A → Option B) (ks : List A) → AllByRecursion (λ k. f k ≡ g k) ks → filter_map f ks ≡ filter_map g ks
 same_at f g [] each = refl
@@ -293,12 +311,9 @@ same_body query sight n after all more fits =
     (there_still (length (take n all)) all more (take query.page (listing_behind query sight (take n all) after))
     (take_below (length (take n all)) query.page (listing_behind query sight (take n all) after) (listed_below query sight (take n all) after)) (omega (arith, length-take n all))))
 
-more_is : (st : State) (by : Who) (link : MoreLink) (all more : List HeldStatement) → st.statements ≡ all ++ more → link.asof ≤ length all
-    → more_said st by link ≡ Shown (page_body link.query link.asof all (page_behind link.query (sight_of by) (take link.asof all) (Some link.after))) (Some st.last)
-more_is st by link all more is fits =
-    ap (λ b. if b then refused (Broken (rule 80 14)) else page_said st by link.query link.asof (Some link.after)) small
-    ∙ (ap (λ s. Shown (page_body link.query link.asof s (page_behind link.query (sight_of by) (take link.asof s) (Some link.after))) (Some st.last)) is
-    ∙ ap (λ t. Shown t (Some st.last)) (same_body link.query (sight_of by) link.asof (Some link.after) all more fits))
+-- the link speaks of no more statements than there are
+in_time : (st : State) (link : MoreLink) (all more : List HeldStatement) → st.statements ≡ all ++ more → link.asof ≤ length all → too_late st (read.More link) ≡ None
+in_time st link all more is fits = ap (λ b. when b (Broken (rule.P 14))) small
   where
     isnt : (a b : ℕ) → b ≤ a → nat_lt a b ≡ false
     isnt a b le = grind (arith, nat_tests)
@@ -306,12 +321,16 @@ more_is st by link all more is fits =
     small : nat_lt (length st.statements) link.asof ≡ false
     small = isnt (length st.statements) link.asof (omega (arith, fits, ap (λ xs. length xs) is, length-append all more))
 
+page_is : (st : State) (by : Who) (link : MoreLink) (all more : List HeldStatement) → st.statements ≡ all ++ more → link.asof ≤ length all
+    → page_said st by link.query link.asof (Some link.after) ≡ Shown (page_body link.query link.asof all (page_behind link.query (sight_of by) (take link.asof all) (Some link.after))) (Some st.last)
+page_is st by link all more is fits =
+    ap (λ s. Shown (page_body link.query link.asof s (page_behind link.query (sight_of by) (take link.asof s) (Some link.after))) (Some st.last)) is
+    ∙ ap (λ t. Shown t (Some st.last)) (same_body link.query (sight_of by) link.asof (Some link.after) all more fits)
+
 pub links_stay : LinksStay
 links_stay limit h more caller link clock draw legal let_in fits =
     let on = statements_on (state h) more in
     let statements : (state (h ++ more)).statements ≡ (state h).statements ++ on.0 = ap (λ st. st.statements) (state_from-append nothing h more) ∙ on.1 in
-    at_once limit (h ++ more) caller (More link) clock draw
-    (Shown (page_body link.query link.asof (state h).statements (page_behind link.query (sight_in h caller) (take link.asof (state h).statements) (Some link.after))) (Some (state (h ++ more)).last))
-    (ap (λ by. unless_barred (barred Store by) (Some (more_said (state (h ++ more)) by link))) (who_stays limit h more caller legal let_in)
-    ∙ (ap (λ o. unless_barred o (Some (more_said (state (h ++ more)) (who_in h caller) link))) let_in
-    ∙ ap (λ s. Some s) (more_is (state (h ++ more)) (who_in h caller) link (state h).statements on.0 statements fits)))
+    ap (λ by. only (refused_or (read_refusal (state (h ++ more)) by (read.More link)) (reading (state (h ++ more)) by (read.More link)))) (who_stays limit h more caller legal let_in)
+    ∙ (asked (who_in h caller) (too_late (state (h ++ more)) (read.More link)) (reading (state (h ++ more)) (who_in h caller) (read.More link)) let_in (in_time (state (h ++ more)) link (state h).statements on.0 statements fits)
+    ∙ ap only (page_is (state (h ++ more)) (who_in h caller) link (state h).statements on.0 statements fits))

@@ -1,13 +1,11 @@
 -- Lists of positions in an order, and their pages.
-use Rattle.std.proofs.Common.{◌≡◌, ◌≢◌, ℕ, zero, suc, ◌+◌, ◌-◌, ◌<◌, ◌≤◌, List, [], ◌∷◌, ◌++◌, length, take, drop, reverse, Bool, true, false, Option, Some, None, cond, refl, sym, ap, subst, ◌∙◌, arith, nat_lt, eqb}
+use Rattle.std.proofs.Common.{◌≡◌, ℕ, zero, suc, ◌+◌, ◌-◌, ◌<◌, ◌≤◌, List, [], ◌∷◌, ◌++◌, length, take, drop, reverse, Bool, true, false, Option, Some, None, cond, refl, sym, ap, subst, ◌∙◌, arith, nat_lt, eqb}
 use Rattle.std.specs.Prelude.{filter, slice_get, if◌then◌else◌}
 use Rattle.std.specs.List.{AllByRecursion, IsDistinct, range_with_len}
 use Rattle.std.proofs.lemmas.Bool.{false≢true, eqb-true}
 use Rattle.std.proofs.lemmas.Bool.Decides.{nat_tests}
-use Rattle.std.proofs.lemmas.Grind.{common_steps}
-use Rattle.std.proofs.lemmas.List.{length-take-le, reverse-append, take-append-drop}
-use Rattle.std.proofs.Math.Seq.{take-length}
-use Rattle.lrs_history.specs.Listings.{first_page, is_behind, last_of, positions_of}
+use Rattle.std.proofs.lemmas.List.{length-take-le, reverse-append}
+use Rattle.xapi_index.specs.Listings.{first_page, is_behind, last_of, positions_of}
 
 -- each of them comes behind those before it
 abbrev pub IsInOrder : Bool → List ℕ → Type 0

@@ -1,5 +1,5 @@
 -- A batch that has an entry is kept whole.
-use Rattle.std.proofs.Common.{◌≡◌, ℕ, ◌+◌, ◌%◌, ◌^◌, List, [], ◌∷◌, ◌++◌, length, get_or, map, Bool, true, false, ◌||◌, Option, Some, None, cond, refl, sym, ap, subst, ◌∙◌, max, nat_lt}
+use Rattle.std.proofs.Common.{◌≡◌, ℕ, List, [], ◌∷◌, ◌++◌, get_or, map, Bool, true, false, not, ◌||◌, Option, Some, None, cond, refl, sym, ap, subst, ◌∙◌, nat_lt}
 use Rattle.std.specs.Prelude.{position, slice_get, is_some, option_map, if◌then◌else◌}
 use Rattle.std.specs.List.{AllByRecursion}
 use Rattle.std.specs.Option.{option_or}
@@ -10,42 +10,51 @@ use Rattle.std.proofs.lemmas.List.{map-append}
 use Rattle.std.proofs.lemmas.List.Folds.{find-append, list_any-append}
 use Rattle.std.proofs.lemmas.List.Quantifiers.{position-Some}
 use Rattle.std.proofs.lemmas.Option.{slice_get-get_or}
+use Rattle.lrs_command.specs.declared.command.Area.TheVariants.{Store}
+use Rattle.lrs_command.specs.declared.who.Who.{Who}
+use Rattle.lrs_command.specs.declared.who.Who.TheVariants as who
+use Rattle.lrs_history.specs.Answers.{acceptance}
+use Rattle.lrs_history.specs.Effects.{Occasion, brought, effect}
+use Rattle.lrs_history.specs.History.{Answer, answer_of, end_place, next_entry, need, refused, said_at_once, state, verdict_by}
+use Rattle.lrs_history.specs.Refusals.{barred, conflict, met, met_in, met_over, refusal, refused_batch}
+use Rattle.lrs_history.specs.Whose.{authority_of, provider_at, who_is}
+use Rattle.lrs_history.proofs.Kept.{no_room, kept_answer}
 use Rattle.lrs_json.specs.View.{view}
 use Rattle.lrs_json.specs.declared.tree.Tree.{Tree}
+use Rattle.lrs_laws.specs.Laws.{BatchesAreWhole, named_batch, occasion_of}
+use Rattle.lrs_laws.proofs.Again.{first_none}
+use Rattle.lrs_laws.proofs.Keepers.{held_one, left_false, or_false, right_false, state_from-append, stays_each}
+use Rattle.lrs_laws.proofs.NewIds.{batch_distinct, batch_new, not_true, and_left, and_right}
 use Rattle.lrs_names.specs.Members.{is_one_of}
+use Rattle.lrs_parts.specs.Callers.{place_of_token}
+use Rattle.lrs_parts.specs.Founding.{is_admin}
+use Rattle.lrs_parts.specs.State.{State, nothing}
+use Rattle.lrs_parts.specs.declared.callers.HeldCaller.{HeldCaller}
 use Rattle.lrs_record.specs.Entries.{AreLawfulTrees}
-use Rattle.lrs_record.specs.Moments.{clamped}
 use Rattle.lrs_record.specs.declared.entry.Caller.{Caller}
 use Rattle.lrs_record.specs.declared.entry.Caller.TheVariants.{Nobody, Operator, Token}
-use Rattle.lrs_record.specs.declared.entry.Command.TheVariants.{Post}
 use Rattle.lrs_record.specs.declared.entry.Entry.{Entry}
-use Rattle.lrs_record.specs.declared.rule.Area.TheVariants.{Store}
-use Rattle.lrs_record.specs.declared.who.Who.{Who}
-use Rattle.lrs_record.specs.declared.who.Who.TheVariants as who
+use Rattle.lrs_record.specs.declared.entry.Write.TheVariants.{Post}
+use Rattle.lrs_replies.specs.declared.answered.Answered.{Answered}
+use Rattle.lrs_replies.specs.declared.answered.Refusal.{Refusal}
+use Rattle.lrs_replies.specs.declared.answered.Refusal.TheVariants.{Conflict}
 use Rattle.xapi_equal.specs.Same.{same, IsSameness}
-use Rattle.xapi_statement.specs.Completed.{HeldStatement}
-use Rattle.xapi_statement.specs.Statement.{own_id}
 use Rattle.xapi_format.specs.declared.authority.Authority.{Authority}
 use Rattle.xapi_format.specs.declared.authority.Authority.TheVariants.{Admin, Provider}
-use Rattle.lrs_history.specs.declared.answered.Answered.{Answered}
-use Rattle.lrs_history.specs.declared.answered.Refusal.{Refusal}
-use Rattle.lrs_history.specs.declared.answered.Refusal.TheVariants.{Conflict}
-use Rattle.lrs_history.specs.declared.held_caller.HeldCaller.{HeldCaller}
-use Rattle.lrs_history.specs.Batches.{Named, are_distinct, first_of, free_word, given_ids, held_of, id_for, ids_behind, kept_by, named_batch, named_from, refused_batch, refused_in, refused_over, refused_under, word_behind}
-use Rattle.lrs_history.specs.History.{Answer, answer_by, barred, end_place, entry_at, is_admin, need, nothing, place_of_token, post_said, provider_at, said_at_once, said_inside, state, thanks, unless_barred, who_is}
-use Rattle.lrs_history.specs.Statements.{add, add_each, authority_of, held_under, is_held}
-use Rattle.lrs_history.proofs.Kept.{no_room, kept_answer}
-use Rattle.lrs_history.proofs.Adding.{add-new}
-use Rattle.lrs_laws.specs.Laws.{BatchesAreWhole, who_in}
-use Rattle.lrs_laws.proofs.Keepers.{held_one, ids_of, left_false, or_false, right_false, state_from-append, stays_each}
-use Rattle.lrs_laws.proofs.NewIds.{batch_distinct, batch_new, not_true, and_left, and_right}
+use Rattle.xapi_index.specs.Batches.{Named, held_of, id_for, kept_by, named, names_of, supply_behind}
+use Rattle.xapi_index.specs.Choices.{first_some, when}
+use Rattle.xapi_index.specs.Ids.{Supply, are_distinct}
+use Rattle.xapi_index.specs.Statements.{add, add_each, held_under, ids_of, is_held}
+use Rattle.xapi_index.proofs.Adding.{add-new, add_each-new}
+use Rattle.xapi_statement.specs.Completed.{HeldStatement}
+use Rattle.xapi_statement.specs.Statement.{own_id}
 
 -- ---- what an entry shows
 
 abbrev entry_in : Answer → Option Entry
 entry_in a = a.entry
 
-entry_kept : (o : Option Answered) (limit place : ℕ) (t : Answered) (e x : Entry) → (answer_by o limit place t e).entry ≡ Some x → (o ≡ None) × (e ≡ x)
+entry_kept : (o : Option Answered) (limit place : ℕ) (t : Answered) (e x : Entry) → (answer_of limit place (verdict_by o e t)).entry ≡ Some x → (o ≡ None) × (e ≡ x)
 entry_kept (Some s) limit place t e x is = cc is
 entry_kept None limit place t e x is = (refl, by_room (nat_lt limit (need place e)) is)
   where
@@ -56,38 +65,39 @@ entry_kept None limit place t e x is = (refl, by_room (nat_lt limit (need place 
         one : Some e ≡ Some x → e ≡ x
         one q = cc
 
-unbarred : (o : Option Refusal) (s : Option Answered) → unless_barred o s ≡ None → (o ≡ None) × (s ≡ None)
-unbarred None s is = (refl, is)
-unbarred (Some r) s is = cc is
+unrefused : (o : Option Refusal) (said : Option Answered) → option_or (option_map refused o) said ≡ None → o ≡ None
+unrefused None said is = refl
+unrefused (Some r) said is = cc is
 
-unrefused : (held : List HeldStatement) (ts : List Tree) (refused met : Option Refusal) → post_said held ts refused met ≡ None → (refused ≡ None) × (met ≡ None)
-unrefused held ts (Some r) met is = cc is
-unrefused held ts None (Some r) is = cc is
-unrefused held ts None None is = (refl, refl)
+no_reason : (a b c : Option Refusal) → first_some (a ∷ b ∷ c ∷ []) ≡ None → (a ≡ None) × (b ≡ None) × (c ≡ None)
+no_reason a b c is =
+    let first = first_none a (first_some (b ∷ c ∷ [])) is in
+    let next = first_none b (first_some (c ∷ [])) first.1 in
+    (first.0, next.0, (first_none c None next.1).0)
 
 -- ---- whoever is let in has an authority
 
-abbrev IsKnown : List HeldCaller → Who → Type 0
-IsKnown callers by = (authority : Authority) × (authority_of callers by ≡ Some authority)
+abbrev IsKnown : State → Who → Type 0
+IsKnown st by = (authority : Authority) × (authority_of st by ≡ Some authority)
 
 there : {A : Type 0} (p : A → Bool) (xs : List A) (k : ℕ) → position p xs ≡ Some k → (x : A) × (slice_get xs k ≡ Some x)
 there p [] k is = cc is
 there p (x ∷ xs) k is = (get_or (x ∷ xs) k x, slice_get-get_or (x ∷ xs) k x (position-Some p (x ∷ xs) k x is).0)
 
-known : (admin : Option (List ℕ)) (callers : List HeldCaller) (caller : Caller) → barred Store (who_is admin callers caller) ≡ None → IsKnown callers (who_is admin callers caller)
-known admin callers Nobody is = cc is
-known admin callers Operator is = (Admin, refl)
-known admin callers (Token token) is = by_admin (is_admin admin token) is
+known : (st : State) (caller : Caller) → barred Store (who_is st caller) ≡ None → IsKnown st (who_is st caller)
+known st Nobody is = cc is
+known st Operator is = (Admin, refl)
+known st (Token token) is = by_admin (is_admin st.founding token) is
   where
-    by_place : (o : Option ℕ) → place_of_token token callers ≡ o → barred Store (provider_at o) ≡ None → IsKnown callers (provider_at o)
+    by_place : (o : Option ℕ) → place_of_token token st.callers ≡ o → barred Store (provider_at o) ≡ None → IsKnown st (provider_at o)
     by_place None at is = cc is
     by_place (Some k) at is =
-        let found = there (λ (c : HeldCaller). bytes_eq c.token token) callers k at in
+        let found = there (λ (c : HeldCaller). bytes_eq c.token token) st.callers k at in
         (Provider k found.0.name, ap (λ o. option_map (λ (c : HeldCaller). Provider k c.name) o) found.1)
 
-    by_admin : (b : Bool) → barred Store (if b then who.Admin else provider_at (place_of_token token callers)) ≡ None → IsKnown callers (if b then who.Admin else provider_at (place_of_token token callers))
+    by_admin : (b : Bool) → barred Store (if b then who.Admin else provider_at (place_of_token token st.callers)) ≡ None → IsKnown st (if b then who.Admin else provider_at (place_of_token token st.callers))
     by_admin true is = (Admin, refl)
-    by_admin false is = by_place (place_of_token token callers) refl is
+    by_admin false is = by_place (place_of_token token st.callers) refl is
 
 -- ---- each of them, in one list
 
@@ -95,10 +105,10 @@ each_both : {A : Type 0} (P Q R : A → Type 0) → ((x : A) → P x → Q x →
 each_both P Q R join [] p q = tt
 each_both P Q R join (x ∷ xs) p q = (join x p.0 q.0, each_both P Q R join xs p.1 q.1)
 
-others : (id : List ℕ) (ns : List Named) → is_one_of (map (λ (n : Named). n.id) ns) id ≡ false → AllByRecursion (λ (n : Named). bytes_eq n.id id ≡ false) ns
+others : (id : List ℕ) (ns : List Named) → is_one_of (names_of ns) id ≡ false → AllByRecursion (λ (n : Named). bytes_eq n.id id ≡ false) ns
 others id [] none = tt
 others id (n ∷ ns) none =
-    (left_false (bytes_eq n.id id) (is_one_of (map (λ (m : Named). m.id) ns) id) none, others id ns (right_false (bytes_eq n.id id) (is_one_of (map (λ (m : Named). m.id) ns) id) none))
+    (left_false (bytes_eq n.id id) (is_one_of (names_of ns) id) none, others id ns (right_false (bytes_eq n.id id) (is_one_of (names_of ns) id) none))
 
 unheld_add : (held : List HeldStatement) (x : HeldStatement) (id : List ℕ) → is_held x.id held ≡ false → bytes_eq x.id id ≡ false → is_held id held ≡ false → is_held id (add held x) ≡ false
 unheld_add held x id new other none =
@@ -122,13 +132,13 @@ found_add held x new =
 abbrev Added : ℕ → Authority → List HeldStatement → List Named → Named → Type 0
 Added moment by held ns n = is_held n.id held ≡ false → held_under n.id (add_each held (map (held_of moment by) ns)) ≡ Some (held_of moment by n)
 
-added : (moment : ℕ) (by : Authority) (held : List HeldStatement) (ns : List Named) → are_distinct (map (λ (n : Named). n.id) ns) ≡ true → AllByRecursion (Added moment by held ns) ns
+added : (moment : ℕ) (by : Authority) (held : List HeldStatement) (ns : List Named) → are_distinct (names_of ns) ≡ true → AllByRecursion (Added moment by held ns) ns
 added moment by held [] apart = tt
 added moment by held (n ∷ ns) apart = (
   λ new. stays_each n.id (add held (held_of moment by n)) (map (held_of moment by) ns) (held_of moment by n) (found_add held (held_of moment by n) new),
   each_both (λ (m : Named). bytes_eq m.id n.id ≡ false) (Added moment by (add held (held_of moment by n)) ns) (Added moment by held (n ∷ ns)) (λ m other rest new. rest (by_held m other new (is_held n.id held) refl)) ns
-      (others n.id ns (not_true (is_one_of (map (λ (m : Named). m.id) ns) n.id) (and_left _ (are_distinct (map (λ (m : Named). m.id) ns)) apart)))
-      (added moment by (add held (held_of moment by n)) ns (and_right _ (are_distinct (map (λ (m : Named). m.id) ns)) apart)),
+      (others n.id ns (not_true (is_one_of (names_of ns) n.id) (and_left _ (are_distinct (names_of ns)) apart)))
+      (added moment by (add held (held_of moment by n)) ns (and_right _ (are_distinct (names_of ns)) apart)),
 )
   where
     by_held : (m : Named) → bytes_eq m.id n.id ≡ false → is_held m.id held ≡ false → (b : Bool) → is_held n.id held ≡ b → is_held m.id (add held (held_of moment by n)) ≡ false
@@ -140,37 +150,32 @@ added moment by held (n ∷ ns) apart = (
 abbrev IsTaken : List HeldStatement → Named → Type 0
 IsTaken held n = (s : HeldStatement) → held_under n.id held ≡ Some s → same (view s.received) (view n.tree) ≡ true
 
-first_none : (o p : Option Refusal) → first_of o p ≡ None → (o ≡ None) × (p ≡ None)
-first_none None p is = (refl, is)
-first_none (Some r) p is = cc is
-
-taken_under : (by : Who) (held : List HeldStatement) (t : Tree) (id : List ℕ) (s : HeldStatement) → refused_under by held (view t) (Some id) ≡ None → held_under id held ≡ Some s → same (view s.received) (view t) ≡ true
-taken_under by held t id s none is = by_same (same (view s.received) (view t)) (sym (ap (λ o. refused_over by id (view t) o) is) ∙ none)
+taken_under : (by : Who) (held before : List HeldStatement) (t : Tree) (id : List ℕ) (s : HeldStatement) → met by held before (Some id) (view t) ≡ None → held_under id held ≡ Some s → same (view s.received) (view t) ≡ true
+taken_under by held before t id s none is = by_same (same (view s.received) (view t)) (sym (ap (λ o. met_over by before id (view t) o) is) ∙ none)
   where
-    by_same : (b : Bool) → (if b then None else Some (Conflict id)) ≡ None → b ≡ true
+    by_same : (b : Bool) → when (not b) (Conflict id) ≡ None → b ≡ true
     by_same true q = refl
     by_same false q = cc q
 
-taken_from : (by : Who) (held : List HeldStatement) (ids : List (List ℕ)) (most word : ℕ) (ts : List Tree) → refused_in by held ts ≡ None
-    → AllByRecursion (λ (n : Named). own_id (view n.tree) ≡ None → is_held n.id held ≡ false) (named_from held ids most word ts) → AllByRecursion (IsTaken held) (named_from held ids most word ts)
-taken_from by held ids most word [] none new = tt
-taken_from by held ids most word (t ∷ ts) none new = (
+taken_from : (st : State) (at : Occasion) (before : List HeldStatement) (supply : Supply) (ts : List Tree) → met_in st at before (named supply ts) ≡ None
+    → AllByRecursion (λ (n : Named). own_id (view n.tree) ≡ None → is_held n.id st.statements ≡ false) (named supply ts) → AllByRecursion (IsTaken st.statements) (named supply ts)
+taken_from st at before supply [] none new = tt
+taken_from st at before supply (t ∷ ts) none new = (
   λ s is. by_own s (own_id (view t)) refl is,
-  taken_from by held (ids_behind ids (free_word held ids most word) (own_id (view t))) most (word_behind word (free_word held ids most word) (own_id (view t))) ts
-      (first_none (refused_under by held (view t) (own_id (view t))) (refused_in by held ts) none).1 new.1,
+  taken_from st at (add_each before (kept_by at.moment (authority_of st at.by) (record { id = id_for (supply 0) (own_id (view t)); tree = t } ∷ []))) (supply_behind supply (own_id (view t))) ts
+      (first_none (met at.by st.statements before (own_id (view t)) (view t)) _ none).1 new.1,
 )
   where
-    by_own : (s : HeldStatement) (o : Option (List ℕ)) → own_id (view t) ≡ o → held_under (id_for (free_word held ids most word) (own_id (view t))) held ≡ Some s → same (view s.received) (view t) ≡ true
+    by_own : (s : HeldStatement) (o : Option (List ℕ)) → own_id (view t) ≡ o → held_under (id_for (supply 0) (own_id (view t))) st.statements ≡ Some s → same (view s.received) (view t) ≡ true
     by_own s None own is = absurd (false≢true (sym (new.0 own) ∙ ap (λ o. is_some o) is))
     by_own s (Some id) own is =
-        taken_under by held t id s (sym (ap (λ o. refused_under by held (view t) o) own) ∙ (first_none (refused_under by held (view t) (own_id (view t))) (refused_in by held ts) none).0)
-        (sym (ap (λ o. held_under (id_for (free_word held ids most word) o) held) own) ∙ is)
+        taken_under at.by st.statements before t id s
+        (sym (ap (λ o. met at.by st.statements before o (view t)) own) ∙ (first_none (met at.by st.statements before (own_id (view t)) (view t)) _ none).0)
+        (sym (ap (λ o. held_under (id_for (supply 0) o) st.statements) own) ∙ is)
 
-alike_from : IsSameness → (held : List HeldStatement) (ids : List (List ℕ)) (most word : ℕ) (ts : List Tree) → AreLawfulTrees ts
-    → AllByRecursion (λ (n : Named). same (view n.tree) (view n.tree) ≡ true) (named_from held ids most word ts)
-alike_from sameness held ids most word [] lawful = tt
-alike_from sameness held ids most word (t ∷ ts) lawful =
-    (sameness.reflexive (view t) lawful.0.0, alike_from sameness held (ids_behind ids (free_word held ids most word) (own_id (view t))) most (word_behind word (free_word held ids most word) (own_id (view t))) ts lawful.1)
+alike_from : IsSameness → (supply : Supply) (ts : List Tree) → AreLawfulTrees ts → AllByRecursion (λ (n : Named). same (view n.tree) (view n.tree) ≡ true) (named supply ts)
+alike_from sameness supply [] lawful = tt
+alike_from sameness supply (t ∷ ts) lawful = (sameness.reflexive (view t) lawful.0.0, alike_from sameness (supply_behind supply (own_id (view t))) ts lawful.1)
 
 abbrev IsKept : List HeldStatement → Named → Type 0
 IsKept held n = (s : HeldStatement) × (held_under n.id held ≡ Some s) × (same (view s.received) (view n.tree) ≡ true)
@@ -183,7 +188,7 @@ kept_one : (moment : ℕ) (by : Authority) (held : List HeldStatement) (ns : Lis
 kept_one moment by held ns n None is taken fresh = (held_of moment by n, fresh.0 (ap (λ o. is_some o) is), fresh.1)
 kept_one moment by held ns n (Some s) is taken fresh = (s, stays_each n.id held (map (held_of moment by) ns) s is, taken s is)
 
-whole_list : (moment : ℕ) (by : Authority) (held : List HeldStatement) (ns : List Named) → are_distinct (map (λ (n : Named). n.id) ns) ≡ true → AllByRecursion (IsTaken held) ns
+whole_list : (moment : ℕ) (by : Authority) (held : List HeldStatement) (ns : List Named) → are_distinct (names_of ns) ≡ true → AllByRecursion (IsTaken held) ns
     → AllByRecursion (λ (n : Named). same (view n.tree) (view n.tree) ≡ true) ns → AllByRecursion (IsKept (add_each held (map (held_of moment by) ns))) ns
 whole_list moment by held ns apart taken alike =
     each_both (IsTaken held) (IsFresh moment by held ns) (IsKept (add_each held (map (held_of moment by) ns))) (λ n t fresh. kept_one moment by held ns n (held_under n.id held) refl t fresh) ns taken
@@ -193,17 +198,19 @@ whole_list moment by held ns apart taken alike =
 
 pub batches_are_whole : IsSameness → BatchesAreWhole
 batches_are_whole sameness limit h caller trees clock draw e small lawful is =
-    let held : List HeldStatement = (state h).statements in
-    let moment : ℕ = max (clamped clock) (state h).last in
-    let x : Entry = entry_at caller (Post trees) moment draw in
-    let shown = entry_kept (said_at_once (state h) caller (Post trees)) limit (end_place limit h) (thanks (state h) (Post trees) draw) x e is in
-    let inside = unbarred (barred Store (who_in h caller)) (said_inside (state h) (who_in h caller) (Post trees)) shown.0 in
-    let formed = unrefused held trees (refused_batch trees) (refused_in (who_in h caller) held trees) inside.1 in
-    let authority = known (state h).admin (state h).callers caller inside.0 in
-    let statements : (state (h ++ x ∷ [])).statements ≡ add_each held (map (held_of moment authority.0) (named_batch held draw trees)) =
-    ap (λ st. st.statements) (state_from-append nothing h (x ∷ [])) ∙ ap (λ o. add_each held (kept_by moment o (named_batch held draw trees))) authority.1 in
-    subst (λ y. AllByRecursion (IsKept (state (h ++ y ∷ [])).statements) (named_batch held draw trees)) shown.1
-    (subst (λ l. AllByRecursion (IsKept l) (named_batch held draw trees)) (sym statements)
-    (whole_list moment authority.0 held (named_batch held draw trees) (batch_distinct held draw trees small formed.0)
-    (taken_from (who_in h caller) held (given_ids trees) (length held + length trees) (draw.name % 2 ^ 122) trees formed.1 (batch_new held draw trees small))
-    (alike_from sameness held (given_ids trees) (length held + length trees) (draw.name % 2 ^ 122) trees lawful)))
+    let st : State = state h in
+    let held : List HeldStatement = st.statements in
+    let x : Entry = next_entry st caller (Post trees) clock draw in
+    let at : Occasion = occasion_of h caller trees clock draw in
+    let batch : List Named = named_batch h trees draw in
+    let shown = entry_kept (said_at_once st x) limit (end_place limit h) (acceptance st (Post trees) (effect st x)) x e is in
+    let reasons = no_reason (barred Store at.by) (refused_batch trees) (conflict st at (Post trees)) (unrefused (refusal st x) _ shown.0) in
+    let authority = known st caller reasons.0 in
+    let statements : (state (h ++ x ∷ [])).statements ≡ add_each held (map (held_of at.moment authority.0) batch) =
+    ap (λ s. s.statements) (state_from-append nothing h (x ∷ []))
+    ∙ (add_each-new held (brought st at (Post trees)) ∙ ap (λ o. add_each held (kept_by at.moment o batch)) authority.1) in
+    subst (λ y. AllByRecursion (IsKept (state (h ++ y ∷ [])).statements) batch) shown.1
+    (subst (λ l. AllByRecursion (IsKept l) batch) (sym statements)
+    (whole_list at.moment authority.0 held batch (batch_distinct held draw.name trees small reasons.1)
+    (taken_from st at held at.supply trees reasons.2 (batch_new held draw.name trees small))
+    (alike_from sameness at.supply trees lawful)))

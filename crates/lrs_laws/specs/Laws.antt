@@ -1,34 +1,41 @@
 -- What follows from the definitions over every history: an id names one statement, for good, a batch is kept whole, and the
 -- pages of a list give it whole.
-use Rattle.std.specs.Prelude.{◌≡◌, ◌≢◌, ◌<◌, ◌≤◌, ◌+◌, ◌^◌, ◌==◌, ℕ, List, [], ◌∷◌, ◌++◌, length, map, take, Option, Some, None, MatchOption, Bool, true, false, IsTrue}
+use Rattle.std.specs.Prelude.{◌≡◌, ◌≢◌, ◌<◌, ◌≤◌, ◌+◌, ◌^◌, ◌==◌, ℕ, List, [], ◌∷◌, ◌++◌, length, map, take, Option, Some, None, MatchOption, true, false, IsTrue}
 use Rattle.std.specs.List.{AllByRecursion, IsDistinct}
+use Rattle.lrs_command.specs.declared.command.Area.TheVariants.{Store}
+use Rattle.lrs_command.specs.declared.command.Command.TheVariants.{Read, Write}
+use Rattle.lrs_command.specs.declared.command.Read.TheVariants as read
+use Rattle.lrs_command.specs.declared.who.Who.{Who}
+use Rattle.lrs_history.specs.Effects.{Occasion, occasion}
+use Rattle.lrs_history.specs.History.{answer, next_entry, only, refused, state, IsLegal}
+use Rattle.lrs_history.specs.Refusals.{barred, met_in, refused_batch, refused_form}
+use Rattle.lrs_history.specs.Whose.{sight_of, who_is}
 use Rattle.lrs_json.specs.View.{view}
 use Rattle.lrs_json.specs.declared.tree.Tree.{Tree}
 use Rattle.lrs_names.specs.declared.draw.Draw.{Draw}
-use Rattle.lrs_record.specs.declared.entry.Caller.{Caller}
-use Rattle.lrs_record.specs.declared.entry.Command.TheVariants.{Get, More, Put, Post}
-use Rattle.lrs_record.specs.declared.entry.Entry.{Entry}
-use Rattle.lrs_record.specs.declared.rule.Area.TheVariants.{Store}
-use Rattle.lrs_record.specs.declared.who.Who.{Who}
+use Rattle.lrs_parts.specs.State.{used_in}
 use Rattle.lrs_record.specs.Entries.{AreLawfulTrees}
+use Rattle.lrs_record.specs.declared.entry.Caller.{Caller}
+use Rattle.lrs_record.specs.declared.entry.Entry.{Entry}
+use Rattle.lrs_record.specs.declared.entry.Write.TheVariants.{Put, Post}
+use Rattle.lrs_replies.specs.Texts.{ids_body}
+use Rattle.lrs_replies.specs.declared.answered.Answered.TheVariants.{Same, Shown}
+use Rattle.lrs_replies.specs.declared.answered.Refusal.TheVariants.{Conflict}
 use Rattle.xapi_equal.specs.Same.{same}
+use Rattle.xapi_index.specs.Batches.{Named, given_ids, named, names_of}
+use Rattle.xapi_index.specs.Ids.{are_distinct, supply_of}
+use Rattle.xapi_index.specs.Listings.{is_behind, listing, listing_behind, page_behind, page_body}
+use Rattle.xapi_index.specs.Statements.{held_under, ids_of, is_held, is_voided}
 use Rattle.xapi_query.specs.declared.link.MoreLink.{MoreLink}
 use Rattle.xapi_query.specs.declared.query.Query.{Query}
 use Rattle.xapi_query.specs.declared.sight.Sight.{Sight}
 use Rattle.xapi_query.specs.declared.wanted.Wanted.TheVariants.{Many}
 use Rattle.xapi_statement.specs.Completed.{HeldStatement}
 use Rattle.xapi_statement.specs.Statement.{own_id}
-use Rattle.lrs_history.specs.declared.answered.Answered.TheVariants.{Same, Shown}
-use Rattle.lrs_history.specs.declared.answered.Refusal.TheVariants.{Conflict}
-use Rattle.lrs_history.specs.Batches.{Named, are_distinct, given_ids, named_batch, refused_batch, refused_in}
-use Rattle.lrs_history.specs.History.{Answer, State, answer, barred, refused, refused_form, state, who_is, IsLegal}
-use Rattle.lrs_history.specs.Listings.{is_behind, listing, listing_behind, page_behind, page_body}
-use Rattle.lrs_history.specs.Statements.{held_under, is_held, is_voided, sight_of}
-use Rattle.lrs_history.specs.Texts.{ids_body}
 
 -- what a history makes of a caller
 abbrev pub who_in : List Entry → Caller → Who
-who_in h caller = who_is (state h).admin (state h).callers caller
+who_in h caller = who_is (state h) caller
 
 -- the store lets the caller in
 abbrev pub IsLetIn : List Entry → Caller → Type 0
@@ -60,6 +67,14 @@ pub record Contradicts (held : List HeldStatement) (t : Tree) (id : List ℕ) : 
   pub there : held_under id held ≡ Some first
   pub other : same (view first.received) (view t) ≡ false
 
+-- the occasion on which a history meets statements that come together
+abbrev pub occasion_of : List Entry → Caller → List Tree → ℕ → Draw → Occasion
+occasion_of h caller trees clock draw = occasion (state h) (next_entry (state h) caller (Post trees) clock draw)
+
+-- the same statements, each with the id under which it goes
+abbrev pub named_batch : List Entry → List Tree → Draw → List Named
+named_batch h trees draw = named (supply_of (used_in (state h)) (given_ids trees) draw.name) trees
+
 -- There are fewer ids in use than can be made.
 abbrev pub IsSmall : List Entry → List Tree → Type 0
 IsSmall h trees = length (state h).statements + length trees < 2 ^ 122
@@ -68,7 +83,7 @@ IsSmall h trees = length (state h).statements + length trees < 2 ^ 122
 
 -- no two statements have one id
 abbrev pub NamesOne : Type 0
-NamesOne = (h : List Entry) → IsTrue (are_distinct (map (λ (s : HeldStatement). s.id) (state h).statements))
+NamesOne = (h : List Entry) → IsTrue (are_distinct (ids_of (state h).statements))
 
 -- what an id names, it names behind every further entry
 abbrev pub NamesForGood : Type 0
@@ -84,26 +99,27 @@ StaysVoided = (h more : List Entry) (s : HeldStatement) → is_voided (state h).
 abbrev pub RepeatsAreTaken : Type 0
 RepeatsAreTaken =
     (limit : ℕ) (h : List Entry) (caller : Caller) (id : List ℕ) (t : Tree) (s : HeldStatement) (clock : ℕ) (draw : Draw) → Meets h caller id t s
-    → same (view s.received) (view t) ≡ true → answer limit h caller (Put id t) clock draw ≡ record { said = Same; entry = None }
+    → same (view s.received) (view t) ≡ true → answer limit h caller (Write (Put id t)) clock draw ≡ only Same
 
 -- another one is told the id, and makes none
 abbrev pub ConflictsAreTold : Type 0
 ConflictsAreTold =
     (limit : ℕ) (h : List Entry) (caller : Caller) (id : List ℕ) (t : Tree) (s : HeldStatement) (clock : ℕ) (draw : Draw) → Meets h caller id t s
-    → same (view s.received) (view t) ≡ false → answer limit h caller (Put id t) clock draw ≡ record { said = refused (Conflict id); entry = None }
+    → same (view s.received) (view t) ≡ false → answer limit h caller (Write (Put id t)) clock draw ≡ only (refused (Conflict id))
 
 -- a batch of which each is held is told its ids, and makes no entry
 abbrev pub RepeatedBatchesAreTaken : Type 0
 RepeatedBatchesAreTaken =
     (limit : ℕ) (h : List Entry) (caller : Caller) (trees : List Tree) (clock : ℕ) (draw : Draw) → ComeTogether h caller trees → AllByRecursion (Repeats (state h).statements) trees
-    → answer limit h caller (Post trees) clock draw ≡ record { said = Shown (ids_body (given_ids trees)) None; entry = None }
+    → answer limit h caller (Write (Post trees)) clock draw ≡ only (Shown (ids_body (given_ids trees)) None)
 
 -- the first that meets another statement is told, where none before it is refused
 abbrev pub BatchConflictsAreTold : Type 0
 BatchConflictsAreTold =
     (limit : ℕ) (h : List Entry) (caller : Caller) (before behind : List Tree) (t : Tree) (id : List ℕ) (clock : ℕ) (draw : Draw) → ComeTogether h caller (before ++ t ∷ behind)
-    → refused_in (who_in h caller) (state h).statements before ≡ None → Contradicts (state h).statements t id
-    → answer limit h caller (Post (before ++ t ∷ behind)) clock draw ≡ record { said = refused (Conflict id); entry = None }
+    → let at = occasion_of h caller (before ++ t ∷ behind) clock draw in
+    met_in (state h) at (state h).statements (named at.supply before) ≡ None → Contradicts (state h).statements t id
+    → answer limit h caller (Write (Post (before ++ t ∷ behind))) clock draw ≡ only (refused (Conflict id))
 
 -- ---- a batch
 
@@ -111,16 +127,16 @@ BatchConflictsAreTold =
 abbrev pub MadeIdsAreNew : Type 0
 MadeIdsAreNew =
     (h : List Entry) (trees : List Tree) (draw : Draw) → IsSmall h trees → refused_batch trees ≡ None
-    → IsTrue (are_distinct (map (λ (n : Named). n.id) (named_batch (state h).statements draw trees)))
-    × AllByRecursion (λ (n : Named). own_id (view n.tree) ≡ None → is_held n.id (state h).statements ≡ false) (named_batch (state h).statements draw trees)
+    → IsTrue (are_distinct (names_of (named_batch h trees draw)))
+    × AllByRecursion (λ (n : Named). own_id (view n.tree) ≡ None → is_held n.id (state h).statements ≡ false) (named_batch h trees draw)
 
 -- Where a batch has an entry, behind that each of its statements, or the same one, is held under the id that its caller was
 -- told.
 abbrev pub BatchesAreWhole : Type 0
 BatchesAreWhole =
     (limit : ℕ) (h : List Entry) (caller : Caller) (trees : List Tree) (clock : ℕ) (draw : Draw) (e : Entry) → IsSmall h trees → AreLawfulTrees trees
-    → (answer limit h caller (Post trees) clock draw).entry ≡ Some e
-    → AllByRecursion (λ (n : Named). (s : HeldStatement) × (held_under n.id (state (h ++ e ∷ [])).statements ≡ Some s) × (same (view s.received) (view n.tree) ≡ true)) (named_batch (state h).statements draw trees)
+    → (answer limit h caller (Write (Post trees)) clock draw).entry ≡ Some e
+    → AllByRecursion (λ (n : Named). (s : HeldStatement) × (held_under n.id (state (h ++ e ∷ [])).statements ≡ Some s) × (same (view s.received) (view n.tree) ≡ true)) (named_batch h trees draw)
 
 -- ---- pages
 
@@ -177,8 +193,8 @@ abbrev pub FirstPagesAreTold : Type 0
 FirstPagesAreTold =
     (limit : ℕ) (h : List Entry) (caller : Caller) (query : Query) (clock : ℕ) (draw : Draw) → IsLetIn h caller
     → let all = (state h).statements in
-    answer limit h caller (Get (Many query)) clock draw
-    ≡ record { said = Shown (page_body query (length all) all (page_behind query (sight_in h caller) all None)) (Some (state h).last); entry = None }
+    answer limit h caller (Read (read.Statements (Many query))) clock draw
+    ≡ only (Shown (page_body query (length all) all (page_behind query (sight_in h caller) all None)) (Some (state h).last))
 
 -- A link is told the same page for ever, as the history h has it, whatever is accepted behind h.
 abbrev pub LinksStay : Type 0
@@ -186,8 +202,5 @@ LinksStay =
     (limit : ℕ) (h more : List Entry) (caller : Caller) (link : MoreLink) (clock : ℕ) (draw : Draw) → IsLegal limit h → IsLetIn h caller
     → link.asof ≤ length (state h).statements
     → let all = (state h).statements in
-    answer limit (h ++ more) caller (More link) clock draw
-    ≡ record {
-      said = Shown (page_body link.query link.asof all (page_behind link.query (sight_in h caller) (take link.asof all) (Some link.after))) (Some (state (h ++ more)).last);
-      entry = None;
-    }
+    answer limit (h ++ more) caller (Read (read.More link)) clock draw
+    ≡ only (Shown (page_body link.query link.asof all (page_behind link.query (sight_in h caller) (take link.asof all) (Some link.after))) (Some (state (h ++ more)).last))

@@ -1,83 +1,45 @@
 -- From the fields to the history.
-use Rattle.std.proofs.Common.{◌≡◌, ◌<◌, ◌≤◌, ◌+◌, ◌-◌, ◌^◌, ℕ, min, max, List, [], ◌∷◌, ◌++◌, length, map, refl, sym, ◌∙◌, ap, subst, inl, inr, arith, length-append, Option, Some, None, Bool, true, false, nat_lt, Result, Ok, Err, IsErr, IsErrOf}
-use Rattle.std.specs.Prelude.{option_map, if◌then◌else◌}
-use Rattle.std.proofs.lemmas.Grind.{common_steps}
-use Rattle.lrs_names.specs.declared.draw.Draw.{Draw}
-use Rattle.lrs_journal.specs.Store.{store}
-use Rattle.lrs_journal.specs.declared.journal.AppendRefused.{AppendRefused}
-use Rattle.lrs_journal.specs.declared.journal.AppendRefused.TheVariants as append
-use Rattle.lrs_journal.specs.Journal.{need_of, Held, frames_of, IsJournal, IsUnchanged, IsAppended}
-use Rattle.lrs_record.specs.declared.entry.Caller.{Caller}
-use Rattle.lrs_record.specs.declared.entry.Command.{Command}
-use Rattle.lrs_record.specs.declared.entry.Entry.{Entry}
-use Rattle.lrs_record.specs.Entries.{IsLawful, written_entry}
-use Rattle.lrs_record.specs.Moments.{clamped, latest}
-use Rattle.lrs_history.specs.declared.answered.Answered.{Answered}
-use Rattle.lrs_history.specs.declared.answered.Refusal.TheVariants as refusal
-use Rattle.lrs_history.specs.declared.reply.Trouble.{Trouble}
-use Rattle.lrs_history.specs.declared.reply.Trouble.TheVariants as trouble
-use Rattle.lrs_history.specs.History.{State, state, step, nothing, Answer, answer, answer_by, kept, thanks, refused, said_at_once, entry_at, need, end_place, IsLegal, ComesNext}
+use Rattle.std.proofs.Common.{◌≡◌, ◌<◌, ◌≤◌, ◌+◌, ◌-◌, ◌^◌, ℕ, min, List, [], ◌∷◌, ◌++◌, length, map, refl, sym, ◌∙◌, ap, subst, inl, inr, arith, length-append, Option, Some, None, true, false, Result, Ok, Err}
+use Rattle.std.specs.Prelude.{option_map}
+use Rattle.lrs_command.specs.declared.command.Command.{Command}
+use Rattle.lrs_fold.specs.Verdicts.{IsAccepted, IsVerdict}
+use Rattle.lrs_fold.specs.declared.verdict.Accepted.{Accepted as Made}
+use Rattle.lrs_fold.specs.declared.verdict.Verdict.TheVariants as made
+use Rattle.lrs_history.specs.History.{Verdict, Told, Accepted, answer, answer_of, refused, state, step, need, end_place, verdict, IsLegal, ComesNext}
+use Rattle.lrs_fold.proofs.Again.{kept_again}
 use Rattle.lrs_history.proofs.Kept.{kept_answer, room_is, full_is}
-use Rattle.lrs_machine.specs.Steps.{IsTied, HasFold, Still, Grows, IsFull, SaysBy, Acts}
+use Rattle.lrs_journal.specs.Store.{store}
+use Rattle.lrs_journal.specs.Journal.{need_of, Held, frames_of, IsJournal, IsUnchanged, IsAppended}
 use Rattle.lrs_machine.specs.Desk.{StandsFor, Answers}
+use Rattle.lrs_machine.specs.Steps.{IsTied, HasFold, Still, Grows, GrowsBy, IsFull, SaysBy, Acts}
 use Rattle.lrs_machine.proofs.Histories.{state_from-more, map-more, legal_with, one_history}
-
--- a legal history isn't empty, so the next entry is the answer's
-pub next_of : (limit : ℕ) (h : List Entry) (e : Entry) → IsLegal limit h → (answer limit h e.caller e.command e.moment e.draw).entry ≡ Some e → ComesNext limit h e
-next_of limit [] e legal is = absurd (no legal.0)
-  where
-    no : length {A = Entry} [] < 0 → ⊥
-    no h = omega (arith, h)
-next_of limit (x ∷ h) e legal is = is
-
--- the entry that a command may have over a history
-abbrev pub entry_for : List Entry → Caller → Command → ℕ → Draw → Entry
-entry_for h caller command clock draw = entry_at caller command (max (clamped clock) (state h).last) draw
-
-answer_at_once : (limit : ℕ) (h : List Entry) (caller : Caller) (command : Command) (clock : ℕ) (draw : Draw) (o : Option Answered) → said_at_once (state h) caller command ≡ o
-    → answer limit h caller command clock draw ≡ answer_by o limit (end_place limit h) (thanks (state h) command draw) (entry_for h caller command clock draw)
-answer_at_once limit h caller command clock draw o is = ap (λ o. answer_by o limit (end_place limit h) (thanks (state h) command draw) (entry_for h caller command clock draw)) is
-
--- asked again at its own moment, a kept entry is kept
-pub kept_again : (limit : ℕ) (h : List Entry) (caller : Caller) (command : Command) (clock : ℕ) (draw : Draw) → IsLegal limit h → said_at_once (state h) caller command ≡ None
-    → need (end_place limit h) (entry_for h caller command clock draw) ≤ limit → (entry_for h caller command clock draw).moment ≤ latest → ComesNext limit h (entry_for h caller command clock draw)
-kept_again limit h caller command clock draw legal at_once fits early =
-    next_of limit h (entry_for h caller command clock draw) legal
-    (ap (λ a. a.entry) (answer_at_once limit h caller command (max (clamped clock) (state h).last) draw None at_once
-    ∙ ap (λ m. kept limit (end_place limit h) (thanks (state h) command draw) (entry_at caller command m draw)) same
-    ∙ room_is limit (end_place limit h) (thanks (state h) command draw) (entry_for h caller command clock draw) fits))
-  where
-    same : max (clamped (max (clamped clock) (state h).last)) (state h).last ≡ max (clamped clock) (state h).last
-    same = again clock (state h).last early
-      where
-        again : (c n : ℕ) → max (min c 253402300799999) n ≤ 253402300799999 → max (min (max (min c 253402300799999) n) 253402300799999) n ≡ max (min c 253402300799999) n
-        again c n le = omega (arith, le)
+use Rattle.lrs_names.specs.declared.draw.Draw.{Draw}
+use Rattle.lrs_parts.specs.State.{State, apply, nothing}
+use Rattle.lrs_record.specs.Entries.{IsLawful, written_entry}
+use Rattle.lrs_record.specs.declared.entry.Caller.{Caller}
+use Rattle.lrs_record.specs.declared.entry.Entry.{Entry}
+use Rattle.lrs_replies.specs.declared.answered.Answered.{Answered}
+use Rattle.lrs_replies.specs.declared.answered.Refusal.TheVariants as refusal
+use Rattle.lrs_replies.specs.declared.reply.Trouble.{Trouble}
+use Rattle.lrs_replies.specs.declared.reply.Trouble.TheVariants as trouble
 
 -- ---- the tie goes on
 
-fold_more : (limit end : ℕ) (h : List Entry) (caller : Caller) (command : Command) (clock : ℕ) (draw : Draw) (su : State) → IsLegal limit h → end ≡ end_place limit h
-    → said_at_once (state h) caller command ≡ None → IsLawful (entry_for h caller command clock draw) → need end (entry_for h caller command clock draw) ≤ limit
-    → su ≡ step (state h) (entry_for h caller command clock draw) → HasFold limit su (map written_entry h ++ written_entry (entry_for h caller command clock draw) ∷ [])
-fold_more limit end h caller command clock draw su legal place at_once lawful fits is = (
-  h ++ entry_for h caller command clock draw ∷ [],
-  sym (map-more written_entry h (entry_for h caller command clock draw)),
-  legal_with limit h (entry_for h caller command clock draw) legal lawful
-      (kept_again limit h caller command clock draw legal at_once (subst (λ p. need p (entry_for h caller command clock draw) ≤ limit) place fits) lawful.values.moment),
-  is ∙ sym (state_from-more nothing h (entry_for h caller command clock draw)),
+fold_more : (limit end : ℕ) (h : List Entry) (caller : Caller) (c : Command) (clock : ℕ) (draw : Draw) (e : Entry) (said : Answered) (su : State) → IsLegal limit h → end ≡ end_place limit h
+    → verdict (state h) caller c clock draw ≡ Accepted e said → IsLawful e → need end e ≤ limit → su ≡ step (state h) e → HasFold limit su (map written_entry h ++ written_entry e ∷ [])
+fold_more limit end h caller c clock draw e said su legal place at lawful fits is = (
+  h ++ e ∷ [],
+  sym (map-more written_entry h e),
+  legal_with limit h e legal lawful (kept_again limit h caller c clock draw e said legal at (subst (λ p. need p e ≤ limit) place fits) lawful.values.moment),
+  is ∙ sym (state_from-more nothing h e),
 )
 
-abbrev entry_in : State → Caller → Command → ℕ → Draw → Entry
-entry_in st caller command clock draw = entry_at caller command (max (clamped clock) st.last) draw
-
-fold_grown : (limit end : ℕ) (fs : List (List ℕ)) (caller : Caller) (command : Command) (clock : ℕ) (draw : Draw) (st su : State) → HasFold limit st fs → end ≡ length (store limit fs)
-    → said_at_once st caller command ≡ None → IsLawful (entry_in st caller command clock draw) → need end (entry_in st caller command clock draw) ≤ limit
-    → su ≡ step st (entry_in st caller command clock draw) → HasFold limit su (fs ++ written_entry (entry_in st caller command clock draw) ∷ [])
-fold_grown limit end fs caller command clock draw st su (h, are, legal, folded) place at_once lawful fits is =
-    subst (λ gs. HasFold limit su (gs ++ written_entry (entry_in st caller command clock draw) ∷ [])) (sym are)
-    (subst (λ z. HasFold limit su (map written_entry h ++ written_entry (entry_in z caller command clock draw) ∷ [])) (sym folded)
-    (fold_more limit end h caller command clock draw su legal (place ∙ ap (λ gs. length (store limit gs)) are)
-    (subst (λ z. said_at_once z caller command ≡ None) folded at_once) (subst (λ z. IsLawful (entry_in z caller command clock draw)) folded lawful)
-    (subst (λ z. need end (entry_in z caller command clock draw) ≤ limit) folded fits) (subst (λ z. su ≡ step z (entry_in z caller command clock draw)) folded is)))
+fold_grown : (limit end : ℕ) (fs : List (List ℕ)) (caller : Caller) (c : Command) (clock : ℕ) (draw : Draw) (e : Entry) (said : Answered) (st su : State) → HasFold limit st fs → end ≡ length (store limit fs)
+    → verdict st caller c clock draw ≡ Accepted e said → IsLawful e → need end e ≤ limit → su ≡ step st e → HasFold limit su (fs ++ written_entry e ∷ [])
+fold_grown limit end fs caller c clock draw e said st su (h, are, legal, folded) place at lawful fits is =
+    subst (λ gs. HasFold limit su (gs ++ written_entry e ∷ [])) (sym are)
+    (fold_more limit end h caller c clock draw e said su legal (place ∙ ap (λ gs. length (store limit gs)) are)
+    (subst (λ z. verdict z caller c clock draw ≡ Accepted e said) folded at) lawful fits (is ∙ ap (λ z. step z e) folded))
 
 -- where the new frames are told, so are the old ones
 told_before : (o p : Option (List (List ℕ))) (f gs : List (List ℕ)) (P : List (List ℕ) → Type 0) → p ≡ option_map (λ fs. fs ++ f) o → p ≡ Some gs
@@ -98,30 +60,34 @@ still_tied told image old new st su tied sound still = record {
   folded = λ gs there. subst (λ l. HasFold l su gs) (sym still.0.limit) (subst (λ z. HasFold old.limit z gs) (sym still.1) (tied.folded gs (sym still.0.frames ∙ there)));
 }
 
-grown_tied : {D : Type 0} (told : D → Option (List ℕ)) (image : D → List ℕ → Type 0) (old new : Held D) (caller : Caller) (command : Command) (clock : ℕ) (draw : Draw) (st su : State)
-    → IsTied told image old st → IsJournal told image new → said_at_once st caller command ≡ None → Grows told old new st su (entry_in st caller command clock draw) → IsTied told image new su
-grown_tied told image old new caller command clock draw st su tied sound at_once grown = record {
+grown_tied : {D : Type 0} (told : D → Option (List ℕ)) (image : D → List ℕ → Type 0) (old new : Held D) (caller : Caller) (c : Command) (clock : ℕ) (draw : Draw) (e : Entry) (said : Answered) (st su : State)
+    → IsTied told image old st → IsJournal told image new → verdict st caller c clock draw ≡ Accepted e said → Grows told old new st su e → IsTied told image new su
+grown_tied told image old new caller c clock draw e said st su tied sound at grown = record {
   sound = sound;
   folded = λ gs there. subst (λ l. HasFold l su gs) (sym grown.appended.limit)
-      (told_before (frames_of told old) (frames_of told new) (written_entry (entry_in st caller command clock draw) ∷ []) gs (HasFold old.limit su) grown.appended.frames there
-      (λ fs here. fold_grown old.limit old.end fs caller command clock draw st su (tied.folded fs here) (tied.sound.holds fs here).place at_once grown.lawful grown.room grown.folded));
+      (told_before (frames_of told old) (frames_of told new) (written_entry e ∷ []) gs (HasFold old.limit su) grown.appended.frames there
+      (λ fs here. fold_grown old.limit old.end fs caller c clock draw e said st su (tied.folded fs here) (tied.sound.holds fs here).place at grown.lawful grown.room grown.folded));
 }
 
 -- an act keeps the fold tied to the journal
-pub act_ties : {D : Type 0} (told : D → Option (List ℕ)) (image : D → List ℕ → Type 0) (old new : Held D) (caller : Caller) (command : Command) (clock : ℕ) (draw : Draw) (st su : State) (r : Result Answered Trouble)
-    → IsTied told image old st → IsJournal told image new → Acts told old new st su (entry_in st caller command clock draw) r → IsTied told image new su
-act_ties told image old new caller command clock draw st su r tied sound acts = by_result r acts
+pub act_ties : {D : Type 0} (told : D → Option (List ℕ)) (image : D → List ℕ → Type 0) (old new : Held D) (caller : Caller) (c : Command) (clock : ℕ) (draw : Draw) (st su : State) (r : Result Answered Trouble)
+    → IsTied told image old st → IsJournal told image new → Acts told old new st su (verdict st caller c clock draw) r → IsTied told image new su
+act_ties told image old new caller c clock draw st su r tied sound acts = by_result (verdict st caller c clock draw) r refl acts
   where
-    by_said : (o : Option Answered) (s : Answered) → said_at_once st caller command ≡ o → SaysBy told old new st su (entry_in st caller command clock draw) o s → IsTied told image new su
-    by_said (Some t) s is k = still_tied told image old new st su tied sound k.1
-    by_said None s is (inl k) = grown_tied told image old new caller command clock draw st su tied sound is k.1
-    by_said None s is (inr k) = still_tied told image old new st su tied sound k.4
+    by_said : (v : Verdict) (s : Answered) → verdict st caller c clock draw ≡ v → SaysBy told old new st su v s → IsTied told image new su
+    by_said (Told t) s is k = still_tied told image old new st su tied sound k.1
+    by_said (Accepted e t) s is (inl k) = grown_tied told image old new caller c clock draw e t st su tied sound is k.1
+    by_said (Accepted e t) s is (inr k) = still_tied told image old new st su tied sound k.4
 
-    by_result : (r : Result Answered Trouble) → Acts told old new st su (entry_in st caller command clock draw) r → IsTied told image new su
-    by_result (Ok s) k = by_said (said_at_once st caller command) s refl k.1
-    by_result (Err trouble.Memory) k = still_tied told image old new st su tied sound k.1
-    by_result (Err trouble.Disk) (inl k) = still_tied told image old new st su tied sound k.1
-    by_result (Err trouble.Disk) (inr k) = grown_tied told image old new caller command clock draw st su tied sound k.1 k.2
+    by_grown : (v : Verdict) → verdict st caller c clock draw ≡ v → GrowsBy told old new st su v → IsTied told image new su
+    by_grown (Told t) is k = absurd k
+    by_grown (Accepted e t) is k = grown_tied told image old new caller c clock draw e t st su tied sound is k
+
+    by_result : (v : Verdict) (r : Result Answered Trouble) → verdict st caller c clock draw ≡ v → Acts told old new st su v r → IsTied told image new su
+    by_result v (Ok s) is k = by_said v s is k.1
+    by_result v (Err trouble.Memory) is k = still_tied told image old new st su tied sound k.1
+    by_result v (Err trouble.Disk) is (inl k) = still_tied told image old new st su tied sound k.1
+    by_result v (Err trouble.Disk) is (inr k) = by_grown v is k.1
 
 -- ---- the answer is that of the history
 
@@ -146,46 +112,41 @@ stands_more told old new h e stands more lawful next = record {
   counts = omega (arith, more.number, stands.counts, length-append h (e ∷ []));
 }
 
-pub act_answers : {D : Type 0} (told : D → Option (List ℕ)) (image : D → List ℕ → Type 0) (old new : Held D) (caller : Caller) (command : Command) (clock : ℕ) (draw : Draw) (st su : State) (r : Result Answered Trouble) (h : List Entry)
-    → IsTied told image old st → Acts told old new st su (entry_in st caller command clock draw) r → StandsFor told old h
-    → Answers told (answer old.limit h caller command clock draw) h old new r
-act_answers told image old new caller command clock draw st su r h tied acts stands =
-    by_result r (subst (λ z. Acts told old new z su (entry_in z caller command clock draw) r) (standing told image old st h tied stands) acts)
+pub act_answers : {D : Type 0} (told : D → Option (List ℕ)) (image : D → List ℕ → Type 0) (old new : Held D) (caller : Caller) (c : Command) (clock : ℕ) (draw : Draw) (st su : State) (r : Result Answered Trouble) (h : List Entry)
+    → IsTied told image old st → Acts told old new st su (verdict st caller c clock draw) r → StandsFor told old h → Answers told (answer old.limit h caller c clock draw) h old new r
+act_answers told image old new caller c clock draw st su r h tied acts stands =
+    by_result (verdict (state h) caller c clock draw) r refl (subst (λ z. Acts told old new z su (verdict z caller c clock draw) r) (standing told image old st h tied stands) acts)
   where
-    e : Entry
-    e = entry_for h caller command clock draw
-
     place : old.end ≡ end_place old.limit h
     place = (tied.sound.holds (map written_entry h) stands.frames).place
 
-    kept_is : said_at_once (state h) caller command ≡ None → need old.end (entry_for h caller command clock draw) ≤ old.limit
-        → answer old.limit h caller command clock draw ≡ kept_answer (thanks (state h) command draw) (entry_for h caller command clock draw)
-    kept_is is fits = answer_at_once old.limit h caller command clock draw None is
-        ∙ room_is old.limit (end_place old.limit h) (thanks (state h) command draw) (entry_for h caller command clock draw) (subst (λ p. need p (entry_for h caller command clock draw) ≤ old.limit) place fits)
+    kept_is : (e : Entry) (t : Answered) → verdict (state h) caller c clock draw ≡ Accepted e t → need old.end e ≤ old.limit → answer old.limit h caller c clock draw ≡ kept_answer t e
+    kept_is e t is fits = ap (λ v. answer_of old.limit (end_place old.limit h) v) is ∙ room_is old.limit (end_place old.limit h) t e (subst (λ p. need p e ≤ old.limit) place fits)
 
-    more : said_at_once (state h) caller command ≡ None → Grows told old new (state h) su (entry_for h caller command clock draw) → StandsFor told new (h ++ entry_for h caller command clock draw ∷ [])
-    more is g = stands_more told old new h (entry_for h caller command clock draw) stands g.appended g.lawful
-        (kept_again old.limit h caller command clock draw stands.legal is (subst (λ p. need p (entry_for h caller command clock draw) ≤ old.limit) place g.room) g.lawful.values.moment)
+    more : (e : Entry) (t : Answered) → verdict (state h) caller c clock draw ≡ Accepted e t → Grows told old new (state h) su e → StandsFor told new (h ++ e ∷ [])
+    more e t is g = stands_more told old new h e stands g.appended g.lawful
+        (kept_again old.limit h caller c clock draw e t stands.legal is (subst (λ p. need p e ≤ old.limit) place g.room) g.lawful.values.moment)
 
-    by_said : (o : Option Answered) (s : Answered) → said_at_once (state h) caller command ≡ o → new.doubt ≡ false → SaysBy told old new (state h) su (entry_for h caller command clock draw) o s
-        → Answers told (answer old.limit h caller command clock draw) h old new (Ok s)
-    by_said (Some t) s is doubt k = subst (λ a. Answers told a h old new (Ok s)) (sym (answer_at_once old.limit h caller command clock draw (Some t) is))
-        (k.0, doubt, stands_still told old new h stands k.1.0)
-    by_said None s is doubt (inl k) = subst (λ a. Answers told a h old new (Ok s)) (sym (kept_is is k.1.room)) (k.0, doubt, more is k.1)
-    by_said None s is doubt (inr k) =
-        subst (λ a. Answers told a h old new (Ok s)) (sym (answer_at_once old.limit h caller command clock draw None is
-        ∙ full_is old.limit (end_place old.limit h) (thanks (state h) command draw) (entry_for h caller command clock draw) (subst (λ p. old.limit < need p (entry_for h caller command clock draw)) place k.3.exceeds)))
+    by_said : (v : Verdict) (s : Answered) → verdict (state h) caller c clock draw ≡ v → new.doubt ≡ false → SaysBy told old new (state h) su v s → Answers told (answer old.limit h caller c clock draw) h old new (Ok s)
+    by_said (Told t) s is doubt k = subst (λ a. Answers told a h old new (Ok s)) (sym (ap (λ v. answer_of old.limit (end_place old.limit h) v) is)) (k.0, doubt, stands_still told old new h stands k.1.0)
+    by_said (Accepted e t) s is doubt (inl k) = subst (λ a. Answers told a h old new (Ok s)) (sym (kept_is e t is k.1.room)) (k.0, doubt, more e t is k.1)
+    by_said (Accepted e t) s is doubt (inr k) =
+        subst (λ a. Answers told a h old new (Ok s)) (sym (ap (λ v. answer_of old.limit (end_place old.limit h) v) is
+        ∙ full_is old.limit (end_place old.limit h) t e (subst (λ p. old.limit < need p e) place k.3.exceeds)))
         (k.2 ∙ number k.0 k.1 k.3.need_is k.3.limit_is, doubt, stands_still told old new h stands k.4.0)
       where
-        number : (n l : ℕ) → n ≡ min (need old.end (entry_for h caller command clock draw)) (2 ^ 64 - 1) → l ≡ old.limit
-            → refused (refusal.Full n l) ≡ refused (refusal.Full (min (need (end_place old.limit h) (entry_for h caller command clock draw)) (2 ^ 64 - 1)) old.limit)
-        number n l is of = rw (is, of) (ap (λ p. refused (refusal.Full (min (need p (entry_for h caller command clock draw)) (2 ^ 64 - 1)) old.limit)) place)
+        number : (n l : ℕ) → n ≡ min (need old.end e) (2 ^ 64 - 1) → l ≡ old.limit → refused (refusal.Full n l) ≡ refused (refusal.Full (min (need (end_place old.limit h) e) (2 ^ 64 - 1)) old.limit)
+        number n l at of = rw (at, of) (ap (λ p. refused (refusal.Full (min (need p e) (2 ^ 64 - 1)) old.limit)) place)
 
-    by_result : (r : Result Answered Trouble) → Acts told old new (state h) su (entry_for h caller command clock draw) r → Answers told (answer old.limit h caller command clock draw) h old new r
-    by_result (Ok s) k = by_said (said_at_once (state h) caller command) s refl k.0 k.1
-    by_result (Err trouble.Memory) k = (k.0, stands_still told old new h stands k.1.0)
-    by_result (Err trouble.Disk) (inl k) = inl (k.0, stands_still told old new h stands k.1.0)
-    by_result (Err trouble.Disk) (inr k) = subst (λ a. Answers told a h old new (Err trouble.Disk)) (sym (kept_is k.1 k.2.room)) (inr (refl, k.0, more k.1 k.2))
+    by_grown : (v : Verdict) → verdict (state h) caller c clock draw ≡ v → new.doubt ≡ true → GrowsBy told old new (state h) su v → Answers told (answer old.limit h caller c clock draw) h old new (Err trouble.Disk)
+    by_grown (Told t) is doubt k = absurd k
+    by_grown (Accepted e t) is doubt k = subst (λ a. Answers told a h old new (Err trouble.Disk)) (sym (kept_is e t is k.room)) (inr (refl, doubt, more e t is k))
+
+    by_result : (v : Verdict) (r : Result Answered Trouble) → verdict (state h) caller c clock draw ≡ v → Acts told old new (state h) su v r → Answers told (answer old.limit h caller c clock draw) h old new r
+    by_result v (Ok s) is k = by_said v s is k.0 k.1
+    by_result v (Err trouble.Memory) is k = (k.0, stands_still told old new h stands k.1.0)
+    by_result v (Err trouble.Disk) is (inl k) = inl (k.0, stands_still told old new h stands k.1.0)
+    by_result v (Err trouble.Disk) is (inr k) = by_grown v is k.0 k.1
 
 -- ---- behind the settling
 
@@ -209,59 +170,70 @@ grows_then told old mid new st su e a b = record {
 }
 
 -- an act behind the settling
-pub settled_then : {D : Type 0} (told : D → Option (List ℕ)) (old mid new : Held D) (st su : State) (e : Entry) (r : Result Answered Trouble)
-    → IsUnchanged told old mid → mid.doubt ≡ false → Acts told mid new st su e r → Acts told old new st su e r
-settled_then told old mid new st su e r same settled acts = by_result r acts
+pub settled_then : {D : Type 0} (told : D → Option (List ℕ)) (old mid new : Held D) (st su : State) (v : Verdict) (r : Result Answered Trouble)
+    → IsUnchanged told old mid → mid.doubt ≡ false → Acts told mid new st su v r → Acts told old new st su v r
+settled_then told old mid new st su v r same settled acts = by_result r acts
   where
-    full : (n l : ℕ) → IsFull mid e n l → IsFull old e n l
-    full n l k = record {
+    full : (e : Entry) (n l : ℕ) → IsFull mid e n l → IsFull old e n l
+    full e n l k = record {
       exceeds = subst (λ m. m < need old.end e) same.limit (subst (λ p. mid.limit < need p e) same.end k.exceeds);
       need_is = k.need_is ∙ ap (λ p. min (need p e) (2 ^ 64 - 1)) same.end;
       limit_is = k.limit_is ∙ same.limit;
     }
 
-    by_said : (o : Option Answered) (s : Answered) → SaysBy told mid new st su e o s → SaysBy told old new st su e o s
-    by_said (Some t) s k = (k.0, still_then told old mid new st su same k.1)
-    by_said None s (inl k) = inl (k.0, grows_then told old mid new st su e same k.1)
-    by_said None s (inr k) = inr (k.0, k.1, k.2, full k.0 k.1 k.3, still_then told old mid new st su same k.4)
+    by_said : (v : Verdict) (s : Answered) → SaysBy told mid new st su v s → SaysBy told old new st su v s
+    by_said (Told t) s k = (k.0, still_then told old mid new st su same k.1)
+    by_said (Accepted e t) s (inl k) = inl (k.0, grows_then told old mid new st su e same k.1)
+    by_said (Accepted e t) s (inr k) = inr (k.0, k.1, k.2, full e k.0 k.1 k.3, still_then told old mid new st su same k.4)
 
-    by_result : (r : Result Answered Trouble) → Acts told mid new st su e r → Acts told old new st su e r
-    by_result (Ok s) k = (k.0, by_said (said_at_once st e.caller e.command) s k.1)
+    by_grown : (v : Verdict) → GrowsBy told mid new st su v → GrowsBy told old new st su v
+    by_grown (Told t) k = k
+    by_grown (Accepted e t) k = grows_then told old mid new st su e same k
+
+    by_result : (r : Result Answered Trouble) → Acts told mid new st su v r → Acts told old new st su v r
+    by_result (Ok s) k = (k.0, by_said v s k.1)
     by_result (Err trouble.Memory) k = (k.0, still_then told old mid new st su same k.1)
     by_result (Err trouble.Disk) (inl k) = inl ((λ _. k.0 settled), still_then told old mid new st su same k.1)
-    by_result (Err trouble.Disk) (inr k) = inr (k.0, k.1, grows_then told old mid new st su e same k.2)
+    by_result (Err trouble.Disk) (inr k) = inr (k.0, by_grown v k.1)
 
--- ---- what comes of an entry that was to be kept
+-- ---- what comes of an accepted entry
 
--- the journal said that there was no room
-pub full_kept : {D : Type 0} (told : D → Option (List ℕ)) (old new : Held D) (st su : State) (e : Entry) (payload : List ℕ) (r : Result ℕ AppendRefused) (n l : ℕ) → r ≡ Err (append.Full n l)
-    → (old.limit < need_of old payload → (r ≡ Err (append.Full (min (need_of old payload) (2 ^ 64 - 1)) old.limit)) × (new ≡ old))
-    → (need_of old payload ≤ old.limit → IsErr r → IsErrOf r append.Failed) → payload ≡ written_entry e → old.doubt ≡ false → su ≡ st
-    → (new.doubt ≡ false) × (IsFull old e n l × (IsUnchanged told old new × (su ≡ st)))
-full_kept told old new st su e payload r n l is full fits text settled same = by_test (nat_lt old.limit (need_of old payload)) refl
-  where
-    fitting : nat_lt old.limit (need_of old payload) ≡ false → ⊥
-    fitting test = let k : need_of old payload ≤ old.limit = grind (arith, common_steps) in other (subst (λ q. IsErrOf q append.Failed) is (fits k (subst (λ q. IsErr q) (sym is) refl)))
-      where
-        other : IsErrOf {T = ℕ} (Err (append.Full n l)) append.Failed → ⊥
-        other k = cc k
+-- there was no room
+pub full_acts : {D : Type 0} (told : D → Option (List ℕ)) (journal : Held D) (st : State) (a : Made) (n l : ℕ) (v : Verdict) → IsVerdict st v (made.Accepted a) → journal.doubt ≡ false
+    → journal.limit < need_of journal a.frame → n ≡ min (need_of journal a.frame) (2 ^ 64 - 1) → l ≡ journal.limit → Acts told journal journal st st v (Ok (refused (refusal.Full n l)))
+full_acts told journal st a n l (Told t) is settled exceeds of_need of_limit = absurd is
+full_acts told journal st a n l (Accepted e t) is settled exceeds of_need of_limit = (
+  settled,
+  inr (
+    n,
+    l,
+    refl,
+    record {
+      exceeds = subst (λ f. journal.limit < journal.end + 6 + length f) is.frame exceeds;
+      need_is = of_need ∙ ap (λ f. min (journal.end + 6 + length f) (2 ^ 64 - 1)) is.frame;
+      limit_is = of_limit;
+    },
+    (record { frames = refl; number = refl; end = refl; limit = refl }, refl),
+  ),
+)
 
-    numbers : (a b c d : ℕ) → ◌≡◌ {A = Result ℕ AppendRefused} (Err (append.Full a b)) (Err (append.Full c d)) → (a ≡ c) × (b ≡ d)
-    numbers a b c d k = (cc k, cc k)
+grown_by : {D : Type 0} (told : D → Option (List ℕ)) (old new : Held D) (st su : State) (a : Made) (e : Entry) (t : Answered) → IsAccepted st e t a
+    → need_of old a.frame ≤ old.limit → IsAppended told old new a.frame → su ≡ apply st a.effect → Grows told old new st su e
+grown_by told old new st su a e t is fits more folded = record {
+  lawful = is.lawful;
+  room = subst (λ f. old.end + 6 + length f ≤ old.limit) is.frame fits;
+  appended = subst (λ f. IsAppended told old new f) is.frame more;
+  folded = folded ∙ ap (λ x. apply st x) is.effect;
+}
 
-    by_test : (b : Bool) → nat_lt old.limit (need_of old payload) ≡ b → (new.doubt ≡ false) × (IsFull old e n l × (IsUnchanged told old new × (su ≡ st)))
-    by_test false test = absurd (fitting test)
-    by_test true test =
-        let exceeds : old.limit < need_of old payload = grind (arith, common_steps) in
-        let k = full exceeds in
-        let said = numbers n l (min (need_of old payload) (2 ^ 64 - 1)) old.limit (sym is ∙ k.0) in (
-          ap (λ j. j.doubt) k.1 ∙ settled,
-          (
-            record {
-              exceeds = subst (λ f. old.limit < old.end + 6 + length f) text exceeds;
-              need_is = said.0 ∙ ap (λ f. min (old.end + 6 + length f) (2 ^ 64 - 1)) text;
-              limit_is = said.1;
-            },
-            (record { frames = ap (λ j. frames_of told j) k.1; number = ap (λ j. j.number) k.1; end = ap (λ j. j.end) k.1; limit = ap (λ j. j.limit) k.1 }, same),
-          ),
-        )
+-- the entry was added
+pub kept_acts : {D : Type 0} (told : D → Option (List ℕ)) (old new : Held D) (st su : State) (a : Made) (v : Verdict) → IsVerdict st v (made.Accepted a) → new.doubt ≡ false
+    → need_of old a.frame ≤ old.limit → IsAppended told old new a.frame → su ≡ apply st a.effect → Acts told old new st su v (Ok a.said)
+kept_acts told old new st su a (Told t) is settled fits more folded = absurd is
+kept_acts told old new st su a (Accepted e t) is settled fits more folded = (settled, inl (is.said, grown_by told old new st su a e t is fits more folded))
+
+-- the disk failed, and the entry is in doubt
+pub doubtful_acts : {D : Type 0} (told : D → Option (List ℕ)) (old new : Held D) (st su : State) (a : Made) (v : Verdict) → IsVerdict st v (made.Accepted a) → new.doubt ≡ true
+    → need_of old a.frame ≤ old.limit → IsAppended told old new a.frame → su ≡ apply st a.effect → Acts told old new st su v (Err trouble.Disk)
+doubtful_acts told old new st su a (Told t) is doubt fits more folded = absurd is
+doubtful_acts told old new st su a (Accepted e t) is doubt fits more folded = inr (doubt, grown_by told old new st su a e t is fits more folded)

@@ -1,10 +1,6 @@
-pub mod Registers
 pub mod Histories
-pub mod Ready
-pub mod Judged
 pub mod ActLemmas
 pub mod ReplayLemmas
 pub mod OpenLemmas
 pub mod DeskLemmas
 pub mod Spares
-pub mod Trees

@@ -13,9 +13,13 @@ use Rattle.lrs_journal.specs.declared.create.CreateRefused.{CreateRefused}
 use Rattle.lrs_journal.specs.declared.create.CreateRefused.TheVariants as create
 use Rattle.lrs_journal.specs.declared.replay.RecoverRefused.{RecoverRefused}
 use Rattle.lrs_journal.specs.declared.replay.RecoverRefused.TheVariants as recover
-use Rattle.lrs_history.specs.Founding.{IsToken, IsBase}
-use Rattle.lrs_history.specs.History.{State, state, IsLegal, IsFounding}
-use Rattle.lrs_machine.specs.Desk.{StandsFor, IsStoreOf, LeavesStore, IsOnDisk, IsRefused, IsNotFounded, founding_entry}
+use Rattle.lrs_history.specs.History.{state, IsLegal, IsFounding}
+use Rattle.lrs_parts.specs.Founding.{IsToken, IsBase}
+use Rattle.lrs_parts.specs.State.{State}
+use Rattle.lrs_fold.specs.Judged.{IsJudged}
+use Rattle.lrs_fold.specs.Own.{founding_entry}
+use Rattle.lrs_fold.proofs.Decides.{founding_judged}
+use Rattle.lrs_machine.specs.Desk.{StandsFor, IsStoreOf, LeavesStore, IsOnDisk, IsRefused, IsNotFounded}
 use Rattle.lrs_machine.specs.Steps.{IsTied, HasFold}
 use Rattle.lrs_machine.specs.Replays.{HasReplayed, opening_refusal, founding_refusal}
 
@@ -112,7 +116,10 @@ pub on_disk : {D : Type 0} (told : D → Option (List ℕ)) (image : D → List 
 on_disk told image journal h sound stands = λ bytes left. (sound.holds (map written_entry h) stands.frames).each bytes left
 
 pub founding_of : (admin base : List ℕ) (clock : ℕ) → IsToken admin → IsBase base → IsFounding (founding_entry admin base clock)
-founding_of admin base clock token url = record { caller = refl; draw = refl; command = (token, url) }
+founding_of admin base clock token url = record { caller = refl; draw = refl; write = (token, url) }
+
+pub judged_founding : (e : Entry) → IsFounding e → IsJudged e.write
+judged_founding e is = founding_judged e.write is.write
 
 -- why no store was founded
 pub found_refused : (bytes : List ℕ) (limit : ℕ) (e : Entry) (frame : List ℕ) (r : CreateRefused) → frame ≡ written_entry e → CreateIsRefused bytes r

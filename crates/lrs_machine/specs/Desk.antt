@@ -1,26 +1,18 @@
 -- What the desk's calls promise. A desk is seen as its journal.
-use Rattle.std.specs.Prelude.{◌≡◌, ◌⊎◌, ◌<◌, ◌≤◌, ◌+◌, ◌-◌, ℕ, List, [], ◌∷◌, ◌++◌, length, map, take, Option, Some, None, IsSome, Bool, true, false, ◌&&◌, not, if◌then◌else◌, nat_lt, Result, Ok, Err}
+use Rattle.std.specs.Prelude.{◌≡◌, ◌⊎◌, ◌<◌, ◌≤◌, ◌+◌, ◌-◌, ℕ, List, [], ◌∷◌, ◌++◌, length, map, Option, Some, None, IsSome, Bool, true, false, ◌&&◌, not, if◌then◌else◌, nat_lt, Result, Ok, Err}
 use Rattle.lrs_disk.specs.Faults.{Rises}
 use Rattle.std.specs.List.{AllByRecursion}
 use Rattle.lrs_journal.specs.Store.{store, HasHeader, IsPayload, Stands, IsDamaged}
 use Rattle.lrs_journal.specs.Journal.{Held, frames_of, StandsFor as JournalStandsFor}
-use Rattle.lrs_record.specs.declared.entry.Caller.TheVariants.{Operator}
-use Rattle.lrs_record.specs.declared.entry.Command.{Command}
-use Rattle.lrs_record.specs.declared.entry.Command.TheVariants.{Found, Put, Post}
 use Rattle.lrs_record.specs.declared.entry.Entry.{Entry}
-use Rattle.lrs_json.specs.View.{view}
-use Rattle.lrs_record.specs.Entries.{AreLawfulTrees, IsLawful, IsLawfulTree, written_entry}
-use Rattle.lrs_record.specs.Moments.{clamped}
+use Rattle.lrs_record.specs.Entries.{IsLawful, written_entry}
 use Rattle.lrs_journal.specs.Create.{IsStore, IsForeign, IsOpenTo}
-use Rattle.lrs_history.specs.declared.answered.Answered.{Answered}
-use Rattle.lrs_history.specs.declared.answered.Answered.TheVariants.{Shown, Refused}
-use Rattle.lrs_history.specs.declared.answered.Refusal.{Refusal}
-use Rattle.lrs_history.specs.declared.answered.Refusal.TheVariants.{Unauthorized, Forbidden, NotFound}
-use Rattle.lrs_history.specs.declared.reply.Reply.{Reply}
-use Rattle.lrs_history.specs.declared.reply.Trouble.{Trouble}
-use Rattle.lrs_history.specs.declared.reply.Trouble.TheVariants.{Memory, Disk}
-use Rattle.lrs_history.specs.Replies.{Says}
-use Rattle.lrs_history.specs.History.{Answer, with_entry, entry_at, ComesNext, IsLegal, IsLegalFrom}
+use Rattle.lrs_replies.specs.declared.answered.Answered.{Answered}
+use Rattle.lrs_replies.specs.declared.reply.Reply.{Reply}
+use Rattle.lrs_replies.specs.declared.reply.Trouble.{Trouble}
+use Rattle.lrs_replies.specs.declared.reply.Trouble.TheVariants.{Memory, Disk}
+use Rattle.lrs_replies.specs.Replies.{Says}
+use Rattle.lrs_history.specs.History.{Answer, with_entry, ComesNext, IsLegal, IsLegalFrom}
 use Rattle.lrs_machine.specs.declared.opening.DeskRefused.{DeskRefused}
 use Rattle.lrs_machine.specs.declared.opening.DeskRefused.TheVariants as desk
 use Rattle.lrs_machine.specs.declared.opening.FoundRefused.{FoundRefused}
@@ -38,21 +30,7 @@ pub record StandsFor {D : Type 0} (told : D → Option (List ℕ)) (desk : Held 
 abbrev pub IsOnDisk : {D : Type 0} → (D → List ℕ → Type 0) → Held D → List Entry → Type 0
 IsOnDisk image desk h = (bytes : List ℕ) → image desk.disk bytes → JournalStandsFor desk.limit desk.doubt (map written_entry h) bytes
 
--- how many entries of a desk's history no crash can take: all but a doubtful one
-abbrev pub sure : {D : Type 0} → Held D → ℕ
-sure desk = if desk.doubt then desk.number - 1 else desk.number
-
--- the bytes stand for the first entries of the history, at least for this many
-abbrev pub HoldsPrefix : ℕ → ℕ → List Entry → List ℕ → Type 0
-HoldsPrefix limit least h bytes = (n : ℕ) × (least ≤ n) × (n ≤ length h) × Stands bytes limit (map written_entry (take n h))
-
 -- ---- acts
-
--- The trees of a command are such as reading gives.
-abbrev pub HasReadTrees : Command → Type 0
-HasReadTrees (Put id statement) = IsLawfulTree (view statement)
-HasReadTrees (Post statements) = AreLawfulTrees statements
-HasReadTrees other = Unit {0}
 
 -- What comes of an act that answers by a over the history h. In trouble with the disk the answer's entry may be in doubt, and no other comes into doubt.
 abbrev pub Answers : {D : Type 0} → (D → Option (List ℕ)) → Answer → List Entry → Held D → Held D → Result Answered Trouble → Type 0
@@ -66,19 +44,6 @@ abbrev pub HasCause : ℕ → ℕ → Result Answered Trouble → Type 0
 HasCause before now (Ok said) = now ≡ before
 HasCause before now (Err Memory) = now ≡ before
 HasCause before now (Err Disk) = (before ≤ now) × Rises before now
-
--- why the program's own put may be refused: not since its caller isn't let in, or something is missing
-abbrev pub MayRefusePut : Refusal → Type 0
-MayRefusePut Unauthorized = ⊥
-MayRefusePut (Forbidden rule) = ⊥
-MayRefusePut NotFound = ⊥
-MayRefusePut other = Unit {0}
-
--- what the program's own put may be answered: it shows no text
-abbrev pub IsOfPut : Answered → Type 0
-IsOfPut (Shown text through) = ⊥
-IsOfPut (Refused refusal) = MayRefusePut refusal
-IsOfPut other = Unit {0}
 
 -- What a receipt tells of an act.
 pub record Account : Type 0 where
@@ -137,10 +102,6 @@ abbrev pub LeavesStore : {D : Type 0} → (D → Option (List ℕ)) → D → �
 LeavesStore told disk limit doubt h = (bytes : List ℕ) × (told disk ≡ Some bytes) × JournalStandsFor limit doubt (map written_entry h) bytes
 
 -- ---- founding and opening
-
--- the entry that a store is founded with
-abbrev pub founding_entry : List ℕ → List ℕ → ℕ → Entry
-founding_entry admin base clock = entry_at Operator (Found admin base) (clamped clock) (record { name = 0; secret = 0 })
 
 -- why no store with this entry is made on a disk of these bytes
 abbrev pub IsNotFounded : List ℕ → ℕ → Entry → FoundRefused → Type 0

@@ -1,4 +1,3 @@
-pub mod Callers
 pub mod Desk
 pub mod Steps
 pub mod Fold

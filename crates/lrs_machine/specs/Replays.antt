@@ -1,6 +1,5 @@
 -- What the desk's private functions say of reading a store's frames into the fold.
-use Rattle.std.specs.Prelude.{◌≡◌, ◌<◌, ◌-◌, ◌^◌, min, ◌&&◌, ◌==◌, ℕ, List, [], ◌∷◌, ◌++◌, length, map, Bool, true, false, is_none, nat_le, nat_lt, Result, Ok, Err}
-use Rattle.lrs_names.specs.declared.draw.Draw.{Draw}
+use Rattle.std.specs.Prelude.{◌≡◌, ◌<◌, ◌-◌, ◌^◌, min, ◌==◌, ℕ, List, [], ◌∷◌, ◌++◌, length, map, Bool, true, false, Result, Ok, Err}
 use Rattle.lrs_journal.specs.Store.{Stands}
 use Rattle.lrs_journal.specs.Replay.{Reading, HasRead}
 use Rattle.lrs_journal.specs.declared.replay.ReplayRefused.{ReplayRefused}
@@ -9,39 +8,16 @@ use Rattle.lrs_journal.specs.declared.replay.RecoverRefused.{RecoverRefused}
 use Rattle.lrs_journal.specs.declared.replay.RecoverRefused.TheVariants as recover
 use Rattle.lrs_journal.specs.declared.create.CreateRefused.{CreateRefused}
 use Rattle.lrs_journal.specs.declared.create.CreateRefused.TheVariants as create
-use Rattle.lrs_record.specs.declared.entry.Caller.{Caller}
-use Rattle.lrs_record.specs.declared.entry.Caller.TheVariants.{Nobody, Operator, Token}
-use Rattle.lrs_record.specs.declared.entry.Command.{Command}
-use Rattle.lrs_record.specs.declared.entry.Command.TheVariants.{Found}
 use Rattle.lrs_record.specs.declared.entry.Entry.{Entry}
 use Rattle.lrs_record.specs.Entries.{IsLawful, written_entry}
-use Rattle.lrs_history.specs.Founding.{is_token, is_base}
-use Rattle.lrs_history.specs.History.{State, state, step, said_at_once, IsLegalFrom}
+use Rattle.lrs_fold.specs.Next.{may_come}
+use Rattle.lrs_history.specs.History.{state, step, IsLegalFrom}
+use Rattle.lrs_parts.specs.State.{State}
 use Rattle.lrs_machine.specs.declared.opening.FoundRefused.{FoundRefused}
 use Rattle.lrs_machine.specs.declared.opening.FoundRefused.TheVariants as found
 use Rattle.lrs_machine.specs.declared.opening.DeskRefused.{DeskRefused}
 use Rattle.lrs_machine.specs.declared.opening.DeskRefused.TheVariants as desk
 use Rattle.lrs_machine.specs.Desk.{IsRefused}
-
-abbrev pub is_operator : Caller → Bool
-is_operator Nobody = false
-is_operator Operator = true
-is_operator (Token token) = false
-
-abbrev pub is_zero : Draw → Bool
-is_zero draw = (draw.name == 0) && (draw.secret == 0)
-
-abbrev pub founds : Command → Bool
-founds (Found admin base) = is_token admin && is_base base
-founds command = false
-
-abbrev pub is_founding : Entry → Bool
-is_founding e = is_operator e.caller && is_zero e.draw && founds e.command
-
--- Whether an entry comes next, by the fold alone. The flag: it is the first. The place: where the end gate stands behind its frame.
-abbrev pub may_come : Bool → ℕ → ℕ → State → Entry → Bool
-may_come true limit place st e = is_founding e
-may_come false limit place st e = is_none (said_at_once st e.caller e.command) && nat_le st.last e.moment && nat_lt place limit
 
 -- what reading a frame into the fold does, where k frames were taken in before
 abbrev pub TakesEntry : List ℕ → ℕ → ℕ → ℕ → State → State → Result Unit DeskRefused → Type 0

@@ -3,23 +3,24 @@ ghost use Rattle.std.specs.Prelude.{◌≡◌, ◌≤◌, List, ℕ, Some, None,
 ghost use Rattle.lrs_disk.specs.Faults.{Rises};
 ghost use Rattle.lrs_record.specs.declared.entry.Entry.{Entry};
 ghost use Rattle.lrs_record.specs.declared.entry.Caller.TheVariants.{Operator};
-ghost use Rattle.lrs_record.specs.declared.entry.Command.TheVariants.{Put};
+ghost use Rattle.lrs_command.specs.Commands.{HasReadTrees};
 ghost use Rattle.lrs_record.specs.Entries.{IsLawfulCaller, IsLawfulTree};
 ghost use Rattle.lrs_json.specs.View.{view};
 ghost use Rattle.lrs_history.specs.History.{answer};
-ghost use Rattle.lrs_history.specs.Replies.{status_in};
-ghost use Rattle.lrs_machine.specs.Steps.{IsPut};
-ghost use Rattle.lrs_machine.specs.Desk.{StandsFor, IsOnDisk, IsOfPut, Answers, HasCause, HasReadTrees, account_of, landed_place, LeavesStore, Replies};
+ghost use Rattle.lrs_replies.specs.Replies.{status_in};
+ghost use Rattle.lrs_fold.specs.Own.{put_of, IsOfPut, IsPut};
+ghost use Rattle.lrs_machine.specs.Desk.{StandsFor, IsOnDisk, Answers, HasCause, account_of, landed_place, LeavesStore, Replies};
 
 use crate::Receipt;
 use crate::acting::act;
-use crate::fold::Fold;
+use lrs_command::Command;
 use lrs_disk::{Disk, Failed};
-use lrs_history::{Answered, Reply, Trouble, reply_to, status_in};
+use lrs_fold::{Fold, put_of};
 use lrs_journal::Journal;
 use lrs_json::Tree;
 use lrs_names::{Draw, Id};
-use lrs_record::{Caller, Command};
+use lrs_record::Caller;
+use lrs_replies::{Answered, Reply, Trouble, reply_to, status_in};
 use std::alloc::Global;
 use std::marker::Model;
 
@@ -74,7 +75,8 @@ impl<D: Disk> Desk<D> {
     ) -> (Result<Answered, Trouble>, Option<u64>)
         requires caller { IsLawfulCaller caller }
         requires command { HasReadTrees command }
-        ensures answered { (h : List Entry) → StandsFor D.told self.old h → Answers D.told (answer self.old.limit h caller command clock draw.now) h self.old self.new result.0 }
+        ensures answered { (h : List Entry) → StandsFor D.told self.old h
+            → Answers D.told (answer self.old.limit h caller command clock draw.now) h self.old self.new result.0 }
         ensures cause { HasCause (D.fault_count self.old.disk) (D.fault_count self.new.disk) result.0 }
         ensures known { IsPut caller command → IfOk result.0 IsOfPut }
         ensures landed { result.1 ≡ landed_place self.old self.new }
@@ -93,7 +95,17 @@ impl<D: Disk> Desk<D> {
     }
 
     fn receipt(&self, status: u16, point: u64, landed: Option<u64>, clock: u64, was: u64) -> Receipt
-        ensures { result ≡ record { acted = true; status = status; point = point; entry = if nat_lt point self.now.number then Some point else None; landed = landed; clock = clock; disk = D.time self.now.disk; was = was; is = D.fault_count self.now.disk } }
+        ensures { result ≡ record {
+          acted = true;
+          status = status;
+          point = point;
+          entry = if nat_lt point self.now.number then Some point else None;
+          landed = landed;
+          clock = clock;
+          disk = D.time self.now.disk;
+          was = was;
+          is = D.fault_count self.now.disk;
+        } }
     {
         let length = self.length();
         Receipt {
@@ -120,7 +132,9 @@ impl<D: Disk> Desk<D> {
         draw: &Draw,
     ) -> (Result<Answered, Trouble>, Receipt)
         requires { IsLawfulTree (view statement) }
-        ensures answered { (h : List Entry) → StandsFor D.told self.old h → Answers D.told (answer self.old.limit h Operator (Put id statement) clock draw.now) h self.old self.new result.0 }
+        ensures answered { (h : List Entry) → StandsFor D.told self.old h
+            → Answers D.told (answer self.old.limit h Operator (put_of id statement) clock draw.now) h
+            self.old self.new result.0 }
         ensures known { IfOk result.0 IsOfPut }
         ensures cause { HasCause (D.fault_count self.old.disk) (D.fault_count self.new.disk) result.0 }
         ensures limit { self.new.limit ≡ self.old.limit }
@@ -129,12 +143,7 @@ impl<D: Disk> Desk<D> {
     {
         let was = self.faults();
         let point = self.length();
-        let (said, landed) = self.answer(
-            Caller::Operator,
-            Command::Put { id, statement },
-            clock,
-            draw,
-        );
+        let (said, landed) = self.answer(Caller::Operator, put_of(id, statement), clock, draw);
         let receipt = self.receipt(status_in(&said), point, landed, clock, was);
         (said, receipt)
     }
@@ -152,7 +161,8 @@ impl<D: Disk> Desk<D> {
     ) -> (Reply, Receipt)
         requires caller { IsLawfulCaller caller }
         requires command { HasReadTrees command }
-        ensures replied { Replies D.told D.fault_count self.old self.new (λ h. answer self.old.limit h caller command clock draw.now) result.0 }
+        ensures replied { Replies D.told D.fault_count self.old self.new
+            (λ h. answer self.old.limit h caller command clock draw.now) result.0 }
         ensures limit { self.new.limit ≡ self.old.limit }
         ensures durable { (h : List Entry) → StandsFor D.told self.new h → IsOnDisk D.image self.new h }
         ensures receipt { result.1 ≡ account_of D.time D.fault_count self.old self.new result.0.status clock }
@@ -167,10 +177,13 @@ impl<D: Disk> Desk<D> {
 
     /// Ends a doubt, and hands the disk back. Where that fails the disk comes back with the failure.
     pub fn close(self) -> Result<D, (Failed, D)>
-        ensures closed { IfOk result (λ disk. (h : List Entry) → StandsFor D.told self h → LeavesStore D.told disk self.limit false h) }
-        ensures failed { IfErr result (λ e. (self.doubt ≡ true) × ((h : List Entry) → StandsFor D.told self h → LeavesStore D.told e.1 self.limit true h)) }
+        ensures closed { IfOk result (λ disk. (h : List Entry) → StandsFor D.told self h
+            → LeavesStore D.told disk self.limit false h) }
+        ensures failed { IfErr result (λ e. (self.doubt ≡ true)
+            × ((h : List Entry) → StandsFor D.told self h → LeavesStore D.told e.1 self.limit true h)) }
         ensures kept { IfOk result (λ disk. D.fault_count disk ≡ D.fault_count self.disk) }
-        ensures cause { IfErr result (λ e. (D.fault_count self.disk ≤ D.fault_count e.1) × Rises (D.fault_count self.disk) (D.fault_count e.1)) }
+        ensures cause { IfErr result (λ e. (D.fault_count self.disk ≤ D.fault_count e.1)
+            × Rises (D.fault_count self.disk) (D.fault_count e.1)) }
     {
         let Desk {
             mut journal,

@@ -1,60 +1,83 @@
-// Adding an entry to the journal and the fold.
-ghost use Rattle.std.specs.Prelude.{◌≡◌, false};
-ghost use Rattle.lrs_journal.specs.Journal.{IsJournal};
-ghost use Rattle.lrs_record.specs.Entries.{IsLawfulCaller, IsLawfulCommand};
-ghost use Rattle.lrs_history.specs.Batches.{ids_in};
+// Adding an accepted entry to the journal and the fold.
+ghost use Rattle.std.specs.Prelude.{◌≡◌, ◌≤◌, false};
+ghost use Rattle.lrs_fold.specs.Verdicts.{IsVerdict};
+ghost use Rattle.lrs_fold.specs.declared.verdict.Verdict.TheVariants as made;
+ghost use Rattle.lrs_history.specs.History.{Verdict};
+ghost use Rattle.lrs_journal.specs.Journal.{need_of, IsJournal};
+ghost use Rattle.lrs_machine.specs.Desk.{HasCause};
 ghost use Rattle.lrs_machine.specs.Fold.{state_of};
-ghost use Rattle.lrs_machine.specs.Steps.{IsJudged, Keeps, HasKeepingCause};
+ghost use Rattle.lrs_machine.specs.Steps.{Acts};
+ghost use Rattle.lrs_parts.specs.Parts.{IsReadyFor};
 
-use crate::fold::Fold;
 use lrs_disk::Disk;
-use lrs_history::Trouble;
-use lrs_journal::{AppendRefused, Journal};
-use lrs_names::Id;
-use lrs_record::{Entry, write_entry};
-use std::alloc::Global;
+use lrs_fold::{Accepted, Fold};
+use lrs_journal::{AppendRefused, Full, Journal};
+use lrs_replies::{Answered, Refusal, Trouble};
 
-/// What became of an entry that was to be kept.
-pub(crate) enum Keeping {
-    Added,
-    /// The file would have more bytes than it may.
-    NoRoom { need: u64, limit: u64 },
-}
-
-// What most frames have room in, so that few grow while they are written.
-const FRAME_ROOM: usize = 1_024;
-
-/// Keeps the entry of a command that is to have one, whose statements go under these ids. All memory is taken before the
-/// frame is written.
+/// Keeps an accepted entry, where there is room. All memory is taken before the frame is written.
+#[tactic(auto, using(crate::proofs::ActLemmas::full_acts))]
 pub(crate) fn keep<D: Disk>(
-    alloc: Global,
     journal: &mut Journal<D>,
     fold: &mut Fold,
-    entry: Entry,
-    ids: Vec<Id>,
-) -> Result<Keeping, Trouble>
+    accepted: Accepted,
+) -> Result<Answered, Trouble>
     requires settled { journal.old.doubt ≡ false }
     requires sound { IsJournal D.told D.image journal.old }
-    requires judged { IsJudged entry.command }
-    requires named { ids.items ≡ ids_in fold.old.statements.held entry.draw entry.command }
-    requires caller { IsLawfulCaller entry.caller }
-    requires command { IsLawfulCommand entry.command }
-    ensures kept { Keeps D.told journal.old journal.new (state_of fold.old) (state_of fold.new) entry result }
+    ensures kept { (v : Verdict) → IsVerdict (state_of fold.old) v (made.Accepted accepted)
+        → Acts D.told journal.old journal.new (state_of fold.old) (state_of fold.new) v result }
     ensures sound { IsJournal D.told D.image journal.new }
-    ensures cause { HasKeepingCause (D.fault_count journal.old.disk) (D.fault_count journal.new.disk) result }
+    ensures cause { HasCause (D.fault_count journal.old.disk) (D.fault_count journal.new.disk) result }
 {
-    let mut frame = Vec::with_capacity(alloc, FRAME_ROOM)?;
-    write_entry(&entry, &mut frame)?;
-    fold.ready(alloc, entry, ids.as_slice())?;
-    match journal.append(&frame) {
-        Ok(_) => {
-            fold.install();
-            Ok(Keeping::Added)
+    if let Err(Full { need, limit }) = journal.room(accepted.frame.as_slice()) {
+        drop(accepted);
+        return Ok(Answered::Refused(Refusal::Full { need, limit }));
+    }
+    match fold.ready(&accepted.effect) {
+        Ok(()) => append(journal, fold, accepted),
+        Err(refused) => {
+            drop(accepted);
+            Err(Trouble::from(refused))
         }
-        Err(AppendRefused::Full { need, limit }) => Ok(Keeping::NoRoom { need, limit }),
+    }
+}
+
+// Writes the frame of an entry for which all is ready.
+#[tactic(auto, using(crate::proofs::ActLemmas::kept_acts, crate::proofs::ActLemmas::doubtful_acts))]
+fn append<D: Disk>(
+    journal: &mut Journal<D>,
+    fold: &mut Fold,
+    accepted: Accepted,
+) -> Result<Answered, Trouble>
+    requires settled { journal.old.doubt ≡ false }
+    requires sound { IsJournal D.told D.image journal.old }
+    requires room { need_of journal.old accepted.frame ≤ journal.old.limit }
+    requires ready { IsReadyFor fold.old.parts accepted.effect }
+    ensures kept { (v : Verdict) → IsVerdict (state_of fold.old) v (made.Accepted accepted)
+        → Acts D.told journal.old journal.new (state_of fold.old) (state_of fold.new) v result }
+    ensures sound { IsJournal D.told D.image journal.new }
+    ensures cause { HasCause (D.fault_count journal.old.disk) (D.fault_count journal.new.disk) result }
+{
+    let Accepted {
+        frame,
+        effect,
+        said,
+    } = accepted;
+    match journal.append(frame.as_slice()) {
+        Ok(_) => {
+            fold.install(effect);
+            Ok(said)
+        }
+        Err(AppendRefused::Full { need, limit }) => {
+            drop(effect);
+            drop(said);
+            Ok(Answered::Refused(Refusal::Full { need, limit }))
+        }
         Err(AppendRefused::Failed) => {
+            drop(said);
             if journal.in_doubt() {
-                fold.install();
+                fold.install(effect);
+            } else {
+                drop(effect);
             }
             Err(Trouble::Disk)
         }

@@ -2,24 +2,14 @@
 #![tactic(auto)]
 
 mod acting;
-mod callers;
 mod desk;
-mod fold;
 mod keeping;
 mod opening;
 mod receipt;
 mod replaying;
 
 pub use desk::Desk;
-pub use lrs_history::{
-    Answered, Body, HeldCaller, Media, Refusal, Reply, Trouble, is_base, is_token,
-};
+pub use lrs_parts::{HeldCaller, is_base, is_token};
+pub use lrs_replies::{Answered, Body, Media, Refusal, Reply, Trouble};
 pub use opening::{DeskRefused, FoundRefused};
 pub use receipt::Receipt;
-
-#[cfg(test)]
-mod batch_tests;
-#[cfg(test)]
-mod listing_tests;
-#[cfg(test)]
-mod test_desk;

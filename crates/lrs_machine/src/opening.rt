@@ -1,26 +1,27 @@
 // Making a store, and opening one.
-ghost use Rattle.std.specs.Prelude.{◌≡◌, ◌≢◌, ◌⊎◌, ◌≤◌, ◌^◌, List, [], ◌∷◌, ℕ, Some, length, true, false, IfOk, IfErr};
+ghost use Rattle.std.specs.Prelude.{◌≡◌, ◌≢◌, ◌⊎◌, ◌≤◌, ◌^◌, List, [], ◌∷◌, ℕ, Some, length, true, false, IfOk, IfErr, OnOk};
 ghost use Rattle.std.specs.Option.{ForSome};
 ghost use Rattle.lrs_disk.specs.Faults.{Rises};
-ghost use Rattle.lrs_journal.specs.Create.{IsStore, IsOpenTo};
+ghost use Rattle.lrs_journal.specs.Create.{IsOpenTo};
 ghost use Rattle.lrs_record.specs.declared.entry.Entry.{Entry};
-ghost use Rattle.lrs_record.specs.Entries.{IsLawful, written_entry};
-ghost use Rattle.lrs_history.specs.Founding.{IsToken, IsBase};
+ghost use Rattle.lrs_record.specs.Entries.{IsLawful, IsLawfulCaller, IsLawfulWrite, written_entry};
+ghost use Rattle.lrs_parts.specs.Founding.{IsToken, IsBase};
+ghost use Rattle.lrs_parts.specs.State.{nothing};
 ghost use Rattle.lrs_history.specs.History.{state, IsFounding};
 ghost use Rattle.lrs_machine.specs.declared.opening.DeskRefused.TheVariants as DeskRefused;
 ghost use Rattle.lrs_machine.specs.declared.opening.FoundRefused.TheVariants as FoundRefused;
-ghost use Rattle.lrs_machine.specs.Desk.{StandsFor, IsOnDisk, IsStoreOf, LeavesStore, IsRefused, SparesLegal, IsNotFounded, founding_entry};
+ghost use Rattle.lrs_machine.specs.Desk.{StandsFor, IsOnDisk, IsStoreOf, LeavesStore, IsRefused, SparesLegal, IsNotFounded};
+ghost use Rattle.lrs_fold.specs.Own.{founding_entry};
 ghost use Rattle.lrs_machine.specs.Fold.{state_of};
 ghost use Rattle.lrs_machine.specs.Replays.{HasReplayed, founding_refusal, opening_refusal};
 
 use crate::Desk;
-use crate::fold::Fold;
-use crate::replaying::replay_all;
+use crate::replaying::{replay_all, take_in};
 use lrs_disk::Disk;
+use lrs_fold::{Fold, founding_entry, frame_of};
 use lrs_journal::{CreateRefused, Journal, RecoverRefused, Replay};
 use lrs_json::{Memory, Text};
-use lrs_names::Draw;
-use lrs_record::{Caller, Command, Entry, Moment, write_entry};
+use lrs_record::Entry;
 use std::alloc::Global;
 
 /// Why a disk isn't opened as a store.
@@ -67,13 +68,18 @@ impl<D: Disk> Desk<D> {
         requires limit { (512 ≤ limit) × (limit ≤ 2 ^ 30) }
         requires admin { IsToken admin.now }
         requires base { IsBase base.now }
-        ensures founded { IfOk result (λ desk. ForSome (D.told disk) (λ bytes. IsOpenTo bytes × StandsFor D.told desk (founding_entry admin.now base.now clock ∷ []))) }
+        ensures founded { IfOk result
+            (λ desk. ForSome (D.told disk) (λ bytes. IsOpenTo bytes
+            × StandsFor D.told desk (founding_entry admin.now base.now clock ∷ []))) }
         ensures fields { IfOk result (λ desk. (desk.limit ≡ limit) × (desk.doubt ≡ false) × (desk.number ≡ 1)) }
         ensures durable { IfOk result (λ desk. (h : List Entry) → StandsFor D.told desk h → IsOnDisk D.image desk h) }
         ensures kept { IfOk result (λ desk. D.fault_count desk.disk ≡ D.fault_count disk) }
-        ensures refused { IfErr result (λ e. ForSome (D.told disk) (λ bytes. IsNotFounded bytes limit (founding_entry admin.now base.now clock) e.0)) }
+        ensures refused { IfErr result
+            (λ e. ForSome (D.told disk)
+            (λ bytes. IsNotFounded bytes limit (founding_entry admin.now base.now clock) e.0)) }
         ensures spared { IfErr result (λ e. e.0 ≢ FoundRefused.Failed → D.told e.1 ≡ D.told disk) }
-        ensures store { IfErr result (λ e. ForSome (D.told disk) (λ bytes. IsStore bytes → D.told e.1 ≡ D.told disk)) }
+        ensures store { IfErr result (λ e. ForSome (D.told disk) (λ bytes. (IsOpenTo bytes → ⊥)
+            → D.told e.1 ≡ D.told disk)) }
         ensures later { IfErr result (λ e. D.fault_count disk ≤ D.fault_count e.1) }
         ensures cause { IfErr result (λ e. e.0 ≡ FoundRefused.Failed → Rises (D.fault_count disk) (D.fault_count e.1)) }
     {
@@ -98,14 +104,18 @@ impl<D: Disk> Desk<D> {
     /// Opens a disk as a store: reads its frames one by one, and asks of each whether it is the entry that comes
     /// next.
     pub fn recover(alloc: Global, disk: D) -> Result<Desk<D>, (DeskRefused, D)>
-        ensures opened { IfOk result (λ desk. ForSome (D.told disk) (λ bytes. (h : List Entry) × IsStoreOf bytes desk.limit h × StandsFor D.told desk h)) }
+        ensures opened { IfOk result
+            (λ desk. ForSome (D.told disk) (λ bytes. (h : List Entry) × IsStoreOf bytes desk.limit h
+            × StandsFor D.told desk h)) }
         ensures durable { IfOk result (λ desk. (h : List Entry) → StandsFor D.told desk h → IsOnDisk D.image desk h) }
         ensures settled { IfOk result (λ desk. desk.doubt ≡ false) }
         ensures kept { IfOk result (λ desk. D.fault_count desk.disk ≡ D.fault_count disk) }
         ensures refused { IfErr result (λ e. ForSome (D.told disk) (λ bytes. IsRefused bytes e.0)) }
         ensures legal { IfErr result (λ e. ForSome (D.told disk) (λ bytes. SparesLegal bytes e.0)) }
         ensures same { IfErr result (λ e. e.0 ≢ DeskRefused.Failed → D.told e.1 ≡ D.told disk) }
-        ensures left { IfErr result (λ e. ForSome (D.told disk) (λ bytes. (D.told e.1 ≡ Some bytes) ⊎ ((limit : ℕ) × (h : List Entry) × IsStoreOf bytes limit h × LeavesStore D.told e.1 limit false h))) }
+        ensures left { IfErr result
+            (λ e. ForSome (D.told disk) (λ bytes. (D.told e.1 ≡ Some bytes)
+            ⊎ ((limit : ℕ) × (h : List Entry) × IsStoreOf bytes limit h × LeavesStore D.told e.1 limit false h))) }
         ensures later { IfErr result (λ e. D.fault_count disk ≤ D.fault_count e.1) }
         ensures cause { IfErr result (λ e. e.0 ≡ DeskRefused.Failed → Rises (D.fault_count disk) (D.fault_count e.1)) }
     {
@@ -127,14 +137,20 @@ fn finish<D: Disk>(
     fold: Fold,
 ) -> Result<Desk<D>, (DeskRefused, D)>
     requires ended { replay.ended ≡ true }
-    requires replayed { ForSome (D.told replay.disk) (λ bytes. (h : List Entry) × HasReplayed bytes replay (state_of fold) h) }
-    ensures opened { IfOk result (λ desk. ForSome (D.told replay.disk) (λ bytes. (h : List Entry) × IsStoreOf bytes desk.limit h × StandsFor D.told desk h)) }
+    requires replayed { ForSome (D.told replay.disk) (λ bytes. (h : List Entry)
+        × HasReplayed bytes replay (state_of fold) h) }
+    ensures opened { IfOk result
+        (λ desk. ForSome (D.told replay.disk) (λ bytes. (h : List Entry) × IsStoreOf bytes desk.limit h
+        × StandsFor D.told desk h)) }
     ensures durable { IfOk result (λ desk. (h : List Entry) → StandsFor D.told desk h → IsOnDisk D.image desk h) }
     ensures settled { IfOk result (λ desk. desk.doubt ≡ false) }
     ensures kept { IfOk result (λ desk. D.fault_count desk.disk ≡ D.fault_count replay.disk) }
     ensures failed { IfErr result (λ e. e.0 ≡ DeskRefused.Failed) }
-    ensures left { IfErr result (λ e. ForSome (D.told replay.disk) (λ bytes. (limit : ℕ) × (h : List Entry) × IsStoreOf bytes limit h × LeavesStore D.told e.1 limit false h)) }
-    ensures cause { IfErr result (λ e. (D.fault_count replay.disk ≤ D.fault_count e.1) × Rises (D.fault_count replay.disk) (D.fault_count e.1)) }
+    ensures left { IfErr result
+        (λ e. ForSome (D.told replay.disk) (λ bytes. (limit : ℕ) × (h : List Entry) × IsStoreOf bytes limit h
+        × LeavesStore D.told e.1 limit false h)) }
+    ensures cause { IfErr result (λ e. (D.fault_count replay.disk ≤ D.fault_count e.1)
+        × Rises (D.fault_count replay.disk) (D.fault_count e.1)) }
 {
     match replay.finish() {
         Ok(journal) => Ok(Desk {
@@ -181,21 +197,29 @@ fn founding(
     ensures lawful { IfOk result (λ made. IsLawful (founding_entry admin.now base.now clock)) }
     ensures short { IfOk result (λ made. length made.1.items ≤ 2 ^ 30) }
 {
-    let entry = Entry {
-        caller: Caller::Operator,
-        command: Command::Found {
-            admin: admin.clone()?,
-            base: base.clone()?,
-        },
-        moment: Moment::clamp(clock),
-        draw: Draw { name: 0, secret: 0 },
-    };
-    let mut frame = Vec::new(alloc);
-    write_entry(&entry, &mut frame)?;
-    if frame.len() > LONGEST_FRAME {
+    let entry = founding_entry(admin, base, clock)?;
+    match founding_text(alloc, &entry) {
+        Ok(frame) => Ok((entry, frame)),
+        Err(refused) => {
+            drop(entry);
+            Err(refused)
+        }
+    }
+}
+
+// A founding entry's text, where it isn't too long.
+fn founding_text(alloc: Global, entry: &Entry) -> Result<Vec<u8>, Memory>
+    requires caller { IsLawfulCaller entry.now.caller }
+    requires write { IsLawfulWrite entry.now.write }
+    ensures text { IfOk result (λ text. text.items ≡ written_entry entry.now) }
+    ensures lawful { IfOk result (λ text. IsLawful entry.now) }
+    ensures short { IfOk result (λ text. length text.items ≤ 2 ^ 30) }
+{
+    let text = frame_of(alloc, entry)?;
+    if text.len() > LONGEST_FRAME {
         return Err(Memory);
     }
-    Ok((entry, frame))
+    Ok(text)
 }
 
 // What a store's first entry gives.
@@ -204,7 +228,22 @@ fn founded(alloc: Global, entry: Entry) -> Result<Fold, Memory>
     ensures { IfOk result (λ fold. state_of fold ≡ state (entry ∷ [])) }
 {
     let mut fold = Fold::new(alloc);
-    fold.ready(alloc, entry, &[])?;
-    fold.install();
-    Ok(fold)
+    match begin(alloc, &mut fold, entry) {
+        Ok(()) => Ok(fold),
+        Err(refused) => {
+            drop(fold);
+            Err(refused)
+        }
+    }
+}
+
+// Takes the founding entry in.
+#[tactic(auto, using(crate::proofs::OpenLemmas::judged_founding))]
+fn begin(alloc: Global, fold: &mut Fold, entry: Entry) -> Result<(), Memory>
+    requires founding { IsFounding entry }
+    requires empty { state_of fold.old ≡ nothing }
+    ensures { OnOk result (state_of fold.new ≡ state (entry ∷ [])) }
+{
+    let effect = fold.prepare(alloc, entry)?;
+    take_in(fold, effect)
 }

@@ -23,7 +23,17 @@ impl Model for Receipt {
 
     ghost Value = { Account };
 
-    ghost view = { λ r. record { acted = r.acted; status = r.status; point = r.point; entry = r.entry; landed = r.landed; clock = r.clock; disk = r.disk; was = r.was; is = r.is } };
+    ghost view = { λ r. record {
+      acted = r.acted;
+      status = r.status;
+      point = r.point;
+      entry = r.entry;
+      landed = r.landed;
+      clock = r.clock;
+      disk = r.disk;
+      was = r.was;
+      is = r.is;
+    } };
 }
 
 impl Receipt {

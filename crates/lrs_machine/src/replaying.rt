@@ -4,76 +4,20 @@ ghost use Rattle.std.specs.Option.{ForSome};
 ghost use Rattle.lrs_journal.specs.Journal.{IsSynced, HasCount};
 ghost use Rattle.lrs_journal.specs.Replay.{HasRead};
 ghost use Rattle.lrs_record.specs.declared.entry.Entry.{Entry};
-ghost use Rattle.lrs_history.specs.History.{step};
+ghost use Rattle.lrs_parts.specs.State.{apply};
 ghost use Rattle.lrs_machine.specs.declared.opening.DeskRefused.TheVariants as refused;
 ghost use Rattle.lrs_machine.specs.Fold.{state_of};
 ghost use Rattle.lrs_machine.specs.Desk.{IsRefused};
-ghost use Rattle.lrs_machine.specs.Steps.{IsJudged};
-ghost use Rattle.lrs_machine.specs.Replays.{is_founding, founds, may_come, refusal_of, IsCapped, IsReplayed, HasReplayed, Takes, TakesEntry};
+ghost use Rattle.lrs_machine.specs.Replays.{refusal_of, IsCapped, IsReplayed, HasReplayed, Takes, TakesEntry};
 
 use crate::DeskRefused;
-use crate::fold::Fold;
 use lrs_disk::Disk;
-use lrs_history::{is_base, is_token};
+use lrs_fold::Fold;
 use lrs_journal::{Replay, ReplayRefused};
 use lrs_json::Memory;
-use lrs_record::{Caller, Command, Entry, EntryRefused, read_entry};
+use lrs_parts::Effect;
+use lrs_record::{EntryRefused, read_entry};
 use std::alloc::Global;
-
-// Whether an entry comes next, where the end gate stands at that place behind its frame.
-fn comes_next(
-    alloc: Global,
-    fold: &Fold,
-    first: bool,
-    limit: u64,
-    place: u64,
-    entry: &Entry,
-) -> Result<bool, Memory>
-    ensures { IfOk result (λ comes. comes ≡ may_come first limit place (state_of fold.now) entry.now) }
-{
-    if first {
-        return is_founding(alloc, entry);
-    }
-    let said = fold.said_at_once(alloc, &entry.caller, &entry.command)?;
-    if said.is_some() {
-        return Ok(false);
-    }
-    Ok(fold.last.milliseconds() <= entry.moment.milliseconds() && place < limit)
-}
-
-fn is_founding(alloc: Global, entry: &Entry) -> Result<bool, Memory>
-    ensures { IfOk result (λ founds. founds ≡ is_founding entry.now) }
-{
-    match &entry.caller {
-        Caller::Operator => {}
-        Caller::Nobody => return Ok(false),
-        Caller::Token(_) => return Ok(false),
-    }
-    if entry.draw.name != 0 || entry.draw.secret != 0 {
-        return Ok(false);
-    }
-    founds(alloc, &entry.command)
-}
-
-fn founds(alloc: Global, command: &Command) -> Result<bool, Memory>
-    ensures { IfOk result (λ fits. fits ≡ founds command.now) }
-{
-    match command {
-        Command::Found { admin, base } => {
-            if !is_token(admin) {
-                return Ok(false);
-            }
-            is_base(alloc, base)
-        }
-        Command::Provider { .. }
-        | Command::Put { .. }
-        | Command::Post { .. }
-        | Command::Get(_)
-        | Command::More(_)
-        | Command::About
-        | Command::Refused { .. } => Ok(false),
-    }
-}
 
 // Takes an entry in, of which this is the frame. Before it k frames were taken in, and behind it the end gate stands at
 // that place.
@@ -92,26 +36,30 @@ fn take_entry(
         Err(EntryRefused::BadEntry) => return Err(DeskRefused::IllegalEntry { k }),
         Err(EntryRefused::Memory) => return Err(DeskRefused::Memory),
     };
-    match comes_next(alloc, fold, k == 0, limit, place, &entry) {
-        Ok(true) => {}
-        Ok(false) => return Err(DeskRefused::IllegalEntry { k }),
-        Err(_) => return Err(DeskRefused::Memory),
-    }
-    match take_in(alloc, fold, entry) {
-        Ok(()) => Ok(()),
+    match fold.next(alloc, k == 0, limit, place, entry) {
+        Ok(Some(effect)) => match take_in(fold, effect) {
+            Ok(()) => Ok(()),
+            Err(_) => Err(DeskRefused::Memory),
+        },
+        Ok(None) => Err(DeskRefused::IllegalEntry { k }),
         Err(_) => Err(DeskRefused::Memory),
     }
 }
 
-// Takes an entry in that comes next.
-fn take_in(alloc: Global, fold: &mut Fold, entry: Entry) -> Result<(), Memory>
-    requires { IsJudged entry.command }
-    ensures { OnOk result (state_of fold.new ≡ step (state_of fold.old) entry) }
+/// Takes in what an entry changes.
+pub(crate) fn take_in(fold: &mut Fold, effect: Effect) -> Result<(), Memory>
+    ensures { OnOk result (state_of fold.new ≡ apply (state_of fold.old) effect) }
 {
-    let ids = fold.ids(alloc, &entry.command, &entry.draw)?;
-    fold.ready(alloc, entry, ids.as_slice())?;
-    fold.install();
-    Ok(())
+    match fold.ready(&effect) {
+        Ok(()) => {
+            fold.install(effect);
+            Ok(())
+        }
+        Err(refused) => {
+            drop(effect);
+            Err(refused)
+        }
+    }
 }
 
 // Takes the next frame in, or answers false at the list's end. So far k frames were taken in, and the next gate stands at
@@ -124,12 +72,14 @@ fn take_next<D: Disk>(
     frame: &mut Vec<u8>,
     fold: &mut Fold,
 ) -> Result<bool, DeskRefused>
-    ensures taken { ForSome (D.told replay.old.disk) (λ bytes. (h : List Entry) → length h ≡ k → IsReplayed bytes replay.old (state_of fold.old) h → IsCapped place.old replay.old.place
+    ensures taken { ForSome (D.told replay.old.disk) (λ bytes. (h : List Entry) → length h ≡ k
+        → IsReplayed bytes replay.old (state_of fold.old) h → IsCapped place.old replay.old.place
         → Takes bytes replay.new place.new (state_of fold.new) h result) }
     ensures ended { IfOk result (λ more. more ≡ false → replay.new.ended ≡ true) }
     ensures limit { replay.new.limit ≡ replay.old.limit }
     ensures still { D.told replay.new.disk ≡ D.told replay.old.disk }
-    ensures cause { HasCount (D.fault_count replay.old.disk) (D.fault_count replay.new.disk) (IsErrOf result refused.Failed) (IsOk result) }
+    ensures cause { HasCount (D.fault_count replay.old.disk) (D.fault_count replay.new.disk)
+        (IsErrOf result refused.Failed) (IsOk result) }
 {
     let more = match replay.next(frame) {
         Ok(more) => more,
@@ -172,12 +122,15 @@ pub(crate) fn replay_all<D: Disk>(
     replay: &mut Replay<D>,
 ) -> Result<Fold, DeskRefused>
     requires { replay.old.number ≡ 0 }
-    ensures replayed { IfOk result (λ fold. ForSome (D.told replay.old.disk) (λ bytes. HasRead bytes replay.old [] → (h : List Entry) × HasReplayed bytes replay.new (state_of fold) h)) }
+    ensures replayed { IfOk result (λ fold. ForSome (D.told replay.old.disk) (λ bytes. HasRead bytes replay.old []
+        → (h : List Entry) × HasReplayed bytes replay.new (state_of fold) h)) }
     ensures ended { OnOk result (replay.new.ended ≡ true) }
-    ensures refused { IfErr result (λ e. ForSome (D.told replay.old.disk) (λ bytes. HasRead bytes replay.old [] → IsRefused bytes e)) }
+    ensures refused { IfErr result
+        (λ e. ForSome (D.told replay.old.disk) (λ bytes. HasRead bytes replay.old [] → IsRefused bytes e)) }
     ensures limit { replay.new.limit ≡ replay.old.limit }
     ensures still { D.told replay.new.disk ≡ D.told replay.old.disk }
-    ensures cause { HasCount (D.fault_count replay.old.disk) (D.fault_count replay.new.disk) (IsErrOf result refused.Failed) (IsOk result) }
+    ensures cause { HasCount (D.fault_count replay.old.disk) (D.fault_count replay.new.disk)
+        (IsErrOf result refused.Failed) (IsOk result) }
 {
     let mut fold = Fold::new(alloc);
     let mut frame = Vec::new(alloc);

@@ -7,9 +7,8 @@ pub mod EntryParts
 pub mod Decimals
 pub mod Exactly
 pub mod Readable
-pub mod Escapes
 pub mod ValueKinds
 pub mod SameWritten
-pub mod Commands
+pub mod Writes
 pub mod ManyTrees
 pub mod Told

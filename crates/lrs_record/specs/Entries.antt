@@ -13,8 +13,8 @@ use Rattle.lrs_names.specs.Ids.{IsId, id_text}
 use Rattle.lrs_names.specs.declared.draw.Draw.{Draw}
 use Rattle.lrs_record.specs.declared.entry.Caller.{Caller}
 use Rattle.lrs_record.specs.declared.entry.Caller.TheVariants.{Nobody, Operator, Token}
-use Rattle.lrs_record.specs.declared.entry.Command.{Command}
-use Rattle.lrs_record.specs.declared.entry.Command.TheVariants.{Found, Provider, Put, Post, Get, More, About, Refused}
+use Rattle.lrs_record.specs.declared.entry.Write.{Write}
+use Rattle.lrs_record.specs.declared.entry.Write.TheVariants.{Found, Provider, Put, Post}
 use Rattle.lrs_record.specs.declared.entry.Entry.{Entry}
 use Rattle.lrs_record.specs.Moments.{latest}
 
@@ -36,16 +36,12 @@ word_text word = encode_lower (to_be_bytes w128 word)
 abbrev pub draw_text : Draw → List ℕ
 draw_text draw = word_text draw.name ++ word_text draw.secret
 
--- The name under which a command is kept. What is never kept has none.
-abbrev pub command_name : Command → List ℕ
-command_name (Found admin base) = codes "found"
-command_name (Provider name) = codes "provider"
-command_name (Put id statement) = codes "put"
-command_name (Post statements) = codes "post"
-command_name (Get wanted) = []
-command_name (More link) = []
-command_name About = []
-command_name (Refused area status rule) = []
+-- the name under which a write is kept
+abbrev pub write_name : Write → List ℕ
+write_name (Found admin base) = codes "found"
+write_name (Provider name) = codes "provider"
+write_name (Put id statement) = codes "put"
+write_name (Post statements) = codes "post"
 
 abbrev pub found_args : List ℕ → List ℕ → List (List ℕ × Json)
 found_args admin base = (codes "admin", string admin) ∷ (codes "base", string base) ∷ []
@@ -59,23 +55,19 @@ put_args id statement = (codes "id", string (id_text id)) ∷ (codes "statement"
 abbrev pub post_args : List Tree → List (List ℕ × Json)
 post_args statements = (codes "statements", array (elements_of (map view statements))) ∷ []
 
-abbrev pub command_args : Command → List (List ℕ × Json)
-command_args (Found admin base) = found_args admin base
-command_args (Provider name) = provider_args name
-command_args (Put id statement) = put_args id (view statement)
-command_args (Post statements) = post_args statements
-command_args (Get wanted) = []
-command_args (More link) = []
-command_args About = []
-command_args (Refused area status rule) = []
+abbrev pub write_args : Write → List (List ℕ × Json)
+write_args (Found admin base) = found_args admin base
+write_args (Provider name) = provider_args name
+write_args (Put id statement) = put_args id (view statement)
+write_args (Post statements) = post_args statements
 
-abbrev pub command_json : Command → Json
-command_json command = fields ((command_name command, fields (command_args command)) ∷ [])
+abbrev pub write_json : Write → Json
+write_json write = fields ((write_name write, fields (write_args write)) ∷ [])
 
 unfoldable pub entry_json : Entry → Json
 entry_json entry =
     fields ((codes "caller", string (caller_text entry.caller)) ∷ (codes "moment", number (decimal entry.moment))
-    ∷ (codes "draw", string (draw_text entry.draw)) ∷ (codes "command", command_json entry.command) ∷ [])
+    ∷ (codes "draw", string (draw_text entry.draw)) ∷ (codes "command", write_json entry.write) ∷ [])
 
 unfoldable pub written_entry : Entry → List ℕ
 written_entry entry = written (entry_json entry)
@@ -93,16 +85,12 @@ IsLawfulTree tree = IsReadable 64 tree
 abbrev pub AreLawfulTrees : List Tree → Type 0
 AreLawfulTrees trees = AllByRecursion (λ tree. IsLawfulTree (view tree)) trees
 
--- It is one that is kept, and its trees are such as reading gives.
-abbrev pub IsLawfulCommand : Command → Type 0
-IsLawfulCommand (Found admin base) = Unit {0}
-IsLawfulCommand (Provider name) = Unit {0}
-IsLawfulCommand (Put id statement) = IsLawfulTree (view statement)
-IsLawfulCommand (Post statements) = AreLawfulTrees statements
-IsLawfulCommand (Get wanted) = ⊥
-IsLawfulCommand (More link) = ⊥
-IsLawfulCommand About = ⊥
-IsLawfulCommand (Refused area status rule) = ⊥
+-- Its trees are such as reading gives.
+abbrev pub IsLawfulWrite : Write → Type 0
+IsLawfulWrite (Found admin base) = Unit {0}
+IsLawfulWrite (Provider name) = Unit {0}
+IsLawfulWrite (Put id statement) = IsLawfulTree (view statement)
+IsLawfulWrite (Post statements) = AreLawfulTrees statements
 
 -- Each text is UTF-8.
 abbrev pub HoldsCaller : Caller → Type 0
@@ -111,15 +99,11 @@ HoldsCaller Operator = Unit {0}
 HoldsCaller (Token token) = IsUtf8 token
 
 -- Each text that is kept is UTF-8, and each id has its sixteen bytes.
-abbrev pub HoldsCommand : Command → Type 0
-HoldsCommand (Found admin base) = IsUtf8 admin × IsUtf8 base
-HoldsCommand (Provider name) = IsUtf8 name
-HoldsCommand (Put id statement) = IsId id
-HoldsCommand (Post statements) = Unit {0}
-HoldsCommand (Get wanted) = Unit {0}
-HoldsCommand (More link) = Unit {0}
-HoldsCommand About = Unit {0}
-HoldsCommand (Refused area status rule) = Unit {0}
+abbrev pub HoldsWrite : Write → Type 0
+HoldsWrite (Found admin base) = IsUtf8 admin × IsUtf8 base
+HoldsWrite (Provider name) = IsUtf8 name
+HoldsWrite (Put id statement) = IsId id
+HoldsWrite (Post statements) = Unit {0}
 
 -- two words of 128 bits
 abbrev pub HoldsDraw : Draw → Type 0
@@ -128,14 +112,14 @@ HoldsDraw draw = (draw.name < 2 ^ 128) × (draw.secret < 2 ^ 128)
 -- what holds of every entry of the program, by the types of its parts
 pub record HasValues (entry : Entry) : Type 0 where
   pub caller : HoldsCaller entry.caller
-  pub command : HoldsCommand entry.command
+  pub write : HoldsWrite entry.write
   pub moment : entry.moment ≤ latest
   pub draw : HoldsDraw entry.draw
 
 -- an entry that may be written, and is read again as itself
 pub record IsLawful (entry : Entry) : Type 0 where
   pub caller : IsLawfulCaller entry.caller
-  pub command : IsLawfulCommand entry.command
+  pub write : IsLawfulWrite entry.write
   pub values : HasValues entry
 
 -- the text of some lawful entry

@@ -1,4 +1,4 @@
-ghost use Rattle.std.specs.Prelude.{◌≡◌, ◌<◌, ◌^◌, ℕ, Some, length, IsUtf8};
+ghost use Rattle.std.specs.Prelude.{◌≡◌, ◌<◌, ◌^◌, ℕ, Some, length};
 ghost use Rattle.lrs_names.specs.declared.draw.Draw.{Draw as SpecDraw};
 ghost use Rattle.lrs_record.specs.Entries.{HoldsDraw, draw_text, word_text};
 
@@ -24,17 +24,6 @@ fn put_word(word: u128, digits: &mut [u8])
 {
     match encode_to_slice(word.to_be_bytes(), digits) {
         Ok(()) => {}
-        Err(_) => unreachable!(),
-    }
-}
-
-/// The text that the bytes are.
-pub fn ascii(bytes: &[u8]) -> &str
-    requires { IsUtf8 bytes.now }
-    ensures { result.now ≡ bytes.now }
-{
-    match str::from_utf8(bytes) {
-        Ok(text) => text,
         Err(_) => unreachable!(),
     }
 }

@@ -1,10 +1,9 @@
 ghost use Rattle.std.specs.Prelude.{◌≡◌};
-ghost use Rattle.lrs_record.specs.Entries.{HoldsCaller, caller_text, command_name};
+ghost use Rattle.lrs_record.specs.Entries.{HoldsCaller, caller_text, write_name};
 
-use crate::{Area, Moment, Rule};
+use crate::Moment;
 use lrs_json::{Items, Text, Tree};
 use lrs_names::{Draw, Id};
-use xapi_query::{MoreLink, Wanted};
 
 /// What is presented for a command.
 #[derive(Drop)]
@@ -17,9 +16,9 @@ pub enum Caller {
     Token(Text),
 }
 
-/// What a caller asks: first what is kept where it is accepted, then what is only answered.
+/// A command that is kept where it is accepted.
 #[derive(Drop)]
-pub enum Command {
+pub enum Write {
     /// Begins a store: the token of its first admin, and the address under which it is reached.
     Found { admin: Text, base: Text },
     /// Makes a provider of that name, and its token.
@@ -28,14 +27,6 @@ pub enum Command {
     Put { id: Id, statement: Tree },
     /// Keeps statements together, each under the id that it gives itself or one that is made.
     Post { statements: Items<Tree> },
-    /// Asks for statements.
-    Get(Wanted),
-    /// Asks for the next page of a list.
-    More(MoreLink),
-    /// Asks for the versions of xAPI that are spoken.
-    About,
-    /// A request whose form is refused with that status and that rule, once its caller has been looked at.
-    Refused { area: Area, status: u16, rule: Rule },
 }
 
 /// An accepted command, as the journal keeps it: with its caller, the moment at which it was accepted and what was
@@ -43,22 +34,21 @@ pub enum Command {
 #[derive(Drop)]
 pub struct Entry {
     pub caller: Caller,
-    pub command: Command,
+    pub write: Write,
     pub moment: Moment,
     pub draw: Draw,
 }
 
-impl Command {
-    /// The name under which the journal keeps the command; empty for what is never kept.
+impl Write {
+    /// The name under which the journal keeps the command.
     pub fn name(&self) -> &'static str
-        ensures { result.now ≡ command_name self.now }
+        ensures { result.now ≡ write_name self.now }
     {
         match self {
-            Command::Found { .. } => "found",
-            Command::Provider { .. } => "provider",
-            Command::Put { .. } => "put",
-            Command::Post { .. } => "post",
-            Command::Get(_) | Command::More(_) | Command::About | Command::Refused { .. } => "",
+            Write::Found { .. } => "found",
+            Write::Provider { .. } => "provider",
+            Write::Put { .. } => "put",
+            Write::Post { .. } => "post",
         }
     }
 }

@@ -9,17 +9,10 @@ mod members;
 mod parts;
 mod reading;
 mod refused;
-mod rule;
-mod who;
 mod writing;
 
-pub use entry::{Caller, Command, Entry};
+pub use entry::{Caller, Entry, Write};
 pub use lrs_time::Moment;
 pub use reading::read_entry;
 pub use refused::EntryRefused;
-pub use rule::{Area, Rule};
-pub use who::Who;
 pub use writing::write_entry;
-
-#[cfg(test)]
-mod tests;

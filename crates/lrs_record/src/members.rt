@@ -1,4 +1,4 @@
-ghost use Rattle.std.specs.Prelude.{◌≡◌, [], ◌∷◌, ℕ, List, Some, map, IsSome, IfSome, vec_len};
+ghost use Rattle.std.specs.Prelude.{◌≡◌, ◌≤◌, [], ◌∷◌, ◌++◌, ◌+◌, ℕ, List, Some, map, IsSome, IfSome, vec_len};
 ghost use Rattle.lrs_json.specs.Json.{Json, array, object, string};
 ghost use Rattle.lrs_json.specs.View.{elements_of, member_view, members_of, view};
 ghost use Rattle.lrs_json.specs.declared.tree.Tree.{Tree as SpecTree};
@@ -22,34 +22,40 @@ pub fn one(tree: Tree) -> Option<Member>
 
 /// The members of the tree, where it is an object of two.
 pub fn two(tree: Tree) -> Option<(Member, Member)>
-    ensures found { IfSome result (λ members. view tree ≡ object (members_of (member_view members.0 ∷ member_view members.1 ∷ []))) }
+    ensures found { IfSome result (λ members. view tree ≡ object (members_of (member_view members.0
+        ∷ member_view members.1 ∷ []))) }
     ensures all { width (view tree) ≡ Some 2 → IsSome result }
 {
     let mut members = members(tree)?;
-    let second = members.pop()?;
-    let first = members.pop()?;
-    if members.is_empty() {
-        Some((first, second))
-    } else {
-        None
-    }
+    let pair = last_two(&mut members)?;
+    if members.is_empty() { Some(pair) } else { None }
 }
 
 /// The members of the tree, where it is an object of four.
 pub fn four(tree: Tree) -> Option<(Member, Member, Member, Member)>
-    ensures found { IfSome result (λ members. view tree ≡ object (members_of (member_view members.0 ∷ member_view members.1 ∷ member_view members.2 ∷ member_view members.3 ∷ []))) }
+    ensures found { IfSome result (λ members. view tree ≡ object (members_of (member_view members.0
+        ∷ member_view members.1 ∷ member_view members.2 ∷ member_view members.3 ∷ []))) }
     ensures all { width (view tree) ≡ Some 4 → IsSome result }
 {
     let mut members = members(tree)?;
-    let fourth = members.pop()?;
-    let third = members.pop()?;
-    let second = members.pop()?;
-    let first = members.pop()?;
+    let (third, fourth) = last_two(&mut members)?;
+    let (first, second) = last_two(&mut members)?;
     if members.is_empty() {
         Some((first, second, third, fourth))
     } else {
         None
     }
+}
+
+// Takes the last two members, where there are two.
+fn last_two(members: &mut Vec<Member>) -> Option<(Member, Member)>
+    ensures found { IfSome result (λ pair. members.old.items ≡ members.new.items ++ pair.0 ∷ pair.1 ∷ []) }
+    ensures all { 2 ≤ vec_len members.old → IsSome result }
+    ensures length { IfSome result (λ _. vec_len members.old ≡ vec_len members.new + 2) }
+{
+    let second = members.pop()?;
+    let first = members.pop()?;
+    Some((first, second))
 }
 
 // The members of the tree, where it is an object.
@@ -90,7 +96,8 @@ pub fn text(member: Member, name: &str) -> Option<Text>
 /// The items of the array that is the value of the member, where it has that name.
 pub fn items(member: Member, name: &str) -> Option<Items<Tree>>
     ensures found { IfSome result (λ items. member_view member ≡ (name.now, array (elements_of (map view items)))) }
-    ensures all { (items : List SpecTree) → member_view member ≡ (name.now, array (elements_of (map view items))) → result ≡ Some items }
+    ensures all { (items : List SpecTree) → member_view member ≡ (name.now, array (elements_of (map view items)))
+        → result ≡ Some items }
 {
     match named(member, name)? {
         Tree::List(items) => Some(items),

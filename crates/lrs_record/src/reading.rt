@@ -1,5 +1,5 @@
 ghost use Rattle.std.specs.Prelude.{◌≡◌, ◌↔◌, ◌⊎◌, IfOk, IsTrue, MatchResult};
-ghost use Rattle.lrs_record.specs.Entries.{IsEntryText, IsLawful, IsLawfulCaller, IsLawfulCommand, written_entry};
+ghost use Rattle.lrs_record.specs.Entries.{IsEntryText, IsLawful, IsLawfulCaller, IsLawfulWrite, written_entry};
 ghost use Rattle.lrs_record.specs.declared.entry.Entry.{Entry as SpecEntry};
 
 use crate::parts::entry_of;
@@ -14,35 +14,42 @@ const DEPTH: u32 = 68;
 pub fn read_entry(alloc: Global, bytes: &[u8]) -> Result<Entry, EntryRefused>
     ensures lawful { IfOk result IsLawful }
     ensures read { IfOk result (λ entry. written_entry entry ≡ bytes.now) }
-    ensures again { (entry : SpecEntry) → IsLawful entry → written_entry entry ≡ bytes.now → MatchResult result (λ read. read ≡ entry) (λ refused. refused ≡ EntryRefused.Memory) }
+    ensures again { (entry : SpecEntry) → IsLawful entry → written_entry entry ≡ bytes.now → MatchResult result
+        (λ read. read ≡ entry) (λ refused. refused ≡ EntryRefused.Memory) }
 
     // `BadEntry` exactly where the bytes are the text of no lawful entry.
     ensures bad { result ≡ Err EntryRefused.BadEntry → ¬ IsEntryText bytes.now }
-    ensures always { ¬ IsEntryText bytes.now → (result ≡ Err EntryRefused.BadEntry) ⊎ (result ≡ Err EntryRefused.Memory) }
+    ensures always { ¬ IsEntryText bytes.now → (result ≡ Err EntryRefused.BadEntry)
+        ⊎ (result ≡ Err EntryRefused.Memory) }
 {
     read_lawful(alloc, bytes)
 }
 
 fn read_lawful(alloc: Global, bytes: &[u8]) -> Result<Entry, EntryRefused>
     ensures found { IfOk result (λ entry. IsLawful entry × (written_entry entry ≡ bytes.now)) }
-    ensures again { (entry : SpecEntry) → IsLawful entry → written_entry entry ≡ bytes.now → MatchResult result (λ read. read ≡ entry) (λ refused. refused ≡ EntryRefused.Memory) }
+    ensures again { (entry : SpecEntry) → IsLawful entry → written_entry entry ≡ bytes.now → MatchResult result
+        (λ read. read ≡ entry) (λ refused. refused ≡ EntryRefused.Memory) }
 {
     let tree = read_to(alloc, bytes, DEPTH)?;
     match entry_of(tree) {
-        Some(entry) => {
-            if has_text(alloc, &entry, bytes)? {
-                Ok(entry)
-            } else {
+        Some(entry) => match has_text(alloc, &entry, bytes) {
+            Ok(true) => Ok(entry),
+            Ok(false) => {
+                drop(entry);
                 Err(EntryRefused::BadEntry)
             }
-        }
+            Err(refused) => {
+                drop(entry);
+                Err(EntryRefused::from(refused))
+            }
+        },
         None => Err(EntryRefused::BadEntry),
     }
 }
 
 fn has_text(alloc: Global, entry: &Entry, bytes: &[u8]) -> Result<bool, Memory>
     requires caller { IsLawfulCaller entry.now.caller }
-    requires command { IsLawfulCommand entry.now.command }
+    requires write { IsLawfulWrite entry.now.write }
     ensures same { IfOk result (λ same. IsTrue same ↔ (written_entry entry.now ≡ bytes.now)) }
     ensures lawful { IfOk result (λ _. IsLawful entry.now) }
 {

@@ -3,8 +3,10 @@ use Rattle.std.specs.Prelude.{◌==◌}
 use Rattle.lrs_record.specs.Entries.{written_entry}
 use Rattle.lrs_machine.specs.Desk.{IsRefused}
 use Rattle.lrs_machine.specs.Fold.{state_of}
-use Rattle.lrs_machine.specs.Replays.{may_come, TakesEntry}
-use Rattle.lrs_machine.proofs.ReplayLemmas.{taken_more, taken_unread, taken_refused, capped_more, may_capped, most_of}
+use Rattle.lrs_fold.specs.Next.{may_come}
+use Rattle.lrs_machine.specs.Replays.{TakesEntry}
+use Rattle.lrs_fold.proofs.Decides.{may_capped}
+use Rattle.lrs_machine.proofs.ReplayLemmas.{taken_more, taken_unread, taken_refused, capped_more, most_of}
 use Rattle.lrs_machine.proofs.replaying.take_next.Goals as goal
 
 pub returns-in-Err-clause-taken : goal.returns-in-Err-clause-taken

@@ -14,13 +14,13 @@ returns-in-None-clause-again c = λ entry lawful is.
     let seen = c.in_ok-tree.ensures.all (entry_json entry) (entry_is_spelled entry _ lawful is) in
     absurd (cc (c.in-None.ensures.all entry lawful seen))
 
-pub returns-then-branch-clause-again : goal.returns-then-branch-clause-again
-returns-then-branch-clause-again c = λ entry lawful is.
+pub returns-in-Ok-true-clause-again : goal.returns-in-Ok-true-clause-again
+returns-in-Ok-true-clause-again c = λ entry lawful is.
     let seen = c.in_ok-tree.ensures.all (entry_json entry) (entry_is_spelled entry _ lawful is) in
     cc (c.in-Some.ensures.all entry lawful seen)
 
-pub returns-else-branch-clause-again : goal.returns-else-branch-clause-again
-returns-else-branch-clause-again c = λ entry lawful is.
+pub returns-in-Ok-false-clause-again : goal.returns-in-Ok-false-clause-again
+returns-in-Ok-false-clause-again c = λ entry lawful is.
     let seen = c.in_ok-tree.ensures.all (entry_json entry) (entry_is_spelled entry _ lawful is) in
     let same : c.in-Some.entry ≡ entry = cc (c.in-Some.ensures.all entry lawful seen) in
-    absurd (false≢true (sym c.if-branch.false ∙ c.in_ok-has_text-in-Some.ensures.same.1 (ap written_entry same ∙ is)))
+    absurd (false≢true (sym c.in-Ok-false.field-0-test ∙ c.in-Ok-false.ensures.same.1 (ap written_entry same ∙ is)))

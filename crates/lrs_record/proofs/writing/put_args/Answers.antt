@@ -9,8 +9,8 @@ use Rattle.lrs_json.specs.Texts.{member_text}
 use Rattle.lrs_record.proofs.Joined.{two_members, member_of_tree}
 use Rattle.lrs_record.proofs.writing.put_args.Goals as goal
 
-pub ascii-requires : goal.ascii-requires
-ascii-requires c = rw c.text-id.ensures.text (IsUtf8-id_text _)
+pub utf8_text-requires : goal.utf8_text-requires
+utf8_text-requires c = rw c.text-id.ensures.text (IsUtf8-id_text _)
 
 pub returns-in_ok-put_text-in-Found-clause-ok : goal.returns-in_ok-put_text-in-Found-clause-ok
 returns-in_ok-put_text-in-Found-clause-ok c =
@@ -22,7 +22,7 @@ returns-in_ok-put_text-in-Found-clause-ok c =
 
 pub returns-in_ok-put_name-in-Put-clause-ok : goal.returns-in_ok-put_name-in-Put-clause-ok
 returns-in_ok-put_name-in-Put-clause-ok c =
-    let first = c.in_ok-put_text-in-Put.ensures.ok ∙ ap (λ t. c.args.into.now.items ++ member_text false (codes "id") (string t)) (c.ascii.ensures ∙ c.text-id.ensures.text) in
+    let first = c.in_ok-put_text-in-Put.ensures.ok ∙ ap (λ t. c.args.into.now.items ++ member_text false (codes "id") (string t)) (c.utf8_text.ensures ∙ c.text-id.ensures.text) in
     on_ok_weaker c.put_tree.result (λ second.
     let last = member_of_tree _ _ _ (comma_if true ++ quoted (codes "statement")) _ c.in_ok-put_name-in-Put.ensures.ok second in
     rw c.in-Put.is (two_members _ _ _ (member_text false (codes "id") (string (id_text c.in-Put.id))) (member_text true (codes "statement") (view c.in-Put.statement)) first last))

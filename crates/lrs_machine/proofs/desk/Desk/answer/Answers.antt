@@ -1,6 +1,5 @@
-use Rattle.std.proofs.Common.{◌≡◌, max, subst, sym}
-use Rattle.lrs_record.specs.Moments.{clamped}
-use Rattle.lrs_history.specs.History.{answer, entry_at}
+use Rattle.std.proofs.Common.{◌≡◌, subst, sym}
+use Rattle.lrs_history.specs.History.{answer, verdict}
 use Rattle.lrs_machine.specs.Fold.{state_of}
 use Rattle.lrs_machine.specs.Desk.{StandsFor, Answers}
 use Rattle.lrs_machine.proofs.ActLemmas.{act_ties, act_answers}
@@ -20,11 +19,11 @@ returns-clause-answered g c = λ h stands.
     c.self.invariant c.act.ensures.acted (subst (λ o. StandsFor g.D.Disk.told o h) (sym c.self.view_is) stands))
 
 pub returns-clause-known : goal.returns-clause-known
-returns-clause-known g c = λ put. act_put g.D.Disk.told c.self.inside.journal c.act.new.journal (state_of c.self.inside.fold) (state_of c.act.new.fold) _ c.act.result.0 c.act.ensures.acted put
+returns-clause-known g c = λ put. act_put g.D.Disk.told c.self.inside.journal c.act.new.journal (state_of c.self.inside.fold) (state_of c.act.new.fold) c.args.caller c.args.command c.args.clock c.args.draw.now c.act.result.0 c.act.ensures.acted put
 
 pub returns-clause-limit : goal.returns-clause-limit
 returns-clause-limit g c = subst (λ o. c.act.new.journal.limit ≡ o.limit) c.self.view_is
-    (act_limit g.D.Disk.told c.self.inside.journal c.act.new.journal (state_of c.self.inside.fold) (state_of c.act.new.fold) (entry_at c.args.caller c.args.command (max (clamped c.args.clock) c.self.inside.fold.last) c.args.draw.now) c.act.result.0 c.act.ensures.acted)
+    (act_limit g.D.Disk.told c.self.inside.journal c.act.new.journal (state_of c.self.inside.fold) (state_of c.act.new.fold) (verdict (state_of c.self.inside.fold) c.args.caller c.args.command c.args.clock c.args.draw.now) c.act.result.0 c.act.ensures.acted)
 
 pub returns-clause-durable : goal.returns-clause-durable
 returns-clause-durable g c = λ h stands. on_disk g.D.Disk.told g.D.Disk.image c.act.new.journal h c.act.ensures.sound stands

@@ -3,7 +3,8 @@ use Rattle.std.specs.Prelude.{option_map}
 use Rattle.lrs_journal.specs.Journal.{frames_of}
 use Rattle.lrs_history.specs.History.{state}
 use Rattle.lrs_machine.specs.Fold.{state_of}
-use Rattle.lrs_machine.specs.Desk.{IsNotFounded, founding_entry}
+use Rattle.lrs_fold.specs.Own.{founding_entry}
+use Rattle.lrs_machine.specs.Desk.{IsNotFounded}
 use Rattle.lrs_machine.proofs.OpenLemmas.{founding_of, found_ties, found_stands, found_refused, on_disk}
 use Rattle.lrs_machine.proofs.desk.Desk.found.Goals as goal
 
@@ -30,3 +31,6 @@ returns-clause-refused g c = λ bytes there.
     subst (λ e. IsNotFounded bytes c.args.limit (founding_entry c.args.admin.now c.args.base.now c.args.clock) e) (sym c.founding_refusal.ensures)
     (found_refused bytes c.args.limit (founding_entry c.args.admin.now c.args.base.now c.args.clock) c.deref.result.now c.in-Err-create.refused
     (c.deref.ensures.value ∙ c.in-Ok.ensures.frame) (c.in-Err-create.ensures.refused bytes there) c.in-Err-create.ensures.full)
+
+pub returns-clause-store : goal.returns-clause-store
+returns-clause-store g c = λ bytes there closed. (c.in-Err-create.ensures.store bytes there closed).0

@@ -1,0 +1,28 @@
+-- The names of rules.
+use Rattle.std.specs.Prelude.{ℕ, List, ◌∷◌}
+use Rattle.std.specs.Fmt.{decimal}
+use Rattle.lrs_command.specs.declared.rule.Rule.{Rule}
+use Rattle.lrs_command.specs.declared.rule.Rule.TheVariants.{A, B, C, F, J, P, S}
+
+-- the letter of its family
+abbrev pub letter_of : Rule → ℕ
+letter_of (A n) = 65
+letter_of (B n) = 66
+letter_of (C n) = 67
+letter_of (F n) = 70
+letter_of (J n) = 74
+letter_of (P n) = 80
+letter_of (S n) = 83
+
+abbrev pub number_of : Rule → ℕ
+number_of (A n) = n
+number_of (B n) = n
+number_of (C n) = n
+number_of (F n) = n
+number_of (J n) = n
+number_of (P n) = n
+number_of (S n) = n
+
+-- its letter and its number, such as S4
+abbrev pub rule_text : Rule → List ℕ
+rule_text rule = letter_of rule ∷ decimal (number_of rule)

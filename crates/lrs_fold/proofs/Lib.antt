@@ -1,0 +1,11 @@
+pub mod Judged
+pub mod Alone
+pub mod Naming
+pub mod Thanked
+pub mod Turns
+pub mod Coming
+pub mod Late
+pub mod Promised
+pub mod Puts
+pub mod Decides
+pub mod Again

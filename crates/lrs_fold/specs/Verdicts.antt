@@ -1,0 +1,24 @@
+-- What is made of a verdict.
+use Rattle.std.specs.Prelude.{◌≡◌}
+use Rattle.lrs_fold.specs.declared.verdict.Verdict.{Verdict as Made}
+use Rattle.lrs_fold.specs.declared.verdict.Verdict.TheVariants as made
+use Rattle.lrs_fold.specs.declared.verdict.Accepted.{Accepted}
+use Rattle.lrs_history.specs.Effects.{effect}
+use Rattle.lrs_history.specs.History.{Verdict, Told, Accepted as Keeps}
+use Rattle.lrs_parts.specs.State.{State}
+use Rattle.lrs_record.specs.Entries.{IsLawful, written_entry}
+use Rattle.lrs_record.specs.declared.entry.Entry.{Entry}
+use Rattle.lrs_replies.specs.declared.answered.Answered.{Answered}
+
+-- the entry's text, its effect, and what is told of it
+pub record IsAccepted (st : State) (e : Entry) (told : Answered) (a : Accepted) : Type 0 where
+  pub lawful : IsLawful e
+  pub frame : a.frame ≡ written_entry e
+  pub effect : a.effect ≡ effect st e
+  pub said : a.said ≡ told
+
+abbrev pub IsVerdict : State → Verdict → Made → Type 0
+IsVerdict st (Told said) (made.Told text) = text ≡ said
+IsVerdict st (Told said) (made.Accepted a) = ⊥
+IsVerdict st (Keeps e said) (made.Told text) = ⊥
+IsVerdict st (Keeps e said) (made.Accepted a) = IsAccepted st e said a

@@ -1,0 +1,188 @@
+// What an entry changes.
+ghost use Rattle.std.specs.Prelude.{◌≡◌, ◌∷◌, ◌++◌, [], Some, IfOk, OnOk};
+ghost use Rattle.std.specs.List.{AllByRecursion};
+ghost use Rattle.lrs_fold.specs.Judged.{IsJudged, IsJudgedTree};
+ghost use Rattle.lrs_fold.specs.Naming.{named_of};
+ghost use Rattle.lrs_history.specs.Effects.{Occasion, effect, effect_of};
+ghost use Rattle.lrs_history.specs.Whose.{authority_of};
+ghost use Rattle.lrs_parts.specs.Parts.{state_of};
+ghost use Rattle.lrs_parts.specs.State.{no_change, used_in};
+ghost use Rattle.lrs_record.specs.declared.entry.Write.TheVariants as write;
+ghost use Rattle.lrs_replies.specs.Texts.{token_text};
+ghost use Rattle.xapi_index.specs.Batches.{given_ids, kept_by, named, names_of};
+ghost use Rattle.xapi_index.specs.Ids.{supply_of};
+ghost use Rattle.xapi_index.specs.Statements.{new_ones};
+
+use crate::Fold;
+use lrs_command::Who;
+use lrs_json::{Items, Memory, Text, Tree};
+use lrs_names::{Draw, Id};
+use lrs_parts::{CallersChange, Effect, Founding, HeldCaller};
+use lrs_record::{Entry, Moment, Write};
+use lrs_replies::token_text;
+use std::alloc::Global;
+use xapi_index::batch_ids;
+use xapi_statement::{Completed, Statement};
+
+impl Fold {
+    /// What an entry changes, whose write isn't refused. Its statements move into the effect.
+    pub fn prepare(&self, alloc: Global, entry: Entry) -> Result<Effect, Memory>
+        requires { IsJudged entry.write }
+        ensures { IfOk result (λ made. made ≡ effect (state_of self.now.parts) entry) }
+    {
+        let Entry {
+            caller,
+            write,
+            moment,
+            draw,
+        } = entry;
+        let who = self.who(&caller);
+        drop(caller);
+        match write {
+            Write::Found { admin, base } => Ok(founding(alloc, admin, base, moment)),
+            Write::Provider { name } => self.provider(alloc, name, moment, &draw),
+            Write::Put { id, statement } => self.put(alloc, who, moment, id, statement),
+            Write::Post { statements } => {
+                self.post(alloc, who, moment, &draw, statements.into_vec())
+            }
+        }
+    }
+
+    // A provider, whose token tells the place of its entry.
+    fn provider(
+        &self,
+        alloc: Global,
+        name: Text,
+        moment: Moment,
+        draw: &Draw,
+    ) -> Result<Effect, Memory>
+        ensures { IfOk result (λ made. made ≡ record (no_change moment) {
+          callers =
+              record {
+                new = Some (record {
+                  name = name;
+                  token = token_text self.now.parts.length
+                      draw.now.secret;
+                });
+              };
+        }) }
+    {
+        let token = token_text(alloc, self.parts.length, draw.secret)?;
+        let mut effect = Effect::none(alloc, moment);
+        effect.callers = CallersChange {
+            new: Some(HeldCaller { name, token }),
+        };
+        Ok(effect)
+    }
+
+    fn put(
+        &self,
+        alloc: Global,
+        who: Who,
+        moment: Moment,
+        id: Id,
+        statement: Tree,
+    ) -> Result<Effect, Memory>
+        requires { IsJudgedTree statement }
+        ensures { IfOk result (λ made. made ≡ record (no_change moment) {
+          statements = new_ones
+              (state_of self.now.parts).statements (kept_by moment (authority_of (state_of self.now.parts) who)
+              (record { id = id; tree = statement } ∷ []));
+          told = id ∷ [];
+        }) }
+    {
+        let mut told = Vec::new(alloc);
+        told.push(id)?;
+        let mut added = Vec::new(alloc);
+        self.push_new(&mut added, who, moment, &id, statement)?;
+        Ok(writing(alloc, moment, added, told))
+    }
+
+    #[tactic(auto, using(crate::proofs::Naming::named_again))]
+    fn post(
+        &self,
+        alloc: Global,
+        who: Who,
+        moment: Moment,
+        draw: &Draw,
+        statements: Vec<Tree>,
+    ) -> Result<Effect, Memory>
+        requires { AllByRecursion IsJudgedTree statements.items }
+        ensures { IfOk result (λ made. made ≡ record (no_change moment) {
+          statements = new_ones
+              (state_of self.now.parts).statements (kept_by moment (authority_of (state_of self.now.parts) who)
+              (named (supply_of (used_in (state_of self.now.parts)) (given_ids statements.items) draw.now.name)
+              statements.items));
+          told = names_of (named (supply_of (used_in (state_of self.now.parts))
+              (given_ids statements.items) draw.now.name) statements.items);
+        }) }
+    {
+        let told = batch_ids(alloc, &self.parts.statements, statements.as_slice(), draw)?;
+        let added = self.new_of_batch(alloc, who, moment, told.as_slice(), statements)?;
+        Ok(writing(alloc, moment, added, told))
+    }
+
+    // Puts a statement behind the new ones, where its id isn't held and its caller has an authority.
+    fn push_new(
+        &self,
+        added: &mut Vec<Completed>,
+        who: Who,
+        moment: Moment,
+        id: &Id,
+        statement: Tree,
+    ) -> Result<(), Memory>
+        requires { IsJudgedTree statement }
+        ensures { OnOk result (added.new.items ≡ added.old.items
+            ++ new_ones (state_of self.now.parts).statements (kept_by moment
+            (authority_of (state_of self.now.parts) who) (record { id = id.now; tree = statement } ∷ []))) }
+    {
+        if self.parts.statements.find(id).is_some() {
+            return Ok(());
+        }
+        if let Some(authority) = self.authority(who)? {
+            added.push(Statement::of(statement).complete(*id, moment, authority))?;
+        }
+        Ok(())
+    }
+
+    // The statements of a batch that aren't held, as they are kept.
+    fn new_of_batch(
+        &self,
+        alloc: Global,
+        who: Who,
+        moment: Moment,
+        ids: &[Id],
+        statements: Vec<Tree>,
+    ) -> Result<Vec<Completed>, Memory>
+        requires { AllByRecursion IsJudgedTree statements.items }
+        ensures { IfOk result (λ added. added.items ≡ new_ones (state_of self.now.parts).statements
+            (kept_by moment (authority_of (state_of self.now.parts) who) (named_of ids.now statements.items))) }
+    {
+        let mut added = Vec::with_capacity(alloc, ids.len())?;
+        let mut statements = statements.into_iter();
+        for id in ids {
+            match statements.next() {
+                Some(statement) => self.push_new(&mut added, who, moment, id, statement)?,
+                None => return Ok(added),
+            }
+        }
+        Ok(added)
+    }
+}
+
+fn founding(alloc: Global, admin: Text, base: Text, moment: Moment) -> Effect
+    ensures { result ≡ record (no_change moment) { founding = Some (record { admin = admin; base = base }) } }
+{
+    let mut effect = Effect::none(alloc, moment);
+    effect.founding = Some(Founding { admin, base });
+    effect
+}
+
+fn writing(alloc: Global, moment: Moment, added: Vec<Completed>, told: Vec<Id>) -> Effect
+    ensures { result ≡ record (no_change moment) { statements = added.items; told = told.items } }
+{
+    let mut effect = Effect::none(alloc, moment);
+    effect.statements = Items::from_vec(added);
+    effect.told = Items::from_vec(told);
+    effect
+}

@@ -1,0 +1,40 @@
+ghost use Rattle.std.specs.Prelude.{◌≡◌, OnOk};
+ghost use Rattle.lrs_parts.specs.Parts.{state_of, IsReadyFor};
+ghost use Rattle.lrs_parts.specs.State.{apply, nothing};
+
+use lrs_json::Memory;
+use lrs_parts::{Effect, Parts};
+use std::alloc::Global;
+
+/// What the entries so far give.
+#[derive(Drop)]
+pub struct Fold {
+    pub parts: Parts,
+}
+
+impl Fold {
+    /// What no entry gives.
+    pub fn new(alloc: Global) -> Fold
+        ensures { state_of result.parts ≡ nothing }
+    {
+        Fold {
+            parts: Parts::new(alloc),
+        }
+    }
+
+    /// Makes room for an effect. A store whose entries can't be counted any more has none.
+    pub fn ready(&mut self, effect: &Effect) -> Result<(), Memory>
+        ensures same { state_of self.new.parts ≡ state_of self.old.parts }
+        ensures ready { OnOk result (IsReadyFor self.new.parts effect.now) }
+    {
+        self.parts.ready(effect)
+    }
+
+    /// Takes an effect in for which there is room. It takes no memory.
+    pub fn install(&mut self, effect: Effect)
+        requires { IsReadyFor self.old.parts effect }
+        ensures { state_of self.new.parts ≡ apply (state_of self.old.parts) effect }
+    {
+        self.parts.install(effect);
+    }
+}

@@ -1,0 +1,107 @@
+// Whether an entry comes next, and what it changes then.
+ghost use Rattle.std.specs.Prelude.{◌≡◌, ◌&&◌, is_none, nat_le, nat_lt, IfOk, Ok, true};
+ghost use Rattle.lrs_fold.specs.Judged.{IsJudged};
+ghost use Rattle.lrs_fold.specs.Next.{founds, is_founding, may_be_next, Changes, Comes};
+ghost use Rattle.lrs_parts.specs.Parts.{state_of};
+
+use crate::Fold;
+use lrs_json::Memory;
+use lrs_parts::{Effect, is_base, is_token};
+use lrs_record::{Caller, Entry, Write};
+use std::alloc::Global;
+
+impl Fold {
+    /// What an entry changes, where it may come next: as the first one or behind others, in a store of that limit whose end
+    /// gate stands at that place behind the entry's frame. None where it may not.
+    #[tactic(auto, using(crate::proofs::Coming::comes, crate::proofs::Coming::stays))]
+    pub fn next(
+        &self,
+        alloc: Global,
+        first: bool,
+        limit: u64,
+        place: u64,
+        entry: Entry,
+    ) -> Result<Option<Effect>, Memory>
+        ensures { IfOk result (λ next. Comes first limit place (state_of self.now.parts) entry next) }
+    {
+        match self.may_be_next(alloc, first, limit, place, &entry) {
+            Ok(true) => self.prepare_next(alloc, first, entry),
+            Ok(false) => {
+                drop(entry);
+                Ok(None)
+            }
+            Err(refused) => {
+                drop(entry);
+                Err(refused)
+            }
+        }
+    }
+
+    // What an entry changes that isn't refused, where it changes anything.
+    fn prepare_next(
+        &self,
+        alloc: Global,
+        first: bool,
+        entry: Entry,
+    ) -> Result<Option<Effect>, Memory>
+        requires { IsJudged entry.write }
+        ensures { IfOk result (λ next. Changes first (state_of self.now.parts) entry next) }
+    {
+        let effect = self.prepare(alloc, entry)?;
+        if !first && effect.changes_nothing() {
+            drop(effect);
+            return Ok(None);
+        }
+        Ok(Some(effect))
+    }
+
+    // Whether an entry comes next, if it changes anything.
+    fn may_be_next(
+        &self,
+        alloc: Global,
+        first: bool,
+        limit: u64,
+        place: u64,
+        entry: &Entry,
+    ) -> Result<bool, Memory>
+        ensures may { IfOk result (λ may. may ≡ may_be_next first limit place (state_of self.now.parts) entry.now) }
+        ensures judged { result ≡ Ok true → IsJudged entry.now.write }
+    {
+        if first {
+            return is_founding(alloc, entry);
+        }
+        if self.refusal(alloc, entry)?.is_some() {
+            return Ok(false);
+        }
+        Ok(self.parts.last.milliseconds() <= entry.moment.milliseconds() && place < limit)
+    }
+}
+
+fn is_founding(alloc: Global, entry: &Entry) -> Result<bool, Memory>
+    ensures founds { IfOk result (λ founds. founds ≡ is_founding entry.now) }
+    ensures judged { result ≡ Ok true → IsJudged entry.now.write }
+{
+    match &entry.caller {
+        Caller::Operator => {}
+        Caller::Nobody | Caller::Token(_) => return Ok(false),
+    }
+    if entry.draw.name != 0 || entry.draw.secret != 0 {
+        return Ok(false);
+    }
+    founds(alloc, &entry.write)
+}
+
+fn founds(alloc: Global, write: &Write) -> Result<bool, Memory>
+    ensures founds { IfOk result (λ fits. fits ≡ founds write.now) }
+    ensures judged { result ≡ Ok true → IsJudged write.now }
+{
+    match write {
+        Write::Found { admin, base } => {
+            if !is_token(admin) {
+                return Ok(false);
+            }
+            is_base(alloc, base)
+        }
+        Write::Provider { .. } | Write::Put { .. } | Write::Post { .. } => Ok(false),
+    }
+}

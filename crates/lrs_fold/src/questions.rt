@@ -1,0 +1,150 @@
+// What is told of a question.
+ghost use Rattle.std.specs.Prelude.{◌≡◌, ◌≤◌, length, IfOk};
+ghost use Rattle.lrs_command.specs.declared.command.Read.TheVariants as question;
+ghost use Rattle.lrs_history.specs.Answers.{is_shown, one_said, page_said, reading, wanted_said};
+ghost use Rattle.lrs_history.specs.History.{refused_or};
+ghost use Rattle.lrs_history.specs.Refusals.{read_refusal, too_late};
+ghost use Rattle.lrs_history.specs.Whose.{who_is};
+ghost use Rattle.lrs_parts.specs.Parts.{state_of};
+ghost use Rattle.xapi_index.specs.Statements.{held_under};
+ghost use Rattle.xapi_statement.specs.Shown.{shown_text};
+
+use crate::Fold;
+use lrs_command::{Read, Rule, Who};
+use lrs_history::{barred, read_area, sight_of};
+use lrs_json::{Items, Memory};
+use lrs_names::Id;
+use lrs_record::Caller;
+use lrs_replies::{Answered, Refusal, versions_text};
+use std::alloc::Global;
+use xapi_index::page_text;
+use xapi_query::{MoreLink, Query, Wanted, sees};
+use xapi_statement::{Completed, Format};
+
+impl Fold {
+    /// What a caller is told who asks.
+    #[tactic(auto, using(crate::proofs::Late::late_alone))]
+    pub fn told(&self, alloc: Global, caller: &Caller, read: &Read) -> Result<Answered, Memory>
+        ensures { IfOk result (λ said. said ≡ refused_or (read_refusal (state_of self.now.parts)
+            (who_is (state_of self.now.parts) caller.now) read.now)
+            (reading (state_of self.now.parts) (who_is (state_of self.now.parts) caller.now) read.now)) }
+    {
+        let who = self.who(caller);
+        match barred(read_area(read), who) {
+            Some(refusal) => Ok(Answered::Refused(refusal)),
+            None => self.told_inside(alloc, who, read),
+        }
+    }
+
+    // What a caller is told who is let in.
+    fn told_inside(&self, alloc: Global, who: Who, read: &Read) -> Result<Answered, Memory>
+        ensures { IfOk result (λ said. said ≡ refused_or (too_late (state_of self.now.parts) read.now)
+            (reading (state_of self.now.parts) who read.now)) }
+    {
+        match read {
+            Read::Statements(wanted) => self.wanted_said(alloc, who, wanted),
+            Read::More(link) => self.more_said(alloc, who, link),
+            Read::About => Ok(Answered::Shown {
+                text: Items::from_vec(versions_text(alloc)?),
+                through: None,
+            }),
+        }
+    }
+
+    // The page that a link leads to, where there is a list as it speaks of.
+    fn more_said(&self, alloc: Global, who: Who, link: &MoreLink) -> Result<Answered, Memory>
+        ensures { IfOk result (λ said. said ≡ refused_or (too_late (state_of self.now.parts) (question.More link.now))
+            (reading (state_of self.now.parts) who (question.More link.now))) }
+    {
+        if link.asof > self.parts.statements.len() as u64 {
+            return Ok(Answered::Refused(Refusal::Broken(Rule::P(14))));
+        }
+        self.page_said(
+            alloc,
+            who,
+            &link.query,
+            link.asof as usize,
+            Some(link.after as usize),
+        )
+    }
+
+    fn wanted_said(&self, alloc: Global, who: Who, wanted: &Wanted) -> Result<Answered, Memory>
+        ensures { IfOk result (λ said. said ≡ wanted_said (state_of self.now.parts) who wanted.now) }
+    {
+        match wanted {
+            Wanted::One(id, format) => self.one_said(alloc, who, *format, false, id),
+            Wanted::Voided(id, format) => self.one_said(alloc, who, *format, true, id),
+            Wanted::Many(query) => {
+                self.page_said(alloc, who, query, self.parts.statements.len(), None)
+            }
+        }
+    }
+
+    // The statement of an id, where it is voided or not as is asked.
+    fn one_said(
+        &self,
+        alloc: Global,
+        who: Who,
+        format: Format,
+        voided: bool,
+        id: &Id,
+    ) -> Result<Answered, Memory>
+        ensures { IfOk result (λ said. said ≡ one_said (state_of self.now.parts) who format voided
+            (held_under id.now self.now.parts.statements.held)) }
+    {
+        let Some(held) = self.parts.statements.find(id) else {
+            return Ok(Answered::Refused(Refusal::NotFound));
+        };
+        if !self.is_shown(who, voided, held) {
+            return Ok(Answered::Refused(Refusal::NotFound));
+        }
+        Ok(Answered::Shown {
+            text: Items::from_vec(statement_text(alloc, format, held)?),
+            through: Some(self.parts.last),
+        })
+    }
+
+    fn is_shown(&self, who: Who, voided: bool, held: &Completed) -> bool
+        ensures { result ≡ is_shown (state_of self.now.parts) who voided held.now }
+    {
+        sees(&sight_of(who), held) && self.parts.statements.is_voided(held) == voided
+    }
+
+    // The page behind a position in the list as of the first n statements.
+    fn page_said(
+        &self,
+        alloc: Global,
+        who: Who,
+        query: &Query,
+        n: usize,
+        after: Option<usize>,
+    ) -> Result<Answered, Memory>
+        requires { n ≤ length self.now.parts.statements.held }
+        ensures { IfOk result (λ said. said ≡ page_said (state_of self.now.parts) who query.now n after) }
+    {
+        let body = page_text(
+            alloc,
+            &self.parts.statements,
+            query,
+            &sight_of(who),
+            n,
+            after,
+        )?;
+        Ok(Answered::Shown {
+            text: Items::from_vec(body),
+            through: Some(self.parts.last),
+        })
+    }
+}
+
+// What most statements have room in, so that few bodies grow while they are written.
+const BODY_ROOM: usize = 1_024;
+
+// A statement as it is shown.
+fn statement_text(alloc: Global, format: Format, held: &Completed) -> Result<Vec<u8>, Memory>
+    ensures { IfOk result (λ body. body.items ≡ shown_text format held.now) }
+{
+    let mut body = Vec::with_capacity(alloc, BODY_ROOM)?;
+    held.write(format, &mut body)?;
+    Ok(body)
+}

@@ -1,0 +1,180 @@
+// What becomes of a command.
+ghost use Rattle.std.specs.Prelude.{◌≡◌, max, IfOk, Ok, None};
+ghost use Rattle.lrs_command.specs.Commands.{HasReadTrees};
+ghost use Rattle.lrs_fold.specs.Judged.{IsJudged};
+ghost use Rattle.lrs_fold.specs.Verdicts.{IsVerdict};
+ghost use Rattle.lrs_history.specs.Answers.{acceptance};
+ghost use Rattle.lrs_history.specs.Effects.{effect};
+ghost use Rattle.lrs_history.specs.History.{refused, refused_or, said_at_once, verdict, verdict_by};
+ghost use Rattle.lrs_history.specs.Refusals.{barred, refusal, refused_with};
+ghost use Rattle.lrs_history.specs.Whose.{who_is};
+ghost use Rattle.lrs_parts.specs.Parts.{state_of};
+ghost use Rattle.lrs_record.specs.Entries.{IsLawful, IsLawfulCaller, IsLawfulWrite, written_entry};
+ghost use Rattle.lrs_record.specs.Moments.{clamped};
+
+use crate::{Fold, Thanks};
+use lrs_command::{Area, Command, Rule};
+use lrs_history::{barred, refused_with};
+use lrs_json::{Items, Memory};
+use lrs_names::Draw;
+use lrs_parts::Effect;
+use lrs_record::{Caller, Entry, Moment, write_entry};
+use lrs_replies::Answered;
+use std::alloc::Global;
+
+/// What becomes of a command.
+#[derive(Drop)]
+pub enum Verdict {
+    /// It is told this at once, and nothing is kept.
+    Told(Answered),
+    /// It is to have an entry.
+    Accepted(Accepted),
+}
+
+/// An entry that is to be kept where there is room for it.
+#[derive(Drop)]
+pub struct Accepted {
+    /// Its text.
+    pub frame: Items<u8>,
+    pub effect: Effect,
+    /// What its caller is told once it is kept.
+    pub said: Answered,
+}
+
+// What most frames have room in, so that few grow while they are written.
+const FRAME_ROOM: usize = 1_024;
+
+impl Fold {
+    /// What becomes of a command. All that it takes to keep its entry is made here, but for the room in the parts.
+    pub fn verdict(
+        &self,
+        alloc: Global,
+        caller: Caller,
+        command: Command,
+        clock: u64,
+        draw: &Draw,
+    ) -> Result<Verdict, Memory>
+        requires caller { IsLawfulCaller caller }
+        requires command { HasReadTrees command }
+        ensures { IfOk result (IsVerdict (state_of self.now.parts)
+            (verdict (state_of self.now.parts) caller command clock draw.now)) }
+    {
+        match command {
+            Command::Write(write) => self.write_verdict(
+                alloc,
+                Entry {
+                    caller,
+                    write,
+                    moment: next_moment(clock, self.parts.last),
+                    draw: *draw,
+                },
+            ),
+            Command::Read(read) => {
+                let said = self.told(alloc, &caller, &read);
+                drop(caller);
+                drop(read);
+                Ok(Verdict::Told(said?))
+            }
+            Command::Refused { area, status, rule } => {
+                let said = self.refused(&caller, area, status, rule);
+                drop(caller);
+                Ok(Verdict::Told(said))
+            }
+        }
+    }
+
+    // What a caller is told whose command's form is refused.
+    fn refused(&self, caller: &Caller, area: Area, status: u16, rule: Rule) -> Answered
+        ensures { result ≡ refused_or (barred area (who_is (state_of self.now.parts) caller.now))
+            (refused (refused_with status rule)) }
+    {
+        match barred(area, self.who(caller)) {
+            Some(refusal) => Answered::Refused(refusal),
+            None => Answered::Refused(refused_with(status, rule)),
+        }
+    }
+
+    #[tactic(auto, using(crate::proofs::Promised::refused_now))]
+    fn write_verdict(&self, alloc: Global, entry: Entry) -> Result<Verdict, Memory>
+        requires caller { IsLawfulCaller entry.caller }
+        requires write { IsLawfulWrite entry.write }
+        ensures { IfOk result (IsVerdict (state_of self.now.parts)
+            (verdict_by (said_at_once (state_of self.now.parts) entry) entry
+            (acceptance (state_of self.now.parts) entry.write (effect (state_of self.now.parts) entry)))) }
+    {
+        match self.refusal(alloc, &entry) {
+            Ok(None) => self.accepted(alloc, entry),
+            Ok(Some(refusal)) => {
+                drop(entry);
+                Ok(Verdict::Told(Answered::Refused(refusal)))
+            }
+            Err(refused) => {
+                drop(entry);
+                Err(refused)
+            }
+        }
+    }
+
+    // Of an entry that isn't refused.
+    fn accepted(&self, alloc: Global, entry: Entry) -> Result<Verdict, Memory>
+        requires caller { IsLawfulCaller entry.caller }
+        requires write { IsLawfulWrite entry.write }
+        requires judged { IsJudged entry.write }
+        requires unrefused { refusal (state_of self.now.parts) entry ≡ None }
+        ensures { IfOk result (IsVerdict (state_of self.now.parts)
+            (verdict_by (said_at_once (state_of self.now.parts) entry) entry
+            (acceptance (state_of self.now.parts) entry.write (effect (state_of self.now.parts) entry)))) }
+    {
+        match frame_of(alloc, &entry) {
+            Ok(frame) => self.promised(alloc, frame, entry),
+            Err(refused) => {
+                drop(entry);
+                Err(refused)
+            }
+        }
+    }
+
+    // Of an entry with its frame.
+    #[tactic(auto, using(crate::proofs::Promised::told_now, crate::proofs::Promised::kept_then))]
+    fn promised(&self, alloc: Global, frame: Vec<u8>, entry: Entry) -> Result<Verdict, Memory>
+        requires judged { IsJudged entry.write }
+        requires unrefused { refusal (state_of self.now.parts) entry ≡ None }
+        requires frame { frame.items ≡ written_entry entry }
+        requires lawful { IsLawful entry }
+        ensures { IfOk result (IsVerdict (state_of self.now.parts)
+            (verdict_by (said_at_once (state_of self.now.parts) entry) entry
+            (acceptance (state_of self.now.parts) entry.write (effect (state_of self.now.parts) entry)))) }
+    {
+        let thanks = Thanks::of(&entry.write);
+        let effect = self.prepare(alloc, entry)?;
+        let said = self.acceptance(alloc, thanks, &effect)?;
+        if effect.changes_nothing() {
+            drop(effect);
+            return Ok(Verdict::Told(said));
+        }
+        Ok(Verdict::Accepted(Accepted {
+            frame: Items::from_vec(frame),
+            effect,
+            said,
+        }))
+    }
+}
+
+/// An entry as a frame of the journal.
+pub fn frame_of(alloc: Global, entry: &Entry) -> Result<Vec<u8>, Memory>
+    requires caller { IsLawfulCaller entry.now.caller }
+    requires write { IsLawfulWrite entry.now.write }
+    ensures text { IfOk result (λ frame. frame.items ≡ written_entry entry.now) }
+    ensures lawful { IfOk result (λ _. IsLawful entry.now) }
+{
+    let mut frame = Vec::with_capacity(alloc, FRAME_ROOM)?;
+    write_entry(entry, &mut frame)?;
+    Ok(frame)
+}
+
+// The later one of the clock's reading, which may be out of range, and the last entry's moment.
+fn next_moment(clock: u64, last: Moment) -> Moment
+    ensures { result ≡ max (clamped clock) last }
+{
+    Moment::clamp(clock.max(last.milliseconds()))
+}

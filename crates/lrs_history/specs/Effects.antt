@@ -1,0 +1,66 @@
+-- What an entry changes in the parts of a store.
+use Rattle.std.specs.Prelude.{ℕ, List, [], ◌∷◌, Some}
+use Rattle.lrs_command.specs.declared.who.Who.{Who}
+use Rattle.lrs_history.specs.Whose.{authority_of, who_is}
+use Rattle.lrs_parts.specs.State.{State, no_change, used_in}
+use Rattle.lrs_parts.specs.declared.effect.Effect.{Effect}
+use Rattle.lrs_record.specs.declared.entry.Entry.{Entry}
+use Rattle.lrs_record.specs.declared.entry.Write.{Write}
+use Rattle.lrs_record.specs.declared.entry.Write.TheVariants.{Found, Provider, Put, Post}
+use Rattle.lrs_replies.specs.Texts.{token_text}
+use Rattle.xapi_index.specs.Batches.{Named, given_ids, kept_by, named, names_of}
+use Rattle.xapi_index.specs.Ids.{Supply, supply_of}
+use Rattle.xapi_index.specs.Statements.{new_ones}
+use Rattle.xapi_statement.specs.Completed.{HeldStatement}
+
+-- What an entry has beside its write: who asks, when, the token that it can give away, and the ids that it can make.
+pub record Occasion : Type 0 where
+  pub by : Who
+  pub moment : ℕ
+  pub token : List ℕ
+  pub supply : Supply
+
+-- the ids that a write brings itself
+abbrev pub given_in : Write → List (List ℕ)
+given_in (Put id statement) = id ∷ []
+given_in (Post statements) = given_ids statements
+given_in other = []
+
+-- The token tells the place of the entry. The ids are made from the draw's name on; none is used, and none is brought.
+abbrev pub occasion : State → Entry → Occasion
+occasion st e = record {
+  by = who_is st e.caller;
+  moment = e.moment;
+  token = token_text st.length e.draw.secret;
+  supply = supply_of (used_in st) (given_in e.write) e.draw.name;
+}
+
+-- ---- statements
+
+-- the statements of a write, with the ids under which they go
+abbrev pub named_in : Occasion → Write → List Named
+named_in at (Put id statement) = record { id = id; tree = statement } ∷ []
+named_in at (Post statements) = named at.supply statements
+named_in at other = []
+
+-- the same as they are kept: with the moment of the entry and its caller's authority
+abbrev pub brought : State → Occasion → Write → List HeldStatement
+brought st at write = kept_by at.moment (authority_of st at.by) (named_in at write)
+
+-- Those that aren't held are new, and all are told.
+abbrev pub writing : State → Occasion → Write → Effect
+writing st at write = record (no_change at.moment) {
+  statements = new_ones st.statements (brought st at write);
+  told = names_of (named_in at write);
+}
+
+-- ---- all of them
+
+abbrev pub effect_of : State → Occasion → Write → Effect
+effect_of st at (Found admin base) = record (no_change at.moment) { founding = Some (record { admin = admin; base = base }) }
+effect_of st at (Provider name) = record (no_change at.moment) { callers = record { new = Some (record { name = name; token = at.token }) } }
+effect_of st at (Put id statement) = writing st at (Put id statement)
+effect_of st at (Post statements) = writing st at (Post statements)
+
+abbrev pub effect : State → Entry → Effect
+effect st e = effect_of st (occasion st e) e.write

@@ -1,0 +1,149 @@
+-- Why a command is refused: the first reason in a fixed order. It is: the caller (A1, A2), the form (its lengths, then the
+-- rules S and B, then P15 and B9), an earlier list that there is not (P14), then for each statement in its order another one
+-- under its id (409) or what a new one may not be (C2).
+use Rattle.std.specs.Prelude.{ℕ, ◌==◌, ◌&&◌, ◌||◌, nat_lt, Bool, true, false, not, List, [], ◌∷◌, length, Option, Some, None, option_map, if◌then◌else◌}
+use Rattle.std.specs.List.{list_any}
+use Rattle.std.specs.Option.{option_or}
+use Rattle.std.specs.Str.{bytes_eq}
+use Rattle.lrs_command.specs.declared.command.Area.{Area}
+use Rattle.lrs_command.specs.declared.command.Area.TheVariants.{Free, Store, Desk}
+use Rattle.lrs_command.specs.declared.command.Read.{Read}
+use Rattle.lrs_command.specs.declared.command.Read.TheVariants.{More, About}
+use Rattle.lrs_command.specs.declared.rule.Rule.{Rule}
+use Rattle.lrs_command.specs.declared.rule.Rule.TheVariants as rule
+use Rattle.lrs_command.specs.declared.who.Who.{Who}
+use Rattle.lrs_command.specs.declared.who.Who.TheVariants as who
+use Rattle.lrs_history.specs.Effects.{Occasion, named_in, occasion}
+use Rattle.lrs_history.specs.Whose.{authority_of}
+use Rattle.lrs_history.specs.declared.admitting.TheConstants.{MOST_OF_BATCH}
+use Rattle.lrs_json.specs.Json.{Json}
+use Rattle.lrs_json.specs.View.{view}
+use Rattle.lrs_json.specs.declared.tree.Tree.{Tree}
+use Rattle.lrs_parts.specs.Callers.{is_name}
+use Rattle.lrs_parts.specs.State.{State}
+use Rattle.lrs_record.specs.declared.entry.Entry.{Entry}
+use Rattle.lrs_record.specs.declared.entry.Write.{Write}
+use Rattle.lrs_record.specs.declared.entry.Write.TheVariants.{Found, Provider, Put, Post}
+use Rattle.lrs_replies.specs.declared.answered.Refusal.{Refusal}
+use Rattle.lrs_replies.specs.declared.answered.Refusal.TheVariants.{Conflict, Broken, TooLong, Unauthorized, Forbidden, NotFound}
+use Rattle.xapi_equal.specs.Same.{same}
+use Rattle.xapi_index.specs.Batches.{Named, given_ids, kept_by}
+use Rattle.xapi_index.specs.Choices.{first_some, when}
+use Rattle.xapi_index.specs.Ids.{are_distinct}
+use Rattle.xapi_index.specs.Statements.{add_each, held_under}
+use Rattle.xapi_rules.specs.Rules.{broken_rule, is_voiding}
+use Rattle.xapi_statement.specs.Completed.{HeldStatement}
+use Rattle.xapi_statement.specs.Statement.{is_too_long, own_id}
+
+-- ---- the caller
+
+-- where a write goes, by what it asks of its caller
+abbrev pub area_of : Write → Area
+area_of (Put id statement) = Store
+area_of (Post statements) = Store
+area_of other = Desk
+
+abbrev pub read_area : Read → Area
+read_area About = Free
+read_area other = Store
+
+-- Why a caller isn't let in: no caller of the history (A1), or another than an admin at the desk (A2).
+abbrev pub barred : Area → Who → Option Refusal
+barred Free by = None
+barred Store who.Unknown = Some Unauthorized
+barred Store who.Admin = None
+barred Store (who.Provider k) = None
+barred Desk who.Unknown = Some Unauthorized
+barred Desk who.Admin = None
+barred Desk (who.Provider k) = Some (Forbidden (rule.A 2))
+
+-- ---- the form
+
+-- what a form that was refused is told by its status
+abbrev pub refused_with : ℕ → Rule → Refusal
+refused_with status rule = if status == 404 then NotFound else (if status == 413 then TooLong else Broken rule)
+
+-- a provider's name is out of form: B2
+abbrev pub refused_name : List ℕ → Option Refusal
+refused_name name = when (not (is_name name)) (Broken (rule.B 2))
+
+-- one of the rules on statements is broken
+abbrev pub broken : Option ℕ → Option Refusal
+broken number = option_map (λ n. Broken (rule.S n)) number
+
+-- what a statement's own id breaks, where it goes under another: P15
+abbrev pub other_id : List ℕ → Option (List ℕ) → Option Refusal
+other_id id None = None
+other_id id (Some own) = when (not (bytes_eq own id)) (Broken (rule.P 15))
+
+-- Why a statement isn't looked at under an id: its length, then the rules S on statements, then P15.
+abbrev pub refused_form : List ℕ → Json → Option Refusal
+refused_form id j = first_some (when (is_too_long j) TooLong ∷ broken (broken_rule j) ∷ other_id id (own_id j) ∷ [])
+
+abbrev pub is_too_large : List Tree → Bool
+is_too_large trees = nat_lt MOST_OF_BATCH (length trees) || list_any (λ t. is_too_long (view t)) trees
+
+-- the least rule that is broken by the first that breaks one
+abbrev pub broken_in : List Tree → Option ℕ
+broken_in [] = None
+broken_in (t ∷ ts) = option_or (broken_rule (view t)) (broken_in ts)
+
+-- Why statements aren't looked at: their number and lengths, then the rules S on statements, then that two have one id (B9).
+abbrev pub refused_batch : List Tree → Option Refusal
+refused_batch trees = first_some (when (is_too_large trees) TooLong ∷ broken (broken_in trees) ∷ when (not (are_distinct (given_ids trees))) (Broken (rule.B 9)) ∷ [])
+
+-- A `found` command is no command of a founded store.
+abbrev pub bad_form : Write → Option Refusal
+bad_form (Found admin base) = Some NotFound
+bad_form (Provider name) = refused_name name
+bad_form (Put id statement) = refused_form id (view statement)
+bad_form (Post statements) = refused_batch statements
+
+-- ---- what statements meet in the store
+
+abbrev pub may_void : Who → Bool
+may_void who.Admin = true
+may_void other = false
+
+-- Why a new statement isn't kept: only an admin voids (C2). Those before it are held, or stand before it in its batch.
+abbrev pub forbidden : Who → List HeldStatement → Json → Option Refusal
+forbidden by before j = when (is_voiding j && not (may_void by)) (Forbidden (rule.C 2))
+
+-- what a statement of this id meets, where that one is held under it
+abbrev pub met_over : Who → List HeldStatement → List ℕ → Json → Option HeldStatement → Option Refusal
+met_over by before id j None = forbidden by before j
+met_over by before id j (Some held) = when (not (same (view held.received) j)) (Conflict id)
+
+-- What a statement meets that comes under an id. A made one is that of no held statement.
+abbrev pub met : Who → List HeldStatement → List HeldStatement → Option (List ℕ) → Json → Option Refusal
+met by held before None j = forbidden by before j
+met by held before (Some id) j = met_over by before id j (held_under id held)
+
+-- Each in its order, with those before it. No two of them have one id, so none comes under that of an earlier one of them.
+abbrev pub met_in : State → Occasion → List HeldStatement → List Named → Option Refusal
+met_in st at before [] = None
+met_in st at before (n ∷ ns) = option_or
+    (met at.by st.statements before (own_id (view n.tree)) (view n.tree))
+    (met_in st at (add_each before (kept_by at.moment (authority_of st at.by) (n ∷ []))) ns)
+
+abbrev pub conflict : State → Occasion → Write → Option Refusal
+conflict st at (Put id statement) = met at.by st.statements st.statements (Some id) (view statement)
+conflict st at (Post statements) = met_in st at st.statements (named_in at (Post statements))
+conflict st at other = None
+
+-- ---- all of them
+
+abbrev pub refusal_at : State → Occasion → Write → Option Refusal
+refusal_at st at write = first_some (barred (area_of write) at.by ∷ bad_form write ∷ conflict st at write ∷ [])
+
+-- why a write is refused whatever room there is
+abbrev pub refusal : State → Entry → Option Refusal
+refusal st e = refusal_at st (occasion st e) e.write
+
+-- a link may not speak of more statements than there are: P14
+abbrev pub too_late : State → Read → Option Refusal
+too_late st (More link) = when (nat_lt (length st.statements) link.asof) (Broken (rule.P 14))
+too_late st other = None
+
+abbrev pub read_refusal : State → Who → Read → Option Refusal
+read_refusal st by read = first_some (barred (read_area read) by ∷ too_late st read ∷ [])

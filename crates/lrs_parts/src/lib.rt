@@ -1,0 +1,13 @@
+//! What a store holds, in parts: what it was founded with, the providers, the statements; and what an entry changes in them.
+//! Each part knows its own change, and no other part. No part knows a command.
+#![tactic(auto)]
+
+mod callers;
+mod effect;
+mod founding;
+mod parts;
+
+pub use callers::{Callers, CallersChange, HeldCaller, is_name};
+pub use effect::Effect;
+pub use founding::{Founding, is_admin, is_base, is_token};
+pub use parts::Parts;

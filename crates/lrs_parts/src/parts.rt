@@ -1,0 +1,78 @@
+// All parts together.
+ghost use Rattle.std.specs.Prelude.{◌≡◌, OnOk};
+ghost use Rattle.lrs_parts.specs.Founding.{founding_after};
+ghost use Rattle.lrs_parts.specs.Parts.{state_of, IsReadyFor};
+ghost use Rattle.lrs_parts.specs.State.{apply, nothing};
+
+use crate::{Callers, Effect, Founding};
+use lrs_json::Memory;
+use lrs_time::Moment;
+use std::alloc::Global;
+use xapi_index::Index;
+
+/// All that a store holds.
+#[derive(Drop)]
+pub struct Parts {
+    pub founding: Option<Founding>,
+    pub callers: Callers,
+    pub statements: Index,
+    /// How many entries there are.
+    pub length: u64,
+    /// The last entry's moment.
+    pub last: Moment,
+}
+
+impl Parts {
+    /// What no entry gives.
+    pub fn new(alloc: Global) -> Parts
+        ensures { state_of result ≡ nothing }
+    {
+        Parts {
+            founding: None,
+            callers: Callers::new(alloc),
+            statements: Index::new(alloc),
+            length: 0,
+            last: Moment::clamp(0),
+        }
+    }
+
+    /// Makes room for an effect in each part. A store whose entries can't be counted any more has none.
+    pub fn ready(&mut self, effect: &Effect) -> Result<(), Memory>
+        ensures same { state_of self.new ≡ state_of self.old }
+        ensures ready { OnOk result (IsReadyFor self.new effect.now) }
+    {
+        if self.length == u64::MAX {
+            return Err(Memory);
+        }
+        self.callers.ready(&effect.callers)?;
+        self.statements.ready(effect.statements.as_slice())
+    }
+
+    /// Takes an effect in for which there is room. It takes no memory.
+    pub fn install(&mut self, effect: Effect)
+        requires { IsReadyFor self.old effect }
+        ensures { state_of self.new ≡ apply (state_of self.old) effect }
+    {
+        let Effect {
+            founding,
+            callers,
+            statements,
+            moment,
+            told: _,
+        } = effect;
+        found(&mut self.founding, founding);
+        self.callers.install(callers);
+        self.statements.install(statements.into_vec());
+        self.length += 1;
+        self.last = moment;
+    }
+}
+
+// The first founding counts.
+fn found(held: &mut Option<Founding>, new: Option<Founding>)
+    ensures { held.new ≡ founding_after held.old new }
+{
+    if held.is_none() {
+        *held = new;
+    }
+}

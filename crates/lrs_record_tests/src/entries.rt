@@ -1,0 +1,256 @@
+// The texts of entries. An entry is dropped by the function that owns it, and no other looks at it but by reference.
+ghost use Rattle.std.specs.Prelude.{IfOk};
+ghost use Rattle.lrs_record.specs.Entries.{IsLawfulCaller, IsLawfulWrite};
+
+use lrs_json::Text;
+use lrs_names::Draw;
+use lrs_record::{Caller, Entry, EntryRefused, Moment, Write, read_entry, write_entry};
+use std::alloc::Global;
+use std::fmt::Write as _;
+use std::test::Fail;
+
+const FOUNDING: &str =
+    "{\"caller\":\"*\",\"moment\":1700000000000,\"draw\":\"0000000000000000000000000000000000000000000000000000000000000000\",\"command\":{\"found\":{\"admin\":\"adminadmin\",\"base\":\"http://127.0.0.1:8080/\"}}}";
+
+// Whether the entry is written as this text.
+fn is_written_as(alloc: Global, entry: &Entry, text: &str) -> Result<bool, Fail>
+    requires caller { IsLawfulCaller entry.now.caller }
+    requires write { IsLawfulWrite entry.now.write }
+{
+    let mut written = Vec::new(alloc);
+    write_entry(entry, &mut written)?;
+    Ok(written.as_slice() == text.as_bytes())
+}
+
+fn founding(alloc: Global) -> Result<Entry, Fail>
+    ensures caller { IfOk result (λ entry. IsLawfulCaller entry.caller) }
+    ensures write { IfOk result (λ entry. IsLawfulWrite entry.write) }
+{
+    let admin = Text::of(alloc, "adminadmin")?;
+    let base = Text::of(alloc, "http://127.0.0.1:8080/")?;
+    Ok(Entry {
+        caller: Caller::Operator,
+        write: Write::Found { admin, base },
+        moment: Moment::clamp(1_700_000_000_000),
+        draw: Draw { name: 0, secret: 0 },
+    })
+}
+
+fn writes_founding(alloc: Global) -> Result<bool, Fail> {
+    let entry = founding(alloc)?;
+    let written = is_written_as(alloc, &entry, FOUNDING);
+    drop(entry);
+    written
+}
+
+#[test]
+fn writes_the_founding_entry(rt: HostRuntime) -> Result<(), Fail> {
+    assert!(rt; FOUNDING.len() == 186 && writes_founding(rt.alloc())?);
+    Ok(())
+}
+
+fn show_write(into: &mut String, write: &Write) -> Result<(), Fail> {
+    into.push_str(write.name())?;
+    match write {
+        Write::Found { admin, base } => {
+            into.push(' ')?;
+            into.push_str(admin.as_str())?;
+            into.push(' ')?;
+            into.push_str(base.as_str())?;
+        }
+        Write::Provider { name } => {
+            into.push(' ')?;
+            into.push_str(name.as_str())?;
+        }
+        Write::Put { id, .. } => {
+            into.push(' ')?;
+            into.push_str(str::from_utf8(&id.text())?)?;
+        }
+        Write::Post { statements } => write!(into, " {}", statements.len())?,
+    }
+    Ok(())
+}
+
+// What the entry says, in a line.
+fn shown(alloc: Global, entry: &Entry) -> Result<String, Fail> {
+    let mut text = format!(in alloc;
+        "{:?} at {}, drawn {} and {}: ",
+        entry.caller.text(),
+        entry.moment.milliseconds(),
+        entry.draw.name,
+        entry.draw.secret
+    )?;
+    show_write(&mut text, &entry.write)?;
+    Ok(text)
+}
+
+fn fits(alloc: Global, entry: &Entry, text: &str, line: &str) -> Result<bool, Fail>
+    requires caller { IsLawfulCaller entry.now.caller }
+    requires write { IsLawfulWrite entry.now.write }
+{
+    Ok(shown(alloc, entry)?.as_str() == line && is_written_as(alloc, entry, text)?)
+}
+
+// Whether the text is read as an entry that says this, and is its text.
+fn comes_back(alloc: Global, text: &str, line: &str) -> Result<bool, Fail> {
+    let entry = read_entry(alloc, text.as_bytes())?;
+    let fits = fits(alloc, &entry, text, line);
+    drop(entry);
+    fits
+}
+
+const ENTRIES: [(&str, &str); 5] = [
+    (
+        FOUNDING,
+        "\"*\" at 1700000000000, drawn 0 and 0: found adminadmin http://127.0.0.1:8080/",
+    ),
+    (
+        "{\"caller\":\"token-1\",\"moment\":0,\"draw\":\"0000000000000000000000000000001000000000000000000000000000000abc\",\"command\":{\"put\":{\"id\":\"11111111-1111-4111-8111-111111111111\",\"statement\":{\"id\":\"11111111-1111-4111-8111-111111111111\",\"actor\":{\"mbox\":\"mailto:a@b\"},\"verb\":{\"id\":\"http://v/1\"},\"object\":{\"id\":\"http://a/1\"}}}}}",
+        "\"token-1\" at 0, drawn 16 and 2748: put 11111111-1111-4111-8111-111111111111",
+    ),
+    (
+        "{\"caller\":\"adminadmin\",\"moment\":1700000000000,\"draw\":\"0000000000000000000000000000000000000000000000000000000000000005\",\"command\":{\"provider\":{\"name\":\"p.1\"}}}",
+        "\"adminadmin\" at 1700000000000, drawn 0 and 5: provider p.1",
+    ),
+    (
+        "{\"caller\":\"token-1\",\"moment\":1,\"draw\":\"0000000000000000000000000000000000000000000000000000000000000000\",\"command\":{\"post\":{\"statements\":[]}}}",
+        "\"token-1\" at 1, drawn 0 and 0: post 0",
+    ),
+    (
+        "{\"caller\":\"\",\"moment\":1,\"draw\":\"0000000000000000000000000000000000000000000000000000000000000000\",\"command\":{\"post\":{\"statements\":[{\"a\":[1]},{}]}}}",
+        "\"\" at 1, drawn 0 and 0: post 2",
+    ),
+];
+
+fn first_wrong_entry(alloc: Global) -> Result<Option<usize>, Fail> {
+    for (i, (text, line)) in ENTRIES.iter().enumerate() {
+        if !comes_back(alloc, text, line)? {
+            return Ok(Some(i));
+        }
+    }
+    Ok(None)
+}
+
+#[test]
+fn reads_entries_back(rt: HostRuntime) -> Result<(), Fail> {
+    assert_eq!(rt; first_wrong_entry(rt.alloc())?, None);
+    Ok(())
+}
+
+// What reading says of a text.
+fn verdict(alloc: Global, text: &str) -> Result<(), EntryRefused> {
+    match read_entry(alloc, text.as_bytes()) {
+        Ok(entry) => {
+            drop(entry);
+            Ok(())
+        }
+        Err(refused) => Err(refused),
+    }
+}
+
+// What is changed in the founding entry, so that it is none.
+const CHANGES: [(&str, &str); 19] = [
+    ("{\"caller\"", "{ \"caller\""),
+    ("\"base\":", "\"base\": "),
+    ("}}}", "}}} "),
+    ("\"*\"", "\"\\u002a\""),
+    (
+        "\"caller\":\"*\",\"moment\":1700000000000",
+        "\"moment\":1700000000000,\"caller\":\"*\"",
+    ),
+    ("\"*\",", "\"*\",\"caller\":\"*\","),
+    ("}}}", "},\"more\":{}}}"),
+    ("}}}", "}},\"more\":{}}"),
+    ("\"found\"", "\"founded\""),
+    (
+        "\"found\":{\"admin\":\"adminadmin\",\"base\":\"http://127.0.0.1:8080/\"}",
+        "\"\":{}",
+    ),
+    (
+        "\"found\":{\"admin\":\"adminadmin\",\"base\":\"http://127.0.0.1:8080/\"}",
+        "\"provider\":{\"name\":\"p.1\",\"more\":\"\"}",
+    ),
+    ("1700000000000", "01700000000000"),
+    ("1700000000000", "1700000000000.0"),
+    ("1700000000000", "17e11"),
+    ("1700000000000", "-0"),
+    ("1700000000000", "253402300800000"),
+    ("\"0000", "\"000A"),
+    ("\"0000", "\"000"),
+    ("\"adminadmin\"", "5"),
+];
+
+fn first_let_through(alloc: Global) -> Result<Option<usize>, Fail> {
+    for (i, (old, new)) in CHANGES.iter().enumerate() {
+        let text = FOUNDING.replacen(alloc, *old, new, 1)?;
+        if verdict(alloc, text.as_str()) != Err(EntryRefused::BadEntry) {
+            return Ok(Some(i));
+        }
+    }
+    Ok(None)
+}
+
+#[test]
+fn refuses_other_spellings(rt: HostRuntime) -> Result<(), Fail> {
+    assert_eq!(rt; first_let_through(rt.alloc())?, None);
+    Ok(())
+}
+
+const NOBODY: &str =
+    "{\"caller\":\"\",\"moment\":1,\"draw\":\"0000000000000000000000000000000000000000000000000000000000000000\",\"command\":";
+
+// What stands before and behind so many nested arrays, and whether that is an entry: a statement has 64 levels at
+// most, an id is written in lower case, and statements are an array.
+const NESTED: [(&str, usize, &str, bool); 6] = [
+    (
+        "{\"put\":{\"id\":\"aaaaaaaa-1111-4111-8111-111111111111\",\"statement\":",
+        64,
+        "}}}",
+        true,
+    ),
+    (
+        "{\"put\":{\"id\":\"AAAAAAAA-1111-4111-8111-111111111111\",\"statement\":",
+        64,
+        "}}}",
+        false,
+    ),
+    (
+        "{\"put\":{\"id\":\"aaaaaaaa-1111-4111-8111-111111111111\",\"statement\":",
+        65,
+        "}}}",
+        false,
+    ),
+    ("{\"post\":{\"statements\":[1,", 64, "]}}}", true),
+    ("{\"post\":{\"statements\":[1,", 65, "]}}}", false),
+    ("{\"post\":{\"statements\":{", 0, "}}}}", false),
+];
+
+fn nested(alloc: Global, front: &str, levels: usize, back: &str) -> Result<String, Fail> {
+    let mut text = String::from_str(alloc, NOBODY)?;
+    text.push_str(front)?;
+    text.push_str("[".repeat(alloc, levels)?.as_str())?;
+    text.push_str("]".repeat(alloc, levels)?.as_str())?;
+    text.push_str(back)?;
+    Ok(text)
+}
+
+fn first_wrong_limit(alloc: Global) -> Result<Option<usize>, Fail> {
+    for (i, (front, levels, back, good)) in NESTED.iter().enumerate() {
+        let text = nested(alloc, front, *levels, back)?;
+        let wanted = if *good {
+            Ok(())
+        } else {
+            Err(EntryRefused::BadEntry)
+        };
+        if verdict(alloc, text.as_str()) != wanted {
+            return Ok(Some(i));
+        }
+    }
+    Ok(None)
+}
+
+#[test]
+fn holds_statements_against_their_limits(rt: HostRuntime) -> Result<(), Fail> {
+    assert_eq!(rt; first_wrong_limit(rt.alloc())?, None);
+    Ok(())
+}

@@ -1,0 +1,5 @@
+//! The tests of lrs_record.
+#![tactic(auto)]
+
+#[cfg(test)]
+mod entries;

@@ -1,0 +1,40 @@
+use lrs_command::Rule;
+use lrs_json::Items;
+use lrs_names::Id;
+use lrs_record::Moment;
+
+/// What the store says to a command.
+#[derive(Drop)]
+pub enum Answered {
+    /// The command is kept: it has its entry.
+    Kept,
+    /// The same statement is held under that id. Nothing changes.
+    Same,
+    /// What was asked for or made, as a JSON text. Of statements that were asked for also the moment up to which it is
+    /// consistent.
+    Shown {
+        text: Items<u8>,
+        through: Option<Moment>,
+    },
+    /// Nothing changes.
+    Refused(Refusal),
+}
+
+/// Why a command is refused.
+#[derive(Clone, Copy, PartialEq, Eq)]
+pub enum Refusal {
+    /// Another statement is held under that id.
+    Conflict(Id),
+    /// The journal's file would have more bytes than it may.
+    Full { need: u64, limit: u64 },
+    /// An argument breaks a rule.
+    Broken(Rule),
+    /// A statement's written form has too many bytes, or too many statements come together.
+    TooLong,
+    /// The history knows no such caller.
+    Unauthorized,
+    /// The caller may not ask that, by this rule.
+    Forbidden(Rule),
+    /// What is asked for isn't there.
+    NotFound,
+}

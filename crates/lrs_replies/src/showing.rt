@@ -1,0 +1,95 @@
+// The texts that are shown: tokens, and the bodies of answers.
+ghost use Rattle.std.specs.Prelude.{◌≡◌, ◌++◌, IfOk, OnOk, IsUtf8, codes};
+ghost use Rattle.lrs_json.specs.Written.{comma_if};
+ghost use Rattle.lrs_names.specs.Ids.{id_text};
+ghost use Rattle.lrs_record.specs.Entries.{word_text};
+ghost use Rattle.lrs_replies.specs.Texts.{token_text, caller_body, ids_body, versions_body};
+
+use hex::encode_to_slice;
+use lrs_json::{Memory, Text};
+use lrs_names::Id;
+use std::alloc::Global;
+
+/// The token of a provider whose entry stands at that place and was drawn with that secret.
+pub fn token_text(alloc: Global, place: u64, secret: u128) -> Result<Text, Memory>
+    ensures { IfOk result (λ token. token ≡ token_text place secret) }
+{
+    let digits = digits_of(secret);
+    let digits = ascii(&digits);
+    let text = format!(in alloc; "{digits}-{place}")?;
+    Text::of(alloc, text.as_str())
+}
+
+// 32 hexadecimal digits.
+#[tactic(auto, unfolding(lrs_record::specs::Entries::word_text))]
+fn digits_of(word: u128) -> [u8; 32]
+    ensures { result ≡ word_text word }
+{
+    let mut digits = [0; 32];
+    match encode_to_slice(word.to_be_bytes(), &mut digits) {
+        Ok(()) => digits,
+        Err(_) => unreachable!(),
+    }
+}
+
+fn ascii(bytes: &[u8]) -> &str
+    requires { IsUtf8 bytes.now }
+    ensures { result.now ≡ bytes.now }
+{
+    match str::from_utf8(bytes) {
+        Ok(text) => text,
+        Err(_) => unreachable!(),
+    }
+}
+
+/// The body that tells of a provider its place and its token.
+pub fn caller_text(alloc: Global, place: usize, token: &Text) -> Result<Vec<u8>, Memory>
+    ensures { IfOk result (λ body. body.items ≡ caller_body place token.now) }
+{
+    let place = place.to_string(alloc)?;
+    let mut body = b"{\"caller\":".to_vec(alloc)?;
+    body.extend_from_slice(place.as_bytes())?;
+    body.extend_from_slice(b",\"token\":\"")?;
+    body.extend_from_slice(token.as_bytes())?;
+    body.extend_from_slice(b"\"}")?;
+    Ok(body)
+}
+
+/// The body that tells of the versions of xAPI.
+pub fn versions_text(alloc: Global) -> Result<Vec<u8>, Memory>
+    ensures { IfOk result (λ body. body.items ≡ versions_body) }
+{
+    Ok(b"{\"version\":[\"1.0.3\"]}".to_vec(alloc)?)
+}
+
+/// The body that tells the ids of statements.
+pub fn ids_text(alloc: Global, ids: &[Id]) -> Result<Vec<u8>, Memory>
+    ensures { IfOk result (λ body. body.items ≡ ids_body ids.now) }
+{
+    let mut body = b"[".to_vec(alloc)?;
+    let mut later = false;
+    for id in ids {
+        put_id(&mut body, later, id)?;
+        later = true;
+    }
+    body.push(b']')?;
+    Ok(body)
+}
+
+// Puts an id behind the text so far, as a string.
+fn put_id(body: &mut Vec<u8>, later: bool, id: &Id) -> Result<(), Memory>
+    ensures { OnOk result (body.new.items ≡ body.old.items ++ comma_if later ++ codes "\"" ++ id_text id.now
+        ++ codes "\"") }
+{
+    put_comma(body, later)?;
+    body.push(b'"')?;
+    body.extend_from_slice(&id.text())?;
+    body.push(b'"')?;
+    Ok(())
+}
+
+fn put_comma(body: &mut Vec<u8>, later: bool) -> Result<(), Memory>
+    ensures { OnOk result (body.new.items ≡ body.old.items ++ comma_if later) }
+{
+    if later { Ok(body.push(b',')?) } else { Ok(()) }
+}
