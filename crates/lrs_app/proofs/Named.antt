@@ -5,7 +5,8 @@ use Rattle.std.specs.Prelude.{option_and_then}
 use Rattle.clap.specs.Walk.{Row, Text}
 use Rattle.clap.specs.Simple.{subcommand_of}
 use Rattle.clap.specs.Faults.{fault_of}
-use Rattle.lrs_app.specs.Words.{Part, Command, init, intake, serve, IsLineOf, IsPlain, IsNamed, IsCommand, IsTaken, Says, Gives, words_of, value_of, is_name, is_among, options_of, program, whole_line}
+use Rattle.lrs_json.specs.Faults.{is_among}
+use Rattle.lrs_app.specs.Words.{Part, Command, init, intake, serve, IsLineOf, IsPlain, IsNamed, IsCommand, IsTaken, Says, Gives, words_of, value_of, is_name, options_of, program, whole_line}
 use Rattle.lrs_app.specs.Shapes.{IsReadAs, Means, is_plain, alone, value_behind, said_by, init_with, intake_with, serve_with, init_in, intake_in, serve_in, command_in, is_faulty, is_nonempty, taken, named}
 use Rattle.lrs_app.specs.declared.words.Words.{Words}
 use Rattle.lrs_app.proofs.Plain.{AreOptions, same, plain_line, parts_of, alone_of, value_found}

@@ -7,16 +7,17 @@ use Rattle.lrs_journal.specs.Journal.{Held}
 use Rattle.lrs_json.specs.declared.tree.Tree.{Tree}
 use Rattle.lrs_record.specs.Entries.{written_entry}
 use Rattle.lrs_record.specs.declared.entry.Entry.{Entry}
-use Rattle.lrs_history.specs.History.{Answer, with_entry}
+use Rattle.lrs_history.specs.History.{Answer, IsLegal, with_entry}
 use Rattle.lrs_machine.specs.Desk.{StandsFor, Answers, HasCause, LeavesStore}
-use Rattle.lrs_history.specs.declared.answered.Answered.{Answered}
-use Rattle.lrs_history.specs.declared.answered.Answered.TheVariants as said
-use Rattle.lrs_history.specs.declared.answered.Refusal.{Refusal}
-use Rattle.lrs_history.specs.declared.answered.Refusal.TheVariants as refusal
-use Rattle.lrs_history.specs.declared.reply.Trouble.{Trouble}
-use Rattle.lrs_history.specs.declared.reply.Trouble.TheVariants as trouble
+use Rattle.lrs_replies.specs.declared.answered.Answered.{Answered}
+use Rattle.lrs_replies.specs.declared.answered.Answered.TheVariants as said
+use Rattle.lrs_replies.specs.declared.answered.Refusal.{Refusal}
+use Rattle.lrs_replies.specs.declared.answered.Refusal.TheVariants as refusal
+use Rattle.lrs_replies.specs.declared.reply.Trouble.{Trouble}
+use Rattle.lrs_replies.specs.declared.reply.Trouble.TheVariants as trouble
 use Rattle.lrs_app.specs.Asking.{named, Asks, EndsSaying, EndsRefused, put_answer, entry_asked}
-use Rattle.lrs_app.specs.Run.{Holds, Leaves, LeavesDoubt, EndsOpened}
+use Rattle.lrs_app.specs.Run.{Leaves, LeavesDoubt, EndsOpened}
+use Rattle.lrs_app.specs.Service.{Holds}
 use Rattle.lrs_app.specs.Steps.{IsSure, IsLeft, Submits, TakesIn, HasPutCause, ending_of_trouble}
 use Rattle.lrs_app.specs.declared.ending.Ending.{Ending}
 use Rattle.lrs_app.specs.declared.ending.Ending.TheVariants as ending
@@ -86,12 +87,12 @@ module _ {D : Type 0} (told : D → Option (List ℕ)) (limit : ℕ) (h : List E
   left_whole : (mid : Held D) (disk : D) (n : ℕ) → mid.limit ≡ limit → n ≡ mid.number
       → ((k : List Entry) → StandsFor told mid k → LeavesStore told disk mid.limit false k) → (k : List Entry) → StandsFor told mid k → Leaves limit k (told disk) n
   left_whole mid disk n same count closed k stands =
-      (subst (λ (l : ℕ). Holds (told disk) l k) same (closed k stands), count ∙ stands.counts)
+      (subst (λ (l : ℕ). Holds (told disk) l k) same (closed k stands), subst (λ (l : ℕ). IsLegal l k) same stands.legal, count ∙ stands.counts)
 
   left_doubt : (mid : Held D) (disk : D) (n : ℕ) (entry : Option Entry) → ((k : List Entry) → StandsFor told mid k → Leaves limit k (told disk) n)
       → IsLeft told h entry mid → LeavesDoubt limit h entry (told disk) n
   left_doubt mid disk n entry leaves left = ⊎_elim (λ sure. inl (leaves h sure.1))
-      (λ doubt. let whole = leaves (h ++ doubt.0 ∷ []) doubt.2 in inr (doubt.0, doubt.1, whole.1 ∙ length_push h doubt.0, inr whole.0)) left
+      (λ doubt. let whole = leaves (h ++ doubt.0 ∷ []) doubt.2 in inr (doubt.0, doubt.1, whole.1, whole.2 ∙ length_push h doubt.0, inr whole.0)) left
 
   closed_one : (mid : Held D) (disk : D) (n : ℕ) (end : Ending) (input : List ℕ) → ((k : List Entry) → StandsFor told mid k → Leaves limit k (told disk) n)
       → TakesIn told limit h input clock draw mid end → EndsOpened limit h input clock draw (told disk) n end
@@ -157,6 +158,7 @@ module _ {D : Type 0} (told : D → Option (List ℕ)) (limit : ℕ) (h : List E
         (λ d. inr (
           d.0,
           d.1,
+          subst (λ (l : ℕ). IsLegal l (h ++ d.0 ∷ [])) same d.2.legal,
           count ∙ d.2.counts ∙ length_push h d.0,
           doubtful told disk limit h d.0 (subst (λ (l : ℕ). LeavesStore told disk l true (h ++ d.0 ∷ [])) same (left (h ++ d.0 ∷ []) d.2)),
         )) s.2,

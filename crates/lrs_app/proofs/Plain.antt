@@ -3,7 +3,8 @@ use Rattle.std.proofs.Common.{◌≡◌, ◌&&◌, ◌||◌, ◌∙◌, not, ℕ
 use Rattle.std.specs.Prelude.{slice_get}
 use Rattle.std.specs.Str.{bytes_eq}
 use Rattle.std.proofs.lemmas.Slice.Eq.{bytes_eq-Decides}
-use Rattle.lrs_app.specs.Words.{Part, word, option, line_of, words_of, value_of, is_name, is_among, ArePlain}
+use Rattle.lrs_json.specs.Faults.{is_among}
+use Rattle.lrs_app.specs.Words.{Part, word, option, line_of, words_of, value_of, is_name, ArePlain}
 use Rattle.lrs_app.specs.Shapes.{is_option, is_plain, alone, value_behind}
 
 both : (a b : Bool) → (a && b) ≡ true → (a ≡ true) × (b ≡ true)

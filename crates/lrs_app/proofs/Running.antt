@@ -7,7 +7,7 @@ use Rattle.lrs_disk.specs.Lobby.{DoorsAsked}
 use Rattle.lrs_disk.specs.Shelf.{AddsName}
 use Rattle.lrs_names.specs.declared.draw.Draw.{Draw}
 use Rattle.lrs_hall.specs.Draws.{draw_at, start_of}
-use Rattle.lrs_history.specs.Founding.{IsToken, IsBase}
+use Rattle.lrs_parts.specs.Founding.{IsToken, IsBase}
 use Rattle.lrs_app.specs.Words.{Command, init, intake, serve, IsCommand, IsLimit, base_of}
 use Rattle.lrs_app.specs.Shapes.{Means}
 use Rattle.lrs_app.specs.declared.words.Words.{Words}

@@ -1,5 +1,5 @@
 -- From the conversations of a door to what serve does.
-use Rattle.std.proofs.Common.{◌≡◌, ◌≢◌, ◌⊎◌, ◌<◌, ◌≤◌, ◌+◌, ◌-◌, ◌^◌, min, ◌++◌, ◌∷◌, [], ℕ, List, drop, length, map, Bool, true, false, MatchBool, Option, Some, None, IfSome, option_map, Result, Err, refl, sym, ap, ◌∙◌, subst, inl, inr, ⊎_elim, arith, All}
+use Rattle.std.proofs.Common.{◌≡◌, ◌≢◌, ◌⊎◌, ◌<◌, ◌≤◌, ◌+◌, ◌-◌, ◌^◌, min, ◌++◌, ◌∷◌, [], ℕ, List, drop, length, map, Bool, true, false, MatchBool, Option, Some, None, IfSome, option_map, refl, sym, ap, ◌∙◌, subst, inl, inr, ⊎_elim, arith, All}
 use Rattle.std.specs.List.{Any}
 use Rattle.std.specs.Option.{ForSome}
 use Rattle.std.proofs.lemmas.List.{drop_all}
@@ -7,11 +7,10 @@ use Rattle.std.proofs.lemmas.List.Elements.{All-pop}
 use Rattle.std.proofs.Math.Nat.{min-eq_left}
 use Rattle.lrs_disk.specs.Door.{DoorState, IsFresh, Returned}
 use Rattle.lrs_disk.specs.Faults.{Rises}
-use Rattle.lrs_disk.specs.Lobby.{DoorsAsked, CountsFaults, Asks, HasDoorsCause}
-use Rattle.lrs_disk.specs.declared.lobby.DoorsRefused.{DoorsRefused}
-use Rattle.lrs_disk.specs.declared.lobby.DoorsRefused.TheVariants as refusals
+use Rattle.lrs_disk.specs.Lobby.{DoorsAsked, CountsFaults}
 use Rattle.lrs_journal.specs.Journal.{Held}
 use Rattle.lrs_record.specs.declared.entry.Entry.{Entry}
+use Rattle.lrs_history.specs.History.{IsLegal}
 use Rattle.lrs_machine.specs.Desk.{Account, StandsFor, LeavesStore, IsStoreOf, IsRefused}
 use Rattle.lrs_machine.specs.declared.opening.DeskRefused.{DeskRefused}
 use Rattle.lrs_machine.specs.declared.opening.DeskRefused.TheVariants as refused
@@ -21,9 +20,9 @@ use Rattle.lrs_hall.specs.Serving.{AreConversations, AreOver, Counts, EndsServin
 use Rattle.lrs_hall.specs.Talks.{Told}
 use Rattle.lrs_hall.specs.declared.serving.ServeEnd.{ServeEnd}
 use Rattle.lrs_hall.specs.declared.serving.ServeEnd.TheVariants as serve
-use Rattle.lrs_app.specs.Service.{Doors, AsksDoor, HasNoDoor, GivesBack, IsBehind, CountsOn, HoldsBehind, HoldsIn, HoldsServed, ServesDoor, ending_of_serving, responses_of}
-use Rattle.lrs_app.specs.ServeSteps.{ServesOne, ServesHad, ServesDesk, ServesOpened, ClosesDoorless, ClosesServed, ending_of_refusal}
-use Rattle.lrs_app.specs.Run.{EndsUnopened, HasCause, HasLobbyCause, Holds, Leaves, Seen, Serves}
+use Rattle.lrs_app.specs.Service.{Doors, HasNoDoor, GivesBack, IsBehind, CountsOn, Holds, HoldsBehind, HoldsIn, HoldsServed, ending_of_serving, responses_of}
+use Rattle.lrs_app.specs.ServeSteps.{ServesHad, ServesDesk, ServesOpened, ClosesDoorless, ClosesServed}
+use Rattle.lrs_app.specs.Run.{EndsUnopened, HasCause, HasLobbyCause, Leaves, Seen, Serves}
 use Rattle.lrs_app.specs.Steps.{ending_of}
 use Rattle.lrs_app.specs.declared.ending.Ending.{Ending}
 use Rattle.lrs_app.specs.declared.ending.Ending.TheVariants as ending
@@ -140,10 +139,11 @@ served_cause serve.DoorFault talks connections address opening closing before af
       any_one : (door : DoorState) → 0 < door.faults → Any (λ (d : DoorState). 0 < d.faults) (door ∷ [])
       any_one door faults = (0, door, omega arith, refl, faults)
 
-holds_whole : (why : ServeEnd) (talks : List Told) (told : Option (List ℕ)) (limit : ℕ) (h : List Entry) → HoldsIn false told limit h → HoldsBehind (ending_of_serving why talks) told limit h
-holds_whole serve.Done talks told limit h holds = holds
-holds_whole serve.DoorFault talks told limit h holds = holds
-holds_whole serve.Memory talks told limit h holds = holds
+holds_whole : (why : ServeEnd) (talks : List Told) (doubt : Bool) (told : Option (List ℕ)) (limit : ℕ) (h : List Entry)
+    → Holds told limit h → HoldsBehind (ending_of_serving why talks) doubt told limit h
+holds_whole serve.Done talks doubt told limit h holds = holds
+holds_whole serve.DoorFault talks doubt told limit h holds = holds
+holds_whole serve.Memory talks doubt told limit h holds = holds
 
 -- ---- closing
 
@@ -156,16 +156,17 @@ module _ {D : Type 0} (told : D → Option (List ℕ)) (faults : D → ℕ) (des
     silent = none.1;
     left = λ h stands.
         let same : StandsFor told mid h = subst (λ (m : Held D). StandsFor told m h) (sym none.2) stands in
-        (subst (λ (l : ℕ). LeavesStore told disk l false h) limit (left h same), count ∙ same.counts);
+        (subst (λ (l : ℕ). LeavesStore told disk l false h) limit (left h same), subst (λ (l : ℕ). IsLegal l h) limit same.legal, count ∙ same.counts);
   }
 
   history_of : (links : List Returned) (last : Ending) → AreConversations told desk mid (start_of seed 1) links talks
-      → ((k : List Entry) → StandsFor told mid k → HoldsBehind last (told disk) desk.limit k) → (h : List Entry) → StandsFor told desk h
+      → ((k : List Entry) → StandsFor told mid k → HoldsBehind last mid.doubt (told disk) desk.limit k) → (h : List Entry) → StandsFor told desk h
       → HoldsServed desk.limit h seed links talks (told disk) n last
   history_of links last over left h stands =
       let r = over.held h stands in
       record {
         history = r.0;
+        legal = subst (λ (l : ℕ). IsLegal l r.0) limit r.3.legal;
         begins = r.2;
         behind = r.1;
         doubt = mid.doubt;
@@ -194,8 +195,8 @@ module _ {D : Type 0} (told : D → Option (List ℕ)) (faults : D → ℕ) (des
             ended = inl had.ended;
           };
           history = history_of one.links end one.over (λ k stands.
-              subst (λ (e : Ending). HoldsBehind e (told disk) desk.limit k) (sym had.ended)
-              (holds_whole had.why talks (told disk) desk.limit k (subst (λ (l : ℕ). HoldsIn false (told disk) l k) limit (left k stands))));
+              subst (λ (e : Ending). HoldsBehind e mid.doubt (told disk) desk.limit k) (sym had.ended)
+              (holds_whole had.why talks mid.doubt (told disk) desk.limit k (subst (λ (l : ℕ). Holds (told disk) l k) limit (left k stands))));
         },
       )
 
@@ -227,7 +228,7 @@ module _ {D : Type 0} (told : D → Option (List ℕ)) (faults : D → ℕ) (des
             ends = one.ends;
             ended = inr (refl, behind (faults desk.disk) (all_receipts talks) (faults mid.disk) (faults disk) counts rises);
           };
-          history = history_of one.links ending.DiskFault one.over (λ k stands. subst (λ (l : ℕ). HoldsIn true (told disk) l k) limit (left.1 k stands));
+          history = history_of one.links ending.DiskFault one.over (λ k stands. (left.0, subst (λ (l : ℕ). HoldsIn true (told disk) l k) limit (left.1 k stands)));
         }),
       )) serves
 

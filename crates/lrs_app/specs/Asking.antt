@@ -7,17 +7,18 @@ use Rattle.lrs_json.specs.Refusals.{Spells, IsBad, RepeatedAt, OutOfRangeAt, is_
 use Rattle.lrs_json.specs.declared.tree.Tree.{Tree}
 use Rattle.lrs_names.specs.declared.draw.Draw.{Draw}
 use Rattle.lrs_record.specs.declared.entry.Caller.TheVariants.{Operator}
-use Rattle.lrs_record.specs.declared.entry.Command.TheVariants.{Put}
+use Rattle.lrs_record.specs.declared.entry.Write.TheVariants.{Put}
 use Rattle.lrs_record.specs.declared.entry.Entry.{Entry}
 use Rattle.xapi_rules.specs.Rules.{broken_rule}
 use Rattle.xapi_statement.specs.Statement.{own_id, is_too_long}
-use Rattle.lrs_history.specs.Batches.{rule}
 use Rattle.lrs_history.specs.History.{Answer, answer}
-use Rattle.lrs_record.specs.declared.rule.Rule.{Rule}
-use Rattle.lrs_history.specs.declared.answered.Answered.{Answered}
-use Rattle.lrs_history.specs.declared.answered.Answered.TheVariants as said
-use Rattle.lrs_history.specs.declared.answered.Refusal.{Refusal}
-use Rattle.lrs_history.specs.declared.answered.Refusal.TheVariants as refusal
+use Rattle.lrs_command.specs.declared.command.Command.TheVariants.{Write}
+use Rattle.lrs_command.specs.declared.rule.Rule.{Rule}
+use Rattle.lrs_command.specs.declared.rule.Rule.TheVariants as rule
+use Rattle.lrs_replies.specs.declared.answered.Answered.{Answered}
+use Rattle.lrs_replies.specs.declared.answered.Answered.TheVariants as said
+use Rattle.lrs_replies.specs.declared.answered.Refusal.{Refusal}
+use Rattle.lrs_replies.specs.declared.answered.Refusal.TheVariants as refusal
 use Rattle.lrs_app.specs.Reading.{longest}
 use Rattle.lrs_app.specs.declared.ending.Ending.{Ending}
 use Rattle.lrs_app.specs.declared.ending.Ending.TheVariants as ending
@@ -32,13 +33,13 @@ pub data Asked : Type 0 where
   -- a statement to be put under the id that it gives itself
   named : List ℕ → Tree → Asked
 
--- The rules on JSON (J, whose letter is 74), in their order: the depth, the grammar, repeated names, the range of numbers.
+-- The rules on JSON (J), in their order: the depth, the grammar, repeated names, the range of numbers.
 abbrev pub BreaksJson : List ℕ → Rule → Type 0
 BreaksJson input r =
-    ((r ≡ rule 74 1) × IsTrue (is_too_deep 64 input))
-    ⊎ (((r ≡ rule 74 2) × IsBad 64 input)
-    ⊎ (((r ≡ rule 74 3) × ((place : ℕ) × RepeatedAt 64 input place))
-    ⊎ ((r ≡ rule 74 4) × ((place : ℕ) × OutOfRangeAt 64 input place))))
+    ((r ≡ rule.J 1) × IsTrue (is_too_deep 64 input))
+    ⊎ (((r ≡ rule.J 2) × IsBad 64 input)
+    ⊎ (((r ≡ rule.J 3) × ((place : ℕ) × RepeatedAt 64 input place))
+    ⊎ ((r ≡ rule.J 4) × ((place : ℕ) × OutOfRangeAt 64 input place))))
 
 -- a value that gives itself this id, or none
 abbrev pub Names : Tree → Option (List ℕ) → Type 0
@@ -55,9 +56,9 @@ Asks input (named id t) = (length input ≤ longest) × Spells 64 input (view t)
 
 abbrev pub without_rule : Option ℕ → Ending
 without_rule None = ending.NoId
-without_rule (Some n) = ending.Refused (rule 83 n)
+without_rule (Some n) = ending.Refused (rule.S n)
 
--- a value without an id: its length, then the rules on statements (S, whose letter is 83), then that it has no id
+-- a value without an id: its length, then the rules on statements (S), then that it has no id
 abbrev pub unnamed_ending : Json → Ending
 unnamed_ending j = if is_too_long j then ending.TooLong else without_rule (broken_rule j)
 
@@ -80,7 +81,7 @@ EndsSaying id (said.Refused r) end = EndsRefused r end
 
 -- the abstract store's answer to the operator's put
 abbrev pub put_answer : ℕ → List Entry → ℕ → Draw → List ℕ → Tree → Answer
-put_answer limit h clock draw id t = answer limit h Operator (Put id t) clock draw
+put_answer limit h clock draw id t = answer limit h Operator (Write (Put id t)) clock draw
 
 -- what is asked of a store of this limit and history ends so
 abbrev pub EndsAsking : ℕ → List Entry → ℕ → Draw → Asked → Ending → Type 0
@@ -98,7 +99,7 @@ entry_asked limit h clock draw (named id t) = (put_answer limit h clock draw id 
 
 -- this rule on JSON is broken
 abbrev pub json_ending : ℕ → Ending
-json_ending number = ending.Refused (rule 74 number)
+json_ending number = ending.Refused (rule.J number)
 
 -- why no value is read
 abbrev pub IsNoTree : List ℕ → Ending → Type 0

@@ -1,8 +1,8 @@
 -- How a command ends: its status, and the line that it prints.
-use Rattle.std.specs.Prelude.{ℕ, List, ◌∷◌, ◌++◌, codes}
+use Rattle.std.specs.Prelude.{ℕ, List, ◌++◌, codes}
 use Rattle.std.specs.Fmt.{decimal}
 use Rattle.lrs_names.specs.Ids.{id_text}
-use Rattle.lrs_record.specs.declared.rule.Rule.{Rule}
+use Rattle.lrs_command.specs.Rules.{rule_text}
 use Rattle.lrs_app.specs.declared.ending.Ending.{Ending}
 use Rattle.lrs_app.specs.declared.ending.Ending.TheVariants as ending
 
@@ -23,10 +23,6 @@ ending_status ending.TooLong = 10
 ending_status (ending.Conflict id) = 10
 ending_status ending.InputFault = 11
 ending_status (ending.Full need limit) = 12
-
--- a rule's name: the letter of its family, and its number
-abbrev pub rule_text : Rule → List ℕ
-rule_text rule = rule.family ∷ decimal rule.number
 
 abbrev pub ending_text : Ending → List ℕ
 ending_text ending.Founded = codes "founded"

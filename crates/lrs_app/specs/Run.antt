@@ -1,21 +1,21 @@
 -- What a run does: the outside before it and behind it, the ending, and what it leaves on the disk.
-use Rattle.std.specs.Prelude.{◌≡◌, ◌⊎◌, ◌<◌, ◌+◌, ℕ, List, [], ◌∷◌, ◌++◌, length, map, Option, Some, None, option_map, IfSome}
+use Rattle.std.specs.Prelude.{◌≡◌, ◌⊎◌, ◌<◌, ◌+◌, ℕ, List, [], ◌∷◌, ◌++◌, length, Option, Some, None, option_map, IfSome}
 use Rattle.lrs_disk.specs.Door.{Returned}
 use Rattle.lrs_disk.specs.Faults.{Rises}
 use Rattle.lrs_disk.specs.Readings.{AddsReading}
 use Rattle.lrs_disk.specs.Shelf.{AddsName}
 use Rattle.lrs_names.specs.declared.draw.Draw.{Draw}
-use Rattle.lrs_journal.specs.Store.{Stands}
 use Rattle.lrs_journal.specs.Create.{IsStore, IsForeign, IsOpenTo}
 use Rattle.lrs_record.specs.Entries.{written_entry}
 use Rattle.lrs_record.specs.declared.entry.Entry.{Entry}
-use Rattle.lrs_history.specs.History.{with_entry}
-use Rattle.lrs_machine.specs.Desk.{IsStoreOf, IsRefused, founding_entry}
+use Rattle.lrs_history.specs.History.{IsLegal, with_entry}
+use Rattle.lrs_fold.specs.Own.{founding_entry}
+use Rattle.lrs_machine.specs.Desk.{IsStoreOf, IsRefused}
 use Rattle.lrs_machine.specs.declared.opening.DeskRefused.{DeskRefused}
 use Rattle.lrs_machine.specs.declared.opening.DeskRefused.TheVariants as refused
 use Rattle.lrs_hall.specs.Draws.{draw_at, start_of}
 use Rattle.lrs_hall.specs.Talks.{Told}
-use Rattle.lrs_app.specs.Service.{Doors, HasNoDoor, ServesDoor, HoldsServed, CountsOn, responses_of}
+use Rattle.lrs_app.specs.Service.{Doors, HasNoDoor, ServesDoor, Holds, HoldsServed, CountsOn, responses_of}
 use Rattle.lrs_app.specs.Steps.{ending_of}
 use Rattle.lrs_app.specs.Words.{Command, init, intake, serve, IsCommand, base_of, limit_of, connections_of}
 use Rattle.lrs_app.specs.Endings.{ending_status, ending_line}
@@ -87,10 +87,6 @@ LeavesDoors before after = after.lobby ≡ before.lobby
 
 -- ---- what a disk holds
 
--- the disk tells bytes that stand, with this limit, for the history
-abbrev pub Holds : Option (List ℕ) → ℕ → List Entry → Type 0
-Holds told limit h = (bytes : List ℕ) × (told ≡ Some bytes) × Stands bytes limit (map written_entry h)
-
 -- the disk holds what it held: the same bytes, or the store of the same history (a recovery may write behind its end)
 abbrev pub HoldsAsBefore : List ℕ → Option (List ℕ) → Type 0
 HoldsAsBefore bytes told = (told ≡ Some bytes) ⊎ ((limit : ℕ) × (h : List Entry) × IsStoreOf bytes limit h × Holds told limit h)
@@ -119,14 +115,15 @@ EndsUnopened bytes told ending.Memory = told ≡ Some bytes
 EndsUnopened bytes told ending.DiskFault = HoldsAsBefore bytes told
 EndsUnopened bytes told other = ⊥
 
--- The disk holds this history, of which there are so many entries.
+-- The disk holds this history, which can have come about, and of which there are so many entries.
 abbrev pub Leaves : ℕ → List Entry → Option (List ℕ) → ℕ → Type 0
-Leaves limit h told n = Holds told limit h × (n ≡ length h)
+Leaves limit h told n = Holds told limit h × IsLegal limit h × (n ≡ length h)
 
 -- The disk failed: it holds the history as it was, or the answer's entry is in doubt.
 abbrev pub LeavesDoubt : ℕ → List Entry → Option Entry → Option (List ℕ) → ℕ → Type 0
 LeavesDoubt limit h entry told n = Leaves limit h told n
-    ⊎ ((e : Entry) × (entry ≡ Some e) × (n ≡ length h + 1) × (Holds told limit h ⊎ Holds told limit (h ++ e ∷ [])))
+    ⊎ ((e : Entry) × (entry ≡ Some e) × IsLegal limit (h ++ e ∷ []) × (n ≡ length h + 1)
+    × (Holds told limit h ⊎ Holds told limit (h ++ e ∷ [])))
 
 -- How intake ends on a store of this limit and history: by the abstract store's answer to what the input asks. The disk then
 -- holds the history with the answer's entry, if any.
@@ -155,13 +152,13 @@ IntakeLeaves file clock draw before after (Some disk) n end =
 
 -- How init of a store with this token, base address and limit ends on a disk of these bytes, at this reading of the clock.
 abbrev pub InitEnds : List ℕ → List ℕ → List ℕ → ℕ → ℕ → Option (List ℕ) → ℕ → Ending → Type 0
-InitEnds bytes admin base limit clock told n ending.Founded = IsOpenTo bytes × Holds told limit (founding_entry admin base clock ∷ []) × (n ≡ 1)
+InitEnds bytes admin base limit clock told n ending.Founded = IsOpenTo bytes × Leaves limit (founding_entry admin base clock ∷ []) told n
 InitEnds bytes admin base limit clock told n ending.AlreadyStore = IsStore bytes × (told ≡ Some bytes) × (n ≡ 0)
 InitEnds bytes admin base limit clock told n ending.NotAStore = IsForeign bytes × (told ≡ Some bytes) × (n ≡ 0)
 InitEnds bytes admin base limit clock told n (ending.Full need most) = IsOpenTo bytes
     × (need ≡ length (written_entry (founding_entry admin base clock)) + 23) × (most ≡ limit) × (limit < need) × (told ≡ Some bytes) × (n ≡ 0)
 InitEnds bytes admin base limit clock told n ending.Memory = (told ≡ Some bytes) × (n ≡ 0)
-InitEnds bytes admin base limit clock told n ending.DiskFault = (IsStore bytes → told ≡ Some bytes) × (n ≡ 0)
+InitEnds bytes admin base limit clock told n ending.DiskFault = ((IsOpenTo bytes → ⊥) → told ≡ Some bytes) × (n ≡ 0)
 InitEnds bytes admin base limit clock told n other = ⊥
 
 -- what init leaves, with the disk that it took or without one

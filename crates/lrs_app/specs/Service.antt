@@ -1,5 +1,5 @@
 -- What serve does: it asks for a door of the address, serves its connections, and gives the door back.
-use Rattle.std.specs.Prelude.{◌≡◌, ◌⊎◌, ◌≤◌, ◌++◌, ◌∷◌, [], ◌-◌, ◌^◌, ℕ, min, List, Option, Some, None, option_map, length, map, Bool, true, false}
+use Rattle.std.specs.Prelude.{◌≡◌, ◌⊎◌, ◌≤◌, ◌++◌, ◌∷◌, [], ◌-◌, ◌^◌, ℕ, min, List, Option, Some, option_map, length, map, Bool, true, false}
 use Rattle.std.specs.List.{AllByRecursion}
 use Rattle.lrs_disk.specs.Door.{DoorState, IsFresh, Returned}
 use Rattle.lrs_disk.specs.Faults.{Rises}
@@ -7,6 +7,7 @@ use Rattle.lrs_disk.specs.Lobby.{DoorsAsked, CountsFaults}
 use Rattle.lrs_journal.specs.Journal.{StandsFor}
 use Rattle.lrs_record.specs.Entries.{written_entry}
 use Rattle.lrs_record.specs.declared.entry.Entry.{Entry}
+use Rattle.lrs_history.specs.History.{IsLegal}
 use Rattle.lrs_machine.specs.Desk.{Account}
 use Rattle.lrs_hall.specs.Acts.{ActsIn, BeginsWith}
 use Rattle.lrs_hall.specs.Draws.{Place, start_of}
@@ -80,18 +81,24 @@ pub record ServesDoor (address : List ℕ) (connections : ℕ) (before after : D
 abbrev pub HoldsIn : Bool → Option (List ℕ) → ℕ → List Entry → Type 0
 HoldsIn doubt told limit h = (bytes : List ℕ) × (told ≡ Some bytes) × StandsFor limit doubt (map written_entry h) bytes
 
--- only where the disk failed at the closing, the last entry may be in doubt
-abbrev pub HoldsBehind : Ending → Option (List ℕ) → ℕ → List Entry → Type 0
-HoldsBehind ending.DiskFault told limit h = HoldsIn true told limit h
-HoldsBehind other told limit h = HoldsIn false told limit h
+-- the same without doubt
+abbrev pub Holds : Option (List ℕ) → ℕ → List Entry → Type 0
+Holds told limit h = HoldsIn false told limit h
 
--- The one history in the end, which begins with the one at the opening. Over it each response is the abstract store's reply, and each further entry
--- is that of one act. The disk holds it.
+-- The disk holds the history. Only where it failed at the closing, and the last act left its entry in doubt, it may
+-- lack that entry.
+abbrev pub HoldsBehind : Ending → Bool → Option (List ℕ) → ℕ → List Entry → Type 0
+HoldsBehind ending.DiskFault doubt told limit h = (doubt ≡ true) × HoldsIn true told limit h
+HoldsBehind other doubt told limit h = Holds told limit h
+
+-- The one history in the end, which can have come about and begins with the one at the opening. Over it each response
+-- is the abstract store's reply, and each further entry is that of one act. The disk holds it.
 pub record HoldsServed (limit : ℕ) (opened : List Entry) (seed : List ℕ) (links : List Returned) (talks : List Told) (told : Option (List ℕ)) (n : ℕ) (end : Ending) : Type 0 where
   pub history : List Entry
+  pub legal : IsLegal limit history
   pub begins : BeginsWith opened history
   pub behind : Place
   pub doubt : Bool
   pub over : AreOver (ActsIn limit history) talks links (worker_at (start_of seed 1) opened false) (worker_at behind history doubt)
   pub counts : n ≡ length history
-  pub holds : HoldsBehind end told limit history
+  pub holds : HoldsBehind end doubt told limit history

@@ -3,9 +3,12 @@ use Rattle.std.specs.Prelude.{◌≡◌, ◌&&◌, not, ℕ, Bool, true, false, 
 use Rattle.std.specs.Option.{option_copied}
 use Rattle.std.specs.Str.{bytes_eq}
 use Rattle.clap.specs.Walk.{Row, Text, first_of}
-use Rattle.clap.specs.Simple.{subcommand_of}
+use Rattle.clap.specs.Simple.{App, app_of, subcommand_of, with_subcommand}
+use Rattle.clap.specs.Words.{AddsSubcommand}
+use Rattle.clap.specs.declared.builder.command.Command.{Command as ClapCommand}
 use Rattle.clap.specs.Faults.{fault_of}
-use Rattle.lrs_app.specs.Words.{Command, init, intake, serve, IsInRange, base_of, limit_of, connections_of, is_name, is_among, options_of, program, whole_line}
+use Rattle.lrs_json.specs.Faults.{is_among}
+use Rattle.lrs_app.specs.Words.{Command, init, intake, serve, IsInRange, base_of, limit_of, connections_of, is_name, options_of, program, whole_line}
 use Rattle.lrs_app.specs.declared.words.Shape.{Shape}
 use Rattle.lrs_app.specs.declared.words.Shape.TheVariants as shape
 use Rattle.lrs_app.specs.declared.words.Words.{Words}
@@ -78,6 +81,10 @@ said_by (name ∷ file ∷ address ∷ []) value =
 said_by words value = None
 
 -- ---- what clap takes
+
+-- a command to which clap's command is added has this one more
+abbrev pub Adds : App → ClapCommand → Type 0
+Adds a c = (old new : ClapCommand) → AddsSubcommand old c new → app_of new ≡ with_subcommand (app_of old) a.top
 
 abbrev pub init_in : List Row → Option Command
 init_in rows = init_with (first_of (codes "file") rows) (first_of (codes "admin") rows) (first_of (codes "base") rows) (first_of (codes "limit") rows)

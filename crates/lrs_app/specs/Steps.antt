@@ -10,8 +10,8 @@ use Rattle.lrs_machine.specs.declared.opening.FoundRefused.{FoundRefused}
 use Rattle.lrs_machine.specs.declared.opening.FoundRefused.TheVariants as found
 use Rattle.lrs_machine.specs.declared.opening.DeskRefused.{DeskRefused}
 use Rattle.lrs_machine.specs.declared.opening.DeskRefused.TheVariants as desk
-use Rattle.lrs_history.specs.declared.reply.Trouble.{Trouble}
-use Rattle.lrs_history.specs.declared.reply.Trouble.TheVariants as trouble
+use Rattle.lrs_replies.specs.declared.reply.Trouble.{Trouble}
+use Rattle.lrs_replies.specs.declared.reply.Trouble.TheVariants as trouble
 use Rattle.lrs_app.specs.Asking.{Asked, Asks, EndsSaying, EndsAsking, entry_asked}
 use Rattle.lrs_app.specs.declared.ending.Ending.{Ending}
 use Rattle.lrs_app.specs.declared.ending.Ending.TheVariants as ending

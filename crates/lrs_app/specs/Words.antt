@@ -3,13 +3,14 @@
 use Rattle.std.specs.Prelude.{◌≡◌, ◌<◌, ◌≤◌, ◌⊎◌, ◌==◌, ⊤, not, ℕ, Bool, true, false, List, [], ◌∷◌, length, Option, Some, None, IfSome, if◌then◌else◌, unwrap_or, codes}
 use Rattle.std.specs.Option.{option_map_or}
 use Rattle.std.specs.Char.{is_ascii_digit}
-use Rattle.std.specs.List.{list_all, list_any}
+use Rattle.std.specs.List.{list_all}
 use Rattle.std.specs.Str.{bytes_eq}
 use Rattle.std.specs.Str.Parse.{digits_value}
 use Rattle.clap.specs.Walk.{Row, Rule, Text, first_of}
 use Rattle.clap.specs.Simple.{App, new_app, new_rule, with_rule, with_subcommand, subcommand_of}
 use Rattle.clap.specs.Faults.{fault_of}
-use Rattle.lrs_history.specs.Founding.{IsToken, IsBase}
+use Rattle.lrs_json.specs.Faults.{is_among}
+use Rattle.lrs_parts.specs.Founding.{IsToken, IsBase}
 
 -- ---- plain lines
 
@@ -40,9 +41,6 @@ value_of name (option other value ∷ parts) = if bytes_eq other name then Some 
 abbrev pub is_name : List ℕ → Bool
 is_name [] = false
 is_name (b ∷ rest) = not (b == 45)
-
-abbrev pub is_among : List ℕ → List (List ℕ) → Bool
-is_among w words = list_any (λ other. bytes_eq w other) words
 
 -- No word is empty and none begins with `-` but these options. Each of those stands at most once, and the next word is its value.
 abbrev pub ArePlain : List (List ℕ) → List Part → Type 0

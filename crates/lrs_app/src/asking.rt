@@ -8,10 +8,10 @@ ghost use Rattle.lrs_app.specs.Asking.{named, Asks, json_ending, unnamed_ending,
 
 use crate::Ending;
 use crate::reading::{InputRefused, read_input};
+use lrs_command::Rule;
 use lrs_disk::Source;
 use lrs_json::{Memory, ReadRefused, Tree, read};
 use lrs_names::Id;
-use lrs_record::Rule;
 use std::alloc::Global;
 use xapi_statement::{broken_rule, is_too_long, own_id};
 
@@ -19,10 +19,7 @@ use xapi_statement::{broken_rule, is_too_long, own_id};
 fn broken_json(number: u8) -> Ending
     ensures { result ≡ json_ending number }
 {
-    Ending::Refused(Rule {
-        family: b'J',
-        number,
-    })
+    Ending::Refused(Rule::J(number))
 }
 
 fn read_tree(alloc: Global, input: &[u8]) -> Result<Tree, Ending>
@@ -48,10 +45,7 @@ fn unnamed(alloc: Global, tree: &Tree) -> Result<Ending, Memory>
         return Ok(Ending::TooLong);
     }
     match broken_rule(alloc, tree)? {
-        Some(number) => Ok(Ending::Refused(Rule {
-            family: b'S',
-            number,
-        })),
+        Some(number) => Ok(Ending::Refused(Rule::S(number))),
         None => Ok(Ending::NoId),
     }
 }
@@ -78,7 +72,8 @@ fn ask(alloc: Global, input: &[u8]) -> Result<(Id, Tree), Ending>
 
 /// Reads the input to its end, and takes the statement that it asks to be kept.
 pub(crate) fn take_statement<I: Source>(alloc: Global, input: &mut I) -> Result<(Id, Tree), Ending>
-    ensures taken { IfOk result (λ statement. IfSome (I.left input.old) (λ input. Asks input (named statement.0 statement.1))) }
+    ensures taken { IfOk result (λ statement. IfSome (I.left input.old)
+        (λ input. Asks input (named statement.0 statement.1))) }
     ensures readable { IfOk result (λ statement. IsReadable 64 (view statement.1)) }
     ensures refused { IfErr result (λ end. IfSome (I.left input.old) (λ input. IsNotTaken input end)) }
     ensures cause { IfErr result (HasInputCause (I.fault_count input.old) (I.fault_count input.new)) }

@@ -2,12 +2,13 @@ ghost use Rattle.std.specs.Prelude.{◌≡◌, ◌≤◌, ◌+◌, ◌++◌, len
 ghost use Rattle.std.specs.Fmt.{decimal};
 ghost use Rattle.arrayvec.specs.ArrayVec.{array_vec_len};
 ghost use Rattle.lrs_names.specs.Ids.{id_text};
-ghost use Rattle.lrs_app.specs.Endings.{ending_status, ending_text, ending_line, rule_text};
+ghost use Rattle.lrs_command.specs.Rules.{rule_text};
+ghost use Rattle.lrs_app.specs.Endings.{ending_status, ending_text, ending_line};
 
 use arrayvec::ArrayVec;
 use itoa::Buffer;
+use lrs_command::Rule;
 use lrs_names::Id;
-use lrs_record::Rule;
 
 /// How a command ends. Each ending has its status and its line.
 #[derive(Clone, Copy, PartialEq, Eq)]
@@ -147,8 +148,8 @@ fn refused(rule: Rule) -> Line
     ensures short { array_vec_len result ≤ 30 }
 {
     let mut line = word(b"refused ");
-    line.push(rule.family);
-    put_number(&mut line, u64::from(rule.number));
+    line.push(rule.letter());
+    put_number(&mut line, u64::from(rule.number()));
     line
 }
 

@@ -1,6 +1,6 @@
 // A store is made.
 ghost use Rattle.std.specs.Prelude.{◌≡◌, ◌≤◌, ◌^◌, IfSome};
-ghost use Rattle.lrs_history.specs.Founding.{IsToken, IsBase};
+ghost use Rattle.lrs_parts.specs.Founding.{IsToken, IsBase};
 ghost use Rattle.lrs_app.specs.Steps.{ending_of_found};
 ghost use Rattle.lrs_app.specs.Run.{InitEnds, HasCause};
 
@@ -35,13 +35,15 @@ pub(crate) fn init_disk<D: Disk>(
     requires limit { (512 ≤ limit) × (limit ≤ 2 ^ 30) }
     requires admin { IsToken admin.now }
     requires base { IsBase base.now }
-    ensures ends { IfSome (D.told disk) (λ bytes. InitEnds bytes admin.now base.now limit clock (D.told result.1) result.2 result.0) }
+    ensures ends { IfSome (D.told disk)
+        (λ bytes. InitEnds bytes admin.now base.now limit clock (D.told result.1) result.2 result.0) }
     ensures cause { HasCause (D.fault_count disk) (D.fault_count result.1) 0 0 result.0 }
 {
     match Desk::found(alloc, disk, limit, admin, base, clock) {
+        // A new store is in no doubt, so there is nothing to be written at its closing.
         Ok(desk) => match desk.close() {
             Ok(disk) => (Ending::Founded, disk, 1),
-            Err((_, disk)) => (Ending::DiskFault, disk, 1),
+            Err(_) => unreachable!(),
         },
         Err((refused, disk)) => (unfounded(refused), disk, 0),
     }

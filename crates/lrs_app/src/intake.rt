@@ -1,9 +1,10 @@
 // One statement of the input, kept in a store.
-ghost use Rattle.std.specs.Prelude.{◌≡◌, ◌≢◌, List, ℕ, IfSome, false};
+ghost use Rattle.std.specs.Prelude.{◌≡◌, List, ℕ, IfSome, false};
 ghost use Rattle.lrs_json.specs.Fits.{IsReadable};
 ghost use Rattle.lrs_json.specs.View.{view};
 ghost use Rattle.lrs_record.specs.declared.entry.Entry.{Entry};
-ghost use Rattle.lrs_machine.specs.Desk.{StandsFor, IsOfPut, MayRefusePut};
+ghost use Rattle.lrs_fold.specs.Own.{IsOfPut, MayRefusePut};
+ghost use Rattle.lrs_machine.specs.Desk.{StandsFor};
 ghost use Rattle.lrs_app.specs.Asking.{EndsSaying, EndsRefused, put_answer};
 ghost use Rattle.lrs_app.specs.Steps.{Submits, TakesIn, HasPutCause, HasCauses, ending_of, ending_of_trouble};
 ghost use Rattle.lrs_app.specs.Run.{EndsOpened, IntakeEnds, HasCause};
@@ -85,7 +86,8 @@ fn take_in<D: Disk, I: Source>(
     ensures ends { (h : List Entry) → StandsFor D.told desk.old h
         → IfSome (I.left input.old) (λ input. TakesIn D.told desk.old.limit h input clock draw.now desk.new result) }
     ensures limit { desk.new.limit ≡ desk.old.limit }
-    ensures cause { HasCauses (D.fault_count desk.old.disk) (D.fault_count desk.new.disk) (I.fault_count input.old) (I.fault_count input.new) result }
+    ensures cause { HasCauses (D.fault_count desk.old.disk) (D.fault_count desk.new.disk) (I.fault_count input.old)
+        (I.fault_count input.new) result }
 {
     match take_statement(alloc, input) {
         Ok((id, statement)) => submit(desk, &id, statement, clock, draw),
@@ -103,8 +105,10 @@ fn intake_opened<D: Disk, I: Source>(
 ) -> (Ending, D, u64)
     requires { desk.doubt ≡ false }
     ensures ends { (h : List Entry) → StandsFor D.told desk h
-        → IfSome (I.left input.old) (λ input. EndsOpened desk.limit h input clock draw.now (D.told result.1) result.2 result.0) }
-    ensures cause { HasCause (D.fault_count desk.disk) (D.fault_count result.1) (I.fault_count input.old) (I.fault_count input.new) result.0 }
+        → IfSome (I.left input.old)
+        (λ input. EndsOpened desk.limit h input clock draw.now (D.told result.1) result.2 result.0) }
+    ensures cause { HasCause (D.fault_count desk.disk) (D.fault_count result.1) (I.fault_count input.old)
+        (I.fault_count input.new) result.0 }
 {
     let mut desk = desk;
     let ending = take_in(alloc, &mut desk, input, clock, draw);
@@ -136,8 +140,10 @@ pub(crate) fn intake_disk<D: Disk, I: Source>(
     clock: u64,
     draw: &Draw,
 ) -> (Ending, D, u64)
-    ensures ends { IfSome (D.told disk) (λ bytes. IfSome (I.left input.old) (λ input. IntakeEnds bytes input clock draw.now (D.told result.1) result.2 result.0)) }
-    ensures cause { HasCause (D.fault_count disk) (D.fault_count result.1) (I.fault_count input.old) (I.fault_count input.new) result.0 }
+    ensures ends { IfSome (D.told disk) (λ bytes. IfSome (I.left input.old)
+        (λ input. IntakeEnds bytes input clock draw.now (D.told result.1) result.2 result.0)) }
+    ensures cause { HasCause (D.fault_count disk) (D.fault_count result.1) (I.fault_count input.old)
+        (I.fault_count input.new) result.0 }
 {
     match Desk::recover(alloc, disk) {
         Ok(desk) => intake_opened(alloc, desk, input, clock, draw),

@@ -14,6 +14,4 @@ mod words;
 pub use ending::Ending;
 pub use printing::finish;
 pub use program::{Ended, Report, run};
-
-#[cfg(test)]
-mod tests;
+pub use words::{Words, read_words};

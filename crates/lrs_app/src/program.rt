@@ -1,6 +1,6 @@
 ghost use Rattle.std.specs.Prelude.{◌≡◌, ◌≤◌, ◌^◌, ℕ, [], List, Option, None};
-ghost use Rattle.lrs_history.specs.Founding.{IsToken, IsBase};
-ghost use Rattle.lrs_app.specs.Run.{Outside, Outcome, Runs, IntakeRuns, InitRuns, ServeRuns, PrintsLine, seen};
+ghost use Rattle.lrs_parts.specs.Founding.{IsToken, IsBase};
+ghost use Rattle.lrs_app.specs.Run.{Outside, Runs, IntakeRuns, InitRuns, ServeRuns, PrintsLine, seen};
 
 use crate::Ending;
 use crate::init::init_disk;
@@ -50,7 +50,8 @@ pub struct Ended<D> {
 
 // A run that uses nothing but the output.
 fn idle<D, O: Sink>(alloc: Global, out: &mut O, ending: Ending) -> Ended<D>
-    ensures printed { PrintsLine ending (O.taken out.old) (O.taken out.new) (O.fault_count out.old) (O.fault_count out.new) result.status }
+    ensures printed { PrintsLine ending (O.taken out.old) (O.taken out.new) (O.fault_count out.old)
+        (O.fault_count out.new) result.status }
     ensures disk { result.disk ≡ None }
     ensures length { result.report.length ≡ 0 }
     ensures talks { result.report.talks ≡ [] }
@@ -90,14 +91,24 @@ fn intake<S: Shelf, B: Lobby, I: Source, O: Sink>(
           files = S.taken shelf.new;
           shelf_faults = S.fault_count shelf.new;
           readings = B.readings lobby.new;
-          lobby = record { asked = B.asked lobby.new; returned = B.returned lobby.new; faults = B.fault_count lobby.new };
+          lobby = record {
+            asked = B.asked lobby.new;
+            returned = B.returned lobby.new;
+            faults = B.fault_count lobby.new;
+          };
           left = I.left input.new;
           input_faults = I.fault_count input.new;
           taken = O.taken out.new;
           output_faults = O.fault_count out.new;
         } in
         IntakeRuns file.now draw.now before after
-        (record { status = result.status; disk = seen S.Disk.told S.Disk.fault_count result.disk; length = result.report.length; talks = result.report.talks; responses = result.report.responses }) }
+        (record {
+          status = result.status;
+          disk = seen S.Disk.told S.Disk.fault_count result.disk;
+          length = result.report.length;
+          talks = result.report.talks;
+          responses = result.report.responses;
+        }) }
 {
     let clock = lobby.now();
     match shelf.take(file.as_str()) {
@@ -137,7 +148,11 @@ fn init<S: Shelf, B: Lobby, O: Sink>(
           files = S.taken shelf.old;
           shelf_faults = S.fault_count shelf.old;
           readings = B.readings lobby.old;
-          lobby = record { asked = B.asked lobby.old; returned = B.returned lobby.old; faults = B.fault_count lobby.old };
+          lobby = record {
+            asked = B.asked lobby.old;
+            returned = B.returned lobby.old;
+            faults = B.fault_count lobby.old;
+          };
           left = left;
           input_faults = count;
           taken = O.taken out.old;
@@ -149,14 +164,24 @@ fn init<S: Shelf, B: Lobby, O: Sink>(
           files = S.taken shelf.new;
           shelf_faults = S.fault_count shelf.new;
           readings = B.readings lobby.new;
-          lobby = record { asked = B.asked lobby.new; returned = B.returned lobby.new; faults = B.fault_count lobby.new };
+          lobby = record {
+            asked = B.asked lobby.new;
+            returned = B.returned lobby.new;
+            faults = B.fault_count lobby.new;
+          };
           left = left;
           input_faults = count;
           taken = O.taken out.new;
           output_faults = O.fault_count out.new;
         } in
         InitRuns file.now admin.now base.now limit before after
-        (record { status = result.status; disk = seen S.Disk.told S.Disk.fault_count result.disk; length = result.report.length; talks = result.report.talks; responses = result.report.responses }) }
+        (record {
+          status = result.status;
+          disk = seen S.Disk.told S.Disk.fault_count result.disk;
+          length = result.report.length;
+          talks = result.report.talks;
+          responses = result.report.responses;
+        }) }
 {
     let clock = lobby.now();
     match shelf.take(file.as_str()) {
@@ -193,7 +218,11 @@ fn serve<S: Shelf, B: Lobby, O: Sink>(
           files = S.taken shelf.old;
           shelf_faults = S.fault_count shelf.old;
           readings = B.readings lobby.old;
-          lobby = record { asked = B.asked lobby.old; returned = B.returned lobby.old; faults = B.fault_count lobby.old };
+          lobby = record {
+            asked = B.asked lobby.old;
+            returned = B.returned lobby.old;
+            faults = B.fault_count lobby.old;
+          };
           left = left;
           input_faults = count;
           taken = O.taken out.old;
@@ -205,14 +234,24 @@ fn serve<S: Shelf, B: Lobby, O: Sink>(
           files = S.taken shelf.new;
           shelf_faults = S.fault_count shelf.new;
           readings = B.readings lobby.new;
-          lobby = record { asked = B.asked lobby.new; returned = B.returned lobby.new; faults = B.fault_count lobby.new };
+          lobby = record {
+            asked = B.asked lobby.new;
+            returned = B.returned lobby.new;
+            faults = B.fault_count lobby.new;
+          };
           left = left;
           input_faults = count;
           taken = O.taken out.new;
           output_faults = O.fault_count out.new;
         } in
         ServeRuns file.now address.now connections seed before after
-        (record { status = result.status; disk = seen S.Disk.told S.Disk.fault_count result.disk; length = result.report.length; talks = result.report.talks; responses = result.report.responses }) }
+        (record {
+          status = result.status;
+          disk = seen S.Disk.told S.Disk.fault_count result.disk;
+          length = result.report.length;
+          talks = result.report.talks;
+          responses = result.report.responses;
+        }) }
 {
     match shelf.take(file.as_str()) {
         Ok(disk) => {
@@ -269,14 +308,24 @@ pub fn run<S: Shelf, B: Lobby, I: Source, O: Sink>(
           files = S.taken shelf.new;
           shelf_faults = S.fault_count shelf.new;
           readings = B.readings lobby.new;
-          lobby = record { asked = B.asked lobby.new; returned = B.returned lobby.new; faults = B.fault_count lobby.new };
+          lobby = record {
+            asked = B.asked lobby.new;
+            returned = B.returned lobby.new;
+            faults = B.fault_count lobby.new;
+          };
           left = I.left input.new;
           input_faults = I.fault_count input.new;
           taken = O.taken out.new;
           output_faults = O.fault_count out.new;
         } in
         Runs words.now seed before after
-        (record { status = result.status; disk = seen S.Disk.told S.Disk.fault_count result.disk; length = result.report.length; talks = result.report.talks; responses = result.report.responses }) }
+        (record {
+          status = result.status;
+          disk = seen S.Disk.told S.Disk.fault_count result.disk;
+          length = result.report.length;
+          talks = result.report.talks;
+          responses = result.report.responses;
+        }) }
 {
     match read_words(alloc, words) {
         Ok(

@@ -37,7 +37,8 @@ fn read_piece<I: Source>(input: &mut I, bytes: &mut Vec<u8>) -> Result<bool, Inp
     ensures given { OnOk result (GivesOn bytes.old.items bytes.new.items (I.left input.old) (I.left input.new)) }
     ensures more { IfOk result (λ more. more ≡ true → vec_len bytes.old < vec_len bytes.new) }
     ensures most { vec_len bytes.new ≤ longest + 1 }
-    ensures end { IfOk result (λ more. more ≡ false → IsAtEnd (I.left input.old) × (bytes.new.items ≡ bytes.old.items)) }
+    ensures end { IfOk result (λ more. more ≡ false → IsAtEnd (I.left input.old)
+        × (bytes.new.items ≡ bytes.old.items)) }
     ensures refused { IfErr result (IsNoPiece (I.fault_count input.old) (I.fault_count input.new)) }
     ensures kept { OnOk result (I.fault_count input.new ≡ I.fault_count input.old) }
     ensures later { I.fault_count input.old ≤ I.fault_count input.new }
@@ -54,7 +55,8 @@ fn read_piece<I: Source>(input: &mut I, bytes: &mut Vec<u8>) -> Result<bool, Inp
 /// Reads the input to its end, or one byte further than an input may be long.
 pub(crate) fn read_input<I: Source>(alloc: Global, input: &mut I) -> Result<Vec<u8>, InputRefused>
     ensures whole { IfOk result (λ bytes. IsInput bytes.items (I.left input.old)) }
-    ensures refused { IfErr result (IsNotInput (I.left input.old) (I.left input.new) (I.fault_count input.old) (I.fault_count input.new)) }
+    ensures refused { IfErr result (IsNotInput (I.left input.old) (I.left input.new) (I.fault_count input.old)
+        (I.fault_count input.new)) }
     ensures kept { OnOk result (I.fault_count input.new ≡ I.fault_count input.old) }
     ensures later { I.fault_count input.old ≤ I.fault_count input.new }
 {

@@ -81,7 +81,11 @@ fn serve_desk<D: Disk, B: Lobby>(
 ) -> (Desk<D>, Items<Talk>, Ending)
     ensures served { ServesDesk D.told desk result.0 address.now connections seed
         (record { asked = B.asked lobby.old; returned = B.returned lobby.old; faults = B.fault_count lobby.old })
-        (record { asked = B.asked lobby.new; returned = B.returned lobby.new; faults = B.fault_count lobby.new }) result.1 result.2 }
+        (record {
+          asked = B.asked lobby.new;
+          returned = B.returned lobby.new;
+          faults = B.fault_count lobby.new;
+        }) result.1 result.2 }
     ensures counts { Counts (D.fault_count desk.disk) (all_receipts result.1) (D.fault_count result.0.disk) }
     ensures limit { result.0.limit ≡ desk.limit }
     ensures readings { B.readings lobby.new ≡ B.readings lobby.old }
@@ -155,7 +159,10 @@ pub(crate) fn serve_disk<D: Disk, B: Lobby>(
     ensures served { Serves (D.told disk) address.now connections seed
         (record { asked = B.asked lobby.old; returned = B.returned lobby.old; faults = B.fault_count lobby.old })
         (record { asked = B.asked lobby.new; returned = B.returned lobby.new; faults = B.fault_count lobby.new })
-        (record { told = D.told result.disk; faults = D.fault_count result.disk }) result.talks result.length result.ending }
+        (record {
+          told = D.told result.disk;
+          faults = D.fault_count result.disk;
+        }) result.talks result.length result.ending }
     ensures cause { HasCause (D.fault_count disk) (D.fault_count result.disk) 0 0 result.ending }
     ensures counts { CountsOn (D.fault_count disk) result.talks (D.fault_count result.disk) }
     ensures readings { B.readings lobby.new ≡ B.readings lobby.old }

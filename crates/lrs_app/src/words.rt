@@ -3,7 +3,7 @@ ghost use Rattle.std.specs.Char.{is_ascii_digit};
 ghost use Rattle.std.specs.List.{list_all};
 ghost use Rattle.std.specs.Option.{SomeIff, option_copied, option_map_or};
 ghost use Rattle.std.specs.Str.Parse.{digits_value};
-ghost use Rattle.lrs_history.specs.Founding.{IsToken, IsBase};
+ghost use Rattle.lrs_parts.specs.Founding.{IsToken, IsBase};
 ghost use Rattle.lrs_app.specs.Words.{Command, init, serve, InitWords, ServeWords, IsCommand, IsInRange, IsInitInRange, IsServeInRange, IsNumber, IsNumberIn, IsLimit};
 ghost use Rattle.lrs_app.specs.Shapes.{IsReadAs, Means, command_of, named};
 
@@ -99,7 +99,8 @@ fn read_number(word: &str, least: u64, most: u64) -> Option<u64>
 
 fn read_limit(limit: Option<&str>) -> Option<u64>
     ensures { MatchOption result (IfSome (option_copied limit.entry) IsLimit → ⊥)
-        (λ n. IfSome (option_copied limit.entry) IsLimit × (n ≡ option_map_or (digits_value 10) (option_copied limit.entry) 268435456)) }
+        (λ n. IfSome (option_copied limit.entry) IsLimit
+        × (n ≡ option_map_or (digits_value 10) (option_copied limit.entry) 268435456)) }
 {
     match limit {
         Some(word) => read_number(word, LEAST_LIMIT, MOST_LIMIT),
@@ -108,7 +109,8 @@ fn read_limit(limit: Option<&str>) -> Option<u64>
 }
 
 fn read_token(alloc: Global, word: &str) -> Result<Option<Text>, Memory>
-    ensures { IfOk result (λ found. MatchOption found (IsToken word.now → ⊥) (λ token. IsToken word.now × (token ≡ word.now))) }
+    ensures { IfOk result (λ found. MatchOption found (IsToken word.now → ⊥)
+        (λ token. IsToken word.now × (token ≡ word.now))) }
 {
     let token = Text::of(alloc, word)?;
     if !is_token(&token) {
@@ -127,7 +129,8 @@ fn base_or_default(alloc: Global, base: Option<&str>) -> Result<Text, Memory>
 }
 
 fn read_base(alloc: Global, base: Option<&str>) -> Result<Option<Text>, Memory>
-    ensures { IfOk result (λ found. let text : List ℕ = unwrap_or (option_copied base.entry) (codes "http://127.0.0.1:8080/") in
+    ensures { IfOk result (λ found. let text : List ℕ = unwrap_or (option_copied base.entry)
+        (codes "http://127.0.0.1:8080/") in
         MatchOption found (IsBase text → ⊥) (λ read. IsBase text × (read ≡ text))) }
 {
     let text = base_or_default(alloc, base)?;
@@ -145,7 +148,12 @@ fn test_init(
     base: Option<&str>,
     limit: Option<&str>,
 ) -> Result<Option<Words>, Memory>
-    ensures { IfOk result (λ found. let w : InitWords = record { file = file.now; admin = admin.now; base = option_copied base.entry; limit = option_copied limit.entry } in
+    ensures { IfOk result (λ found. let w : InitWords = record {
+      file = file.now;
+      admin = admin.now;
+      base = option_copied base.entry;
+      limit = option_copied limit.entry;
+    } in
         MatchOption found (IsInitInRange w → ⊥) (λ words. IsInitInRange w × Means words (init w))) }
 {
     let Some(limit) = read_limit(limit) else {
@@ -173,7 +181,12 @@ fn test_serve(
     workers: &str,
     connections: &str,
 ) -> Result<Option<Words>, Memory>
-    ensures { IfOk result (λ found. let w : ServeWords = record { file = file.now; address = address.now; workers = workers.now; connections = connections.now } in
+    ensures { IfOk result (λ found. let w : ServeWords = record {
+      file = file.now;
+      address = address.now;
+      workers = workers.now;
+      connections = connections.now;
+    } in
         MatchOption found (IsServeInRange w → ⊥) (λ words. IsServeInRange w × Means words (serve w))) }
 {
     let workers = read_number(workers, 1, MOST_WORKERS);
@@ -241,6 +254,3 @@ pub fn read_words(alloc: Global, words: &[Text]) -> Result<Option<Words>, Memory
 {
     read_named(alloc, words)
 }
-
-#[cfg(test)]
-mod tests;

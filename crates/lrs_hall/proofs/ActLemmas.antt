@@ -2,12 +2,12 @@
 use Rattle.std.proofs.Common.{◌≡◌, ℕ, List, Option, subst, sym, ap}
 use Rattle.lrs_disk.specs.Readings.{AddsReading}
 use Rattle.lrs_journal.specs.Journal.{Held}
-use Rattle.lrs_history.specs.declared.reply.Reply.{Reply}
+use Rattle.lrs_replies.specs.declared.reply.Reply.{Reply}
 use Rattle.lrs_machine.specs.Desk.{Account, account_of, Replies}
 use Rattle.lrs_history.specs.History.{answer}
 use Rattle.lrs_names.specs.declared.draw.Draw.{Draw}
 use Rattle.lrs_record.specs.declared.entry.Caller.{Caller}
-use Rattle.lrs_record.specs.declared.entry.Command.{Command}
+use Rattle.lrs_command.specs.declared.command.Command.{Command}
 use Rattle.lrs_hall.specs.Acts.{ActsOn}
 
 pub acts_on : {D : Type 0} (told : D → Option (List ℕ)) (time faults : D → ℕ) (caller : Caller) (command : Command) (given draw : Draw) (reply : Reply) (receipt : Account)

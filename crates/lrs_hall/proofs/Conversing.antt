@@ -1,26 +1,24 @@
 -- What a whole conversation over the desk tells of the one history, of the clock and of the disk's faults.
-use Rattle.std.proofs.Common.{arith, ◌≡◌, ◌≢◌, ◌⊎◌, ◌≤◌, ℕ, List, [], ◌∷◌, ◌++◌, length, Bool, true, false, Option, Some, None, Result, Ok, Err, subst, sym, ◌∙◌, ap, refl, inl, inr, append_assoc, append-nil}
+use Rattle.std.proofs.Common.{arith, ◌≡◌, ◌≢◌, ◌⊎◌, ◌≤◌, ℕ, List, [], ◌∷◌, ◌++◌, Bool, false, Option, Some, None, Result, Ok, Err, subst, sym, ◌∙◌, ap, refl, inl, inr, append_assoc, append-nil}
 use Rattle.std.specs.Prelude.{if◌then◌else◌, MatchBool}
-use Rattle.lrs_disk.specs.Faults.{Rises}
 use Rattle.lrs_disk.specs.Readings.{AddsReading}
 use Rattle.lrs_http.specs.declared.request.Request.{Request}
 use Rattle.lrs_http.specs.declared.request.RequestRefused.{RequestRefused}
-use Rattle.lrs_journal.specs.Journal.{Held}
-use Rattle.lrs_history.specs.declared.answered.Answered.{Answered}
-use Rattle.lrs_history.specs.declared.reply.Reply.{Reply}
-use Rattle.lrs_history.specs.declared.reply.Trouble.{Trouble}
-use Rattle.lrs_history.specs.declared.reply.Trouble.TheVariants.{Memory, Disk}
+use Rattle.lrs_replies.specs.declared.answered.Answered.{Answered}
+use Rattle.lrs_replies.specs.declared.reply.Reply.{Reply}
+use Rattle.lrs_replies.specs.declared.reply.Trouble.{Trouble}
+use Rattle.lrs_replies.specs.declared.reply.Trouble.TheVariants.{Memory, Disk}
 use Rattle.lrs_machine.specs.Desk.{Account, HasCause, StandsFor}
-use Rattle.lrs_history.specs.Replies.{Says}
+use Rattle.lrs_replies.specs.Replies.{Says}
 use Rattle.lrs_names.specs.declared.draw.Draw.{Draw}
 use Rattle.lrs_record.specs.declared.entry.Caller.{Caller}
-use Rattle.lrs_record.specs.declared.entry.Command.{Command}
+use Rattle.lrs_command.specs.declared.command.Command.{Command}
 use Rattle.lrs_record.specs.declared.entry.Entry.{Entry}
 use Rattle.lrs_routes.specs.declared.asked.Asked.{Asked}
 use Rattle.lrs_routes.specs.declared.asked.RouteRefused.{RouteRefused}
 use Rattle.lrs_hall.specs.declared.talk.Finish.{Finish}
 use Rattle.lrs_hall.specs.Acts.{ActsIn, ActsOn, BeginsWith, DeskAndClock, Reach}
-use Rattle.lrs_hall.specs.Conversation.{Worker, Phase, going, over, Serves, Answers, closes_behind, Responds, RespondsIn, Converses}
+use Rattle.lrs_hall.specs.Conversation.{Worker, Phase, going, over, Serves, Answers, closes_behind, RespondsIn, Converses}
 use Rattle.lrs_hall.specs.Draws.{draw_at}
 use Rattle.lrs_hall.specs.Responses.{Fixed, IsFraming, framing_response}
 use Rattle.lrs_hall.specs.Serving.{AddsReadings, Counts, clocks, worker_at}

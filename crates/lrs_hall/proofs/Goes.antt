@@ -1,12 +1,11 @@
 -- A conversation goes on.
-use Rattle.std.proofs.Common.{◌≡◌, ◌≢◌, ◌-◌, ℕ, List, [], ◌∷◌, ◌++◌, Option, Some, None, option_map, subst, sym, ◌∙◌, ap, refl, append_assoc, append-nil}
+use Rattle.std.proofs.Common.{◌≡◌, ◌-◌, ℕ, List, [], ◌∷◌, ◌++◌, Option, Some, None, option_map, subst, sym, ◌∙◌, ap, refl, append_assoc, append-nil}
 use Rattle.lrs_http.specs.Links.{stream_left}
 use Rattle.lrs_http.specs.Stream.{most_requests}
 use Rattle.lrs_machine.specs.Desk.{Account}
-use Rattle.lrs_hall.specs.declared.exchange.Exchanged.TheVariants.{Next, Last, Silent}
+use Rattle.lrs_hall.specs.declared.exchange.Exchanged.TheVariants.{Next, Last}
 use Rattle.lrs_hall.specs.declared.talk.Finish.{Finish}
-use Rattle.lrs_hall.specs.declared.talk.Finish.TheVariants as finish
-use Rattle.lrs_hall.specs.Conversation.{ActOn, Worker, Phase, going, over, Responds, Converses, EndsOpen}
+use Rattle.lrs_hall.specs.Conversation.{ActOn, Worker, going, over, Converses, EndsOpen}
 use Rattle.lrs_hall.specs.Serving.{IsWhole}
 use Rattle.lrs_hall.specs.Steps.{Exchanges}
 use Rattle.lrs_hall.specs.Talks.{Told}

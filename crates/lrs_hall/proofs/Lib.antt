@@ -6,5 +6,4 @@ pub mod Translating
 pub mod Conversing
 pub mod Doors
 pub mod Workers
-pub mod OneText
 pub mod OneStream

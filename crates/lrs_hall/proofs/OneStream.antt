@@ -1,5 +1,5 @@
 -- One stream is answered in one way.
-use Rattle.std.proofs.Common.{arith, ◌≡◌, ◌≢◌, ◌⊎◌, ◌+◌, ◌<◌, ◌≤◌, ℕ, List, [], ◌∷◌, ◌++◌, length, take, Bool, true, false, Option, Some, None, Result, Ok, Err, subst, sym, ◌∙◌, ap, refl, inl, inr, append_assoc, append-nil, length-append}
+use Rattle.std.proofs.Common.{arith, ◌≡◌, ◌≢◌, ◌⊎◌, ◌+◌, ◌<◌, ℕ, List, [], ◌∷◌, ◌++◌, length, take, Bool, true, false, Option, Some, None, Result, Ok, Err, subst, sym, ◌∙◌, ap, refl, inl, inr, append_assoc, append-nil, length-append}
 use Rattle.std.specs.List.{AllByRecursion}
 use Rattle.std.specs.Prelude.{is_some, slice_get, if◌then◌else◌, ◌||◌, ◌==◌, ◌-◌}
 use Rattle.std.proofs.lemmas.List.{length_push}
@@ -12,28 +12,27 @@ use Rattle.lrs_http.specs.declared.request.RequestRefused.TheVariants as request
 use Rattle.lrs_http.specs.Links.{GivesNext}
 use Rattle.lrs_http.specs.Response.{response_of}
 use Rattle.lrs_http.specs.Stream.{Item, IsItem}
-use Rattle.lrs_history.specs.declared.answered.Answered.{Answered}
-use Rattle.lrs_history.specs.declared.reply.Reply.{Reply}
-use Rattle.lrs_history.specs.declared.reply.Trouble.{Trouble}
-use Rattle.lrs_history.specs.declared.reply.Trouble.TheVariants.{Memory, Disk}
-use Rattle.lrs_machine.specs.Desk.{Account, plain_account}
+use Rattle.lrs_replies.specs.declared.answered.Answered.{Answered}
+use Rattle.lrs_replies.specs.declared.reply.Reply.{Reply}
+use Rattle.lrs_replies.specs.declared.reply.Trouble.{Trouble}
+use Rattle.lrs_replies.specs.declared.reply.Trouble.TheVariants.{Memory, Disk}
+use Rattle.lrs_machine.specs.Desk.{Account}
 use Rattle.lrs_history.specs.History.{Answer, answer, with_entry}
-use Rattle.lrs_history.specs.Replies.{Says, body_bytes, status_of, media_of, body_of, through_of}
+use Rattle.lrs_replies.specs.Replies.{Says, body_bytes}
 use Rattle.lrs_names.specs.declared.draw.Draw.{Draw}
 use Rattle.lrs_record.specs.declared.entry.Caller.{Caller}
-use Rattle.lrs_record.specs.declared.entry.Command.{Command}
+use Rattle.lrs_command.specs.declared.command.Command.{Command}
 use Rattle.lrs_record.specs.declared.entry.Entry.{Entry}
-use Rattle.lrs_routes.specs.Asked.{Agree, IsAsked}
 use Rattle.lrs_routes.specs.declared.asked.Asked.{Asked}
 use Rattle.lrs_routes.specs.declared.asked.RouteRefused.{RouteRefused}
 use Rattle.lrs_routes.specs.declared.asked.RouteRefused.TheVariants as refused
 use Rattle.lrs_hall.specs.declared.talk.Finish.{Finish}
 use Rattle.lrs_hall.specs.declared.talk.Finish.TheVariants as finish
 use Rattle.lrs_hall.specs.Acts.{ActsIn, BeginsWith, Reach, HasAt, TellsEntry, place_where, reach_behind}
-use Rattle.lrs_hall.specs.Conversation.{ActOn, Worker, Phase, going, over, Serves, Answers, closes_behind, phase_behind, Responds, RespondsIn, Converses, EndsOpen, EndsIn, Sends}
-use Rattle.lrs_hall.specs.Draws.{Place, draw_at, place_behind}
+use Rattle.lrs_hall.specs.Conversation.{ActOn, Worker, Phase, going, over, Serves, Answers, closes_behind, phase_behind, Responds, Converses, EndsOpen, Sends}
+use Rattle.lrs_hall.specs.Draws.{draw_at, place_behind}
 use Rattle.lrs_hall.specs.Laws.{OneAsked, OneText, IsFrontOf}
-use Rattle.lrs_hall.specs.Responses.{Fixed, fixed_text, IsFixed, IsFraming, IsReplyText, IsThrough, framing_response, media_text, route_response}
+use Rattle.lrs_hall.specs.Responses.{Fixed, IsFixed, IsFraming, IsReplyText, IsThrough, framing_response, media_text, route_response}
 use Rattle.lrs_hall.specs.Serving.{clocks}
 
 front_is : (h history : List Entry) → BeginsWith h history → take (length h) history ≡ h

@@ -1,11 +1,11 @@
 -- What is no request is answered.
-use Rattle.std.proofs.Common.{◌≡◌, ℕ, List, [], ◌++◌, Bool, true, false, Option, Some, None, option_map, Result, Ok, Err, subst, sym, ◌∙◌, ap, refl, inl, inr}
+use Rattle.std.proofs.Common.{◌≡◌, ℕ, List, true, Option, Some, None, Result, Ok, Err, subst, sym, ◌∙◌, ap, refl, inl, inr}
 use Rattle.lrs_http.specs.declared.request.RequestRefused.{RequestRefused}
 use Rattle.lrs_machine.specs.Desk.{Account, plain_account}
 use Rattle.lrs_hall.specs.declared.answering.FixedResponse.{FixedResponse}
 use Rattle.lrs_hall.specs.declared.exchange.Exchanged.{Exchanged}
 use Rattle.lrs_hall.specs.declared.talk.Finish.{Finish}
-use Rattle.lrs_hall.specs.Responses.{Fixed, fixed_text, framing_response, IsFraming}
+use Rattle.lrs_hall.specs.Responses.{Fixed, fixed_text, framing_response}
 use Rattle.lrs_hall.specs.Steps.{IsResponse, AreResponses, Wrote, Refuses, exchanged_of, finish_behind}
 
 by_sent : {T E : Type 0} (refusal : RequestRefused) (f : Fixed) (receipt : Account) (due : Finish) (sent : Result T E) (before now : Option (List ℕ))

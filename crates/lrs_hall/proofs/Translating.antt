@@ -1,5 +1,5 @@
 -- From what acts did to the desk to what they tell of the one history.
-use Rattle.std.proofs.Common.{arith, ◌≡◌, ◌≢◌, ◌⊎◌, ◌<◌, ◌≤◌, ◌+◌, ◌-◌, ◌&&◌, ℕ, List, [], ◌∷◌, ◌++◌, length, take, Bool, true, false, not, Option, Some, None, IsSome, Result, Ok, Err, subst, sym, ◌∙◌, ap, refl, inl, inr, append_assoc, append-nil, length-append}
+use Rattle.std.proofs.Common.{arith, ◌≡◌, ◌<◌, ◌≤◌, ◌+◌, ◌-◌, ◌&&◌, ℕ, List, [], ◌∷◌, ◌++◌, length, take, Bool, true, false, not, Option, Some, None, IsSome, Result, Ok, Err, subst, sym, ◌∙◌, ap, refl, inl, inr, append_assoc, append-nil, length-append}
 use Rattle.std.specs.Prelude.{is_some, slice_get, nat_lt, if◌then◌else◌}
 use Rattle.std.proofs.Math.Seq.{take-append_seam}
 use Rattle.std.proofs.Math.Seq.{get_or-append_seam}
@@ -7,15 +7,15 @@ use Rattle.std.proofs.lemmas.List.{length_push}
 use Rattle.std.proofs.lemmas.Bool.{le-ltb, lt-ltb}
 use Rattle.std.proofs.lemmas.Option.{slice_get-get_or}
 use Rattle.lrs_journal.specs.Journal.{Held}
-use Rattle.lrs_history.specs.declared.answered.Answered.{Answered}
-use Rattle.lrs_history.specs.declared.reply.Reply.{Reply}
-use Rattle.lrs_history.specs.declared.reply.Trouble.{Trouble}
-use Rattle.lrs_history.specs.declared.reply.Trouble.TheVariants.{Memory, Disk}
-use Rattle.lrs_machine.specs.Desk.{Account, account_of, added_place, landed_place, Replies, Answers, HasCause, StandsFor}
+use Rattle.lrs_replies.specs.declared.answered.Answered.{Answered}
+use Rattle.lrs_replies.specs.declared.reply.Reply.{Reply}
+use Rattle.lrs_replies.specs.declared.reply.Trouble.{Trouble}
+use Rattle.lrs_replies.specs.declared.reply.Trouble.TheVariants.{Memory, Disk}
+use Rattle.lrs_machine.specs.Desk.{Account, added_place, landed_place, Answers, HasCause, StandsFor}
 use Rattle.lrs_history.specs.History.{Answer, answer, with_entry}
 use Rattle.lrs_names.specs.declared.draw.Draw.{Draw}
 use Rattle.lrs_record.specs.declared.entry.Caller.{Caller}
-use Rattle.lrs_record.specs.declared.entry.Command.{Command}
+use Rattle.lrs_command.specs.declared.command.Command.{Command}
 use Rattle.lrs_record.specs.declared.entry.Entry.{Entry}
 use Rattle.lrs_hall.specs.Acts.{ActsIn, ActsOn, BeginsWith, DeskAndClock, Reach, HasAt, TellsEntry, landed_of, place_where, reach_behind}
 

@@ -1,5 +1,5 @@
 -- What all talks of a worker tell of the one history, of the clock and of the disk's faults.
-use Rattle.std.proofs.Common.{arith, ◌≡◌, ◌≢◌, ◌≤◌, ℕ, List, [], ◌∷◌, ◌++◌, Bool, true, false, Option, Some, None, subst, sym, ◌∙◌, ap, refl, append_assoc}
+use Rattle.std.proofs.Common.{arith, ◌≡◌, ◌≢◌, ◌≤◌, ℕ, List, [], ◌∷◌, ◌++◌, Bool, true, false, Option, subst, sym, ◌∙◌, ap, refl, append_assoc}
 use Rattle.std.specs.List.{AllByRecursion}
 use Rattle.std.specs.Prelude.{if◌then◌else◌, MatchBool}
 use Rattle.lrs_disk.specs.Door.{Returned}
@@ -10,7 +10,7 @@ use Rattle.lrs_record.specs.declared.entry.Entry.{Entry}
 use Rattle.lrs_hall.specs.Acts.{ActsIn, ActsOn, DeskAndClock}
 use Rattle.lrs_hall.specs.Conversation.{Worker, going}
 use Rattle.lrs_hall.specs.Draws.{Place}
-use Rattle.lrs_hall.specs.Serving.{AddsReadings, AreConversations, AreOver, Counts, IsOver, all_receipts, clocks, worker_at}
+use Rattle.lrs_hall.specs.Serving.{AddsReadings, AreConversations, AreOver, Counts, all_receipts, clocks, worker_at}
 use Rattle.lrs_hall.specs.Steps.{worker}
 use Rattle.lrs_hall.specs.Talks.{Told}
 use Rattle.lrs_hall.proofs.Conversing.{Tells, at, still, converses_in, reads_all, reads_none, reads_join, counts_all}

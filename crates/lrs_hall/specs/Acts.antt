@@ -1,20 +1,18 @@
 -- What an act of a conversation tells of the one history that the store has in the end.
-use Rattle.std.specs.Prelude.{◌≡◌, ◌≢◌, ◌⊎◌, ◌≤◌, ◌+◌, ◌-◌, ◌&&◌, ℕ, List, ◌++◌, length, take, slice_get, Bool, true, false, not, Option, Some, None, IsSome, is_some, Result, Ok, Err, if◌then◌else◌}
-use Rattle.lrs_disk.specs.Faults.{Rises}
+use Rattle.std.specs.Prelude.{◌≡◌, ◌⊎◌, ◌≤◌, ◌+◌, ◌-◌, ◌&&◌, ℕ, List, ◌++◌, length, take, slice_get, Bool, true, false, not, Option, Some, None, IsSome, is_some, Result, Ok, Err, if◌then◌else◌}
 use Rattle.lrs_disk.specs.Readings.{AddsReading}
 use Rattle.lrs_journal.specs.Journal.{Held}
-use Rattle.lrs_history.specs.declared.answered.Answered.{Answered}
-use Rattle.lrs_history.specs.declared.reply.Reply.{Reply}
-use Rattle.lrs_history.specs.declared.reply.Trouble.{Trouble}
-use Rattle.lrs_history.specs.declared.reply.Trouble.TheVariants.{Memory, Disk}
+use Rattle.lrs_replies.specs.declared.answered.Answered.{Answered}
+use Rattle.lrs_replies.specs.declared.reply.Reply.{Reply}
+use Rattle.lrs_replies.specs.declared.reply.Trouble.{Trouble}
+use Rattle.lrs_replies.specs.declared.reply.Trouble.TheVariants.{Memory, Disk}
 use Rattle.lrs_machine.specs.Desk.{Account, account_of, Replies, HasCause}
 use Rattle.lrs_history.specs.History.{Answer, answer}
-use Rattle.lrs_history.specs.Replies.{Says}
+use Rattle.lrs_replies.specs.Replies.{Says}
 use Rattle.lrs_names.specs.declared.draw.Draw.{Draw}
 use Rattle.lrs_record.specs.declared.entry.Caller.{Caller}
-use Rattle.lrs_record.specs.declared.entry.Command.{Command}
+use Rattle.lrs_command.specs.declared.command.Command.{Command}
 use Rattle.lrs_record.specs.declared.entry.Entry.{Entry}
-use Rattle.lrs_hall.specs.Conversation.{ActOn}
 
 -- ---- the abstract store
 

@@ -5,11 +5,11 @@ use Rattle.lrs_http.specs.declared.request.RequestRefused.{RequestRefused}
 use Rattle.lrs_http.specs.declared.request.RequestRefused.TheVariants as request
 use Rattle.lrs_http.specs.Links.{GivesNext}
 use Rattle.lrs_http.specs.Stream.{IsItem}
-use Rattle.lrs_history.specs.declared.reply.Reply.{Reply}
+use Rattle.lrs_replies.specs.declared.reply.Reply.{Reply}
 use Rattle.lrs_machine.specs.Desk.{Account}
 use Rattle.lrs_names.specs.declared.draw.Draw.{Draw}
 use Rattle.lrs_record.specs.declared.entry.Caller.{Caller}
-use Rattle.lrs_record.specs.declared.entry.Command.{Command}
+use Rattle.lrs_command.specs.declared.command.Command.{Command}
 use Rattle.lrs_routes.specs.declared.asked.Asked.{Asked}
 use Rattle.lrs_routes.specs.declared.asked.RouteRefused.{RouteRefused}
 use Rattle.lrs_routes.specs.Asked.{IsAsked}

@@ -3,11 +3,11 @@ use Rattle.std.specs.Prelude.{◌≡◌, ℕ, ◌==◌, List, [], Bool, true, Op
 use Rattle.lrs_http.specs.declared.request.RequestRefused.{RequestRefused}
 use Rattle.lrs_http.specs.declared.request.RequestRefused.TheVariants as request
 use Rattle.lrs_http.specs.Response.{response_of}
-use Rattle.lrs_history.specs.declared.reply.Media.{Media}
-use Rattle.lrs_history.specs.declared.reply.Media.TheVariants.{Json, Own, Empty}
-use Rattle.lrs_history.specs.declared.reply.Reply.{Reply}
+use Rattle.lrs_replies.specs.declared.reply.Media.{Media}
+use Rattle.lrs_replies.specs.declared.reply.Media.TheVariants.{Json, Own, Empty}
+use Rattle.lrs_replies.specs.declared.reply.Reply.{Reply}
 use Rattle.lrs_machine.specs.Desk.{Account, plain_account}
-use Rattle.lrs_history.specs.Replies.{body_bytes, error_body}
+use Rattle.lrs_replies.specs.Replies.{body_bytes, error_body}
 use Rattle.lrs_routes.specs.declared.asked.RouteRefused.{RouteRefused}
 use Rattle.lrs_routes.specs.declared.asked.RouteRefused.TheVariants as route
 use Rattle.lrs_routes.specs.Table.{listed, methods_of}

@@ -1,5 +1,5 @@
 -- What `converse` and `serve_all` promise: whole conversations over one history, and how they end.
-use Rattle.std.specs.Prelude.{◌≡◌, ◌≢◌, ◌⊎◌, ◌≤◌, ◌<◌, ℕ, List, [], ◌∷◌, ◌++◌, length, map, Bool, true, false, Option, Some, None, IfSome, option_map, if◌then◌else◌, MatchBool}
+use Rattle.std.specs.Prelude.{◌≡◌, ◌≢◌, ◌⊎◌, ◌≤◌, ◌<◌, ℕ, List, [], ◌∷◌, ◌++◌, length, Bool, true, false, Option, Some, None, IfSome, option_map, if◌then◌else◌, MatchBool}
 use Rattle.lrs_disk.specs.Door.{DoorState, Returned}
 use Rattle.lrs_disk.specs.Faults.{Rises}
 use Rattle.lrs_http.specs.Stream.{most_requests}
@@ -7,7 +7,7 @@ use Rattle.lrs_journal.specs.Journal.{Held}
 use Rattle.lrs_machine.specs.Desk.{Account, StandsFor, IsOnDisk}
 use Rattle.lrs_record.specs.declared.entry.Entry.{Entry}
 use Rattle.lrs_hall.specs.Acts.{ActsIn, BeginsWith, Reach}
-use Rattle.lrs_hall.specs.Conversation.{ActOn, Worker, Phase, going, Converses}
+use Rattle.lrs_hall.specs.Conversation.{ActOn, Worker, going, Converses}
 use Rattle.lrs_hall.specs.Draws.{Place}
 use Rattle.lrs_hall.specs.Talks.{Told}
 use Rattle.lrs_hall.specs.declared.talk.Finish.{Finish}

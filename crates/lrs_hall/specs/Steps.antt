@@ -6,9 +6,9 @@ use Rattle.lrs_http.specs.declared.request.RequestRefused.{RequestRefused}
 use Rattle.lrs_http.specs.declared.request.RequestRefused.TheVariants as request
 use Rattle.lrs_http.specs.Response.{IsStatus}
 use Rattle.lrs_journal.specs.Journal.{Held}
-use Rattle.lrs_history.specs.Replies.{error_body}
+use Rattle.lrs_replies.specs.Replies.{error_body}
 use Rattle.lrs_hall.specs.Acts.{DeskAndClock}
-use Rattle.lrs_hall.specs.Conversation.{ActOn, Worker, Phase, going, over, Responds, EndsOpen}
+use Rattle.lrs_hall.specs.Conversation.{ActOn, Worker, going, over, Responds, EndsOpen}
 use Rattle.lrs_hall.specs.Conversation.{Sends as SendsIn}
 use Rattle.lrs_machine.specs.Desk.{Account}
 use Rattle.lrs_hall.specs.Draws.{Place}

@@ -1,9 +1,9 @@
 //! The responses: those that take no act, and those that say a reply.
 ghost use Rattle.std.specs.Prelude.{◌≡◌, [], List, ℕ, Result};
 ghost use Rattle.lrs_http.specs.Links.{HasWriteCause};
-ghost use Rattle.lrs_history.specs.declared.answered.Answered.{Answered};
-ghost use Rattle.lrs_history.specs.declared.reply.Trouble.{Trouble};
-ghost use Rattle.lrs_history.specs.Replies.{Says, body_bytes};
+ghost use Rattle.lrs_replies.specs.declared.answered.Answered.{Answered};
+ghost use Rattle.lrs_replies.specs.declared.reply.Trouble.{Trouble};
+ghost use Rattle.lrs_replies.specs.Replies.{Says, body_bytes};
 ghost use Rattle.lrs_hall.specs.Responses.{Fixed, fixed, fixed_text, media_text, IsThrough, IsReplyText, route_response, framing_response, form_error};
 ghost use Rattle.lrs_hall.specs.Steps.{IsResponse, AreResponses, Wrote, IsSayable};
 
@@ -14,16 +14,23 @@ use lrs_record::Moment;
 use lrs_routes::RouteRefused;
 use lrs_time::moment_text;
 
+// A body that names this error. It takes no memory.
+macro_rules! error_text {
+    ($error:literal) => {
+        concat!("{\"error\":\"", $error, "\"}")
+    };
+}
+
 /// A response without an act.
 #[derive(Clone, Copy, Debug)]
 pub(crate) struct FixedResponse {
     pub(crate) status: u16,
-    pub(crate) body: &'static [u8],
+    pub(crate) body: &'static str,
     pub(crate) allow: &'static str,
 }
 
 // A response that allows no methods.
-fn plain(status: u16, body: &'static [u8]) -> FixedResponse
+fn plain(status: u16, body: &'static str) -> FixedResponse
     ensures status { result.status ≡ status }
     ensures body { result.body.now ≡ body.now }
     ensures allow { result.allow.now ≡ [] }
@@ -40,14 +47,14 @@ pub(crate) fn route_response(refused: RouteRefused) -> FixedResponse
     ensures { IsResponse result (route_response refused) }
 {
     match refused {
-        RouteRefused::NoRoute => plain(404, b"{\"error\":\"404\"}"),
+        RouteRefused::NoRoute => plain(404, error_text!("404")),
         RouteRefused::NoMethod { allow } => FixedResponse {
             status: 405,
-            body: b"{\"error\":\"405\"}",
+            body: error_text!("405"),
             allow: allow.text(),
         },
-        RouteRefused::NoVersion => plain(400, b"{\"error\":\"V1\"}"),
-        RouteRefused::Memory => plain(503, b"{\"error\":\"memory\"}"),
+        RouteRefused::NoVersion => plain(400, error_text!("V1")),
+        RouteRefused::Memory => plain(503, error_text!("memory")),
     }
 }
 
@@ -56,9 +63,9 @@ fn form_response(rule: u8) -> FixedResponse
     ensures { IsResponse result (fixed 400 (form_error rule)) }
 {
     if rule == 1 {
-        plain(400, b"{\"error\":\"F1\"}")
+        plain(400, error_text!("F1"))
     } else {
-        plain(400, b"{\"error\":\"F2\"}")
+        plain(400, error_text!("F2"))
     }
 }
 
@@ -69,11 +76,11 @@ pub(crate) fn framing_response(refused: RequestRefused) -> Option<FixedResponse>
     match refused {
         RequestRefused::End | RequestRefused::Cut | RequestRefused::LinkFault => None,
         RequestRefused::Malformed { rule } => Some(form_response(rule)),
-        RequestRefused::HeadTooLong => Some(plain(431, b"{\"error\":\"431\"}")),
-        RequestRefused::Coded => Some(plain(501, b"{\"error\":\"501\"}")),
-        RequestRefused::NoLength => Some(plain(411, b"{\"error\":\"411\"}")),
-        RequestRefused::BodyTooLong => Some(plain(413, b"{\"error\":\"413\"}")),
-        RequestRefused::Memory => Some(plain(503, b"{\"error\":\"memory\"}")),
+        RequestRefused::HeadTooLong => Some(plain(431, error_text!("431"))),
+        RequestRefused::Coded => Some(plain(501, error_text!("501"))),
+        RequestRefused::NoLength => Some(plain(411, error_text!("411"))),
+        RequestRefused::BodyTooLong => Some(plain(413, error_text!("413"))),
+        RequestRefused::Memory => Some(plain(503, error_text!("memory"))),
     }
 }
 
@@ -84,7 +91,8 @@ pub(crate) fn write_fixed<L: Link>(
     closes: bool,
 ) -> Result<(), LinkFault>
     requires { IsSayable response.now.status response.now.allow.now }
-    ensures wrote { (f : Fixed) → IsResponse response.now f → Wrote (fixed_text f closes) result (L.taken link.old) (L.taken link.new) }
+    ensures wrote { (f : Fixed) → IsResponse response.now f → Wrote (fixed_text f closes) result (L.taken link.old)
+        (L.taken link.new) }
     ensures left_kept { L.left link.new ≡ L.left link.old }
     ensures stream_kept { L.stream link.new ≡ L.stream link.old }
     ensures name_kept { L.name link.new ≡ L.name link.old }
@@ -93,7 +101,7 @@ pub(crate) fn write_fixed<L: Link>(
     let reply = Reply2 {
         status: response.status,
         media: "application/json",
-        body: response.body,
+        body: response.body.as_bytes(),
         through: None,
         allow: response.allow,
     };
@@ -115,8 +123,8 @@ fn body_bytes(body: &Body) -> &[u8]
 {
     match body {
         Body::Made(bytes) => bytes.as_slice(),
-        Body::Disk => b"{\"error\":\"disk\"}",
-        Body::Memory => b"{\"error\":\"memory\"}",
+        Body::Disk => error_text!("disk").as_bytes(),
+        Body::Memory => error_text!("memory").as_bytes(),
     }
 }
 
@@ -136,7 +144,8 @@ pub(crate) fn write_reply<L: Link>(
     closes: bool,
 ) -> Result<(), LinkFault>
     requires { (said : Result Answered Trouble) × Says said reply.now }
-    ensures wrote { (text : List ℕ) × IsReplyText reply.now closes text × Wrote text result (L.taken link.old) (L.taken link.new) }
+    ensures wrote { (text : List ℕ) × IsReplyText reply.now closes text
+        × Wrote text result (L.taken link.old) (L.taken link.new) }
     ensures left_kept { L.left link.new ≡ L.left link.old }
     ensures stream_kept { L.stream link.new ≡ L.stream link.old }
     ensures name_kept { L.name link.new ≡ L.name link.old }

@@ -1,7 +1,5 @@
 //! Conversations: one connection is served from its first request to its end.
 ghost use Rattle.std.specs.Prelude.{◌≡◌, ◌<◌, ◌++◌, List, ℕ, Some, IsTrue, option_map, vec_len, vec_capacity};
-ghost use Rattle.lrs_http.specs.Links.{stream_left};
-ghost use Rattle.lrs_http.specs.Stream.{most_requests};
 ghost use Rattle.lrs_hall.specs.Acts.{ActsOn};
 ghost use Rattle.lrs_hall.specs.Serving.{AddsReadings, Counts, IsConversation, IsDurable, IsWhole, clocks};
 ghost use Rattle.lrs_hall.specs.Steps.{HasFinishCause, worker};
@@ -38,7 +36,9 @@ pub(crate) fn hold<D: Disk, O: Door>(
     draws: &mut Draws,
 ) -> Talk
     ensures talk { (out : List ℕ) × (O.Link.taken link.new ≡ option_map (λ taken. taken ++ out) (O.Link.taken link.old))
-        × IsWhole (ActsOn D.told D.time D.fault_count) (O.Link.left link.old) result out (worker draws.old desk.old (O.state door.old).readings) (worker draws.new desk.new (O.state door.new).readings) }
+        × IsWhole (ActsOn D.told D.time D.fault_count) (O.Link.left link.old) result out
+        (worker draws.old desk.old (O.state door.old).readings)
+        (worker draws.new desk.new (O.state door.new).readings) }
     ensures durable { IsDurable D.told D.image desk.old → IsDurable D.told D.image desk.new }
     ensures limit { desk.new.limit ≡ desk.old.limit }
     ensures door { O.state door.new ≡ record (O.state door.old) { readings = (O.state door.new).readings } }
@@ -82,7 +82,8 @@ pub fn converse<D: Disk, O: Door>(
     draws: &mut Draws,
 ) -> Talk
     requires { (O.state door.old).out ≡ Some (O.Link.name link.old) }
-    ensures talk { IsConversation D.told desk.old desk.new draws.old draws.new (O.Link.left link.old) (O.Link.taken link.old) (O.Link.taken link.new) result }
+    ensures talk { IsConversation D.told desk.old desk.new draws.old draws.new (O.Link.left link.old)
+        (O.Link.taken link.old) (O.Link.taken link.new) result }
     ensures readings { AddsReadings (O.state door.old).readings (O.state door.new).readings (clocks result.receipts) }
     ensures counts { Counts (D.fault_count desk.old.disk) result.receipts (D.fault_count desk.new.disk) }
     ensures cause { HasFinishCause (O.Link.fault_count link.old) (O.Link.fault_count link.new) result.finish }

@@ -1,7 +1,6 @@
 //! One request of a conversation, and its response.
-ghost use Rattle.std.specs.Prelude.{◌≡◌, ◌≢◌, List, ℕ, Ok};
-ghost use Rattle.lrs_disk.specs.Faults.{Rises};
-ghost use Rattle.lrs_http.specs.Links.{stream_left, HasWriteCause, IsCause};
+ghost use Rattle.std.specs.Prelude.{◌≡◌, List, ℕ, Ok};
+ghost use Rattle.lrs_http.specs.Links.{stream_left, HasWriteCause};
 ghost use Rattle.lrs_hall.specs.Acts.{ActsOn};
 ghost use Rattle.lrs_hall.specs.Conversation.{Answers};
 ghost use Rattle.lrs_hall.specs.Serving.{IsDurable};
@@ -37,7 +36,8 @@ fn serve<D: Disk, O: Door>(
     request: Request,
     closes: bool,
 ) -> (Receipt, Result<(), LinkFault>)
-    ensures served { (text : List ℕ) × Answers (ActsOn D.told D.time D.fault_count) closes (Ok request) result.0 text (worker draws.old desk.old (O.state door.old).readings) (worker draws.new desk.new (O.state door.new).readings)
+    ensures served { (text : List ℕ) × Answers (ActsOn D.told D.time D.fault_count) closes (Ok request) result.0 text
+        (worker draws.old desk.old (O.state door.old).readings) (worker draws.new desk.new (O.state door.new).readings)
         × Wrote text result.1 (O.Link.taken link.old) (O.Link.taken link.new) }
     ensures durable { IsDurable D.told D.image desk.old → IsDurable D.told D.image desk.new }
     ensures limit { desk.new.limit ≡ desk.old.limit }
@@ -125,8 +125,11 @@ pub(crate) fn exchange<D: Disk, O: Door>(
     draws: &mut Draws,
     most: u16,
 ) -> Exchanged
-    ensures exchanged { Exchanges (ActsOn D.told D.time D.fault_count) most (stream_left kept.old.items (O.Link.left link.old)) (stream_left kept.new.items (O.Link.left link.new)) (O.Link.taken link.old) (O.Link.taken link.new)
-        (worker draws.old desk.old (O.state door.old).readings) (worker draws.new desk.new (O.state door.new).readings) result }
+    ensures exchanged { Exchanges (ActsOn D.told D.time D.fault_count) most
+        (stream_left kept.old.items (O.Link.left link.old)) (stream_left kept.new.items (O.Link.left link.new))
+        (O.Link.taken link.old) (O.Link.taken link.new)
+        (worker draws.old desk.old (O.state door.old).readings)
+        (worker draws.new desk.new (O.state door.new).readings) result }
     ensures durable { IsDurable D.told D.image desk.old → IsDurable D.told D.image desk.new }
     ensures limit { desk.new.limit ≡ desk.old.limit }
     ensures door { O.state door.new ≡ record (O.state door.old) { readings = (O.state door.new).readings } }

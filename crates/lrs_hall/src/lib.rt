@@ -14,6 +14,3 @@ pub use draws::Draws;
 pub use laws::law_of_one_stream;
 pub use serving::{ServeEnd, serve_all};
 pub use talk::{Finish, Talk};
-
-#[cfg(test)]
-mod tests;

@@ -1,7 +1,7 @@
 //! The connections of a door, served one after the other.
-ghost use Rattle.std.specs.Prelude.{◌≡◌, ◌≤◌, ◌<◌, List, ℕ, [], ◌∷◌, ◌++◌, None, true, map, length, vec_len, MatchResult};
+ghost use Rattle.std.specs.Prelude.{◌≡◌, ◌≤◌, ◌<◌, List, None, true, length, MatchResult};
 ghost use Rattle.std.specs.List.{AllByRecursion};
-ghost use Rattle.lrs_disk.specs.Door.{DoorState, Returned};
+ghost use Rattle.lrs_disk.specs.Door.{Returned};
 ghost use Rattle.lrs_hall.specs.Acts.{ActsOn};
 ghost use Rattle.lrs_hall.specs.Draws.{start_of};
 ghost use Rattle.lrs_hall.specs.Serving.{AddsReadings, AreConversations, Counts, EndsServing, IsDurable, IsOver, Passes, all_receipts, clocks};
@@ -39,9 +39,12 @@ fn serve_one<D: Disk, O: Door>(
 ) -> Result<Talk, ServeEnd>
     requires { (O.state door.old).out ≡ None }
     ensures talk { MatchResult result
-        (λ talk. (link : Returned) × IsOver (ActsOn D.told D.time D.fault_count) talk link (worker draws.old desk.old (O.state door.old).readings) (worker draws.new desk.new (O.state door.new).readings)
+        (λ talk. (link : Returned) × IsOver (ActsOn D.told D.time D.fault_count) talk link
+        (worker draws.old desk.old (O.state door.old).readings) (worker draws.new desk.new (O.state door.new).readings)
         × PassesOne (O.state door.old) (O.state door.new) link)
-        (λ end. (worker draws.new desk.new (O.state door.new).readings ≡ worker draws.old desk.old (O.state door.old).readings) × EndsTurn (O.state door.old) (O.state door.new) end) }
+        (λ end. (worker draws.new desk.new (O.state door.new).readings
+        ≡ worker draws.old desk.old (O.state door.old).readings)
+        × EndsTurn (O.state door.old) (O.state door.new) end) }
     ensures durable { IsDurable D.told D.image desk.old → IsDurable D.told D.image desk.new }
     ensures limit { desk.new.limit ≡ desk.old.limit }
 {
@@ -67,7 +70,9 @@ fn serve_door<D: Disk, O: Door>(
     connections: u32,
 ) -> (Vec<Talk>, ServeEnd)
     requires { (O.state door.old).out ≡ None }
-    ensures served { Served (ActsOn D.told D.time D.fault_count) connections (worker draws.old desk.old (O.state door.old).readings) (worker draws.new desk.new (O.state door.new).readings) (O.state door.old) (O.state door.new) result.0.items result.1 }
+    ensures served { Served (ActsOn D.told D.time D.fault_count) connections
+        (worker draws.old desk.old (O.state door.old).readings) (worker draws.new desk.new (O.state door.new).readings)
+        (O.state door.old) (O.state door.new) result.0.items result.1 }
     ensures durable { IsDurable D.told D.image desk.old → IsDurable D.told D.image desk.new }
     ensures limit { desk.new.limit ≡ desk.old.limit }
 {
@@ -95,7 +100,9 @@ fn serve_routed<D: Disk, O: Door>(
     connections: u32,
 ) -> (Vec<Talk>, ServeEnd)
     requires { (O.state door.old).out ≡ None }
-    ensures served { Served (ActsOn D.told D.time D.fault_count) connections (worker draws.old desk.old (O.state door.old).readings) (worker draws.new desk.new (O.state door.new).readings) (O.state door.old) (O.state door.new) result.0.items result.1 }
+    ensures served { Served (ActsOn D.told D.time D.fault_count) connections
+        (worker draws.old desk.old (O.state door.old).readings) (worker draws.new desk.new (O.state door.new).readings)
+        (O.state door.old) (O.state door.new) result.0.items result.1 }
     ensures durable { IsDurable D.told D.image desk.old → IsDurable D.told D.image desk.new }
     ensures limit { desk.new.limit ≡ desk.old.limit }
 {
@@ -117,12 +124,15 @@ pub fn serve_all<D: Disk, O: Door>(
     seed: [u8; 32],
 ) -> (Desk<D>, O, Items<Talk>, ServeEnd)
     requires { (O.state door).out ≡ None }
-    ensures served { (links : List Returned) × AreConversations D.told desk result.0 (start_of seed 1) links result.2 × Passes (O.state door) (O.state result.1) links }
+    ensures served { (links : List Returned) × AreConversations D.told desk result.0 (start_of seed 1) links result.2
+        × Passes (O.state door) (O.state result.1) links }
     ensures end { EndsServing connections (length result.2) (O.state door) (O.state result.1) result.3 }
-    ensures readings { AddsReadings (O.state door).readings (O.state result.1).readings (clocks (all_receipts result.2)) }
+    ensures readings { AddsReadings (O.state door).readings (O.state result.1).readings
+        (clocks (all_receipts result.2)) }
     ensures counts { Counts (D.fault_count desk.disk) (all_receipts result.2) (D.fault_count result.0.disk) }
     ensures later { D.fault_count desk.disk ≤ D.fault_count result.0.disk }
-    ensures below { AllByRecursion (λ receipt. receipt.acted ≡ true → receipt.is ≤ D.fault_count result.0.disk) (all_receipts result.2) }
+    ensures below { AllByRecursion (λ receipt. receipt.acted ≡ true → receipt.is ≤ D.fault_count result.0.disk)
+        (all_receipts result.2) }
     ensures durable { IsDurable D.told D.image desk → IsDurable D.told D.image result.0 }
     ensures limit { result.0.limit ≡ desk.limit }
 {

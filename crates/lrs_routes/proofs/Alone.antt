@@ -1,7 +1,7 @@
 -- A request has one account, but where memory was wanting.
 use Rattle.std.proofs.Common.{◌≡◌, true, false, map, Option, Some, None, Result, Ok, Err, refl, sym, ap, ◌∙◌, subst, inl, inr, IsErrAnd}
 use Rattle.lrs_http.specs.declared.request.Request.{Request}
-use Rattle.lrs_record.specs.declared.entry.Command.{Command}
+use Rattle.lrs_command.specs.declared.command.Command.{Command}
 use Rattle.lrs_routes.specs.Asked.{Agree, IsAsked, IsRefused, IsRouted, has_version, operation_at}
 use Rattle.lrs_routes.specs.Fields.{caller_of}
 use Rattle.lrs_routes.specs.Forms.{IsCommand}
@@ -100,7 +100,11 @@ module _ (request : Request) where
   asked_alone asked route operation routed caller command (Err refused.NoVersion) o = absurd (version_missing o.0 route o.2 routed.fits o.4 routed.spoken)
   asked_alone asked route operation routed caller command (Err refused.Memory) o = inr (inr refl)
 
-  -- the same of a refusal that is handed on
+  -- a refusal that is handed on is an account of the request, and the only one
+  pub asked_handed : (e : RouteRefused) (r : Account) → IsErrAnd r (λ own. own ≡ e) → IsRefused request.path request.method request.version e → IsAsked request r
+  asked_handed e (Ok asked) is h = absurd is
+  asked_handed e (Err own) is h = subst (λ (x : RouteRefused). IsRefused request.path request.method request.version x) (sym is) h
+
   pub refused_handed : (e : RouteRefused) (r : Account) → IsErrAnd r (λ own. own ≡ e) → IsRefused request.path request.method request.version e → (other : Account) → IsAsked request other → Agree r other
   refused_handed e (Ok asked) is h other o = absurd is
   refused_handed e (Err own) is h other o = refused_alone own (subst (λ (x : RouteRefused). IsRefused request.path request.method request.version x) (sym is) h) other o

@@ -1,13 +1,12 @@
 -- The statements of a batch are told by what is seen of them, and each is such as reading gives.
-use Rattle.std.proofs.Common.{◌≡◌, ◌≤◌, ◌<◌, ℕ, suc, List, [], ◌∷◌, map, refl, sym, ap, ◌∙◌, subst, arith}
-use Rattle.std.specs.List.{AllByRecursion}
-use Rattle.lrs_json.specs.Depth.{depth, depth_of_elements}
-use Rattle.lrs_json.specs.Fits.{Fits, FitElements, IsReadable}
-use Rattle.lrs_json.specs.Json.{Json, null, boolean, number, string, array, object, Elements, no_elements, element}
+use Rattle.std.proofs.Common.{◌≡◌, ◌≤◌, List, [], ◌∷◌, map, refl, sym, subst, arith}
+use Rattle.lrs_json.specs.Depth.{depth_of_elements}
+use Rattle.lrs_json.specs.Fits.{FitElements, IsReadable}
+use Rattle.lrs_json.specs.Json.{Json, null, boolean, number, string, array, object, Elements}
 use Rattle.lrs_json.specs.View.{view, elements_of}
 use Rattle.lrs_json.specs.declared.tree.Tree.{Tree}
 use Rattle.lrs_json.proofs.Back.{same_tree}
-use Rattle.lrs_record.specs.Entries.{AreLawfulTrees, IsLawfulTree}
+use Rattle.lrs_record.specs.Entries.{AreLawfulTrees}
 use Rattle.lrs_routes.specs.Forms.{batch_of}
 
 pub same_trees : (ts us : List Tree) → elements_of (map view ts) ≡ elements_of (map view us) → ts ≡ us

@@ -9,4 +9,3 @@ pub mod OneWanted
 pub mod Looks
 pub mod Alone
 pub mod OneAsked
-pub mod Media

@@ -9,8 +9,10 @@ use Rattle.lrs_json.specs.View.{elements_of, view}
 use Rattle.lrs_json.specs.declared.tree.Tree.{Tree}
 use Rattle.lrs_json.proofs.Back.{same_tree}
 use Rattle.lrs_names.specs.Members.{member_text}
-use Rattle.lrs_record.specs.declared.entry.Command.TheVariants as command
-use Rattle.lrs_record.specs.declared.rule.Rule.{Rule}
+use Rattle.lrs_command.specs.declared.command.Command.TheVariants as command
+use Rattle.lrs_command.specs.declared.command.Read.TheVariants as read
+use Rattle.lrs_record.specs.declared.entry.Write.TheVariants as write
+use Rattle.lrs_command.specs.declared.rule.Rule.{Rule}
 use Rattle.xapi_query.specs.Pairs.{AreTexts}
 use Rattle.xapi_query.specs.Links.{IsLink}
 use Rattle.xapi_query.specs.Parameters.{Answers, LeastOfGet, is_rule}
@@ -22,7 +24,8 @@ use Rattle.xapi_query.specs.declared.pair.Pair.{Pair}
 use Rattle.xapi_query.specs.declared.refused.QueryRefused.{QueryRefused}
 use Rattle.xapi_query.specs.declared.refused.QueryRefused.TheVariants.{BadLink, BadParameter, Memory}
 use Rattle.xapi_query.specs.declared.wanted.Wanted.{Wanted}
-use Rattle.lrs_routes.specs.Faults.{fault_of_query, p_rule}
+use Rattle.lrs_command.specs.declared.rule.Rule.TheVariants as rule
+use Rattle.lrs_routes.specs.Faults.{fault_of_query}
 use Rattle.lrs_routes.specs.Forms.{LeastOfNone, NamesProvider, Spelled, StatementBody, batch_of, parameters_of}
 use Rattle.lrs_routes.specs.Parts.{AreStatementsOf, Finds, IfBroken, IsFirst, IsMeant, IsProviderIn, IsTreeOf, OnlyGiven, is_form_rule}
 use Rattle.lrs_routes.specs.declared.fault.Fault.{Fault}
@@ -72,7 +75,7 @@ given_refused own now pairs IsValue S refused given same texts broken bad always
 
 -- parameters that aren't
 pub given_unread : {T : Type 0} (own : Option ℕ → List Pair → Type 0) (pairs : List Pair) (IsValue : T → Type 0) (given : Fault)
-    → IfBroken given (λ rule. (rule ≡ p_rule 1) × (¬ AreTexts pairs)) → Finds (OnlyGiven own pairs) IsValue (Err given)
+    → IfBroken given (λ r. (r ≡ rule.P 1) × (¬ AreTexts pairs)) → Finds (OnlyGiven own pairs) IsValue (Err given)
 given_unread own pairs IsValue (fault.Broken rule) h =
     subst (λ (r : Rule). IsFirst (OnlyGiven own pairs) (Some r) × IsTrue (is_form_rule r)) (sym h.0) (given_texts own pairs h.1, refl)
 given_unread own pairs IsValue fault.Memory h = tt
@@ -146,11 +149,11 @@ provider_found bytes body (Err fault.Memory) first tree h = tt
 some_same : (a b : List ℕ) → Some a ≡ Some b → a ≡ b
 some_same a b e = cc e
 
-put_same : (id other : List ℕ) (a b : Tree) → id ≡ other → a ≡ b → command.Put id a ≡ command.Put other b
-put_same id other a b e f = λ i. command.Put (e i) (f i)
+put_same : (id other : List ℕ) (a b : Tree) → id ≡ other → a ≡ b → command.Write (write.Put id a) ≡ command.Write (write.Put other b)
+put_same id other a b e f = λ i. command.Write (write.Put (e i) (f i))
 
 pub put_meant : (request : Request) (id : List ℕ) (statement : Tree) → id_under (codes "statementId") (parameters_of request.query) ≡ Some id → IsTreeOf request.body statement
-    → IsMeant operation.PutStatement request (command.Put id statement)
+    → IsMeant operation.PutStatement request (command.Write (write.Put id statement))
 put_meant request id statement is tree = record {
   means = (id, statement, is, tree.spelled, refl);
   sole = λ other h.
@@ -160,32 +163,32 @@ put_meant request id statement is tree = record {
   plain = tree.readable;
 }
 
-pub post_meant : (request : Request) (statements : List Tree) → AreStatementsOf request.body statements → IsMeant operation.PostStatements request (command.Post statements)
+pub post_meant : (request : Request) (statements : List Tree) → AreStatementsOf request.body statements → IsMeant operation.PostStatements request (command.Write (write.Post statements))
 post_meant request statements in_body = record {
   means = (statements, view in_body.tree, in_body.of.spelled, in_body.are, refl);
   sole = λ other h.
       let values : view in_body.tree ≡ h.1 = in_body.of.only h.1 h.2 in
       let trees : h.0 ≡ statements = same_trees h.0 statements (h.3 ∙ ap batch_of (sym values) ∙ sym in_body.are) in
-      h.4 ∙ ap command.Post trees;
+      h.4 ∙ ap (λ (statements : List Tree). command.Write (write.Post statements)) trees;
   plain = in_body.readable;
 }
 
 -- parameters that break no rule mean one thing
 pub get_meant : (request : Request) (wanted : Wanted) → OnlyGiven LeastOfGet (parameters_of request.query) None → IsWanted (parameters_of request.query) wanted
-    → IsMeant operation.GetStatements request (command.Get wanted)
+    → IsMeant operation.GetStatements request (command.Read (read.Statements wanted))
 get_meant request wanted unbroken is = record {
   means = (wanted, is, refl);
   sole = λ other h.
       let pairs = parameters_of request.query in
       let same : h.0 ≡ wanted = wanted_once pairs (given_least pairs unbroken) h.0 wanted h.1 is in
-      h.2 ∙ ap command.Get same;
+      h.2 ∙ ap (λ (wanted : Wanted). command.Read (read.Statements wanted)) same;
   plain = tt;
 }
 
-pub more_meant : (request : Request) (link : MoreLink) → IsLink (parameters_of request.query) link → IsMeant operation.GetMoreStatements request (command.More link)
+pub more_meant : (request : Request) (link : MoreLink) → IsLink (parameters_of request.query) link → IsMeant operation.GetMoreStatements request (command.Read (read.More link))
 more_meant request link is = record {
   means = (link, is, refl);
-  sole = λ other h. h.2 ∙ ap command.More (links_alone (parameters_of request.query) h.0 link h.1 is);
+  sole = λ other h. h.2 ∙ ap (λ (link : MoreLink). command.Read (read.More link)) (links_alone (parameters_of request.query) h.0 link h.1 is);
   plain = tt;
 }
 
@@ -198,13 +201,13 @@ batch_found request body statements first tree are = (
   record { tree = body; of = tree; are = are; readable = lawful_batch (view body) statements tree.readable are },
 )
 
-pub provider_meant : (request : Request) (name : List ℕ) → IsProviderIn request.body name → IsMeant operation.MakeProvider request (command.Provider name)
+pub provider_meant : (request : Request) (name : List ℕ) → IsProviderIn request.body name → IsMeant operation.MakeProvider request (command.Write (write.Provider name))
 provider_meant request name in_body = record {
   means = (name, view in_body.tree, in_body.of.spelled, in_body.named, refl);
   sole = λ other h.
       let values : view in_body.tree ≡ h.1 = in_body.of.only h.1 h.2 in
       let named : member_text (codes "name") (view in_body.tree) ≡ Some h.0 = subst (λ (j : Json). member_text (codes "name") j ≡ Some h.0) (sym values) h.3 in
       let names : h.0 ≡ name = some_same h.0 name (sym named ∙ in_body.named) in
-      h.4 ∙ ap command.Provider names;
+      h.4 ∙ ap (λ (name : List ℕ). command.Write (write.Provider name)) names;
   plain = tt;
 }

@@ -11,20 +11,24 @@ use Rattle.lrs_json.specs.Json.{Json}
 use Rattle.lrs_json.specs.Placed.{Placed, plain}
 use Rattle.lrs_json.specs.Refusals.{Spells, is_too_deep}
 use Rattle.lrs_json.specs.View.{view}
+use Rattle.lrs_json.specs.declared.tree.Tree.{Tree}
 use Rattle.lrs_json.proofs.Back.{same_tree}
 use Rattle.lrs_json.proofs.Scan.{shallow-scan}
 use Rattle.lrs_names.specs.Members.{has_member_that, is_string, member_text}
-use Rattle.lrs_record.specs.declared.entry.Command.{Command}
-use Rattle.lrs_record.specs.declared.entry.Command.TheVariants as command
-use Rattle.lrs_record.specs.declared.rule.Area.{Area}
-use Rattle.lrs_record.specs.declared.rule.Rule.{Rule}
+use Rattle.lrs_command.specs.declared.command.Command.{Command}
+use Rattle.lrs_command.specs.declared.command.Command.TheVariants as command
+use Rattle.lrs_command.specs.declared.command.Read.TheVariants as read
+use Rattle.lrs_record.specs.declared.entry.Write.TheVariants as write
+use Rattle.lrs_command.specs.declared.command.Area.{Area}
+use Rattle.lrs_command.specs.declared.rule.Rule.{Rule}
 use Rattle.xapi_query.specs.Parameters.{LeastOfGet, LeastOfLink, LeastOfPut}
+use Rattle.xapi_query.specs.declared.link.MoreLink.{MoreLink}
 use Rattle.xapi_query.specs.declared.pair.Pair.{Pair}
 use Rattle.xapi_query.specs.declared.wanted.Wanted.{Wanted}
 use Rattle.xapi_query.proofs.Least.{get_once, link_once, put_once}
 use Rattle.xapi_query.proofs.LinkAlone.{links_alone}
 use Rattle.lrs_routes.specs.Asked.{Agree, IsAsked}
-use Rattle.lrs_routes.specs.Faults.{b_rule, f_rule, p_rule}
+use Rattle.lrs_command.specs.declared.rule.Rule.TheVariants as rule
 use Rattle.lrs_routes.specs.Fields.{allows_json}
 use Rattle.lrs_routes.specs.Forms.{BreaksJson, FirstBroken, Given, IsCommand, LeastOfNone, Means, NamesProvider, ProviderBody, Spelled, StatementBody, Tested, batch_of, has_just, parameters_of}
 use Rattle.lrs_routes.specs.declared.asked.Asked.{Asked}
@@ -144,14 +148,14 @@ names_once : (j : Json) (a b : Broken) → NamesProvider j a → NamesProvider j
 names_once j a b h k =
     let just = has_just (codes "name" ∷ []) j in
     let named = has_member_that (codes "name") is_string j in
-    tested_once just (b_rule 1) (λ x. Tested named (b_rule 2) x (x ≡ None)) a b (λ p q. tested_once named (b_rule 2) (λ x. x ≡ None) a b (both a b None) p q) h k
+    tested_once just (rule.B 1) (λ x. Tested named (rule.B 2) x (x ≡ None)) a b (λ p q. tested_once named (rule.B 2) (λ x. x ≡ None) a b (both a b None) p q) h k
 
 module _ (own : Option ℕ → List Pair → Type 0) (pairs : List Pair) (least : (m n : Option ℕ) → own m pairs → own n pairs → m ≡ n) (next : Broken → Type 0) where
-  obeyed_once : (a b : Broken) (m n : Option ℕ) → m ≡ n → (next a → next b → a ≡ b) → MatchOption m (next a) (λ i. a ≡ Some (p_rule i)) → MatchOption n (next b) (λ i. b ≡ Some (p_rule i)) → a ≡ b
+  obeyed_once : (a b : Broken) (m n : Option ℕ) → m ≡ n → (next a → next b → a ≡ b) → MatchOption m (next a) (λ i. a ≡ Some (rule.P i)) → MatchOption n (next b) (λ i. b ≡ Some (rule.P i)) → a ≡ b
   obeyed_once a b None None e once h k = once h k
   obeyed_once a b None (Some n) e once h k = absurd (none_some n e)
   obeyed_once a b (Some m) None e once h k = absurd (none_some m (sym e))
-  obeyed_once a b (Some m) (Some n) e once h k = let same : m ≡ n = cc e in h ∙ ap (λ (i : ℕ). Some (p_rule i)) same ∙ sym k
+  obeyed_once a b (Some m) (Some n) e once h k = let same : m ≡ n = cc e in h ∙ ap (λ (i : ℕ). Some (rule.P i)) same ∙ sym k
 
   given_once : (a b : Broken) → (next a → next b → a ≡ b) → Given own pairs a (next a) → Given own pairs b (next b) → a ≡ b
   given_once a b once h k = elim h [
@@ -161,7 +165,7 @@ module _ (own : Option ℕ → List Pair → Type 0) (pairs : List Pair) (least 
     ]
     | inr x ↦ elim k [
       | inl y ↦ absurd (x.0 y.0)
-      | inr y ↦ both a b (Some (p_rule 1)) x.1 y.1
+      | inr y ↦ both a b (Some (rule.P 1)) x.1 y.1
     ]
   ]
 
@@ -178,7 +182,7 @@ none_once pairs (Some m) (Some n) h k = ap Some ((none_at pairs m (m == 2) refl 
 
 statement_once : OneJson → (request : Request) (a b : Broken) → StatementBody request a → StatementBody request b → a ≡ b
 statement_once one request a b h k =
-    tested_once (allows_json request.media) (f_rule 3) (λ x. Spelled request.body x (λ _. x ≡ None)) a b
+    tested_once (allows_json request.media) (rule.F 3) (λ x. Spelled request.body x (λ _. x ≡ None)) a b
     (λ s t. spelled_once one request.body (λ _ x. x ≡ None) a b (λ _. both a b None) s t) h k
 
 first_once : OneJson → (o : Operation) (request : Request) (a b : Broken) → FirstBroken o request a → FirstBroken o request b → a ≡ b
@@ -207,22 +211,22 @@ some_same a b e = cc e
 means_once : OneJson → (o : Operation) (request : Request) (c d : Command) → FirstBroken o request None → Means o request c → Means o request d → c ≡ d
 means_once one operation.TellVersions request c d unbroken h k = h ∙ sym k
 means_once one operation.GetStatements request c d unbroken h k =
-    h.2 ∙ ap command.Get (wanted_once (parameters_of request.query) (given_least (parameters_of request.query) unbroken) h.0 k.0 h.1 k.1) ∙ sym k.2
+    h.2 ∙ ap (λ (wanted : Wanted). command.Read (read.Statements wanted)) (wanted_once (parameters_of request.query) (given_least (parameters_of request.query) unbroken) h.0 k.0 h.1 k.1) ∙ sym k.2
 means_once one operation.GetMoreStatements request c d unbroken h k =
-    h.2 ∙ ap command.More (links_alone (parameters_of request.query) h.0 k.0 h.1 k.1) ∙ sym k.2
+    h.2 ∙ ap (λ (link : MoreLink). command.Read (read.More link)) (links_alone (parameters_of request.query) h.0 k.0 h.1 k.1) ∙ sym k.2
 means_once one operation.PostStatements request c d unbroken h k =
     let values : h.1 ≡ k.1 = one_value one request.body h.1 k.1 h.2 k.2 in
     let trees : h.0 ≡ k.0 = same_trees h.0 k.0 (h.3 ∙ ap batch_of values ∙ sym k.3) in
-    h.4 ∙ ap command.Post trees ∙ sym k.4
+    h.4 ∙ ap (λ (statements : List Tree). command.Write (write.Post statements)) trees ∙ sym k.4
 means_once one operation.PutStatement request c d unbroken h k =
     let ids : h.0 ≡ k.0 = some_same h.0 k.0 (sym h.2 ∙ k.2) in
     let trees : h.1 ≡ k.1 = same_tree h.1 k.1 (one_value one request.body (view h.1) (view k.1) h.3 k.3) in
-    let puts : command.Put h.0 h.1 ≡ command.Put k.0 k.1 = λ i. command.Put (ids i) (trees i) in
+    let puts : command.Write (write.Put h.0 h.1) ≡ command.Write (write.Put k.0 k.1) = λ i. command.Write (write.Put (ids i) (trees i)) in
     h.4 ∙ puts ∙ sym k.4
 means_once one operation.MakeProvider request c d unbroken h k =
     let values : h.1 ≡ k.1 = one_value one request.body h.1 k.1 h.2 k.2 in
     let names : h.0 ≡ k.0 = some_same h.0 k.0 (sym h.3 ∙ ap (member_text (codes "name")) values ∙ k.3) in
-    h.4 ∙ ap command.Provider names ∙ sym k.4
+    h.4 ∙ ap (λ (name : List ℕ). command.Write (write.Provider name)) names ∙ sym k.4
 
 command_at : OneJson → (area : Area) (o : Operation) (request : Request) (c d : Command) (a b : Broken) → a ≡ b → FirstBroken o request a
     → MatchOption a (Means o request c) (λ r. c ≡ command.Refused area 400 r) → MatchOption b (Means o request d) (λ r. d ≡ command.Refused area 400 r) → c ≡ d

@@ -8,8 +8,9 @@ use Rattle.lrs_json.specs.View.{view}
 use Rattle.lrs_json.specs.declared.reading.ReadRefused.{ReadRefused}
 use Rattle.lrs_json.specs.declared.reading.ReadRefused.TheVariants as read
 use Rattle.lrs_json.specs.declared.tree.Tree.{Tree}
-use Rattle.lrs_record.specs.declared.rule.Rule.{Rule}
-use Rattle.lrs_routes.specs.Faults.{fault_of_json, j_rule}
+use Rattle.lrs_command.specs.declared.rule.Rule.{Rule}
+use Rattle.lrs_command.specs.declared.rule.Rule.TheVariants as rule
+use Rattle.lrs_routes.specs.Faults.{fault_of_json}
 use Rattle.lrs_routes.specs.Forms.{BreaksJson}
 use Rattle.lrs_routes.specs.Parts.{Finds, IsFirst, IsTreeOf}
 use Rattle.lrs_routes.specs.declared.fault.Fault.TheVariants as fault
@@ -74,10 +75,10 @@ module _ (bytes : List ℕ) (r : Answer) (deep : (r ≡ Err read.TooDeep) ↔ Is
     broken_at x rule is known told h = spelled_broken bytes rule h (none_spelled x is known) (told_once x rule is known told)
 
     pub tree_missed : (x : ReadRefused) → r ≡ Err x → Finds (OnlySpelled bytes) (IsTreeOf bytes) (Err (fault_of_json x))
-    tree_missed read.TooDeep is = (broken_at read.TooDeep (j_rule 1) is (λ e. cc e) refl (inl (refl, deep.0 is)), refl)
-    tree_missed read.Bad is = (broken_at read.Bad (j_rule 2) is (λ e. cc e) refl (inr (inl (refl, bad.only is))), refl)
-    tree_missed (read.Repeated place) is = (broken_at (read.Repeated place) (j_rule 3) is (λ e. cc e) refl (inr (inr (inl (refl, (place, (repeated place).only is))))), refl)
-    tree_missed (read.NumberRange place) is = (broken_at (read.NumberRange place) (j_rule 4) is (λ e. cc e) refl (inr (inr (inr (refl, (place, (range place).only is))))), refl)
+    tree_missed read.TooDeep is = (broken_at read.TooDeep (rule.J 1) is (λ e. cc e) refl (inl (refl, deep.0 is)), refl)
+    tree_missed read.Bad is = (broken_at read.Bad (rule.J 2) is (λ e. cc e) refl (inr (inl (refl, bad.only is))), refl)
+    tree_missed (read.Repeated place) is = (broken_at (read.Repeated place) (rule.J 3) is (λ e. cc e) refl (inr (inr (inl (refl, (place, (repeated place).only is))))), refl)
+    tree_missed (read.NumberRange place) is = (broken_at (read.NumberRange place) (rule.J 4) is (λ e. cc e) refl (inr (inr (inr (refl, (place, (range place).only is))))), refl)
     tree_missed read.Memory is = tt
 
     pub tree_found : (t : Tree) → r ≡ Ok t → Spells 64 bytes (view t) → IsReadable 64 (view t) → Finds (OnlySpelled bytes) (IsTreeOf bytes) (Ok t)

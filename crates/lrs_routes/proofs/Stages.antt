@@ -4,10 +4,10 @@ use Rattle.std.specs.Prelude.{MatchOption}
 use Rattle.std.proofs.lemmas.Bool.{false≢true}
 use Rattle.lrs_json.specs.Json.{Json}
 use Rattle.lrs_json.specs.Refusals.{Spells}
-use Rattle.lrs_record.specs.declared.rule.Rule.{Rule}
+use Rattle.lrs_command.specs.declared.rule.Rule.{Rule}
 use Rattle.xapi_query.specs.Pairs.{AreTexts}
 use Rattle.xapi_query.specs.declared.pair.Pair.{Pair}
-use Rattle.lrs_routes.specs.Faults.{p_rule}
+use Rattle.lrs_command.specs.declared.rule.Rule.TheVariants as rule
 use Rattle.lrs_routes.specs.Forms.{BreaksJson, Given, Obeyed, Spelled, Tested}
 use Rattle.lrs_routes.specs.Parts.{IsFirst, OnlyGiven}
 
@@ -27,7 +27,7 @@ nothing_first = record { holds = refl; sole = λ other is. is }
 -- ---- parameters
 
 module _ (own : Option ℕ → List Pair → Type 0) (pairs : List Pair) where
-  pub given_texts : (¬ AreTexts pairs) → IsFirst (OnlyGiven own pairs) (Some (p_rule 1))
+  pub given_texts : (¬ AreTexts pairs) → IsFirst (OnlyGiven own pairs) (Some (rule.P 1))
   given_texts bad = record {
     holds = inr (bad, refl);
     sole = λ other h. elim h [
@@ -36,10 +36,10 @@ module _ (own : Option ℕ → List Pair → Type 0) (pairs : List Pair) where
     ];
   }
 
-  obeyed_at : (broken : Broken) (a b : Option ℕ) (R : Type 0) → a ≡ b → MatchOption a R (λ n. broken ≡ Some (p_rule n)) → MatchOption b R (λ n. broken ≡ Some (p_rule n))
-  obeyed_at broken a b R is h = subst (λ (o : Option ℕ). MatchOption o R (λ n. broken ≡ Some (p_rule n))) is h
+  obeyed_at : (broken : Broken) (a b : Option ℕ) (R : Type 0) → a ≡ b → MatchOption a R (λ n. broken ≡ Some (rule.P n)) → MatchOption b R (λ n. broken ≡ Some (rule.P n))
+  obeyed_at broken a b R is h = subst (λ (o : Option ℕ). MatchOption o R (λ n. broken ≡ Some (rule.P n))) is h
 
-  pub given_found : AreTexts pairs → (n : ℕ) → own (Some n) pairs → ((found : Option ℕ) → own found pairs → found ≡ Some n) → IsFirst (OnlyGiven own pairs) (Some (p_rule n))
+  pub given_found : AreTexts pairs → (n : ℕ) → own (Some n) pairs → ((found : Option ℕ) → own found pairs → found ≡ Some n) → IsFirst (OnlyGiven own pairs) (Some (rule.P n))
   given_found texts n broken once = record {
     holds = inl (texts, (Some n, broken, refl));
     sole = λ other h. elim h [
@@ -61,7 +61,7 @@ module _ (own : Option ℕ → List Pair → Type 0) (pairs : List Pair) where
     abbrev pub Both : Broken → Type 0
     Both broken = Given own pairs broken (next broken)
 
-    stopped_at : (other : Broken) (texts : AreTexts pairs) (a : Option ℕ) → own a pairs → MatchOption a (next other) (λ n. other ≡ Some (p_rule n))
+    stopped_at : (other : Broken) (texts : AreTexts pairs) (a : Option ℕ) → own a pairs → MatchOption a (next other) (λ n. other ≡ Some (rule.P n))
         → (OnlyGiven own pairs None ⊎ OnlyGiven own pairs other)
     stopped_at other texts None o h = inl (inl (texts, (None, o, refl)))
     stopped_at other texts (Some n) o h = inr (inl (texts, (Some n, o, h)))
@@ -72,7 +72,7 @@ module _ (own : Option ℕ → List Pair → Type 0) (pairs : List Pair) where
       | inr bad ↦ inr bad
     ]
       where
-        stopped_rest : (r : Rule) (a : Option ℕ) → own a pairs → MatchOption a (◌≡◌ {A = Broken} (Some r) None) (λ n. Some r ≡ Some (p_rule n)) → Obeyed own pairs (Some r) (next (Some r))
+        stopped_rest : (r : Rule) (a : Option ℕ) → own a pairs → MatchOption a (◌≡◌ {A = Broken} (Some r) None) (λ n. Some r ≡ Some (rule.P n)) → Obeyed own pairs (Some r) (next (Some r))
         stopped_rest r None o h = absurd (some_none r h)
         stopped_rest r (Some n) o h = (Some n, o, h)
 
@@ -89,24 +89,24 @@ module _ (own : Option ℕ → List Pair → Type 0) (pairs : List Pair) where
       ];
     }
 
-    passed_at : (b other : Broken) → ((o : Broken) → OnlyGiven own pairs o → o ≡ None) → (texts : AreTexts pairs) (a : Option ℕ) → own a pairs → MatchOption a (next other) (λ n. other ≡ Some (p_rule n)) → next other
+    passed_at : (b other : Broken) → ((o : Broken) → OnlyGiven own pairs o → o ≡ None) → (texts : AreTexts pairs) (a : Option ℕ) → own a pairs → MatchOption a (next other) (λ n. other ≡ Some (rule.P n)) → next other
     passed_at b other sole texts None o h = h
-    passed_at b other sole texts (Some n) o h = absurd (some_none (p_rule n) (sole (Some (p_rule n)) (inl (texts, (Some n, o, refl)))))
+    passed_at b other sole texts (Some n) o h = absurd (some_none (rule.P n) (sole (Some (rule.P n)) (inl (texts, (Some n, o, refl)))))
 
-    obeyed_none : (a : Option ℕ) → own a pairs → MatchOption a (◌≡◌ {A = Broken} None None) (λ n. None ≡ Some (p_rule n)) → own None pairs
+    obeyed_none : (a : Option ℕ) → own a pairs → MatchOption a (◌≡◌ {A = Broken} None None) (λ n. None ≡ Some (rule.P n)) → own None pairs
     obeyed_none None o h = o
-    obeyed_none (Some n) o h = absurd (none_some (p_rule n) h)
+    obeyed_none (Some n) o h = absurd (none_some (rule.P n) h)
 
     -- where they break none, what stands behind decides
     pub given_passes : (b : Broken) → IsFirst (OnlyGiven own pairs) None → IsFirst next b → IsFirst Both b
     given_passes b first later = record {
       holds = elim first.holds [
         | inl good ↦ inl (good.0, (None, obeyed_none good.1.0 good.1.1 good.1.2, later.holds))
-        | inr bad ↦ absurd (none_some (p_rule 1) bad.1)
+        | inr bad ↦ absurd (none_some (rule.P 1) bad.1)
       ];
       sole = λ other h. elim h [
         | inl good ↦ later.sole other (passed_at b other first.sole good.0 good.1.0 good.1.1 good.1.2)
-        | inr bad ↦ absurd (some_none (p_rule 1) (first.sole (Some (p_rule 1)) (inr (bad.0, refl))))
+        | inr bad ↦ absurd (some_none (rule.P 1) (first.sole (Some (rule.P 1)) (inr (bad.0, refl))))
       ];
     }
 

@@ -1,11 +1,12 @@
 -- What the fields of a request say: the version, the credential, the media type of the body.
-use Rattle.std.specs.Prelude.{ℕ, ◌==◌, ◌&&◌, ◌||◌, Bool, true, false, List, [], ◌∷◌, take, drop, length, Option, Some, None, if◌then◌else◌, nat_eq, nat_lt, codes}
-use Rattle.std.specs.List.{after_first, before_first, list_all, position_or_len, starts_with}
+use Rattle.std.specs.Prelude.{ℕ, ◌==◌, ◌&&◌, ◌||◌, Bool, true, false, List, [], length, Option, Some, None, if◌then◌else◌, nat_eq, nat_lt, codes}
+use Rattle.std.specs.List.{after_first, before_first, position_or_len, starts_with}
 use Rattle.std.specs.Str.{bytes_eq, str_eq_ignore_ascii_case}
+use Rattle.lrs_http.specs.Fields.{trims_to}
 use Rattle.lrs_record.specs.declared.entry.Caller.{Caller}
 use Rattle.lrs_record.specs.declared.entry.Caller.TheVariants.{Nobody, Token}
-use Rattle.lrs_record.specs.declared.rule.Area.{Area}
-use Rattle.lrs_record.specs.declared.rule.Area.TheVariants.{Free, Store, Desk}
+use Rattle.lrs_command.specs.declared.command.Area.{Area}
+use Rattle.lrs_command.specs.declared.command.Area.TheVariants.{Free, Store, Desk}
 
 -- ---- the version (xAPI 1.0.3, part three, section 3.3)
 
@@ -46,18 +47,9 @@ caller_of Desk credential = presented credential
 abbrev pub is_semicolon : ℕ → Bool
 is_semicolon b = b == 59
 
--- a space or a tab
-abbrev pub is_white : ℕ → Bool
-is_white b = b == 32 || b == 9
-
-abbrev pub skip_white : List ℕ → List ℕ
-skip_white [] = []
-skip_white (b ∷ rest) = if is_white b then skip_white rest else b ∷ rest
-
 -- the word in any case, with nothing but white space round it
 abbrev pub is_json_name : List ℕ → Bool
-is_json_name name =
-    str_eq_ignore_ascii_case (take 16 (skip_white name)) (codes "application/json") && list_all is_white (drop 16 (skip_white name))
+is_json_name name = trims_to name (codes "application/json")
 
 -- JSON with or without parameters
 abbrev pub is_json : List ℕ → Bool

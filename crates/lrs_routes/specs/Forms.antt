@@ -7,10 +7,12 @@ use Rattle.lrs_json.specs.Refusals.{Spells, IsBad, RepeatedAt, OutOfRangeAt, is_
 use Rattle.lrs_json.specs.View.{view, elements_of}
 use Rattle.lrs_json.specs.declared.tree.Tree.{Tree}
 use Rattle.lrs_names.specs.Members.{has_member, has_member_that, has_only, is_string, member_text}
-use Rattle.lrs_record.specs.declared.entry.Command.{Command}
-use Rattle.lrs_record.specs.declared.entry.Command.TheVariants.{Provider, Put, Post, Get, More, About, Refused}
-use Rattle.lrs_record.specs.declared.rule.Area.{Area}
-use Rattle.lrs_record.specs.declared.rule.Rule.{Rule}
+use Rattle.lrs_command.specs.declared.command.Command.{Command}
+use Rattle.lrs_command.specs.declared.command.Command.TheVariants.{Write, Read, Refused}
+use Rattle.lrs_command.specs.declared.command.Read.TheVariants.{Statements, More, About}
+use Rattle.lrs_record.specs.declared.entry.Write.TheVariants.{Provider, Put, Post}
+use Rattle.lrs_command.specs.declared.command.Area.{Area}
+use Rattle.lrs_command.specs.declared.rule.Rule.{Rule}
 use Rattle.xapi_query.specs.Pairs.{AreTexts, pairs_of}
 use Rattle.xapi_query.specs.Links.{IsLink}
 use Rattle.xapi_query.specs.Parameters.{Demands, LeastOfGet, LeastOfLink, LeastOfPut}
@@ -19,7 +21,7 @@ use Rattle.xapi_query.specs.Wants.{IsWanted}
 use Rattle.xapi_query.specs.declared.link.MoreLink.{MoreLink}
 use Rattle.xapi_query.specs.declared.pair.Pair.{Pair}
 use Rattle.xapi_query.specs.declared.wanted.Wanted.{Wanted}
-use Rattle.lrs_routes.specs.Faults.{b_rule, f_rule, j_rule, p_rule}
+use Rattle.lrs_command.specs.declared.rule.Rule.TheVariants as rule
 use Rattle.lrs_routes.specs.Fields.{allows_json}
 use Rattle.lrs_routes.specs.declared.table.Operation.{Operation}
 use Rattle.lrs_routes.specs.declared.table.Operation.TheVariants as operation
@@ -41,19 +43,19 @@ LeastOfNone found pairs = Demands 2 (pairs ≡ []) found (found ≡ None)
 
 -- they break none of the operation's own rules, or this is the least that they break
 abbrev pub Obeyed : (Option ℕ → List Pair → Type 0) → List Pair → Option Rule → Type 0 → Type 0
-Obeyed own pairs broken rest = (found : Option ℕ) × own found pairs × MatchOption found rest (λ number. broken ≡ Some (p_rule number))
+Obeyed own pairs broken rest = (found : Option ℕ) × own found pairs × MatchOption found rest (λ number. broken ≡ Some (rule.P number))
 
 -- the same behind the first rule, that they are texts
 abbrev pub Given : (Option ℕ → List Pair → Type 0) → List Pair → Option Rule → Type 0 → Type 0
-Given own pairs broken rest = (AreTexts pairs × Obeyed own pairs broken rest) ⊎ ((¬ AreTexts pairs) × (broken ≡ Some (p_rule 1)))
+Given own pairs broken rest = (AreTexts pairs × Obeyed own pairs broken rest) ⊎ ((¬ AreTexts pairs) × (broken ≡ Some (rule.P 1)))
 
 -- The rules on JSON, in their order: the depth, the grammar, repeated names, the range of numbers.
 abbrev pub BreaksJson : List ℕ → Rule → Type 0
 BreaksJson bytes r =
-    ((r ≡ j_rule 1) × IsTrue (is_too_deep 64 bytes))
-    ⊎ (((r ≡ j_rule 2) × IsBad 64 bytes)
-    ⊎ (((r ≡ j_rule 3) × ((place : ℕ) × RepeatedAt 64 bytes place))
-    ⊎ ((r ≡ j_rule 4) × ((place : ℕ) × OutOfRangeAt 64 bytes place))))
+    ((r ≡ rule.J 1) × IsTrue (is_too_deep 64 bytes))
+    ⊎ (((r ≡ rule.J 2) × IsBad 64 bytes)
+    ⊎ (((r ≡ rule.J 3) × ((place : ℕ) × RepeatedAt 64 bytes place))
+    ⊎ ((r ≡ rule.J 4) × ((place : ℕ) × OutOfRangeAt 64 bytes place))))
 
 -- they spell a value, or break a rule on JSON
 abbrev pub Spelled : List ℕ → Option Rule → (Json → Type 0) → Type 0
@@ -67,7 +69,7 @@ has_just names j = has_only names j && list_all (λ name. has_member name j) nam
 
 -- the body of a statement
 abbrev pub StatementBody : Request → Option Rule → Type 0
-StatementBody request broken = Tested (allows_json request.media) (f_rule 3) broken (Spelled request.body broken (λ statement. broken ≡ None))
+StatementBody request broken = Tested (allows_json request.media) (rule.F 3) broken (Spelled request.body broken (λ statement. broken ≡ None))
 
 -- the statements of a body: the items of an array, or any other value alone
 abbrev pub batch_of : Json → Elements
@@ -81,7 +83,7 @@ batch_of (object ms) = element (object ms) no_elements
 -- what a provider to be made is asked for by: an object with its name
 abbrev pub NamesProvider : Json → Option Rule → Type 0
 NamesProvider j broken =
-    Tested (has_just (codes "name" ∷ []) j) (b_rule 1) broken (Tested (has_member_that (codes "name") is_string j) (b_rule 2) broken (broken ≡ None))
+    Tested (has_just (codes "name" ∷ []) j) (rule.B 1) broken (Tested (has_member_that (codes "name") is_string j) (rule.B 2) broken (broken ≡ None))
 
 abbrev pub ProviderBody : Request → Option Rule → Type 0
 ProviderBody request broken = Spelled request.body broken (λ j. NamesProvider j broken)
@@ -97,16 +99,16 @@ FirstBroken operation.MakeProvider request broken = Given LeastOfNone (parameter
 
 -- What the request means, where its form breaks no rule.
 abbrev pub Means : Operation → Request → Command → Type 0
-Means operation.TellVersions request command = command ≡ About
-Means operation.GetStatements request command = (wanted : Wanted) × IsWanted (parameters_of request.query) wanted × (command ≡ Get wanted)
-Means operation.GetMoreStatements request command = (link : MoreLink) × IsLink (parameters_of request.query) link × (command ≡ More link)
+Means operation.TellVersions request command = command ≡ Read About
+Means operation.GetStatements request command = (wanted : Wanted) × IsWanted (parameters_of request.query) wanted × (command ≡ Read (Statements wanted))
+Means operation.GetMoreStatements request command = (link : MoreLink) × IsLink (parameters_of request.query) link × (command ≡ Read (More link))
 Means operation.PostStatements request command =
-    (statements : List Tree) × (j : Json) × Spells 64 request.body j × (elements_of (map view statements) ≡ batch_of j) × (command ≡ Post statements)
+    (statements : List Tree) × (j : Json) × Spells 64 request.body j × (elements_of (map view statements) ≡ batch_of j) × (command ≡ Write (Post statements))
 Means operation.PutStatement request command =
     (id : List ℕ) × (statement : Tree) × (id_under (codes "statementId") (parameters_of request.query) ≡ Some id)
-    × Spells 64 request.body (view statement) × (command ≡ Put id statement)
+    × Spells 64 request.body (view statement) × (command ≡ Write (Put id statement))
 Means operation.MakeProvider request command =
-    (name : List ℕ) × (j : Json) × Spells 64 request.body j × (member_text (codes "name") j ≡ Some name) × (command ≡ Provider name)
+    (name : List ℕ) × (j : Json) × Spells 64 request.body j × (member_text (codes "name") j ≡ Some name) × (command ≡ Write (Provider name))
 
 -- The command of a request to a route of that area: what it means, or the refusal by the first rule that its form breaks.
 abbrev pub IsCommand : Area → Operation → Request → Command → Type 0

@@ -1,6 +1,5 @@
 -- What the parts of a request's reading give, each as far as it looks.
-use Rattle.std.specs.Prelude.{◌≡◌, ◌==◌, ℕ, Bool, List, map, Option, Some, None, Result, Ok, Err, IsTrue, codes}
-use Rattle.std.specs.List.{list_any}
+use Rattle.std.specs.Prelude.{◌≡◌, ℕ, Bool, true, false, List, map, Option, Some, None, Result, Ok, Err, IsTrue, codes}
 use Rattle.lrs_http.specs.declared.request.Request.{Request}
 use Rattle.lrs_json.specs.Fits.{IsReadable}
 use Rattle.lrs_json.specs.Json.{Json}
@@ -8,25 +7,25 @@ use Rattle.lrs_json.specs.Refusals.{Spells}
 use Rattle.lrs_json.specs.View.{view, elements_of}
 use Rattle.lrs_json.specs.declared.tree.Tree.{Tree}
 use Rattle.lrs_names.specs.Members.{member_text}
-use Rattle.lrs_record.specs.Entries.{AreLawfulTrees, IsLawfulTree}
-use Rattle.lrs_record.specs.declared.entry.Command.{Command}
-use Rattle.lrs_record.specs.declared.entry.Command.TheVariants.{Put, Post, Refused}
-use Rattle.lrs_record.specs.declared.rule.Rule.{Rule}
+use Rattle.lrs_record.specs.Entries.{AreLawfulTrees}
+use Rattle.lrs_command.specs.declared.command.Command.{Command}
+use Rattle.lrs_command.specs.declared.command.Command.TheVariants.{Refused}
+use Rattle.lrs_command.specs.declared.rule.Rule.{Rule}
+use Rattle.lrs_command.specs.declared.rule.Rule.TheVariants as rule
+use Rattle.lrs_command.specs.Commands.{HasReadTrees}
 use Rattle.xapi_query.specs.declared.pair.Pair.{Pair}
 use Rattle.lrs_routes.specs.Forms.{Given, Means, batch_of}
 use Rattle.lrs_routes.specs.declared.fault.Fault.{Fault}
 use Rattle.lrs_routes.specs.declared.fault.Fault.TheVariants as fault
 use Rattle.lrs_routes.specs.declared.table.Operation.{Operation}
 
--- The trees of a command are such as reading gives.
-abbrev pub HasReadTrees : Command → Type 0
-HasReadTrees (Put id statement) = IsLawfulTree (view statement)
-HasReadTrees (Post statements) = AreLawfulTrees statements
-HasReadTrees other = Unit {0}
-
 -- a rule on fields, parameters, JSON or bodies
 abbrev pub is_form_rule : Rule → Bool
-is_form_rule rule = list_any (λ letter. letter == rule.family) (codes "FPJB")
+is_form_rule (rule.F number) = true
+is_form_rule (rule.P number) = true
+is_form_rule (rule.J number) = true
+is_form_rule (rule.B number) = true
+is_form_rule other = false
 
 -- A form is refused with 400, by such a rule.
 abbrev pub HasFormRule : Command → Type 0

@@ -3,8 +3,8 @@ use Rattle.std.specs.Prelude.{ℕ, List, [], ◌∷◌, ◌++◌, Bool, true, fa
 use Rattle.std.specs.Str.{bytes_eq}
 use Rattle.lrs_http.specs.declared.request.Method.{Method}
 use Rattle.lrs_http.specs.declared.request.Method.TheVariants.{Get, Put, Post, Delete, Other}
-use Rattle.lrs_record.specs.declared.rule.Area.{Area}
-use Rattle.lrs_record.specs.declared.rule.Area.TheVariants as area
+use Rattle.lrs_command.specs.declared.command.Area.{Area}
+use Rattle.lrs_command.specs.declared.command.Area.TheVariants as area
 use Rattle.lrs_routes.specs.declared.table.Allow.{Allow}
 use Rattle.lrs_routes.specs.declared.table.Allow.TheVariants as allow
 use Rattle.lrs_routes.specs.declared.table.Operation.{Operation}

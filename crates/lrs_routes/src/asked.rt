@@ -1,6 +1,7 @@
 use crate::Allow;
+use lrs_command::Command;
 use lrs_json::Memory;
-use lrs_record::{Caller, Command};
+use lrs_record::Caller;
 
 /// What a request asks: who asks, and what for.
 #[derive(Drop)]

@@ -9,6 +9,7 @@ ghost use Rattle.lrs_routes.specs.Parts.{AreStatementsOf, Finds, IsProviderIn, I
 
 use crate::fault::Fault;
 use crate::fields::allows_json;
+use lrs_command::Rule;
 use lrs_http::Request;
 use lrs_json::{Items, Member, Memory, Text, Tree, read};
 use lrs_names::{has_member, has_only};
@@ -21,7 +22,7 @@ pub fn statement_in(alloc: Global, request: &Request) -> Result<Tree, Fault>
     if allows_json(&request.media) {
         tree(alloc, request.body.as_slice())
     } else {
-        Err(Fault::of_rule(b'F', 3))
+        Err(Fault::Broken(Rule::F(3)))
     }
 }
 
@@ -72,11 +73,11 @@ fn provider_of(body: Tree) -> Result<Text, Fault>
     ensures { Finds (NamesProvider (view body)) (λ name. member_text (codes "name") (view body) ≡ Some name) result }
 {
     if !has_just(&body, &["name"]) {
-        return Err(Fault::of_rule(b'B', 1));
+        return Err(Fault::Broken(Rule::B(1)));
     }
     match take_text(body, "name") {
         Some(name) => Ok(name),
-        None => Err(Fault::of_rule(b'B', 2)),
+        None => Err(Fault::Broken(Rule::B(2))),
     }
 }
 

@@ -1,5 +1,5 @@
+use lrs_command::Rule;
 use lrs_json::{Memory, ReadRefused};
-use lrs_record::Rule;
 use xapi_query::QueryRefused;
 
 /// Why a request means no command.
@@ -9,19 +9,6 @@ pub enum Fault {
     Broken(Rule),
     /// Want of memory.
     Memory,
-}
-
-impl Fault {
-    ghost use Rattle.std.specs.Prelude.{◌≡◌};
-    ghost use Rattle.lrs_routes.specs.declared.fault.Fault.TheVariants as fault;
-    ghost use Rattle.lrs_routes.specs.Faults.{rule};
-
-    /// The rule of that letter and number is broken.
-    pub fn of_rule(family: u8, number: u8) -> Fault
-        ensures { result ≡ fault.Broken (rule family number) }
-    {
-        Fault::Broken(Rule { family, number })
-    }
 }
 
 impl From<Memory> for Fault {
@@ -43,8 +30,8 @@ impl From<QueryRefused> for Fault {
 
     fn from(refused: QueryRefused) -> Fault {
         match refused {
-            QueryRefused::BadParameter { number } => Fault::of_rule(b'P', number),
-            QueryRefused::BadLink => Fault::of_rule(b'P', 14),
+            QueryRefused::BadParameter { number } => Fault::Broken(Rule::P(number)),
+            QueryRefused::BadLink => Fault::Broken(Rule::P(14)),
             QueryRefused::Memory => Fault::Memory,
         }
     }
@@ -58,10 +45,10 @@ impl From<ReadRefused> for Fault {
 
     fn from(refused: ReadRefused) -> Fault {
         match refused {
-            ReadRefused::TooDeep => Fault::of_rule(b'J', 1),
-            ReadRefused::Bad => Fault::of_rule(b'J', 2),
-            ReadRefused::Repeated { .. } => Fault::of_rule(b'J', 3),
-            ReadRefused::NumberRange { .. } => Fault::of_rule(b'J', 4),
+            ReadRefused::TooDeep => Fault::Broken(Rule::J(1)),
+            ReadRefused::Bad => Fault::Broken(Rule::J(2)),
+            ReadRefused::Repeated { .. } => Fault::Broken(Rule::J(3)),
+            ReadRefused::NumberRange { .. } => Fault::Broken(Rule::J(4)),
             ReadRefused::Memory => Fault::Memory,
         }
     }

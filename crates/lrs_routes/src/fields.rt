@@ -1,11 +1,12 @@
 // What the fields of a request say.
 ghost use Rattle.std.specs.Prelude.{◌≡◌, IfOk, Some};
-ghost use Rattle.std.specs.List.{list_all};
 ghost use Rattle.lrs_record.specs.Entries.{IsLawfulCaller};
-ghost use Rattle.lrs_routes.specs.Fields.{allows_json, caller_of, caller_of_token, is_json, is_json_name, is_version, is_white, presented, skip_white, speaks};
+ghost use Rattle.lrs_routes.specs.Fields.{allows_json, caller_of, caller_of_token, is_json, is_json_name, is_version, presented, speaks};
 
+use lrs_command::Area;
+use lrs_http::trims_to;
 use lrs_json::{Memory, Text};
-use lrs_record::{Area, Caller};
+use lrs_record::Caller;
 use std::alloc::Global;
 
 /// Whether the version is 1.0 or one of 1.0.x (xAPI 1.0.3, part three, section 3.3).
@@ -85,29 +86,5 @@ fn is_json(media: &str) -> bool
 fn is_json_name(name: &[u8]) -> bool
     ensures { result ≡ is_json_name name.now }
 {
-    let word = skip_white(name);
-    let end = word.len().min(16);
-    word[..end].eq_ignore_ascii_case(b"application/json") && all_white(&word[end..])
-}
-
-fn is_white(byte: u8) -> bool
-    ensures { result ≡ is_white byte }
-{
-    byte == b' ' || byte == b'\t'
-}
-
-fn skip_white(bytes: &[u8]) -> &[u8]
-    ensures { result.now ≡ skip_white bytes.now }
-{
-    let mut at = 0;
-    while at < bytes.len() && is_white(bytes[at]) {
-        at += 1;
-    }
-    &bytes[at..]
-}
-
-fn all_white(bytes: &[u8]) -> bool
-    ensures { result ≡ list_all is_white bytes.now }
-{
-    bytes.iter().all(|b| is_white(*b))
+    trims_to(name, b"application/json")
 }

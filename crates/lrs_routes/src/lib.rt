@@ -13,6 +13,3 @@ mod table;
 pub use asked::{Asked, RouteRefused};
 pub use routes::Routes;
 pub use table::Allow;
-
-#[cfg(test)]
-mod tests;

@@ -1,7 +1,8 @@
 ghost use Rattle.std.specs.Prelude.{◌≡◌, ◌≢◌, ◌⊎◌, IfOk, Err, Result, MatchOption, MatchResult, map};
+ghost use Rattle.lrs_command.specs.Commands.{HasReadTrees};
 ghost use Rattle.lrs_record.specs.Entries.{IsLawfulCaller};
 ghost use Rattle.lrs_routes.specs.Asked.{Agree, IsAsked, IsRefused, IsRouted};
-ghost use Rattle.lrs_routes.specs.Parts.{HasFormRule, HasReadTrees};
+ghost use Rattle.lrs_routes.specs.Parts.{HasFormRule};
 ghost use Rattle.lrs_routes.specs.Paths.{Fits};
 ghost use Rattle.lrs_routes.specs.Table.{patterns, row_of};
 ghost use Rattle.lrs_routes.specs.declared.asked.Asked.{Asked as SpecAsked};
@@ -25,6 +26,7 @@ pub struct Routes {
 }
 
 impl Routes {
+    /// The table, whole; only memory can be wanting.
     pub fn new(alloc: Global) -> Result<Routes, Memory> {
         match router(alloc) {
             Ok(router) => Ok(Routes { router }),
@@ -43,13 +45,25 @@ impl Routes {
         ensures trees { IfOk result (λ asked. HasReadTrees asked.command) }
         ensures rules { IfOk result (λ asked. HasFormRule asked.command) }
     {
+        let asked = self.asked(alloc, &request);
+        drop(request);
+        asked
+    }
+
+    fn asked(&self, alloc: Global, request: &Request) -> Result<Asked, RouteRefused>
+        ensures asked { IsAsked request.now result }
+        ensures alone { (other : Result SpecAsked SpecRefused) → IsAsked request.now other → Agree result other }
+        ensures lawful { IfOk result (λ asked. IsLawfulCaller asked.caller) }
+        ensures trees { IfOk result (λ asked. HasReadTrees asked.command) }
+        ensures rules { IfOk result (λ asked. HasFormRule asked.command) }
+    {
         let (route, operation) = self.operation_of(
             request.path.as_str(),
             request.method,
             &request.version,
         )?;
         let caller = caller_of(alloc, route.area(), &request.credential)?;
-        let command = command(alloc, route.area(), operation, &request)?;
+        let command = command(alloc, route.area(), operation, request)?;
         Ok(Asked { caller, command })
     }
 
@@ -60,7 +74,8 @@ impl Routes {
         method: Method,
         version: &Option<Text>,
     ) -> Result<(Route, Operation), RouteRefused>
-        ensures { MatchResult result (λ found. IsRouted path.now method version.now found.0 found.1) (IsRefused path.now method version.now) }
+        ensures { MatchResult result (λ found. IsRouted path.now method version.now found.0 found.1)
+            (IsRefused path.now method version.now) }
     {
         let Some(route) = self.route_of(path) else {
             return Err(RouteRefused::NoRoute);
@@ -79,7 +94,8 @@ impl Routes {
 
     // The route that the path fits.
     fn route_of(&self, path: &str) -> Option<Route>
-        ensures { MatchOption result ((route : SpecRoute) → ¬ Fits (row_of route).pattern path.now) (λ route. Fits (row_of route).pattern path.now) }
+        ensures { MatchOption result ((route : SpecRoute) → ¬ Fits (row_of route).pattern path.now)
+            (λ route. Fits (row_of route).pattern path.now) }
     {
         match self.router.at(path) {
             Ok(found) => Some(copied(found.value)),

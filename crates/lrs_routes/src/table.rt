@@ -1,8 +1,8 @@
 ghost use Rattle.std.specs.Prelude.{◌≡◌, map, Some, MatchResult};
 ghost use Rattle.lrs_routes.specs.Table.{listed, methods_of, operation_of, row_of};
 
+use lrs_command::Area;
 use lrs_http::Method;
-use lrs_record::Area;
 
 /// A row of the table of routes.
 #[derive(Clone, Copy, Debug, PartialEq, Eq)]
@@ -75,7 +75,9 @@ impl Route {
 
     /// What the method is for, or the methods that the route has.
     pub(crate) fn operation(self, method: Method) -> Result<Operation, Allow>
-        ensures { MatchResult result (λ operation. operation_of (row_of self).methods method ≡ Some operation) (λ allow. (operation_of (row_of self).methods method ≡ None) × (methods_of allow ≡ map (λ m. m.0) (row_of self).methods)) }
+        ensures { MatchResult result (λ operation. operation_of (row_of self).methods method ≡ Some operation)
+            (λ allow. (operation_of (row_of self).methods method ≡ None)
+            × (methods_of allow ≡ map (λ m. m.0) (row_of self).methods)) }
     {
         match (self, method) {
             (Route::Callers, Method::Post) => Ok(Operation::MakeProvider),

@@ -2,7 +2,8 @@
 
 ghost use Rattle.std.specs.Prelude.{◌≡◌, ◌≤◌, ◌∷◌, [], true, false, length, codes, IfSome, MatchOption, Some, option_map};
 ghost use Rattle.std.specs.Option.{option_copied};
-ghost use Rattle.lrs_app.specs.Words.{is_name, is_among, options_of_command, options_of};
+ghost use Rattle.lrs_json.specs.Faults.{is_among};
+ghost use Rattle.lrs_app.specs.Words.{is_name, options_of_command, options_of};
 ghost use Rattle.lrs_app.specs.Shapes.{alone, command_of, init_with, is_option, is_plain, said_by, serve_with, value_behind};
 
 use crate::words::Shape;
@@ -52,7 +53,8 @@ fn is_option(command: &str, word: &Text, behind: &[Text]) -> bool
 // The words of a plain line behind its first one, or behind that and its value.
 fn pass_word<'a>(command: &str, word: &Text, words: &'a [Text]) -> Option<&'a [Text]>
     ensures plain { MatchOption result (is_plain (options_of_command command.now) false (word.now ∷ words.now) ≡ false)
-        (λ rest. is_plain (options_of_command command.now) false rest.now ≡ is_plain (options_of_command command.now) false (word.now ∷ words.now)) }
+        (λ rest. is_plain (options_of_command command.now) false rest.now
+        ≡ is_plain (options_of_command command.now) false (word.now ∷ words.now)) }
     ensures shorter { IfSome result (λ rest. length rest.now ≤ length words.now) }
 {
     if is_name(word) {
@@ -101,7 +103,8 @@ fn behind_value(words: &[Text]) -> &[Text]
 
 // The first word of a line that stands alone, and the words behind it.
 fn next_alone(line: &[Text]) -> Option<(&Text, &[Text])>
-    ensures { MatchOption result (alone false line.now ≡ []) (λ next. alone false line.now ≡ next.0.now ∷ alone false next.1.now) }
+    ensures { MatchOption result (alone false line.now ≡ [])
+        (λ next. alone false line.now ≡ next.0.now ∷ alone false next.1.now) }
 {
     let mut left = line;
     while let [word, words @ ..] = left {
@@ -128,7 +131,8 @@ fn value_behind<'a>(name: &str, line: &'a [Text]) -> Option<&'a str>
 }
 
 fn plain_init<'a>(file: &'a str, words: &'a [Text]) -> Option<Shape<'a>>
-    ensures { option_map command_of result ≡ init_with (Some file.now) (value_behind (codes "--admin") words.now) (value_behind (codes "--base") words.now) (value_behind (codes "--limit") words.now) }
+    ensures { option_map command_of result ≡ init_with (Some file.now) (value_behind (codes "--admin") words.now)
+        (value_behind (codes "--base") words.now) (value_behind (codes "--limit") words.now) }
 {
     Some(Shape::Init {
         file,
@@ -139,7 +143,8 @@ fn plain_init<'a>(file: &'a str, words: &'a [Text]) -> Option<Shape<'a>>
 }
 
 fn plain_serve<'a>(file: &'a str, address: &'a str, words: &'a [Text]) -> Option<Shape<'a>>
-    ensures { option_map command_of result ≡ serve_with (Some file.now) (Some address.now) (value_behind (codes "--workers") words.now) (value_behind (codes "--connections") words.now) }
+    ensures { option_map command_of result ≡ serve_with (Some file.now) (Some address.now)
+        (value_behind (codes "--workers") words.now) (value_behind (codes "--connections") words.now) }
 {
     Some(Shape::Serve {
         file,
@@ -151,7 +156,8 @@ fn plain_serve<'a>(file: &'a str, address: &'a str, words: &'a [Text]) -> Option
 
 // A plain line with one word behind the command's name.
 fn plain_with_file<'a>(command: &str, file: &'a str, words: &'a [Text]) -> Option<Shape<'a>>
-    ensures { option_map command_of result ≡ said_by (command.now ∷ file.now ∷ []) (λ name. value_behind name words.now) }
+    ensures { option_map command_of result ≡ said_by (command.now ∷ file.now ∷ [])
+        (λ name. value_behind name words.now) }
 {
     match command {
         "init" => plain_init(file, words),
@@ -167,7 +173,8 @@ fn plain_with_address<'a>(
     address: &'a str,
     words: &'a [Text],
 ) -> Option<Shape<'a>>
-    ensures { option_map command_of result ≡ said_by (command.now ∷ file.now ∷ address.now ∷ []) (λ name. value_behind name words.now) }
+    ensures { option_map command_of result ≡ said_by (command.now ∷ file.now ∷ address.now ∷ [])
+        (λ name. value_behind name words.now) }
 {
     match command {
         "serve" => plain_serve(file, address, words),

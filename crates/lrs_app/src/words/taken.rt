@@ -2,9 +2,9 @@
 
 ghost use Rattle.std.specs.Prelude.{◌≡◌, true, false, map, IfOk, MatchOption, option_map, option_and_then};
 ghost use Rattle.std.specs.Option.{option_copied};
-ghost use Rattle.clap.specs.Words.{app_of, first_of, found_of, rows_of, rule_of, subcommand_of, subcommand_rows_of};
-ghost use Rattle.lrs_app.specs.Words.{required, needed, optional, program, whole_line};
-ghost use Rattle.lrs_app.specs.Shapes.{IsReadAs, command_in, command_of, init_in, intake_in, is_faulty, serve_in, taken};
+ghost use Rattle.clap.specs.Words.{App, app_of, first_of, found_of, rows_of, rule_of, subcommand_of, subcommand_rows_of, with_subcommand};
+ghost use Rattle.lrs_app.specs.Words.{required, needed, optional, init_app, intake_app, serve_app, program, whole_line};
+ghost use Rattle.lrs_app.specs.Shapes.{Adds, IsReadAs, command_in, command_of, init_in, intake_in, is_faulty, serve_in, taken};
 
 use crate::words::{Shape, Words, test_named};
 use clap::error::ErrorKind;
@@ -33,22 +33,55 @@ fn optional<'a>(alloc: Global, name: &'a str) -> Arg<'a>
     Arg::new(alloc, name).long(name)
 }
 
+fn init_command<'a>(alloc: Global) -> Result<Command<'a>, Memory>
+    ensures { IfOk result (Adds init_app) }
+{
+    let command = Command::new(alloc, "init").arg(required(alloc, "file"))?;
+    let command = command.arg(needed(alloc, "admin"))?;
+    let command = command.arg(optional(alloc, "base"))?;
+    Ok(command.arg(optional(alloc, "limit"))?)
+}
+
+fn intake_command<'a>(alloc: Global) -> Result<Command<'a>, Memory>
+    ensures { IfOk result (Adds intake_app) }
+{
+    Ok(Command::new(alloc, "intake").arg(required(alloc, "file"))?)
+}
+
+fn serve_command<'a>(alloc: Global) -> Result<Command<'a>, Memory>
+    ensures { IfOk result (Adds serve_app) }
+{
+    let command = Command::new(alloc, "serve").arg(required(alloc, "file"))?;
+    let command = command.arg(required(alloc, "address"))?;
+    let command = command.arg(needed(alloc, "workers"))?;
+    Ok(command.arg(needed(alloc, "connections"))?)
+}
+
+// The program with one command more.
+fn with_command<'a>(
+    program: Command<'a>,
+    made: Result<Command<'a>, Memory>,
+) -> Result<Command<'a>, Memory>
+    ensures { (a : App) → IfOk made.entry (Adds a)
+        → IfOk result (λ c. app_of c ≡ with_subcommand (app_of program.entry) a.top) }
+{
+    match made {
+        Ok(command) => Ok(program.subcommand(command)?),
+        Err(refused) => {
+            drop(program);
+            Err(refused)
+        }
+    }
+}
+
 // The program's words, as clap has them.
 fn program<'a>(alloc: Global) -> Result<Command<'a>, Memory>
     ensures { IfOk result (λ c. app_of c ≡ program) }
 {
-    let init = Command::new(alloc, "init").arg(required(alloc, "file"))?;
-    let init = init.arg(needed(alloc, "admin"))?;
-    let init = init.arg(optional(alloc, "base"))?;
-    let init = init.arg(optional(alloc, "limit"))?;
-    let intake = Command::new(alloc, "intake").arg(required(alloc, "file"))?;
-    let serve = Command::new(alloc, "serve").arg(required(alloc, "file"))?;
-    let serve = serve.arg(required(alloc, "address"))?;
-    let serve = serve.arg(needed(alloc, "workers"))?;
-    let serve = serve.arg(needed(alloc, "connections"))?;
-    let program = Command::new(alloc, "kilnlime").subcommand(init)?;
-    let program = program.subcommand(intake)?;
-    Ok(program.subcommand(serve)?)
+    let program = Command::new(alloc, "kilnlime");
+    let program = with_command(program, init_command(alloc))?;
+    let program = with_command(program, intake_command(alloc))?;
+    with_command(program, serve_command(alloc))
 }
 
 // A value of what was given.
@@ -124,7 +157,8 @@ fn texts_of(alloc: Global, words: &[Text]) -> Result<Vec<&str>, Memory>
 // What clap gives of a line, or none where it refuses it.
 fn matches_of<'a>(alloc: Global, line: &'a [&'a str]) -> Result<Option<ArgMatches<'a>>, Memory>
     ensures { IfOk result (λ found. MatchOption found (is_faulty (map (λ t. t.now) line.now) ≡ true)
-        (λ matches. (is_faulty (map (λ t. t.now) line.now) ≡ false) × (subcommand_rows_of matches ≡ subcommand_of program (map (λ t. t.now) line.now)))) }
+        (λ matches. (is_faulty (map (λ t. t.now) line.now) ≡ false)
+        × (subcommand_rows_of matches ≡ subcommand_of program (map (λ t. t.now) line.now)))) }
 {
     match program(alloc)?.try_get_matches_from(line) {
         Ok(matches) => Ok(Some(matches)),

@@ -1,5 +1,6 @@
 use Rattle.std.proofs.Common.{[], ◌∷◌}
-use Rattle.lrs_machine.specs.Desk.{StandsFor, founding_entry}
+use Rattle.lrs_fold.specs.Own.{founding_entry}
+use Rattle.lrs_machine.specs.Desk.{StandsFor}
 use Rattle.lrs_app.proofs.NotFounded.{not_founded, founded_ends}
 use Rattle.lrs_app.proofs.init.init_disk.Goals as goal
 
@@ -10,6 +11,6 @@ returns-in-Err-clause-ends g c =
 
 pub returns-in-Ok-close-clause-ends : goal.returns-in-Ok-close-clause-ends
 returns-in-Ok-close-clause-ends g c =
-    let h = founding_entry c.args.admin.now c.args.base.now c.args.clock ∷ [] in
-    founded_ends c.args.limit c.in-Ok.desk.limit h (g.D.Disk.told c.args.disk) (g.D.Disk.told c.in-Ok-close.disk) (StandsFor g.D.Disk.told c.in-Ok.desk h)
-    c.in-Ok.ensures.founded c.in-Ok.ensures.fields.0 (c.in-Ok-close.ensures.closed h)
+    let founding = founding_entry c.args.admin.now c.args.base.now c.args.clock in
+    founded_ends c.args.limit c.in-Ok.desk.limit founding (g.D.Disk.told c.args.disk) (g.D.Disk.told c.in-Ok-close.disk) (StandsFor g.D.Disk.told c.in-Ok.desk (founding ∷ []))
+    c.in-Ok.ensures.founded c.in-Ok.ensures.fields.0 (c.in-Ok-close.ensures.closed (founding ∷ [])) (λ stands. stands.legal)

@@ -1,7 +1,5 @@
-use Rattle.std.proofs.Common.{[], refl, ◌≡◌, List, ℕ, sym, ap}
+use Rattle.std.proofs.Common.{[], refl, List, ℕ}
 use Rattle.lrs_http.specs.Response.{response_of}
-use Rattle.lrs_hall.specs.Responses.{media_text}
-use Rattle.lrs_history.specs.Replies.{body_bytes}
 use Rattle.lrs_hall.proofs.Writing.{wrote_of}
 use Rattle.lrs_hall.proofs.answering.write_reply.Goals as goal
 

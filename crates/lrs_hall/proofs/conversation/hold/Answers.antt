@@ -1,8 +1,7 @@
-use Rattle.std.proofs.Common.{rules, arith, ◌≡◌, ◌∙◌, refl, ap, subst, List, ◌∷◌, ◌++◌, [], None}
+use Rattle.std.proofs.Common.{arith, ◌∙◌, refl, ap, List, ◌∷◌, ◌++◌, [], None}
 use Rattle.lrs_machine.specs.Desk.{Account}
 use Rattle.lrs_disk.specs.Door.{DoorState}
 use Rattle.lrs_hall.specs.Acts.{ActsOn}
-use Rattle.lrs_hall.specs.Steps.{worker}
 use Rattle.lrs_hall.specs.declared.talk.Finish.TheVariants as finish
 use Rattle.lrs_hall.proofs.Goes.{so_far_next, so_far_pushed, held_last, held_silent}
 use Rattle.lrs_hall.proofs.conversation.hold.Goals as goal

@@ -1,4 +1,3 @@
-use Rattle.std.proofs.Common.{Ok, sym, subst}
 use Rattle.lrs_hall.proofs.Refusing.{refuses}
 use Rattle.lrs_hall.proofs.exchange.refuse.Goals as goal
 

@@ -3,7 +3,7 @@ use Rattle.lrs_http.specs.Stream.{most_requests}
 use Rattle.lrs_hall.specs.Conversation.{going}
 use Rattle.lrs_routes.proofs.OneAsked.{one_asked}
 use Rattle.lrs_hall.proofs.OneStream.{agree}
-use Rattle.lrs_hall.proofs.OneText.{one_text}
+use Rattle.lrs_time.proofs.OneText.{one_text}
 use Rattle.lrs_hall.proofs.laws.law_of_one_stream.Goals as goal
 
 pub returns : goal.returns

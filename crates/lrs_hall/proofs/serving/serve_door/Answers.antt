@@ -1,4 +1,4 @@
-use Rattle.std.proofs.Common.{arith, ◌≡◌, ◌<◌, ◌≤◌, ◌+◌, ◌∙◌, List, ◌∷◌, ◌++◌, [], length, refl, ap, inl, inr}
+use Rattle.std.proofs.Common.{arith, ◌≡◌, ◌<◌, ◌+◌, ◌∙◌, List, ◌∷◌, ◌++◌, [], length, refl, ap, inl}
 use Rattle.std.proofs.lemmas.List.{length_push}
 use Rattle.lrs_hall.specs.Acts.{ActsOn}
 use Rattle.lrs_hall.specs.Talks.{Told}

@@ -1,4 +1,4 @@
-use Rattle.std.proofs.Common.{◌≡◌, ◌++◌, ◌∷◌, [], List, ℕ, Option, ◌∙◌, sym, ap, refl, subst}
+use Rattle.std.proofs.Common.{◌++◌, ◌∷◌, [], List, ◌∙◌, sym, ap, subst}
 use Rattle.std.specs.Prelude.{option_map}
 use Rattle.lrs_disk.specs.Door.{DoorState, Returned, Brings, link_returned}
 use Rattle.lrs_disk.specs.declared.door.Next.TheVariants as answers

@@ -1,5 +1,5 @@
 use Rattle.std.proofs.Common.{◌∙◌, ℕ, List, subst, sym}
-use Rattle.lrs_routes.specs.Faults.{f_rule}
+use Rattle.lrs_command.specs.declared.rule.Rule.TheVariants as rule
 use Rattle.lrs_routes.specs.Fields.{allows_json}
 use Rattle.lrs_routes.specs.Forms.{StatementBody}
 use Rattle.lrs_routes.specs.Parts.{Finds, IsTreeOf}
@@ -13,4 +13,4 @@ returns-then-allows_json c =
     let read = subst (λ (bytes : List ℕ). Finds (OnlySpelled bytes) (IsTreeOf bytes) c.tree.result) c.as_slice.ensures c.tree.ensures in
     let passes = sym c.allows_json.ensures ∙ c.if-allows_json.true in
     finds_by (OnlySpelled request.body) (StatementBody request) (IsTreeOf request.body) c.tree.result
-    (λ b first. test_passes (allows_json request.media) (f_rule 3) (OnlySpelled request.body) b passes first) read
+    (λ b first. test_passes (allows_json request.media) (rule.F 3) (OnlySpelled request.body) b passes first) read

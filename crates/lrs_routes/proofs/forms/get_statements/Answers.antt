@@ -1,4 +1,3 @@
-use Rattle.lrs_routes.specs.Forms.{parameters_of}
 use Rattle.lrs_routes.proofs.Looks.{get_meant}
 use Rattle.lrs_routes.proofs.forms.get_statements.Goals as goal
 

@@ -1,7 +1,7 @@
 use Rattle.std.proofs.Common.{◌≡◌, Option, List, ℕ, subst, sym}
 use Rattle.std.specs.Prelude.{MatchResult}
 use Rattle.xapi_query.specs.Pairs.{AreTexts}
-use Rattle.lrs_routes.specs.Faults.{p_rule}
+use Rattle.lrs_command.specs.declared.rule.Rule.TheVariants as rule
 use Rattle.lrs_routes.specs.Forms.{parameters_of}
 use Rattle.lrs_routes.specs.Parts.{IfBroken}
 use Rattle.lrs_routes.proofs.forms.parameters.Goals as goal
@@ -9,4 +9,4 @@ use Rattle.lrs_routes.proofs.forms.parameters.Goals as goal
 pub returns-in-Some : goal.returns-in-Some
 returns-in-Some c =
     subst (λ (query : Option (List ℕ)). MatchResult c.pairs_in.result (λ pairs. (pairs.items ≡ parameters_of query) × AreTexts (parameters_of query))
-    (λ fault. IfBroken fault (λ rule. (rule ≡ p_rule 1) × (¬ AreTexts (parameters_of query))))) (sym c.in-Some.is) c.pairs_in.ensures
+    (λ fault. IfBroken fault (λ r. (r ≡ rule.P 1) × (¬ AreTexts (parameters_of query))))) (sym c.in-Some.is) c.pairs_in.ensures

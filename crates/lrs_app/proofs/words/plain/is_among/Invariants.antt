@@ -1,5 +1,5 @@
 use Rattle.std.proofs.Common.{◌≡◌, length}
-use Rattle.lrs_app.specs.Words.{is_among}
+use Rattle.lrs_json.specs.Faults.{is_among}
 use Rattle.lrs_app.proofs.words.plain.is_among.Given as goal
 
 abbrev pub invariant-loop-left : goal.invariant-loop-left

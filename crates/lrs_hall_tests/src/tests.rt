@@ -1,8 +1,8 @@
 ghost use Rattle.std.specs.Prelude.{◌≡◌, None, IfOk};
 ghost use Rattle.lrs_disk.specs.MemDoor.{out_of};
 
-use super::*;
 use lrs_disk::{Door, MemDisk, MemDoor, MemLink, Next};
+use lrs_hall::{Draws, Finish, ServeEnd, Talk, converse, serve_all};
 use lrs_json::Text;
 use lrs_machine::{Desk, is_base, is_token};
 use lrs_routes::Routes;
@@ -51,25 +51,64 @@ fn held_by(alloc: Global, talk: &Talk, link: &MemLink) -> Result<Held, Fail> {
     })
 }
 
-fn conversed(alloc: Global, room: usize) -> Result<Held, Fail> {
-    let mut desk = founded(alloc)?;
-    let mut door = door_of(alloc, room)?;
+// What came of the one connection of a door, held over a desk.
+fn conversed_over(alloc: Global, desk: &mut Desk<MemDisk>, door: &mut MemDoor) -> Result<Held, Fail>
+    requires { out_of door.old ≡ None }
+{
     let routes = Routes::new(alloc)?;
     let mut draws = Draws::new([0; 32], 1);
     let Next::Joined(mut link) = door.next() else {
         return Err(Fail::from("no link"));
     };
-    let talk = converse(alloc, &mut desk, &mut door, &mut link, &routes, &mut draws);
+    let talk = converse(alloc, desk, door, &mut link, &routes, &mut draws);
     held_by(alloc, &talk, &link)
 }
 
-fn served(alloc: Global) -> Result<(Held, ServeEnd), Fail> {
-    let desk = founded(alloc)?;
-    let door = door_of(alloc, 999)?;
-    let (_desk, door, talks, end) = serve_all(alloc, desk, door, 1, [0; 32]);
-    let talk = talks.get(0).ok_or("no talk")?;
+fn conversed(alloc: Global, room: usize) -> Result<Held, Fail> {
+    let mut door = door_of(alloc, room)?;
+    match founded(alloc) {
+        Ok(mut desk) => {
+            let held = conversed_over(alloc, &mut desk, &mut door);
+            drop(desk);
+            drop(door);
+            held
+        }
+        Err(fail) => {
+            drop(door);
+            Err(fail)
+        }
+    }
+}
+
+fn first_of(alloc: Global, door: &MemDoor, talks: &[Talk]) -> Result<Held, Fail> {
+    let talk = talks.first().ok_or("no talk")?;
     let link = door.returned().first().ok_or("no link")?;
-    Ok((held_by(alloc, talk, link)?, end))
+    held_by(alloc, talk, link)
+}
+
+fn served_over(alloc: Global, desk: Desk<MemDisk>, door: MemDoor) -> (Result<Held, Fail>, ServeEnd)
+    requires { out_of door ≡ None }
+{
+    let (desk, door, talks, end) = serve_all(alloc, desk, door, 1, [0; 32]);
+    let held = first_of(alloc, &door, talks.as_slice());
+    drop(desk);
+    drop(door);
+    drop(talks);
+    (held, end)
+}
+
+fn served(alloc: Global) -> Result<(Held, ServeEnd), Fail> {
+    let door = door_of(alloc, 999)?;
+    match founded(alloc) {
+        Ok(desk) => {
+            let (held, end) = served_over(alloc, desk, door);
+            Ok((held?, end))
+        }
+        Err(fail) => {
+            drop(door);
+            Err(fail)
+        }
+    }
 }
 
 // There is room for half of the response.

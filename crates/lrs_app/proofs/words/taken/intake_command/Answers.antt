@@ -1,0 +1,10 @@
+use Rattle.std.proofs.Common.{◌∙◌, ap, ap₂}
+use Rattle.clap.specs.Words.{App, app_of, with_rule, with_subcommand}
+use Rattle.lrs_app.proofs.Taken.{still}
+use Rattle.lrs_app.proofs.words.taken.intake_command.Goals as goal
+
+pub returns : goal.returns
+returns c old new adds =
+    let app = c.in_ok-arg.ensures.shape c.required.ensures.local ∙ ap₂ with_rule c.new.ensures.app c.required.ensures.rule in
+    let local = still _ _ _ c.in_ok-arg.ensures.globals c.new.ensures.local c.required.ensures.local in
+    adds.shape local ∙ ap (λ (a : App). with_subcommand (app_of old) a.top) app

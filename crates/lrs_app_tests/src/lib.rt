@@ -1,0 +1,13 @@
+//! The tests of lrs_app and of the program, which does nothing but call `run`: over the outside in memory, and over real files.
+#![tactic(auto)]
+
+#[cfg(test)]
+mod commands;
+#[cfg(test)]
+mod files;
+#[cfg(test)]
+mod outside;
+#[cfg(test)]
+mod serving;
+#[cfg(test)]
+mod words;

@@ -1,0 +1,5 @@
+//! The tests of lrs_hall.
+#![tactic(auto)]
+
+#[cfg(test)]
+mod tests;

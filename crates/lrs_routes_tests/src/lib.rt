@@ -1,0 +1,5 @@
+//! The tests of lrs_routes.
+#![tactic(auto)]
+
+#[cfg(test)]
+mod requests;
