@@ -3,13 +3,13 @@ use Rattle.std.proofs.Common.{◌≡◌, List, ℕ, Bool, true, false, Option, S
 use Rattle.std.specs.Prelude.{option_map}
 use Rattle.std.specs.Option.{option_or}
 use Rattle.lrs_fold.specs.Acceptance.{thanks_of, told_by}
-use Rattle.lrs_fold.specs.Verdicts.{IsVerdict}
+use Rattle.lrs_fold.specs.Verdicts.{IsVerdict, verdict_on}
 use Rattle.lrs_fold.specs.declared.verdict.Accepted.{Accepted as Made}
 use Rattle.lrs_fold.specs.declared.verdict.Verdict.TheVariants as made
 use Rattle.lrs_fold.proofs.Thanked.{thanked}
 use Rattle.lrs_history.specs.Answers.{acceptance}
 use Rattle.lrs_history.specs.Effects.{effect}
-use Rattle.lrs_history.specs.History.{Verdict, refused, said_at_once, verdict_by}
+use Rattle.lrs_history.specs.History.{Verdict, refused, verdict_by}
 use Rattle.lrs_history.specs.Refusals.{refusal}
 use Rattle.lrs_parts.specs.State.{State, changes_nothing}
 use Rattle.lrs_parts.specs.declared.effect.Effect.{Effect}
@@ -18,10 +18,6 @@ use Rattle.lrs_record.specs.declared.entry.Entry.{Entry}
 use Rattle.lrs_replies.specs.declared.answered.Answered.{Answered}
 use Rattle.lrs_replies.specs.declared.answered.Refusal.{Refusal}
 use Rattle.xapi_index.specs.Choices.{when}
-
--- the verdict of an entry
-abbrev pub verdict_on : State → Entry → Verdict
-verdict_on st e = verdict_by (said_at_once st e) e (acceptance st e.write (effect st e))
 
 -- by its refusal and by whether it changes nothing
 abbrev by_both : State → Entry → Option Refusal → Bool → Verdict

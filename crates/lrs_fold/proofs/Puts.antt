@@ -11,7 +11,7 @@ use Rattle.lrs_command.specs.declared.who.Who.TheVariants as who
 use Rattle.lrs_fold.specs.Own.{IsPut, MayRefusePut, SaysOfPut}
 use Rattle.lrs_history.specs.Effects.{effect}
 use Rattle.lrs_history.specs.History.{next_entry, refused, verdict, verdict_by}
-use Rattle.lrs_history.specs.Refusals.{broken, forbidden, met_over, other_id, refused_form}
+use Rattle.lrs_history.specs.Refusals.{broken, forbidden, other_id, refused_form, refused_over}
 use Rattle.lrs_json.specs.Json.{Json}
 use Rattle.lrs_json.specs.View.{view}
 use Rattle.lrs_names.specs.declared.draw.Draw.{Draw}
@@ -59,9 +59,9 @@ may_void : (b : Bool) → MayRefuse (when (b && false) (Forbidden (rule.C 2)))
 may_void true = tt
 may_void false = tt
 
-may_meet : (before : List HeldStatement) (id : List ℕ) (j : Json) (held : Option HeldStatement) → MayRefuse (met_over who.Admin before id j held)
-may_meet before id j None = may_void (is_voiding j)
-may_meet before id j (Some held) = may_when (not (same (view held.received) j)) (Conflict id) tt
+may_meet : (st : State) (before : List HeldStatement) (id : List ℕ) (j : Json) (held : Option HeldStatement) → MayRefuse (refused_over st who.Admin before id j held)
+may_meet st before id j None = may_void (is_voiding j)
+may_meet st before id j (Some held) = may_when (not (same (view held.received) j)) (Conflict id) tt
 
 by_refusal : (o : Option Refusal) (b : Bool) (e : Entry) → MayRefuse o
     → SaysOfPut (verdict_by (option_or (option_map refused o) (when b (if b then Same else Kept))) e (if b then Same else Kept))
@@ -72,9 +72,9 @@ by_refusal None false e may = tt
 pub put_says : (st : State) (caller : Caller) (c : Command) (clock : ℕ) (draw : Draw) → IsPut caller c → SaysOfPut (verdict st caller c clock draw)
 put_says st Operator (command.Write (Put id statement)) clock draw is =
     let e : Entry = next_entry st Operator (Put id statement) clock draw in
-    by_refusal (first_some (None ∷ refused_form id (view statement) ∷ met_over who.Admin st.statements id (view statement) (held_under id st.statements) ∷ [])) (changes_nothing (effect st e)) e
-    (may_or (refused_form id (view statement)) (option_or (met_over who.Admin st.statements id (view statement) (held_under id st.statements)) None) (may_form id (view statement))
-    (may_or (met_over who.Admin st.statements id (view statement) (held_under id st.statements)) None (may_meet st.statements id (view statement) (held_under id st.statements)) tt))
+    by_refusal (first_some (None ∷ refused_form id (view statement) ∷ refused_over st who.Admin st.statements id (view statement) (held_under id st.statements) ∷ [])) (changes_nothing (effect st e)) e
+    (may_or (refused_form id (view statement)) (option_or (refused_over st who.Admin st.statements id (view statement) (held_under id st.statements)) None) (may_form id (view statement))
+    (may_or (refused_over st who.Admin st.statements id (view statement) (held_under id st.statements)) None (may_meet st st.statements id (view statement) (held_under id st.statements)) tt))
 put_says st Operator other clock draw is = absurd is
 put_says st Nobody c clock draw is = absurd is
 put_says st (Token token) c clock draw is = absurd is

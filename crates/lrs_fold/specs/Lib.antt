@@ -1,6 +1,8 @@
 pub mod Judged
 pub mod Naming
 pub mod Meeting
+pub mod Keeping
+pub mod Telling
 pub mod Acceptance
 pub mod Next
 pub mod Verdicts

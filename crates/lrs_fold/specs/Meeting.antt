@@ -2,14 +2,14 @@
 use Rattle.std.specs.Prelude.{List, [], ◌∷◌, Option, None}
 use Rattle.std.specs.Option.{option_or}
 use Rattle.lrs_command.specs.declared.who.Who.{Who}
-use Rattle.lrs_history.specs.Refusals.{met}
+use Rattle.lrs_history.specs.Refusals.{refused_under}
 use Rattle.lrs_json.specs.View.{view}
 use Rattle.lrs_json.specs.declared.tree.Tree.{Tree}
+use Rattle.lrs_parts.specs.State.{State}
 use Rattle.lrs_replies.specs.declared.answered.Refusal.{Refusal}
-use Rattle.xapi_statement.specs.Completed.{HeldStatement}
 use Rattle.xapi_statement.specs.Statement.{own_id}
 
--- What the first meets that is refused. None of the rules looks at those before it.
-abbrev pub met_each : Who → List HeldStatement → List Tree → Option Refusal
-met_each by held [] = None
-met_each by held (t ∷ ts) = option_or (met by held held (own_id (view t)) (view t)) (met_each by held ts)
+-- why the first isn't kept that comes under its own id and isn't, whatever stands before it
+abbrev pub refused_each : State → Who → List Tree → Option Refusal
+refused_each st by [] = None
+refused_each st by (t ∷ ts) = option_or (refused_under st by st.statements (own_id (view t)) (view t)) (refused_each st by ts)

@@ -2,16 +2,14 @@
 ghost use Rattle.std.specs.Prelude.{◌≡◌, ◌∷◌, ◌++◌, [], Some, IfOk, OnOk};
 ghost use Rattle.std.specs.List.{AllByRecursion};
 ghost use Rattle.lrs_fold.specs.Judged.{IsJudged, IsJudgedTree};
+ghost use Rattle.lrs_fold.specs.Keeping.{keeping, new_by};
 ghost use Rattle.lrs_fold.specs.Naming.{named_of};
-ghost use Rattle.lrs_history.specs.Effects.{Occasion, effect, effect_of};
-ghost use Rattle.lrs_history.specs.Whose.{authority_of};
+ghost use Rattle.lrs_history.specs.Effects.{Occasion, effect, effect_of, supply_in};
 ghost use Rattle.lrs_parts.specs.Parts.{state_of};
-ghost use Rattle.lrs_parts.specs.State.{no_change, used_in};
+ghost use Rattle.lrs_parts.specs.State.{no_change};
 ghost use Rattle.lrs_record.specs.declared.entry.Write.TheVariants as write;
 ghost use Rattle.lrs_replies.specs.Texts.{token_text};
-ghost use Rattle.xapi_index.specs.Batches.{given_ids, kept_by, named, names_of};
-ghost use Rattle.xapi_index.specs.Ids.{supply_of};
-ghost use Rattle.xapi_index.specs.Statements.{new_ones};
+ghost use Rattle.xapi_index.specs.Batches.{named};
 
 use crate::Fold;
 use lrs_command::Who;
@@ -57,14 +55,9 @@ impl Fold {
         draw: &Draw,
     ) -> Result<Effect, Memory>
         ensures { IfOk result (λ made. made ≡ record (no_change moment) {
-          callers =
-              record {
-                new = Some (record {
-                  name = name;
-                  token = token_text self.now.parts.length
-                      draw.now.secret;
-                });
-              };
+          callers = record {
+            new = Some (record { name = name; token = token_text self.now.parts.length draw.now.secret });
+          };
         }) }
     {
         let token = token_text(alloc, self.parts.length, draw.secret)?;
@@ -84,12 +77,8 @@ impl Fold {
         statement: Tree,
     ) -> Result<Effect, Memory>
         requires { IsJudgedTree statement }
-        ensures { IfOk result (λ made. made ≡ record (no_change moment) {
-          statements = new_ones
-              (state_of self.now.parts).statements (kept_by moment (authority_of (state_of self.now.parts) who)
-              (record { id = id; tree = statement } ∷ []));
-          told = id ∷ [];
-        }) }
+        ensures { IfOk result (λ made. made
+            ≡ keeping (state_of self.now.parts) who moment (record { id = id; tree = statement } ∷ [])) }
     {
         let mut told = Vec::new(alloc);
         told.push(id)?;
@@ -108,14 +97,8 @@ impl Fold {
         statements: Vec<Tree>,
     ) -> Result<Effect, Memory>
         requires { AllByRecursion IsJudgedTree statements.items }
-        ensures { IfOk result (λ made. made ≡ record (no_change moment) {
-          statements = new_ones
-              (state_of self.now.parts).statements (kept_by moment (authority_of (state_of self.now.parts) who)
-              (named (supply_of (used_in (state_of self.now.parts)) (given_ids statements.items) draw.now.name)
-              statements.items));
-          told = names_of (named (supply_of (used_in (state_of self.now.parts))
-              (given_ids statements.items) draw.now.name) statements.items);
-        }) }
+        ensures { IfOk result (λ made. made ≡ keeping (state_of self.now.parts) who moment
+            (named (supply_in (state_of self.now.parts) (write.Post statements.items) draw.now) statements.items)) }
     {
         let told = batch_ids(alloc, &self.parts.statements, statements.as_slice(), draw)?;
         let added = self.new_of_batch(alloc, who, moment, told.as_slice(), statements)?;
@@ -132,9 +115,9 @@ impl Fold {
         statement: Tree,
     ) -> Result<(), Memory>
         requires { IsJudgedTree statement }
-        ensures { OnOk result (added.new.items ≡ added.old.items
-            ++ new_ones (state_of self.now.parts).statements (kept_by moment
-            (authority_of (state_of self.now.parts) who) (record { id = id.now; tree = statement } ∷ []))) }
+        ensures { OnOk result (added.new.items
+            ≡ added.old.items
+            ++ new_by (state_of self.now.parts) who moment (record { id = id.now; tree = statement } ∷ [])) }
     {
         if self.parts.statements.find(id).is_some() {
             return Ok(());
@@ -155,8 +138,8 @@ impl Fold {
         statements: Vec<Tree>,
     ) -> Result<Vec<Completed>, Memory>
         requires { AllByRecursion IsJudgedTree statements.items }
-        ensures { IfOk result (λ added. added.items ≡ new_ones (state_of self.now.parts).statements
-            (kept_by moment (authority_of (state_of self.now.parts) who) (named_of ids.now statements.items))) }
+        ensures { IfOk result (λ added. added.items
+            ≡ new_by (state_of self.now.parts) who moment (named_of ids.now statements.items)) }
     {
         let mut added = Vec::with_capacity(alloc, ids.len())?;
         let mut statements = statements.into_iter();

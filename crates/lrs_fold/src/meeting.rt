@@ -1,32 +1,22 @@
 // What the statements of a write meet in the store.
-ghost use Rattle.std.specs.Prelude.{◌≡◌, [], not};
-ghost use Rattle.lrs_fold.specs.Meeting.{met_each};
-ghost use Rattle.lrs_history.specs.Refusals.{forbidden, may_void, met, met_over};
+ghost use Rattle.std.specs.Prelude.{◌≡◌, not};
+ghost use Rattle.lrs_fold.specs.Meeting.{refused_each};
+ghost use Rattle.lrs_history.specs.Refusals.{forbidden, may_void, refused_over, refused_under};
 ghost use Rattle.lrs_json.specs.View.{view};
+ghost use Rattle.lrs_parts.specs.Parts.{state_of};
 ghost use Rattle.lrs_replies.specs.declared.answered.Refusal.TheVariants as refusal;
 ghost use Rattle.xapi_equal.specs.Same.{same};
 ghost use Rattle.xapi_index.specs.Choices.{when};
 ghost use Rattle.xapi_index.specs.Statements.{held_under};
 ghost use Rattle.xapi_statement.specs.Statement.{own_id};
 
+use crate::Fold;
 use lrs_command::{Rule, Who};
 use lrs_json::Tree;
 use lrs_names::Id;
 use lrs_replies::Refusal;
 use xapi_equal::same_received;
-use xapi_index::Index;
 use xapi_statement::{Completed, is_voiding, own_id};
-
-// Why a new statement isn't kept: only an admin voids.
-fn forbidden(who: Who, statement: &Tree) -> Option<Refusal>
-    ensures { result ≡ forbidden who [] (view statement.now) }
-{
-    if is_voiding(statement) && !may_void(who) {
-        Some(Refusal::Forbidden(Rule::C(2)))
-    } else {
-        None
-    }
-}
 
 fn may_void(who: Who) -> bool
     ensures { result ≡ may_void who }
@@ -37,26 +27,8 @@ fn may_void(who: Who) -> bool
     }
 }
 
-/// What a statement meets that comes under an id.
-pub(crate) fn met(who: Who, index: &Index, id: Option<Id>, statement: &Tree) -> Option<Refusal>
-    ensures { result ≡ met who index.now.held index.now.held id (view statement.now) }
-{
-    match id {
-        Some(id) => met_under(who, index, &id, statement),
-        None => forbidden(who, statement),
-    }
-}
-
-fn met_under(who: Who, index: &Index, id: &Id, statement: &Tree) -> Option<Refusal>
-    ensures { result ≡ met_over who index.now.held id.now (view statement.now) (held_under id.now index.now.held) }
-{
-    match index.find(id) {
-        Some(held) => conflict(id, statement, held),
-        None => forbidden(who, statement),
-    }
-}
-
-fn conflict(id: &Id, statement: &Tree, held: &Completed) -> Option<Refusal>
+// Why a statement isn't kept that comes under an id under which that one is held.
+fn refused_beside(id: &Id, statement: &Tree, held: &Completed) -> Option<Refusal>
     ensures { result ≡ when (not (same (view held.now.received) (view statement.now))) (refusal.Conflict id.now) }
 {
     if same_received(held.received(), statement) {
@@ -66,20 +38,62 @@ fn conflict(id: &Id, statement: &Tree, held: &Completed) -> Option<Refusal>
     }
 }
 
-fn met_own(who: Who, index: &Index, statement: &Tree) -> Option<Refusal>
-    ensures { result ≡ met who index.now.held index.now.held (own_id (view statement.now)) (view statement.now) }
-{
-    met(who, index, own_id(statement), statement)
-}
-
-/// What the first meets of statements that come together and is refused.
-pub(crate) fn met_each(who: Who, index: &Index, statements: &[Tree]) -> Option<Refusal>
-    ensures { result ≡ met_each who index.now.held statements.now }
-{
-    for statement in statements {
-        if let Some(refusal) = met_own(who, index, statement) {
-            return Some(refusal);
+impl Fold {
+    // Why a new statement isn't kept: only an admin voids.
+    fn forbidden(&self, who: Who, statement: &Tree) -> Option<Refusal>
+        ensures { result ≡ forbidden (state_of self.now.parts) who self.now.parts.statements.held (view statement.now) }
+    {
+        if is_voiding(statement) && !may_void(who) {
+            Some(Refusal::Forbidden(Rule::C(2)))
+        } else {
+            None
         }
     }
-    None
+
+    fn refused_over(&self, who: Who, id: &Id, statement: &Tree) -> Option<Refusal>
+        ensures { result
+            ≡ refused_over (state_of self.now.parts) who self.now.parts.statements.held id.now (view statement.now)
+            (held_under id.now self.now.parts.statements.held) }
+    {
+        match self.parts.statements.find(id) {
+            Some(held) => refused_beside(id, statement, held),
+            None => self.forbidden(who, statement),
+        }
+    }
+
+    /// Why a statement isn't kept that comes under an id.
+    pub(crate) fn refused_under(
+        &self,
+        who: Who,
+        id: Option<Id>,
+        statement: &Tree,
+    ) -> Option<Refusal>
+        ensures { result
+            ≡ refused_under (state_of self.now.parts) who self.now.parts.statements.held id (view statement.now) }
+    {
+        match id {
+            Some(id) => self.refused_over(who, &id, statement),
+            None => self.forbidden(who, statement),
+        }
+    }
+
+    fn refused_own(&self, who: Who, statement: &Tree) -> Option<Refusal>
+        ensures { result
+            ≡ refused_under (state_of self.now.parts) who self.now.parts.statements.held
+            (own_id (view statement.now)) (view statement.now) }
+    {
+        self.refused_under(who, own_id(statement), statement)
+    }
+
+    /// Why the first isn't kept of statements that come together and that isn't.
+    pub(crate) fn refused_each(&self, who: Who, statements: &[Tree]) -> Option<Refusal>
+        ensures { result ≡ refused_each (state_of self.now.parts) who statements.now }
+    {
+        for statement in statements {
+            if let Some(refusal) = self.refused_own(who, statement) {
+                return Some(refusal);
+            }
+        }
+        None
+    }
 }

@@ -1,9 +1,8 @@
 // What is told of a question.
 ghost use Rattle.std.specs.Prelude.{◌≡◌, ◌≤◌, length, IfOk};
 ghost use Rattle.lrs_command.specs.declared.command.Read.TheVariants as question;
-ghost use Rattle.lrs_history.specs.Answers.{is_shown, one_said, page_said, reading, wanted_said};
-ghost use Rattle.lrs_history.specs.History.{refused_or};
-ghost use Rattle.lrs_history.specs.Refusals.{read_refusal, too_late};
+ghost use Rattle.lrs_fold.specs.Telling.{told_inside, told_to};
+ghost use Rattle.lrs_history.specs.Answers.{is_shown, one_said, page_said, wanted_said};
 ghost use Rattle.lrs_history.specs.Whose.{who_is};
 ghost use Rattle.lrs_parts.specs.Parts.{state_of};
 ghost use Rattle.xapi_index.specs.Statements.{held_under};
@@ -11,7 +10,7 @@ ghost use Rattle.xapi_statement.specs.Shown.{shown_text};
 
 use crate::Fold;
 use lrs_command::{Read, Rule, Who};
-use lrs_history::{barred, read_area, sight_of};
+use lrs_history::{barred, read_area};
 use lrs_json::{Items, Memory};
 use lrs_names::Id;
 use lrs_record::Caller;
@@ -25,9 +24,8 @@ impl Fold {
     /// What a caller is told who asks.
     #[tactic(auto, using(crate::proofs::Late::late_alone))]
     pub fn told(&self, alloc: Global, caller: &Caller, read: &Read) -> Result<Answered, Memory>
-        ensures { IfOk result (λ said. said ≡ refused_or (read_refusal (state_of self.now.parts)
-            (who_is (state_of self.now.parts) caller.now) read.now)
-            (reading (state_of self.now.parts) (who_is (state_of self.now.parts) caller.now) read.now)) }
+        ensures { IfOk result (λ said. said
+            ≡ told_to (state_of self.now.parts) (who_is (state_of self.now.parts) caller.now) read.now) }
     {
         let who = self.who(caller);
         match barred(read_area(read), who) {
@@ -38,8 +36,7 @@ impl Fold {
 
     // What a caller is told who is let in.
     fn told_inside(&self, alloc: Global, who: Who, read: &Read) -> Result<Answered, Memory>
-        ensures { IfOk result (λ said. said ≡ refused_or (too_late (state_of self.now.parts) read.now)
-            (reading (state_of self.now.parts) who read.now)) }
+        ensures { IfOk result (λ said. said ≡ told_inside (state_of self.now.parts) who read.now) }
     {
         match read {
             Read::Statements(wanted) => self.wanted_said(alloc, who, wanted),
@@ -53,8 +50,7 @@ impl Fold {
 
     // The page that a link leads to, where there is a list as it speaks of.
     fn more_said(&self, alloc: Global, who: Who, link: &MoreLink) -> Result<Answered, Memory>
-        ensures { IfOk result (λ said. said ≡ refused_or (too_late (state_of self.now.parts) (question.More link.now))
-            (reading (state_of self.now.parts) who (question.More link.now))) }
+        ensures { IfOk result (λ said. said ≡ told_inside (state_of self.now.parts) who (question.More link.now)) }
     {
         if link.asof > self.parts.statements.len() as u64 {
             return Ok(Answered::Refused(Refusal::Broken(Rule::P(14))));
@@ -89,8 +85,8 @@ impl Fold {
         voided: bool,
         id: &Id,
     ) -> Result<Answered, Memory>
-        ensures { IfOk result (λ said. said ≡ one_said (state_of self.now.parts) who format voided
-            (held_under id.now self.now.parts.statements.held)) }
+        ensures { IfOk result (λ said. said
+            ≡ one_said (state_of self.now.parts) who format voided (held_under id.now self.now.parts.statements.held)) }
     {
         let Some(held) = self.parts.statements.find(id) else {
             return Ok(Answered::Refused(Refusal::NotFound));
@@ -107,7 +103,7 @@ impl Fold {
     fn is_shown(&self, who: Who, voided: bool, held: &Completed) -> bool
         ensures { result ≡ is_shown (state_of self.now.parts) who voided held.now }
     {
-        sees(&sight_of(who), held) && self.parts.statements.is_voided(held) == voided
+        sees(&self.sight(who), held) && self.parts.statements.is_voided(held) == voided
     }
 
     // The page behind a position in the list as of the first n statements.
@@ -126,7 +122,7 @@ impl Fold {
             alloc,
             &self.parts.statements,
             query,
-            &sight_of(who),
+            &self.sight(who),
             n,
             after,
         )?;

@@ -7,7 +7,6 @@ ghost use Rattle.lrs_parts.specs.Parts.{state_of};
 
 use crate::Fold;
 use crate::forms::bad_form;
-use crate::meeting::{met, met_each};
 use lrs_command::Who;
 use lrs_history::{area_of, barred};
 use lrs_json::Memory;
@@ -43,10 +42,8 @@ impl Fold {
         ensures { (at : Occasion) → at.by ≡ who → result ≡ conflict (state_of self.now.parts) at write.now }
     {
         match write {
-            Write::Put { id, statement } => met(who, &self.parts.statements, Some(*id), statement),
-            Write::Post { statements } => {
-                met_each(who, &self.parts.statements, statements.as_slice())
-            }
+            Write::Put { id, statement } => self.refused_under(who, Some(*id), statement),
+            Write::Post { statements } => self.refused_each(who, statements.as_slice()),
             Write::Found { .. } | Write::Provider { .. } => None,
         }
     }

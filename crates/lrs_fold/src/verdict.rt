@@ -2,10 +2,8 @@
 ghost use Rattle.std.specs.Prelude.{◌≡◌, max, IfOk, Ok, None};
 ghost use Rattle.lrs_command.specs.Commands.{HasReadTrees};
 ghost use Rattle.lrs_fold.specs.Judged.{IsJudged};
-ghost use Rattle.lrs_fold.specs.Verdicts.{IsVerdict};
-ghost use Rattle.lrs_history.specs.Answers.{acceptance};
-ghost use Rattle.lrs_history.specs.Effects.{effect};
-ghost use Rattle.lrs_history.specs.History.{refused, refused_or, said_at_once, verdict, verdict_by};
+ghost use Rattle.lrs_fold.specs.Verdicts.{IsVerdict, verdict_on};
+ghost use Rattle.lrs_history.specs.History.{refused, refused_or, verdict};
 ghost use Rattle.lrs_history.specs.Refusals.{barred, refusal, refused_with};
 ghost use Rattle.lrs_history.specs.Whose.{who_is};
 ghost use Rattle.lrs_parts.specs.Parts.{state_of};
@@ -56,8 +54,8 @@ impl Fold {
     ) -> Result<Verdict, Memory>
         requires caller { IsLawfulCaller caller }
         requires command { HasReadTrees command }
-        ensures { IfOk result (IsVerdict (state_of self.now.parts)
-            (verdict (state_of self.now.parts) caller command clock draw.now)) }
+        ensures { IfOk result
+            (IsVerdict (state_of self.now.parts) (verdict (state_of self.now.parts) caller command clock draw.now)) }
     {
         match command {
             Command::Write(write) => self.write_verdict(
@@ -85,7 +83,8 @@ impl Fold {
 
     // What a caller is told whose command's form is refused.
     fn refused(&self, caller: &Caller, area: Area, status: u16, rule: Rule) -> Answered
-        ensures { result ≡ refused_or (barred area (who_is (state_of self.now.parts) caller.now))
+        ensures { result
+            ≡ refused_or (barred area (who_is (state_of self.now.parts) caller.now))
             (refused (refused_with status rule)) }
     {
         match barred(area, self.who(caller)) {
@@ -98,9 +97,7 @@ impl Fold {
     fn write_verdict(&self, alloc: Global, entry: Entry) -> Result<Verdict, Memory>
         requires caller { IsLawfulCaller entry.caller }
         requires write { IsLawfulWrite entry.write }
-        ensures { IfOk result (IsVerdict (state_of self.now.parts)
-            (verdict_by (said_at_once (state_of self.now.parts) entry) entry
-            (acceptance (state_of self.now.parts) entry.write (effect (state_of self.now.parts) entry)))) }
+        ensures { IfOk result (IsVerdict (state_of self.now.parts) (verdict_on (state_of self.now.parts) entry)) }
     {
         match self.refusal(alloc, &entry) {
             Ok(None) => self.accepted(alloc, entry),
@@ -121,9 +118,7 @@ impl Fold {
         requires write { IsLawfulWrite entry.write }
         requires judged { IsJudged entry.write }
         requires unrefused { refusal (state_of self.now.parts) entry ≡ None }
-        ensures { IfOk result (IsVerdict (state_of self.now.parts)
-            (verdict_by (said_at_once (state_of self.now.parts) entry) entry
-            (acceptance (state_of self.now.parts) entry.write (effect (state_of self.now.parts) entry)))) }
+        ensures { IfOk result (IsVerdict (state_of self.now.parts) (verdict_on (state_of self.now.parts) entry)) }
     {
         match frame_of(alloc, &entry) {
             Ok(frame) => self.promised(alloc, frame, entry),
@@ -141,9 +136,7 @@ impl Fold {
         requires unrefused { refusal (state_of self.now.parts) entry ≡ None }
         requires frame { frame.items ≡ written_entry entry }
         requires lawful { IsLawful entry }
-        ensures { IfOk result (IsVerdict (state_of self.now.parts)
-            (verdict_by (said_at_once (state_of self.now.parts) entry) entry
-            (acceptance (state_of self.now.parts) entry.write (effect (state_of self.now.parts) entry)))) }
+        ensures { IfOk result (IsVerdict (state_of self.now.parts) (verdict_on (state_of self.now.parts) entry)) }
     {
         let thanks = Thanks::of(&entry.write);
         let effect = self.prepare(alloc, entry)?;

@@ -1,6 +1,6 @@
 // Who a caller is, and under whose authority its statements stand.
 ghost use Rattle.std.specs.Prelude.{◌≡◌, IfOk};
-ghost use Rattle.lrs_history.specs.Whose.{authority_of, who_is, who_presents};
+ghost use Rattle.lrs_history.specs.Whose.{authority_of, sight_of, who_is, who_presents};
 ghost use Rattle.lrs_parts.specs.Parts.{state_of};
 
 use crate::Fold;
@@ -8,6 +8,7 @@ use lrs_command::Who;
 use lrs_json::{Memory, Text};
 use lrs_parts::is_admin;
 use lrs_record::Caller;
+use xapi_query::Sight;
 use xapi_statement::Authority;
 
 impl Fold {
@@ -48,6 +49,17 @@ impl Fold {
                 })),
                 None => Ok(None),
             },
+        }
+    }
+
+    /// What a caller sees of the statements.
+    pub(crate) fn sight(&self, who: Who) -> Sight
+        ensures { result ≡ sight_of (state_of self.now.parts) who }
+    {
+        match who {
+            Who::Unknown => Sight::Nothing,
+            Who::Admin => Sight::All,
+            Who::Provider(number) => Sight::Provider(number),
         }
     }
 }

@@ -42,8 +42,8 @@ acceptance st (Post statements) x = Shown (ids_body x.told) None
 
 -- a caller sees it, and it is voided or not as is asked
 abbrev pub is_shown : State → Who → Bool → HeldStatement → Bool
-is_shown st by true held = sees (sight_of by) held && is_voided st.statements held
-is_shown st by false held = sees (sight_of by) held && not (is_voided st.statements held)
+is_shown st by true held = sees (sight_of st by) held && is_voided st.statements held
+is_shown st by false held = sees (sight_of st by) held && not (is_voided st.statements held)
 
 -- the statement that is wanted, where it is held and shown, consistent up to the last entry
 abbrev pub one_said : State → Who → Format → Bool → Option HeldStatement → Answered
@@ -54,7 +54,7 @@ one_said st by format voided (Some held) =
 -- the page behind a position in the list as of the first n statements, consistent up to the last entry
 abbrev pub page_said : State → Who → Query → ℕ → Option ℕ → Answered
 page_said st by query n after =
-    Shown (page_body query n st.statements (page_behind query (sight_of by) (take n st.statements) after)) (Some st.last)
+    Shown (page_body query n st.statements (page_behind query (sight_of st by) (take n st.statements) after)) (Some st.last)
 
 abbrev pub wanted_said : State → Who → Wanted → Answered
 wanted_said st by (One id format) = one_said st by format false (held_under id st.statements)

@@ -2,6 +2,7 @@
 use Rattle.std.specs.Prelude.{ℕ, List, [], ◌∷◌, Some}
 use Rattle.lrs_command.specs.declared.who.Who.{Who}
 use Rattle.lrs_history.specs.Whose.{authority_of, who_is}
+use Rattle.lrs_names.specs.declared.draw.Draw.{Draw}
 use Rattle.lrs_parts.specs.State.{State, no_change, used_in}
 use Rattle.lrs_parts.specs.declared.effect.Effect.{Effect}
 use Rattle.lrs_record.specs.declared.entry.Entry.{Entry}
@@ -26,13 +27,17 @@ given_in (Put id statement) = id ∷ []
 given_in (Post statements) = given_ids statements
 given_in other = []
 
--- The token tells the place of the entry. The ids are made from the draw's name on; none is used, and none is brought.
+-- The ids that an entry can make: from the draw's name on. None is used, and none is brought.
+abbrev pub supply_in : State → Write → Draw → Supply
+supply_in st write draw = supply_of (used_in st) (given_in write) draw.name
+
+-- The token tells the place of the entry.
 abbrev pub occasion : State → Entry → Occasion
 occasion st e = record {
   by = who_is st e.caller;
   moment = e.moment;
   token = token_text st.length e.draw.secret;
-  supply = supply_of (used_in st) (given_in e.write) e.draw.name;
+  supply = supply_in st e.write e.draw;
 }
 
 -- ---- statements

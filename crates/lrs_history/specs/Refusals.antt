@@ -8,7 +8,7 @@ use Rattle.std.specs.Str.{bytes_eq}
 use Rattle.lrs_command.specs.declared.command.Area.{Area}
 use Rattle.lrs_command.specs.declared.command.Area.TheVariants.{Free, Store, Desk}
 use Rattle.lrs_command.specs.declared.command.Read.{Read}
-use Rattle.lrs_command.specs.declared.command.Read.TheVariants.{More, About}
+use Rattle.lrs_command.specs.declared.command.Read.TheVariants.{Statements, More, About}
 use Rattle.lrs_command.specs.declared.rule.Rule.{Rule}
 use Rattle.lrs_command.specs.declared.rule.Rule.TheVariants as rule
 use Rattle.lrs_command.specs.declared.who.Who.{Who}
@@ -39,13 +39,15 @@ use Rattle.xapi_statement.specs.Statement.{is_too_long, own_id}
 
 -- where a write goes, by what it asks of its caller
 abbrev pub area_of : Write → Area
+area_of (Found admin base) = Desk
+area_of (Provider name) = Desk
 area_of (Put id statement) = Store
 area_of (Post statements) = Store
-area_of other = Desk
 
 abbrev pub read_area : Read → Area
+read_area (Statements wanted) = Store
+read_area (More link) = Store
 read_area About = Free
-read_area other = Store
 
 -- Why a caller isn't let in: no caller of the history (A1), or another than an admin at the desk (A2).
 abbrev pub barred : Area → Who → Option Refusal
@@ -106,29 +108,33 @@ may_void who.Admin = true
 may_void other = false
 
 -- Why a new statement isn't kept: only an admin voids (C2). Those before it are held, or stand before it in its batch.
-abbrev pub forbidden : Who → List HeldStatement → Json → Option Refusal
-forbidden by before j = when (is_voiding j && not (may_void by)) (Forbidden (rule.C 2))
+abbrev pub forbidden : State → Who → List HeldStatement → Json → Option Refusal
+forbidden st by before j = when (is_voiding j && not (may_void by)) (Forbidden (rule.C 2))
 
--- what a statement of this id meets, where that one is held under it
-abbrev pub met_over : Who → List HeldStatement → List ℕ → Json → Option HeldStatement → Option Refusal
-met_over by before id j None = forbidden by before j
-met_over by before id j (Some held) = when (not (same (view held.received) j)) (Conflict id)
+-- why a statement of this id isn't kept, where that one is held under it
+abbrev pub refused_over : State → Who → List HeldStatement → List ℕ → Json → Option HeldStatement → Option Refusal
+refused_over st by before id j None = forbidden st by before j
+refused_over st by before id j (Some held) = when (not (same (view held.received) j)) (Conflict id)
 
--- What a statement meets that comes under an id. A made one is that of no held statement.
-abbrev pub met : Who → List HeldStatement → List HeldStatement → Option (List ℕ) → Json → Option Refusal
-met by held before None j = forbidden by before j
-met by held before (Some id) j = met_over by before id j (held_under id held)
+-- Why a statement isn't kept that comes under an id. A made one is that of no held statement.
+abbrev pub refused_under : State → Who → List HeldStatement → Option (List ℕ) → Json → Option Refusal
+refused_under st by before None j = forbidden st by before j
+refused_under st by before (Some id) j = refused_over st by before id j (held_under id st.statements)
+
+-- those before the next one, behind this one
+abbrev pub before_next : State → Occasion → List HeldStatement → Named → List HeldStatement
+before_next st at before n = add_each before (kept_by at.moment (authority_of st at.by) (n ∷ []))
 
 -- Each in its order, with those before it. No two of them have one id, so none comes under that of an earlier one of them.
-abbrev pub met_in : State → Occasion → List HeldStatement → List Named → Option Refusal
-met_in st at before [] = None
-met_in st at before (n ∷ ns) = option_or
-    (met at.by st.statements before (own_id (view n.tree)) (view n.tree))
-    (met_in st at (add_each before (kept_by at.moment (authority_of st at.by) (n ∷ []))) ns)
+abbrev pub refused_in : State → Occasion → List HeldStatement → List Named → Option Refusal
+refused_in st at before [] = None
+refused_in st at before (n ∷ ns) = option_or
+    (refused_under st at.by before (own_id (view n.tree)) (view n.tree))
+    (refused_in st at (before_next st at before n) ns)
 
 abbrev pub conflict : State → Occasion → Write → Option Refusal
-conflict st at (Put id statement) = met at.by st.statements st.statements (Some id) (view statement)
-conflict st at (Post statements) = met_in st at st.statements (named_in at (Post statements))
+conflict st at (Put id statement) = refused_under st at.by st.statements (Some id) (view statement)
+conflict st at (Post statements) = refused_in st at st.statements (named_in at (Post statements))
 conflict st at other = None
 
 -- ---- all of them

@@ -34,7 +34,7 @@ authority_of st who.Admin = Some Admin
 authority_of st (who.Provider k) = option_map (λ c. Provider k c.name) (slice_get st.callers k)
 
 -- what a caller sees: an admin each statement, a provider those under its own authority
-abbrev pub sight_of : Who → Sight
-sight_of who.Unknown = sight.Nothing
-sight_of who.Admin = sight.All
-sight_of (who.Provider k) = sight.Provider k
+abbrev pub sight_of : State → Who → Sight
+sight_of st who.Unknown = sight.Nothing
+sight_of st who.Admin = sight.All
+sight_of st (who.Provider k) = sight.Provider k

@@ -1,14 +1,12 @@
 // Who is let in, and what is refused before a statement is looked at.
 ghost use Rattle.std.specs.Prelude.{◌≡◌};
 ghost use Rattle.lrs_history.specs.Refusals.{area_of, barred, read_area, refused_name, refused_with};
-ghost use Rattle.lrs_history.specs.Whose.{sight_of};
 
 use lrs_command::{Area, Read, Rule, Who};
 use lrs_json::Text;
 use lrs_parts::is_name;
 use lrs_record::Write;
 use lrs_replies::Refusal;
-use xapi_query::Sight;
 
 /// How many statements may come together.
 pub const MOST_OF_BATCH: usize = 500;
@@ -48,17 +46,6 @@ pub fn barred(area: Area, who: Who) -> Option<Refusal>
             Who::Admin => None,
             Who::Provider(_) => Some(Refusal::Forbidden(Rule::A(2))),
         },
-    }
-}
-
-/// What a caller sees of the statements.
-pub fn sight_of(who: Who) -> Sight
-    ensures { result ≡ sight_of who }
-{
-    match who {
-        Who::Unknown => Sight::Nothing,
-        Who::Admin => Sight::All,
-        Who::Provider(number) => Sight::Provider(number),
     }
 }
 

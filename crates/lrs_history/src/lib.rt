@@ -4,6 +4,4 @@
 
 mod admitting;
 
-pub use admitting::{
-    MOST_OF_BATCH, area_of, barred, read_area, refused_name, refused_with, sight_of,
-};
+pub use admitting::{MOST_OF_BATCH, area_of, barred, read_area, refused_name, refused_with};

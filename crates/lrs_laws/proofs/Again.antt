@@ -9,11 +9,11 @@ use Rattle.lrs_command.specs.declared.who.Who.{Who}
 use Rattle.lrs_history.specs.Answers.{acceptance}
 use Rattle.lrs_history.specs.Effects.{Occasion, effect}
 use Rattle.lrs_history.specs.History.{answer, answer_of, end_place, next_entry, only, refused, said_at_once, state, verdict_by}
-use Rattle.lrs_history.specs.Refusals.{barred, conflict, met, met_in, met_over, refusal}
+use Rattle.lrs_history.specs.Refusals.{barred, before_next, conflict, refused_in, refused_over, refused_under, refusal}
 use Rattle.lrs_history.specs.Whose.{authority_of}
 use Rattle.lrs_json.specs.View.{view}
 use Rattle.lrs_json.specs.declared.tree.Tree.{Tree}
-use Rattle.lrs_laws.specs.Laws.{BatchConflictsAreTold, ComeTogether, ConflictsAreTold, Contradicts, Meets, Repeats, RepeatedBatchesAreTaken, RepeatsAreTaken, occasion_of, who_in}
+use Rattle.lrs_laws.specs.Laws.{BatchConflictsAreTold, ComeTogether, ConflictsAreTold, Contradicts, ComesUnder, Repeats, RepeatedBatchesAreTaken, RepeatsAreTaken, occasion_of, who_in}
 use Rattle.lrs_names.specs.declared.draw.Draw.{Draw}
 use Rattle.lrs_parts.specs.State.{State, changes_nothing, is_empty}
 use Rattle.lrs_record.specs.declared.entry.Caller.{Caller}
@@ -65,19 +65,20 @@ last_reason a b c none neither =
 abbrev put_entry : List Entry → Caller → List ℕ → Tree → ℕ → Draw → Entry
 put_entry h caller id t clock draw = next_entry (state h) caller (Put id t) clock draw
 
-put_met : (h : List Entry) (caller : Caller) (id : List ℕ) (t : Tree) (s : HeldStatement) (clock : ℕ) (draw : Draw) (b : Bool) → Meets h caller id t s → same (view s.received) (view t) ≡ b
+put_met : (h : List Entry) (caller : Caller) (id : List ℕ) (t : Tree) (s : HeldStatement) (clock : ℕ) (draw : Draw) (b : Bool) → ComesUnder h caller id t s → same (view s.received) (view t) ≡ b
     → refusal (state h) (put_entry h caller id t clock draw) ≡ when (not b) (Conflict id)
 put_met h caller id t s clock draw b meets is =
-    let held : List HeldStatement = (state h).statements in
-    last_reason (barred Store (who_in h caller)) _ (met (who_in h caller) held held (Some id) (view t)) meets.let_in meets.formed
-    ∙ (ap (λ o. met_over (who_in h caller) held id (view t) o) meets.held ∙ ap (λ c. when (not c) (Conflict id)) is)
+    let st : State = state h in
+    let held : List HeldStatement = st.statements in
+    last_reason (barred Store (who_in h caller)) _ (refused_under st (who_in h caller) held (Some id) (view t)) meets.let_in meets.formed
+    ∙ (ap (λ o. refused_over st (who_in h caller) held id (view t) o) meets.held ∙ ap (λ c. when (not c) (Conflict id)) is)
 
 -- where it is held, it isn't new
 old_one : (moment : ℕ) (o : Option Authority) (held : List HeldStatement) (n : Named) → is_held n.id held ≡ true → new_ones held (kept_by moment o (n ∷ [])) ≡ []
 old_one moment None held n is = refl
 old_one moment (Some by) held n is = ap (λ b. if b then [] else held_of moment by n ∷ []) is
 
-put_unchanged : (h : List Entry) (caller : Caller) (id : List ℕ) (t : Tree) (s : HeldStatement) (clock : ℕ) (draw : Draw) → Meets h caller id t s
+put_unchanged : (h : List Entry) (caller : Caller) (id : List ℕ) (t : Tree) (s : HeldStatement) (clock : ℕ) (draw : Draw) → ComesUnder h caller id t s
     → changes_nothing (effect (state h) (put_entry h caller id t clock draw)) ≡ true
 put_unchanged h caller id t s clock draw meets =
     let e = put_entry h caller id t clock draw in
@@ -105,21 +106,17 @@ post_met : (h : List Entry) (caller : Caller) (trees : List Tree) (clock : ℕ) 
 post_met h caller trees clock draw o together is =
     last_reason (barred Store (who_in h caller)) _ (conflict (state h) (occasion_of h caller trees clock draw) (Post trees)) together.let_in together.formed ∙ is
 
--- the statements that are held or earlier in the batch, behind one more
-abbrev behind_one : State → Occasion → List HeldStatement → Named → List HeldStatement
-behind_one st at before n = add_each before (kept_by at.moment (authority_of st at.by) (n ∷ []))
+repeated : (st : State) (by : Who) (before : List HeldStatement) (t : Tree) → Repeats st.statements t → refused_under st by before (own_id (view t)) (view t) ≡ None
+repeated st by before t again =
+    ap (λ o. refused_under st by before o (view t)) again.own
+    ∙ (ap (λ o. refused_over st by before again.id (view t) o) again.there ∙ ap (λ b. when (not b) (Conflict again.id)) again.equal)
 
-repeated : (by : Who) (held before : List HeldStatement) (t : Tree) → Repeats held t → met by held before (own_id (view t)) (view t) ≡ None
-repeated by held before t again =
-    ap (λ o. met by held before o (view t)) again.own
-    ∙ (ap (λ o. met_over by before again.id (view t) o) again.there ∙ ap (λ b. when (not b) (Conflict again.id)) again.equal)
-
-none_refused : (st : State) (at : Occasion) (before : List HeldStatement) (supply : Supply) (ts : List Tree) → AllByRecursion (Repeats st.statements) ts → met_in st at before (named supply ts) ≡ None
+none_refused : (st : State) (at : Occasion) (before : List HeldStatement) (supply : Supply) (ts : List Tree) → AllByRecursion (Repeats st.statements) ts → refused_in st at before (named supply ts) ≡ None
 none_refused st at before supply [] each = refl
 none_refused st at before supply (t ∷ ts) each =
     let n : Named = record { id = id_for (supply 0) (own_id (view t)); tree = t } in
-    ap (λ o. option_or o (met_in st at (behind_one st at before n) (named (supply_behind supply (own_id (view t))) ts))) (repeated at.by st.statements before t each.0)
-    ∙ none_refused st at (behind_one st at before n) (supply_behind supply (own_id (view t))) ts each.1
+    ap (λ o. option_or o (refused_in st at (before_next st at before n) (named (supply_behind supply (own_id (view t))) ts))) (repeated st at.by before t each.0)
+    ∙ none_refused st at (before_next st at before n) (supply_behind supply (own_id (view t))) ts each.1
 
 -- they go under the ids that they give themselves
 own_names : (held : List HeldStatement) (supply : Supply) (ts : List Tree) → AllByRecursion (Repeats held) ts → names_of (named supply ts) ≡ given_ids ts
@@ -146,25 +143,25 @@ repeated_batches_are_taken limit h caller trees clock draw together each =
     (ap (λ xs. is_empty xs) (none_new at.moment (authority_of (state h) at.by) (state h).statements at.supply trees each))
     ∙ ap (λ ids. Some (Shown (ids_body ids) None)) (own_names (state h).statements at.supply trees each))
 
-contradicted : (by : Who) (held before : List HeldStatement) (t : Tree) (id : List ℕ) → Contradicts held t id → met by held before (own_id (view t)) (view t) ≡ Some (Conflict id)
-contradicted by held before t id against =
-    ap (λ o. met by held before o (view t)) against.own
-    ∙ (ap (λ o. met_over by before id (view t) o) against.there ∙ ap (λ b. when (not b) (Conflict id)) against.other)
+contradicted : (st : State) (by : Who) (before : List HeldStatement) (t : Tree) (id : List ℕ) → Contradicts st.statements t id → refused_under st by before (own_id (view t)) (view t) ≡ Some (Conflict id)
+contradicted st by before t id against =
+    ap (λ o. refused_under st by before o (view t)) against.own
+    ∙ (ap (λ o. refused_over st by before id (view t) o) against.there ∙ ap (λ b. when (not b) (Conflict id)) against.other)
 
 pub first_none : (o p : Option Refusal) → option_or o p ≡ None → (o ≡ None) × (p ≡ None)
 first_none None p is = (refl, is)
 first_none (Some r) p is = cc is
 
-first_refused : (st : State) (at : Occasion) (before : List HeldStatement) (supply : Supply) (ts behind : List Tree) (t : Tree) (r : Refusal) → met_in st at before (named supply ts) ≡ None
-    → ((those : List HeldStatement) → met at.by st.statements those (own_id (view t)) (view t) ≡ Some r) → met_in st at before (named supply (ts ++ t ∷ behind)) ≡ Some r
+first_refused : (st : State) (at : Occasion) (before : List HeldStatement) (supply : Supply) (ts behind : List Tree) (t : Tree) (r : Refusal) → refused_in st at before (named supply ts) ≡ None
+    → ((those : List HeldStatement) → refused_under st at.by those (own_id (view t)) (view t) ≡ Some r) → refused_in st at before (named supply (ts ++ t ∷ behind)) ≡ Some r
 first_refused st at before supply [] behind t r none is =
     let n : Named = record { id = id_for (supply 0) (own_id (view t)); tree = t } in
-    ap (λ o. option_or o (met_in st at (behind_one st at before n) (named (supply_behind supply (own_id (view t))) behind))) (is before)
+    ap (λ o. option_or o (refused_in st at (before_next st at before n) (named (supply_behind supply (own_id (view t))) behind))) (is before)
 first_refused st at before supply (x ∷ ts) behind t r none is =
     let n : Named = record { id = id_for (supply 0) (own_id (view x)); tree = x } in
-    let both = first_none (met at.by st.statements before (own_id (view x)) (view x)) (met_in st at (behind_one st at before n) (named (supply_behind supply (own_id (view x))) ts)) none in
-    ap (λ o. option_or o (met_in st at (behind_one st at before n) (named (supply_behind supply (own_id (view x))) (ts ++ t ∷ behind)))) both.0
-    ∙ first_refused st at (behind_one st at before n) (supply_behind supply (own_id (view x))) ts behind t r both.1 is
+    let both = first_none (refused_under st at.by before (own_id (view x)) (view x)) (refused_in st at (before_next st at before n) (named (supply_behind supply (own_id (view x))) ts)) none in
+    ap (λ o. option_or o (refused_in st at (before_next st at before n) (named (supply_behind supply (own_id (view x))) (ts ++ t ∷ behind)))) both.0
+    ∙ first_refused st at (before_next st at before n) (supply_behind supply (own_id (view x))) ts behind t r both.1 is
 
 pub batch_conflicts_are_told : BatchConflictsAreTold
 batch_conflicts_are_told limit h caller before behind t id clock draw together none against =
@@ -173,4 +170,4 @@ batch_conflicts_are_told limit h caller before behind t id clock draw together n
     at_once limit h caller (Post trees) clock draw (refused (Conflict id))
     (said_refused (state h) (post_entry h caller trees clock draw) (Conflict id)
     (post_met h caller trees clock draw (Some (Conflict id)) together
-    (first_refused (state h) at (state h).statements at.supply before behind t (Conflict id) none (λ those. contradicted at.by (state h).statements those t id against))))
+    (first_refused (state h) at (state h).statements at.supply before behind t (Conflict id) none (λ those. contradicted (state h) at.by those t id against))))

@@ -264,5 +264,14 @@ batch_new held name ts small =
     each_implied (IsNew (those (ids_of held))) (λ (n : Named). own_id (view n.tree) ≡ None → is_held n.id held ≡ false) (λ n new none. held_one n.id held ∙ new none) (batch held name ts)
     (made_new (those (ids_of held)) (counted held) (given_ids ts) (length (ids_of held) + length (given_ids ts)) (name % 2 ^ 122) ts (suffices_at_first held ts small))
 
+-- the used ids are as many as the statements
+pub few_held : (held : List HeldStatement) (ts : List Tree) → length (ids_of held) + length ts < 2 ^ 122 → length held + length ts < 2 ^ 122
+few_held held ts small = omega (arith, small, length-map held (λ (s : HeldStatement). s.id))
+
 pub made_ids_are_new : MadeIdsAreNew
-made_ids_are_new h trees draw small formed = (batch_distinct (state h).statements draw.name trees small formed, batch_new (state h).statements draw.name trees small)
+made_ids_are_new h trees draw small formed =
+    let held : List HeldStatement = (state h).statements in
+    let few : length held + length trees < 2 ^ 122 = few_held held trees small in (
+      batch_distinct held draw.name trees few formed,
+      made_new (those (ids_of held)) (counted held) (given_ids trees) (length (ids_of held) + length (given_ids trees)) (draw.name % 2 ^ 122) trees (suffices_at_first held trees few),
+    )

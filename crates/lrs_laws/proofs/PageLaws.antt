@@ -322,10 +322,16 @@ in_time st link all more is fits = ap (λ b. when b (Broken (rule.P 14))) small
     small = isnt (length st.statements) link.asof (omega (arith, fits, ap (λ xs. length xs) is, length-append all more))
 
 page_is : (st : State) (by : Who) (link : MoreLink) (all more : List HeldStatement) → st.statements ≡ all ++ more → link.asof ≤ length all
-    → page_said st by link.query link.asof (Some link.after) ≡ Shown (page_body link.query link.asof all (page_behind link.query (sight_of by) (take link.asof all) (Some link.after))) (Some st.last)
+    → page_said st by link.query link.asof (Some link.after) ≡ Shown (page_body link.query link.asof all (page_behind link.query (sight_of st by) (take link.asof all) (Some link.after))) (Some st.last)
 page_is st by link all more is fits =
-    ap (λ s. Shown (page_body link.query link.asof s (page_behind link.query (sight_of by) (take link.asof s) (Some link.after))) (Some st.last)) is
-    ∙ ap (λ t. Shown t (Some st.last)) (same_body link.query (sight_of by) link.asof (Some link.after) all more fits)
+    ap (λ s. Shown (page_body link.query link.asof s (page_behind link.query (sight_of st by) (take link.asof s) (Some link.after))) (Some st.last)) is
+    ∙ ap (λ t. Shown t (Some st.last)) (same_body link.query (sight_of st by) link.asof (Some link.after) all more fits)
+
+-- what a caller sees stays
+sight_on : (st su : State) (by : Who) → sight_of su by ≡ sight_of st by
+sight_on st su who.Unknown = refl
+sight_on st su who.Admin = refl
+sight_on st su (who.Provider k) = refl
 
 pub links_stay : LinksStay
 links_stay limit h more caller link clock draw legal let_in fits =
@@ -333,4 +339,6 @@ links_stay limit h more caller link clock draw legal let_in fits =
     let statements : (state (h ++ more)).statements ≡ (state h).statements ++ on.0 = ap (λ st. st.statements) (state_from-append nothing h more) ∙ on.1 in
     ap (λ by. only (refused_or (read_refusal (state (h ++ more)) by (read.More link)) (reading (state (h ++ more)) by (read.More link)))) (who_stays limit h more caller legal let_in)
     ∙ (asked (who_in h caller) (too_late (state (h ++ more)) (read.More link)) (reading (state (h ++ more)) (who_in h caller) (read.More link)) let_in (in_time (state (h ++ more)) link (state h).statements on.0 statements fits)
-    ∙ ap only (page_is (state (h ++ more)) (who_in h caller) link (state h).statements on.0 statements fits))
+    ∙ (ap only (page_is (state (h ++ more)) (who_in h caller) link (state h).statements on.0 statements fits)
+    ∙ ap (λ s. only (Shown (page_body link.query link.asof (state h).statements (page_behind link.query s (take link.asof (state h).statements) (Some link.after))) (Some (state (h ++ more)).last)))
+    (sight_on (state h) (state (h ++ more)) (who_in h caller))))

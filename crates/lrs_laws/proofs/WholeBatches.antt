@@ -1,5 +1,5 @@
--- A batch that has an entry is kept whole.
-use Rattle.std.proofs.Common.{◌≡◌, ℕ, List, [], ◌∷◌, ◌++◌, get_or, map, Bool, true, false, not, ◌||◌, Option, Some, None, cond, refl, sym, ap, subst, ◌∙◌, nat_lt}
+-- What isn't refused is held: a statement alone, and a batch whole.
+use Rattle.std.proofs.Common.{◌≡◌, ℕ, List, [], ◌∷◌, ◌++◌, get_or, map, Bool, true, false, not, ◌||◌, Option, Some, None, cond, refl, sym, ap, subst, ◌∙◌, ◌+◌, ◌-◌, ◌<◌, ◌^◌, length, min, nat_lt}
 use Rattle.std.specs.Prelude.{position, slice_get, is_some, option_map, if◌then◌else◌}
 use Rattle.std.specs.List.{AllByRecursion}
 use Rattle.std.specs.Option.{option_or}
@@ -14,60 +14,76 @@ use Rattle.lrs_command.specs.declared.command.Area.TheVariants.{Store}
 use Rattle.lrs_command.specs.declared.who.Who.{Who}
 use Rattle.lrs_command.specs.declared.who.Who.TheVariants as who
 use Rattle.lrs_history.specs.Answers.{acceptance}
-use Rattle.lrs_history.specs.Effects.{Occasion, brought, effect}
-use Rattle.lrs_history.specs.History.{Answer, answer_of, end_place, next_entry, need, refused, said_at_once, state, verdict_by}
-use Rattle.lrs_history.specs.Refusals.{barred, conflict, met, met_in, met_over, refusal, refused_batch}
+use Rattle.lrs_history.specs.Effects.{Occasion, brought, effect, occasion}
+use Rattle.lrs_history.specs.History.{Answer, answer_of, end_place, next_entry, need, only, refused, state, verdict_by, with_entry}
+use Rattle.lrs_history.specs.Refusals.{barred, before_next, conflict, refusal, refused_batch, refused_form, refused_in, refused_over, refused_under}
 use Rattle.lrs_history.specs.Whose.{authority_of, provider_at, who_is}
 use Rattle.lrs_history.proofs.Kept.{no_room, kept_answer}
 use Rattle.lrs_json.specs.View.{view}
 use Rattle.lrs_json.specs.declared.tree.Tree.{Tree}
-use Rattle.lrs_laws.specs.Laws.{BatchesAreWhole, named_batch, occasion_of}
+use Rattle.lrs_laws.specs.Laws.{BatchesAreWhole, CallersHaveAuthority, IsAccepted, IsHeldSame, PutsAreHeld, named_batch, occasion_of}
 use Rattle.lrs_laws.proofs.Again.{first_none}
 use Rattle.lrs_laws.proofs.Keepers.{held_one, left_false, or_false, right_false, state_from-append, stays_each}
-use Rattle.lrs_laws.proofs.NewIds.{batch_distinct, batch_new, not_true, and_left, and_right}
+use Rattle.lrs_laws.proofs.NewIds.{batch_distinct, batch_new, few_held, not_true, and_left, and_right}
 use Rattle.lrs_names.specs.Members.{is_one_of}
 use Rattle.lrs_parts.specs.Callers.{place_of_token}
 use Rattle.lrs_parts.specs.Founding.{is_admin}
-use Rattle.lrs_parts.specs.State.{State, nothing}
+use Rattle.lrs_parts.specs.State.{State, changes_nothing, is_empty, nothing}
 use Rattle.lrs_parts.specs.declared.callers.HeldCaller.{HeldCaller}
 use Rattle.lrs_record.specs.Entries.{AreLawfulTrees}
 use Rattle.lrs_record.specs.declared.entry.Caller.{Caller}
 use Rattle.lrs_record.specs.declared.entry.Caller.TheVariants.{Nobody, Operator, Token}
 use Rattle.lrs_record.specs.declared.entry.Entry.{Entry}
-use Rattle.lrs_record.specs.declared.entry.Write.TheVariants.{Post}
+use Rattle.lrs_record.specs.declared.entry.Write.TheVariants.{Put, Post}
 use Rattle.lrs_replies.specs.declared.answered.Answered.{Answered}
 use Rattle.lrs_replies.specs.declared.answered.Refusal.{Refusal}
-use Rattle.lrs_replies.specs.declared.answered.Refusal.TheVariants.{Conflict}
+use Rattle.lrs_replies.specs.declared.answered.Refusal.TheVariants.{Conflict, Full}
 use Rattle.xapi_equal.specs.Same.{same, IsSameness}
 use Rattle.xapi_format.specs.declared.authority.Authority.{Authority}
 use Rattle.xapi_format.specs.declared.authority.Authority.TheVariants.{Admin, Provider}
 use Rattle.xapi_index.specs.Batches.{Named, held_of, id_for, kept_by, named, names_of, supply_behind}
 use Rattle.xapi_index.specs.Choices.{first_some, when}
 use Rattle.xapi_index.specs.Ids.{Supply, are_distinct}
-use Rattle.xapi_index.specs.Statements.{add, add_each, held_under, ids_of, is_held}
+use Rattle.xapi_index.specs.Statements.{add, add_each, held_under, ids_of, is_held, new_ones}
 use Rattle.xapi_index.proofs.Adding.{add-new, add_each-new}
 use Rattle.xapi_statement.specs.Completed.{HeldStatement}
 use Rattle.xapi_statement.specs.Statement.{own_id}
 
--- ---- what an entry shows
+-- ---- what isn't refused
 
-abbrev entry_in : Answer → Option Entry
-entry_in a = a.entry
+-- of a write whose refusal and whose change are known
+abbrev answer_by : ℕ → ℕ → Entry → Answered → Option Refusal → Bool → Answer
+answer_by limit place x t o b = answer_of limit place (verdict_by (option_or (option_map refused o) (when b t)) x t)
 
-entry_kept : (o : Option Answered) (limit place : ℕ) (t : Answered) (e x : Entry) → (answer_of limit place (verdict_by o e t)).entry ≡ Some x → (o ≡ None) × (e ≡ x)
-entry_kept (Some s) limit place t e x is = cc is
-entry_kept None limit place t e x is = (refl, by_room (nat_lt limit (need place e)) is)
+by_answer : (P : Answer → Type 0) (limit place : ℕ) (x : Entry) (t : Answered) (o : Option Refusal) (b : Bool) → (o ≡ None → b ≡ true → P (only t)) → (o ≡ None → P (kept_answer t x))
+    → IsAccepted (answer_by limit place x t o b) → P (answer_by limit place x t o b)
+by_answer P limit place x t (Some r) b old new accepted = absurd (accepted r refl)
+by_answer P limit place x t None true old new accepted = old refl refl
+by_answer P limit place x t None false old new accepted = by_room (nat_lt limit (need place x)) accepted
   where
-    by_room : (b : Bool) → entry_in (if b then no_room limit place e else kept_answer t e) ≡ Some x → e ≡ x
-    by_room true is = cc is
-    by_room false is = one is
-      where
-        one : Some e ≡ Some x → e ≡ x
-        one q = cc
+    by_room : (c : Bool) → IsAccepted (if c then no_room limit place x else kept_answer t x) → P (if c then no_room limit place x else kept_answer t x)
+    by_room true accepted = absurd (accepted (Full (min (need place x) (2 ^ 64 - 1)) limit) refl)
+    by_room false accepted = new refl
 
-unrefused : (o : Option Refusal) (said : Option Answered) → option_or (option_map refused o) said ≡ None → o ≡ None
-unrefused None said is = refl
-unrefused (Some r) said is = cc is
+none_new : (held xs : List HeldStatement) → is_empty (new_ones held xs) ≡ true → held ≡ add_each held xs
+none_new held xs is = by_new (new_ones held xs) is (add_each-new held xs)
+  where
+    by_new : (ns : List HeldStatement) → is_empty ns ≡ true → add_each held ns ≡ add_each held xs → held ≡ add_each held xs
+    by_new [] is q = q
+    by_new (n ∷ ns) is q = cc is
+
+-- it isn't refused, what it is accepted with is told, and behind it these statements are held
+abbrev IsBehind : List Entry → Entry → Answered → List HeldStatement → Answer → Type 0
+IsBehind h x t xs a = (refusal (state h) x ≡ None) × (a.said ≡ t) × ((state (with_entry h a.entry)).statements ≡ add_each (state h).statements xs)
+
+is_behind_it : (limit place : ℕ) (h : List Entry) (x : Entry) (t : Answered) (xs : List HeldStatement) → (effect (state h) x).statements ≡ new_ones (state h).statements xs
+    → IsAccepted (answer_by limit place x t (refusal (state h) x) (changes_nothing (effect (state h) x)))
+    → IsBehind h x t xs (answer_by limit place x t (refusal (state h) x) (changes_nothing (effect (state h) x)))
+is_behind_it limit place h x t xs new =
+    let held : List HeldStatement = (state h).statements in
+    by_answer (IsBehind h x t xs) limit place x t (refusal (state h) x) (changes_nothing (effect (state h) x))
+    (λ none same. (none, refl, none_new held xs (ap (λ l. is_empty l) (sym new) ∙ and_right _ (is_empty (effect (state h) x).statements) same)))
+    (λ none. (none, refl, ap (λ s. s.statements) (state_from-append nothing h (x ∷ [])) ∙ (ap (λ l. add_each held l) new ∙ add_each-new held xs)))
 
 no_reason : (a b c : Option Refusal) → first_some (a ∷ b ∷ c ∷ []) ≡ None → (a ≡ None) × (b ≡ None) × (c ≡ None)
 no_reason a b c is =
@@ -98,6 +114,9 @@ known st (Token token) is = by_admin (is_admin st.founding token) is
     by_admin : (b : Bool) → barred Store (if b then who.Admin else provider_at (place_of_token token st.callers)) ≡ None → IsKnown st (if b then who.Admin else provider_at (place_of_token token st.callers))
     by_admin true is = (Admin, refl)
     by_admin false is = by_place (place_of_token token st.callers) refl is
+
+pub callers_have_authority : CallersHaveAuthority
+callers_have_authority h caller let_in = known (state h) caller let_in
 
 -- ---- each of them, in one list
 
@@ -150,67 +169,78 @@ added moment by held (n ∷ ns) apart = (
 abbrev IsTaken : List HeldStatement → Named → Type 0
 IsTaken held n = (s : HeldStatement) → held_under n.id held ≡ Some s → same (view s.received) (view n.tree) ≡ true
 
-taken_under : (by : Who) (held before : List HeldStatement) (t : Tree) (id : List ℕ) (s : HeldStatement) → met by held before (Some id) (view t) ≡ None → held_under id held ≡ Some s → same (view s.received) (view t) ≡ true
-taken_under by held before t id s none is = by_same (same (view s.received) (view t)) (sym (ap (λ o. met_over by before id (view t) o) is) ∙ none)
+taken_under : (st : State) (by : Who) (before : List HeldStatement) (t : Tree) (id : List ℕ) (s : HeldStatement) → refused_under st by before (Some id) (view t) ≡ None → held_under id st.statements ≡ Some s → same (view s.received) (view t) ≡ true
+taken_under st by before t id s none is = by_same (same (view s.received) (view t)) (sym (ap (λ o. refused_over st by before id (view t) o) is) ∙ none)
   where
     by_same : (b : Bool) → when (not b) (Conflict id) ≡ None → b ≡ true
     by_same true q = refl
     by_same false q = cc q
 
-taken_from : (st : State) (at : Occasion) (before : List HeldStatement) (supply : Supply) (ts : List Tree) → met_in st at before (named supply ts) ≡ None
+taken_from : (st : State) (at : Occasion) (before : List HeldStatement) (supply : Supply) (ts : List Tree) → refused_in st at before (named supply ts) ≡ None
     → AllByRecursion (λ (n : Named). own_id (view n.tree) ≡ None → is_held n.id st.statements ≡ false) (named supply ts) → AllByRecursion (IsTaken st.statements) (named supply ts)
 taken_from st at before supply [] none new = tt
 taken_from st at before supply (t ∷ ts) none new = (
   λ s is. by_own s (own_id (view t)) refl is,
-  taken_from st at (add_each before (kept_by at.moment (authority_of st at.by) (record { id = id_for (supply 0) (own_id (view t)); tree = t } ∷ []))) (supply_behind supply (own_id (view t))) ts
-      (first_none (met at.by st.statements before (own_id (view t)) (view t)) _ none).1 new.1,
+  taken_from st at (before_next st at before (record { id = id_for (supply 0) (own_id (view t)); tree = t })) (supply_behind supply (own_id (view t))) ts
+      (first_none (refused_under st at.by before (own_id (view t)) (view t)) _ none).1 new.1,
 )
   where
     by_own : (s : HeldStatement) (o : Option (List ℕ)) → own_id (view t) ≡ o → held_under (id_for (supply 0) (own_id (view t))) st.statements ≡ Some s → same (view s.received) (view t) ≡ true
     by_own s None own is = absurd (false≢true (sym (new.0 own) ∙ ap (λ o. is_some o) is))
     by_own s (Some id) own is =
-        taken_under at.by st.statements before t id s
-        (sym (ap (λ o. met at.by st.statements before o (view t)) own) ∙ (first_none (met at.by st.statements before (own_id (view t)) (view t)) _ none).0)
+        taken_under st at.by before t id s
+        (sym (ap (λ o. refused_under st at.by before o (view t)) own) ∙ (first_none (refused_under st at.by before (own_id (view t)) (view t)) _ none).0)
         (sym (ap (λ o. held_under (id_for (supply 0) o) st.statements) own) ∙ is)
 
 alike_from : IsSameness → (supply : Supply) (ts : List Tree) → AreLawfulTrees ts → AllByRecursion (λ (n : Named). same (view n.tree) (view n.tree) ≡ true) (named supply ts)
 alike_from sameness supply [] lawful = tt
 alike_from sameness supply (t ∷ ts) lawful = (sameness.reflexive (view t) lawful.0.0, alike_from sameness (supply_behind supply (own_id (view t))) ts lawful.1)
 
-abbrev IsKept : List HeldStatement → Named → Type 0
-IsKept held n = (s : HeldStatement) × (held_under n.id held ≡ Some s) × (same (view s.received) (view n.tree) ≡ true)
-
 abbrev IsFresh : ℕ → Authority → List HeldStatement → List Named → Named → Type 0
 IsFresh moment by held ns n = Added moment by held ns n × (same (view n.tree) (view n.tree) ≡ true)
 
 kept_one : (moment : ℕ) (by : Authority) (held : List HeldStatement) (ns : List Named) (n : Named) (o : Option HeldStatement) → held_under n.id held ≡ o → IsTaken held n → IsFresh moment by held ns n
-    → IsKept (add_each held (map (held_of moment by) ns)) n
+    → IsHeldSame (add_each held (map (held_of moment by) ns)) n
 kept_one moment by held ns n None is taken fresh = (held_of moment by n, fresh.0 (ap (λ o. is_some o) is), fresh.1)
 kept_one moment by held ns n (Some s) is taken fresh = (s, stays_each n.id held (map (held_of moment by) ns) s is, taken s is)
 
 whole_list : (moment : ℕ) (by : Authority) (held : List HeldStatement) (ns : List Named) → are_distinct (names_of ns) ≡ true → AllByRecursion (IsTaken held) ns
-    → AllByRecursion (λ (n : Named). same (view n.tree) (view n.tree) ≡ true) ns → AllByRecursion (IsKept (add_each held (map (held_of moment by) ns))) ns
+    → AllByRecursion (λ (n : Named). same (view n.tree) (view n.tree) ≡ true) ns → AllByRecursion (IsHeldSame (add_each held (map (held_of moment by) ns))) ns
 whole_list moment by held ns apart taken alike =
-    each_both (IsTaken held) (IsFresh moment by held ns) (IsKept (add_each held (map (held_of moment by) ns))) (λ n t fresh. kept_one moment by held ns n (held_under n.id held) refl t fresh) ns taken
+    each_both (IsTaken held) (IsFresh moment by held ns) (IsHeldSame (add_each held (map (held_of moment by) ns))) (λ n t fresh. kept_one moment by held ns n (held_under n.id held) refl t fresh) ns taken
     (each_both (Added moment by held ns) (λ (n : Named). same (view n.tree) (view n.tree) ≡ true) (IsFresh moment by held ns) (λ n a b. (a, b)) ns (added moment by held ns apart) alike)
 
--- ---- the law
+-- ---- the laws
+
+pub puts_are_held : IsSameness → PutsAreHeld
+puts_are_held sameness limit h caller id t clock draw lawful accepted =
+    let st : State = state h in
+    let held : List HeldStatement = st.statements in
+    let x : Entry = next_entry st caller (Put id t) clock draw in
+    let at : Occasion = occasion st x in
+    let n : Named = record { id = id; tree = t } in
+    let behind = is_behind_it limit (end_place limit h) h x (acceptance st (Put id t) (effect st x)) (brought st at (Put id t)) refl accepted in
+    let reasons = no_reason (barred Store at.by) (refused_form id (view t)) (conflict st at (Put id t)) behind.0 in
+    let authority = known st caller reasons.0 in
+    let statements = behind.2 ∙ ap (λ o. add_each held (kept_by at.moment o (n ∷ []))) authority.1 in
+    subst (λ l. IsHeldSame l n) (sym statements)
+    (whole_list at.moment authority.0 held (n ∷ []) refl (λ s is. taken_under st at.by held t id s reasons.2 is, tt) (sameness.reflexive (view t) lawful.0, tt)).0
 
 pub batches_are_whole : IsSameness → BatchesAreWhole
-batches_are_whole sameness limit h caller trees clock draw e small lawful is =
+batches_are_whole sameness limit h caller trees clock draw small lawful accepted =
     let st : State = state h in
     let held : List HeldStatement = st.statements in
     let x : Entry = next_entry st caller (Post trees) clock draw in
     let at : Occasion = occasion_of h caller trees clock draw in
     let batch : List Named = named_batch h trees draw in
-    let shown = entry_kept (said_at_once st x) limit (end_place limit h) (acceptance st (Post trees) (effect st x)) x e is in
-    let reasons = no_reason (barred Store at.by) (refused_batch trees) (conflict st at (Post trees)) (unrefused (refusal st x) _ shown.0) in
+    let behind = is_behind_it limit (end_place limit h) h x (acceptance st (Post trees) (effect st x)) (brought st at (Post trees)) refl accepted in
+    let reasons = no_reason (barred Store at.by) (refused_batch trees) (conflict st at (Post trees)) behind.0 in
     let authority = known st caller reasons.0 in
-    let statements : (state (h ++ x ∷ [])).statements ≡ add_each held (map (held_of at.moment authority.0) batch) =
-    ap (λ s. s.statements) (state_from-append nothing h (x ∷ []))
-    ∙ (add_each-new held (brought st at (Post trees)) ∙ ap (λ o. add_each held (kept_by at.moment o batch)) authority.1) in
-    subst (λ y. AllByRecursion (IsKept (state (h ++ y ∷ [])).statements) batch) shown.1
-    (subst (λ l. AllByRecursion (IsKept l) batch) (sym statements)
-    (whole_list at.moment authority.0 held batch (batch_distinct held draw.name trees small reasons.1)
-    (taken_from st at held at.supply trees reasons.2 (batch_new held draw.name trees small))
-    (alike_from sameness at.supply trees lawful)))
+    let statements = behind.2 ∙ ap (λ o. add_each held (kept_by at.moment o batch)) authority.1 in
+    let few : length held + length trees < 2 ^ 122 = few_held held trees small in (
+      behind.1,
+      subst (λ l. AllByRecursion (IsHeldSame l) batch) (sym statements)
+          (whole_list at.moment authority.0 held batch (batch_distinct held draw.name trees few reasons.1)
+          (taken_from st at held at.supply trees reasons.2 (batch_new held draw.name trees few))
+          (alike_from sameness at.supply trees lawful)),
+    )

@@ -6,24 +6,26 @@ use Rattle.lrs_command.specs.declared.command.Area.TheVariants.{Store}
 use Rattle.lrs_command.specs.declared.command.Command.TheVariants.{Read, Write}
 use Rattle.lrs_command.specs.declared.command.Read.TheVariants as read
 use Rattle.lrs_command.specs.declared.who.Who.{Who}
-use Rattle.lrs_history.specs.Effects.{Occasion, occasion}
-use Rattle.lrs_history.specs.History.{answer, next_entry, only, refused, state, IsLegal}
-use Rattle.lrs_history.specs.Refusals.{barred, met_in, refused_batch, refused_form}
-use Rattle.lrs_history.specs.Whose.{sight_of, who_is}
+use Rattle.lrs_history.specs.Effects.{Occasion, occasion, supply_in}
+use Rattle.lrs_history.specs.History.{Answer, answer, next_entry, only, refused, state, with_entry, IsLegal}
+use Rattle.lrs_history.specs.Refusals.{barred, refused_in, refused_batch, refused_form}
+use Rattle.lrs_history.specs.Whose.{authority_of, sight_of, who_is}
 use Rattle.lrs_json.specs.View.{view}
 use Rattle.lrs_json.specs.declared.tree.Tree.{Tree}
 use Rattle.lrs_names.specs.declared.draw.Draw.{Draw}
 use Rattle.lrs_parts.specs.State.{used_in}
-use Rattle.lrs_record.specs.Entries.{AreLawfulTrees}
+use Rattle.lrs_record.specs.Entries.{AreLawfulTrees, IsLawfulTree}
 use Rattle.lrs_record.specs.declared.entry.Caller.{Caller}
 use Rattle.lrs_record.specs.declared.entry.Entry.{Entry}
 use Rattle.lrs_record.specs.declared.entry.Write.TheVariants.{Put, Post}
 use Rattle.lrs_replies.specs.Texts.{ids_body}
 use Rattle.lrs_replies.specs.declared.answered.Answered.TheVariants.{Same, Shown}
+use Rattle.lrs_replies.specs.declared.answered.Refusal.{Refusal}
 use Rattle.lrs_replies.specs.declared.answered.Refusal.TheVariants.{Conflict}
 use Rattle.xapi_equal.specs.Same.{same}
+use Rattle.xapi_format.specs.declared.authority.Authority.{Authority}
 use Rattle.xapi_index.specs.Batches.{Named, given_ids, named, names_of}
-use Rattle.xapi_index.specs.Ids.{are_distinct, supply_of}
+use Rattle.xapi_index.specs.Ids.{are_distinct}
 use Rattle.xapi_index.specs.Listings.{is_behind, listing, listing_behind, page_behind, page_body}
 use Rattle.xapi_index.specs.Statements.{held_under, ids_of, is_held, is_voided}
 use Rattle.xapi_query.specs.declared.link.MoreLink.{MoreLink}
@@ -42,7 +44,7 @@ abbrev pub IsLetIn : List Entry → Caller → Type 0
 IsLetIn h caller = barred Store (who_in h caller) ≡ None
 
 -- a statement in form comes under an id under which this one is held
-pub record Meets (h : List Entry) (caller : Caller) (id : List ℕ) (t : Tree) (s : HeldStatement) : Type 0 where
+pub record ComesUnder (h : List Entry) (caller : Caller) (id : List ℕ) (t : Tree) (s : HeldStatement) : Type 0 where
   pub let_in : IsLetIn h caller
   pub formed : refused_form id (view t) ≡ None
   pub held : held_under id (state h).statements ≡ Some s
@@ -73,11 +75,17 @@ occasion_of h caller trees clock draw = occasion (state h) (next_entry (state h)
 
 -- the same statements, each with the id under which it goes
 abbrev pub named_batch : List Entry → List Tree → Draw → List Named
-named_batch h trees draw = named (supply_of (used_in (state h)) (given_ids trees) draw.name) trees
+named_batch h trees draw = named (supply_in (state h) (Post trees) draw) trees
 
 -- There are fewer ids in use than can be made.
 abbrev pub IsSmall : List Entry → List Tree → Type 0
-IsSmall h trees = length (state h).statements + length trees < 2 ^ 122
+IsSmall h trees = (used_in (state h)).count + length trees < 2 ^ 122
+
+-- ---- callers
+
+-- whoever is let in has an authority, under which its statements are kept
+abbrev pub CallersHaveAuthority : Type 0
+CallersHaveAuthority = (h : List Entry) (caller : Caller) → IsLetIn h caller → (authority : Authority) × (authority_of (state h) (who_in h caller) ≡ Some authority)
 
 -- ---- an id
 
@@ -98,13 +106,13 @@ StaysVoided = (h more : List Entry) (s : HeldStatement) → is_voided (state h).
 -- the same one makes no entry
 abbrev pub RepeatsAreTaken : Type 0
 RepeatsAreTaken =
-    (limit : ℕ) (h : List Entry) (caller : Caller) (id : List ℕ) (t : Tree) (s : HeldStatement) (clock : ℕ) (draw : Draw) → Meets h caller id t s
+    (limit : ℕ) (h : List Entry) (caller : Caller) (id : List ℕ) (t : Tree) (s : HeldStatement) (clock : ℕ) (draw : Draw) → ComesUnder h caller id t s
     → same (view s.received) (view t) ≡ true → answer limit h caller (Write (Put id t)) clock draw ≡ only Same
 
 -- another one is told the id, and makes none
 abbrev pub ConflictsAreTold : Type 0
 ConflictsAreTold =
-    (limit : ℕ) (h : List Entry) (caller : Caller) (id : List ℕ) (t : Tree) (s : HeldStatement) (clock : ℕ) (draw : Draw) → Meets h caller id t s
+    (limit : ℕ) (h : List Entry) (caller : Caller) (id : List ℕ) (t : Tree) (s : HeldStatement) (clock : ℕ) (draw : Draw) → ComesUnder h caller id t s
     → same (view s.received) (view t) ≡ false → answer limit h caller (Write (Put id t)) clock draw ≡ only (refused (Conflict id))
 
 -- a batch of which each is held is told its ids, and makes no entry
@@ -118,25 +126,39 @@ abbrev pub BatchConflictsAreTold : Type 0
 BatchConflictsAreTold =
     (limit : ℕ) (h : List Entry) (caller : Caller) (before behind : List Tree) (t : Tree) (id : List ℕ) (clock : ℕ) (draw : Draw) → ComeTogether h caller (before ++ t ∷ behind)
     → let at = occasion_of h caller (before ++ t ∷ behind) clock draw in
-    met_in (state h) at (state h).statements (named at.supply before) ≡ None → Contradicts (state h).statements t id
+    refused_in (state h) at (state h).statements (named at.supply before) ≡ None → Contradicts (state h).statements t id
     → answer limit h caller (Write (Post (before ++ t ∷ behind))) clock draw ≡ only (refused (Conflict id))
 
 -- ---- a batch
 
--- The ids of a batch are distinct, and a made one is that of no held statement.
+-- The ids of a batch are distinct, and a made one isn't used.
 abbrev pub MadeIdsAreNew : Type 0
 MadeIdsAreNew =
     (h : List Entry) (trees : List Tree) (draw : Draw) → IsSmall h trees → refused_batch trees ≡ None
     → IsTrue (are_distinct (names_of (named_batch h trees draw)))
-    × AllByRecursion (λ (n : Named). own_id (view n.tree) ≡ None → is_held n.id (state h).statements ≡ false) (named_batch h trees draw)
+    × AllByRecursion (λ (n : Named). own_id (view n.tree) ≡ None → (used_in (state h)).is_used n.id ≡ false) (named_batch h trees draw)
 
--- Where a batch has an entry, behind that each of its statements, or the same one, is held under the id that its caller was
--- told.
+-- it isn't refused
+abbrev pub IsAccepted : Answer → Type 0
+IsAccepted a = (r : Refusal) → a.said ≢ refused r
+
+-- under its id this statement is held, or the same one
+abbrev pub IsHeldSame : List HeldStatement → Named → Type 0
+IsHeldSame held n = (s : HeldStatement) × (held_under n.id held ≡ Some s) × (same (view s.received) (view n.tree) ≡ true)
+
+-- Behind a PUT that isn't refused its statement is held, or the same one.
+abbrev pub PutsAreHeld : Type 0
+PutsAreHeld =
+    (limit : ℕ) (h : List Entry) (caller : Caller) (id : List ℕ) (t : Tree) (clock : ℕ) (draw : Draw) → IsLawfulTree (view t)
+    → let a = answer limit h caller (Write (Put id t)) clock draw in IsAccepted a → IsHeldSame (state (with_entry h a.entry)).statements (record { id = id; tree = t })
+
+-- Where a batch isn't refused, its caller is told its ids, and behind it each of its statements, or the same one, is held
+-- under its id.
 abbrev pub BatchesAreWhole : Type 0
 BatchesAreWhole =
-    (limit : ℕ) (h : List Entry) (caller : Caller) (trees : List Tree) (clock : ℕ) (draw : Draw) (e : Entry) → IsSmall h trees → AreLawfulTrees trees
-    → (answer limit h caller (Write (Post trees)) clock draw).entry ≡ Some e
-    → AllByRecursion (λ (n : Named). (s : HeldStatement) × (held_under n.id (state (h ++ e ∷ [])).statements ≡ Some s) × (same (view s.received) (view n.tree) ≡ true)) (named_batch h trees draw)
+    (limit : ℕ) (h : List Entry) (caller : Caller) (trees : List Tree) (clock : ℕ) (draw : Draw) → IsSmall h trees → AreLawfulTrees trees
+    → let a = answer limit h caller (Write (Post trees)) clock draw in IsAccepted a
+    → (a.said ≡ Shown (ids_body (names_of (named_batch h trees draw))) None) × AllByRecursion (IsHeldSame (state (with_entry h a.entry)).statements) (named_batch h trees draw)
 
 -- ---- pages
 
@@ -186,7 +208,7 @@ PagesEnd =
 
 -- what a caller of a history sees
 abbrev pub sight_in : List Entry → Caller → Sight
-sight_in h caller = sight_of (who_in h caller)
+sight_in h caller = sight_of (state h) (who_in h caller)
 
 -- who asks for a list gets its first page, of all statements
 abbrev pub FirstPagesAreTold : Type 0

@@ -1,8 +1,10 @@
-ghost use Rattle.lrs_laws.specs.Laws.{BatchConflictsAreTold, BatchesAreWhole, ConflictsAreTold, FirstPagesAreTold, LinksGoOn, LinksStay, LinksWhereMoreComes, MadeIdsAreNew, NamesForGood, NamesOne, PagesEnd, PagesGiveTheList, PositionsComeOnce, RepeatedBatchesAreTaken, RepeatsAreTaken, StaysVoided};
+ghost use Rattle.lrs_laws.specs.Laws.{BatchConflictsAreTold, BatchesAreWhole, CallersHaveAuthority, ConflictsAreTold, FirstPagesAreTold, LinksGoOn, LinksStay, LinksWhereMoreComes, MadeIdsAreNew, NamesForGood, NamesOne, PagesEnd, PagesGiveTheList, PositionsComeOnce, PutsAreHeld, RepeatedBatchesAreTaken, RepeatsAreTaken, StaysVoided};
 
-/// Over every history an id names one statement, for good, and what is voided stays so. A repeat makes no entry, and another
-/// statement under the id is told it, alone and in a batch. Made ids are new, and a batch is kept whole.
+/// Over every history whoever is let in has an authority. An id names one statement, for good, and what is voided stays so.
+/// A repeat makes no entry, and another statement under the id is told it, alone and in a batch. Made ids are new, what isn't
+/// refused is held, and a batch is kept whole.
 pub fn law_of_names()
+    ensures authority { CallersHaveAuthority }
     ensures one { NamesOne }
     ensures good { NamesForGood }
     ensures voided { StaysVoided }
@@ -11,6 +13,7 @@ pub fn law_of_names()
     ensures repeated_batches { RepeatedBatchesAreTaken }
     ensures batch_conflicts { BatchConflictsAreTold }
     ensures made { MadeIdsAreNew }
+    ensures held { PutsAreHeld }
     ensures whole { BatchesAreWhole }
 {}
 

@@ -2,7 +2,7 @@
 ghost use Rattle.std.specs.Prelude.{◌≡◌, [], length, slice_get, OnOk};
 ghost use Rattle.std.specs.List.{list_all};
 ghost use Rattle.std.specs.Option.{option_copied};
-ghost use Rattle.lrs_parts.specs.Callers.{callers_after, is_name, is_name_byte, place_of_token};
+ghost use Rattle.lrs_parts.specs.Callers.{callers_after, changes_callers, is_name, is_name_byte, place_of_token, unchanged_callers};
 ghost use Rattle.lrs_parts.specs.Rooms.{HasRoomForCallers};
 
 use lrs_json::{Memory, Text};
@@ -24,6 +24,22 @@ pub struct HeldCaller {
 pub struct CallersChange {
     /// A provider that it makes.
     pub new: Option<HeldCaller>,
+}
+
+impl CallersChange {
+    /// No change.
+    pub fn none() -> CallersChange
+        ensures { result ≡ unchanged_callers }
+    {
+        CallersChange { new: None }
+    }
+
+    /// Whether anything is changed.
+    pub fn changes(&self) -> bool
+        ensures { result ≡ changes_callers self.now }
+    {
+        self.new.is_some()
+    }
 }
 
 impl Keyed<Text> for HeldCaller {

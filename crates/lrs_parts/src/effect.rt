@@ -25,7 +25,7 @@ impl Effect {
     {
         Effect {
             founding: None,
-            callers: CallersChange { new: None },
+            callers: CallersChange::none(),
             statements: Items::new(alloc),
             moment,
             told: Items::new(alloc),
@@ -36,6 +36,6 @@ impl Effect {
     pub fn changes_nothing(&self) -> bool
         ensures { result ≡ changes_nothing self.now }
     {
-        self.founding.is_none() && self.callers.new.is_none() && self.statements.is_empty()
+        self.founding.is_none() && !self.callers.changes() && self.statements.is_empty()
     }
 }

@@ -70,8 +70,8 @@ fn error_body(alloc: Global, error: &[u8], more: &[u8]) -> Result<Vec<u8>, Memor
 }
 
 fn conflict_body(alloc: Global, id: &Id) -> Result<Vec<u8>, Memory>
-    ensures { IfOk result (λ body. body.items ≡ error_body (codes "409") (codes ",\"id\":\"" ++ id_text id.now
-        ++ codes "\"")) }
+    ensures { IfOk result (λ body. body.items
+        ≡ error_body (codes "409") (codes ",\"id\":\"" ++ id_text id.now ++ codes "\"")) }
 {
     let mut more = b",\"id\":\"".to_vec(alloc)?;
     more.extend_from_slice(&id.text())?;
@@ -80,8 +80,8 @@ fn conflict_body(alloc: Global, id: &Id) -> Result<Vec<u8>, Memory>
 }
 
 fn full_body(alloc: Global, need: u64, limit: u64) -> Result<Vec<u8>, Memory>
-    ensures { IfOk result (λ body. body.items ≡ error_body (codes "507") (codes ",\"need\":" ++ decimal need
-        ++ codes ",\"limit\":" ++ decimal limit)) }
+    ensures { IfOk result (λ body. body.items
+        ≡ error_body (codes "507") (codes ",\"need\":" ++ decimal need ++ codes ",\"limit\":" ++ decimal limit)) }
 {
     let need = need.to_string(alloc)?;
     let limit = limit.to_string(alloc)?;

@@ -78,8 +78,8 @@ pub fn ids_text(alloc: Global, ids: &[Id]) -> Result<Vec<u8>, Memory>
 
 // Puts an id behind the text so far, as a string.
 fn put_id(body: &mut Vec<u8>, later: bool, id: &Id) -> Result<(), Memory>
-    ensures { OnOk result (body.new.items ≡ body.old.items ++ comma_if later ++ codes "\"" ++ id_text id.now
-        ++ codes "\"") }
+    ensures { OnOk result (body.new.items
+        ≡ body.old.items ++ comma_if later ++ codes "\"" ++ id_text id.now ++ codes "\"") }
 {
     put_comma(body, later)?;
     body.push(b'"')?;

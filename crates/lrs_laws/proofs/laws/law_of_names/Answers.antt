@@ -2,8 +2,11 @@ use Rattle.xapi_equal.proofs.Laws.{same_is_sameness}
 use Rattle.lrs_laws.proofs.Again.{batch_conflicts_are_told, conflicts_are_told, repeated_batches_are_taken, repeats_are_taken}
 use Rattle.lrs_laws.proofs.Keepers.{names_for_good, names_one, stays_voided}
 use Rattle.lrs_laws.proofs.NewIds.{made_ids_are_new}
-use Rattle.lrs_laws.proofs.WholeBatches.{batches_are_whole}
+use Rattle.lrs_laws.proofs.WholeBatches.{batches_are_whole, callers_have_authority, puts_are_held}
 use Rattle.lrs_laws.proofs.laws.law_of_names.Goals as goal
+
+pub returns-clause-authority : goal.returns-clause-authority
+returns-clause-authority c = callers_have_authority
 
 pub returns-clause-one : goal.returns-clause-one
 returns-clause-one c = names_one
@@ -28,6 +31,9 @@ returns-clause-batch_conflicts c = batch_conflicts_are_told
 
 pub returns-clause-made : goal.returns-clause-made
 returns-clause-made c = made_ids_are_new
+
+pub returns-clause-held : goal.returns-clause-held
+returns-clause-held c = puts_are_held same_is_sameness
 
 pub returns-clause-whole : goal.returns-clause-whole
 returns-clause-whole c = batches_are_whole same_is_sameness

@@ -1,6 +1,5 @@
 use Rattle.std.proofs.Common.{IfOk, subst, sym}
-use Rattle.lrs_fold.specs.Verdicts.{IsVerdict}
-use Rattle.lrs_fold.proofs.Promised.{verdict_on}
+use Rattle.lrs_fold.specs.Verdicts.{IsVerdict, verdict_on}
 use Rattle.lrs_history.specs.History.{entry_at, verdict}
 use Rattle.lrs_parts.specs.Parts.{state_of}
 use Rattle.lrs_fold.proofs.fold.Fold.verdict.Goals as goal
