@@ -2,7 +2,7 @@
 use Rattle.std.proofs.Common.{◌≡◌, ℕ, ◌+◌, suc, List, [], ◌∷◌, ◌++◌, take, drop, Bool, true, false, refl, sym, ap, arith, append_assoc}
 use Rattle.std.proofs.lemmas.Grind.{common_steps}
 use Rattle.std.specs.List.{flat_map, prefix_len}
-use Rattle.lrs_json.specs.Steps.{is_plain}
+use Rattle.lrs_json.specs.Written.{is_plain}
 use Rattle.lrs_json.specs.Written.{escaped}
 
 escaped_plain : (b : ℕ) → is_plain b ≡ true → escaped b ≡ b ∷ []

@@ -3,7 +3,7 @@ use Rattle.std.specs.Prelude.{◌≡◌, ◌≤◌, ℕ, List, [], ◌∷◌, fa
 use Rattle.lrs_decimal.specs.Numbers.{IsNumber}
 use Rattle.lrs_decimal.specs.Range.{is_in_range}
 use Rattle.lrs_json.specs.Json.{Json, null, boolean, number, string, array, object, Elements, no_elements, element, Members, no_members, member}
-use Rattle.lrs_json.specs.Faults.{is_among}
+use Rattle.lrs_json.specs.Names.{is_among}
 use Rattle.lrs_json.specs.Depth.{depth}
 
 -- Each number in it is one and in range, each text is UTF-8, and each name of an object is none of those before it.

@@ -5,13 +5,6 @@ pub mod Trees
 pub mod Written
 pub mod Texts
 pub mod Find
-pub mod Strings
-pub mod Placed
-pub mod Grammar
+pub mod Names
 pub mod Depth
-pub mod Faults
 pub mod Fits
-pub mod Refusals
-pub mod Steps
-pub mod Reading
-pub mod SameValue

@@ -1,5 +1,5 @@
 -- The written form: no white space, members in their order, numbers in their spelling.
-use Rattle.std.specs.Prelude.{◌≡◌, take, length, ℕ, ◌+◌, ◌/◌, ◌%◌, ◌==◌, nat_lt, List, [], ◌∷◌, ◌++◌, map, Bool, true, false, if◌then◌else◌, codes}
+use Rattle.std.specs.Prelude.{◌≡◌, take, length, ℕ, ◌+◌, ◌/◌, ◌%◌, ◌==◌, ◌||◌, not, nat_lt, List, [], ◌∷◌, ◌++◌, map, Bool, true, false, if◌then◌else◌, codes}
 use Rattle.std.specs.List.{flat_map}
 use Rattle.lrs_json.specs.Json.{Json, null, boolean, number, string, array, object, Elements, no_elements, element, Members, no_members, member}
 use Rattle.lrs_json.specs.View.{view, member_view, elements_of, members_of}
@@ -13,6 +13,10 @@ Extends old new = take (length old) new ≡ old
 -- a lower-case hexadecimal digit
 abbrev pub hex_digit_of : ℕ → ℕ
 hex_digit_of n = if nat_lt n 10 then 48 + n else 87 + n
+
+-- a byte of a string that stands for itself
+abbrev pub is_plain : ℕ → Bool
+is_plain b = not (nat_lt b 32 || b == 34 || b == 92)
 
 -- a byte of a text as it stands in a written string
 unfoldable pub escaped : ℕ → List ℕ

@@ -1,13 +1,12 @@
 //! Appending the parts of a JSON text, for the layers that write one around trees. Each call leaves what stood before
 //! where memory runs out in the middle.
-ghost use Rattle.std.specs.Prelude.{◌≡◌, ◌++◌, ◌<◌, length, IfOk, OnOk};
-ghost use Rattle.std.specs.List.{flat_map};
+ghost use Rattle.std.specs.Prelude.{◌≡◌, [], ◌∷◌, ◌++◌, ◌<◌, ◌≤◌, length, IfOk, OnOk};
+ghost use Rattle.std.specs.List.{flat_map, prefix_len};
 ghost use Rattle.lrs_json.specs.Json.{string};
 ghost use Rattle.lrs_json.specs.Texts.{name_text, member_text};
-ghost use Rattle.lrs_json.specs.Written.{Extends, comma_if, escaped, hex_digit_of, quoted};
+ghost use Rattle.lrs_json.specs.Written.{Extends, comma_if, escaped, hex_digit_of, is_plain, quoted};
 
 use crate::Memory;
-use crate::cursor::plain_len;
 pub use crate::writing::put_tree;
 
 /// The bytes as they are.
@@ -37,9 +36,7 @@ pub fn put_quoted(text: &str, into: &mut Vec<u8>) -> Result<(), Memory>
     ensures kept { Extends into.old.items into.new.items }
 {
     into.push(b'"')?;
-    put_escaped(text, into)?;
-    into.push(b'"')?;
-    Ok(())
+    put_to_quote(text, into)
 }
 
 /// The text that the two make, one behind the other.
@@ -50,7 +47,16 @@ pub fn put_quoted_parts(first: &str, second: &str, into: &mut Vec<u8>) -> Result
 {
     into.push(b'"')?;
     put_escaped(first, into)?;
-    put_escaped(second, into)?;
+    put_to_quote(second, into)
+}
+
+// The rest of a text, and its closing quote.
+#[tactic(auto, using(crate::proofs::Extending::extends_trans))]
+fn put_to_quote(text: &str, into: &mut Vec<u8>) -> Result<(), Memory>
+    ensures ok { OnOk result (into.new.items ≡ into.old.items ++ (flat_map escaped text.now ++ 34 ∷ [])) }
+    ensures kept { Extends into.old.items into.new.items }
+{
+    put_escaped(text, into)?;
     into.push(b'"')?;
     Ok(())
 }
@@ -89,6 +95,19 @@ fn put_escaped(text: &str, into: &mut Vec<u8>) -> Result<(), Memory>
     Ok(())
 }
 
+/// How many bytes at the front stand for themselves in a string.
+pub fn plain_len(bytes: &[u8]) -> usize
+    ensures bound { result ≤ length bytes.now }
+    ensures value { result ≡ prefix_len is_plain bytes.now }
+{
+    for (i, byte) in bytes.iter().enumerate() {
+        if *byte < 32 || *byte == b'"' || *byte == b'\\' {
+            return i;
+        }
+    }
+    bytes.len()
+}
+
 // The bytes at the front that stand for themselves, copied at once, and the escape of the byte behind them. What is
 // left is given back.
 #[tactic(auto, using(crate::proofs::Extending::extends_trans))]
@@ -123,16 +142,18 @@ fn put_byte(byte: u8, into: &mut Vec<u8>) -> Result<(), Memory>
         b'\n' => put(b"\\n", into),
         12 => put(b"\\f", into),
         b'\r' => put(b"\\r", into),
-        0..32 => {
-            put(b"\\u00", into)?;
-            into.push(hex_digit(byte / 16))?;
-            into.push(hex_digit(byte % 16))?;
-            Ok(())
-        }
-        _ => {
-            into.push(byte)?;
-            Ok(())
-        }
+        0..32 => put(
+            &[
+                b'\\',
+                b'u',
+                b'0',
+                b'0',
+                hex_digit(byte / 16),
+                hex_digit(byte % 16),
+            ],
+            into,
+        ),
+        _ => put(&[byte], into),
     }
 }
 

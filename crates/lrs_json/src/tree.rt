@@ -36,6 +36,7 @@ impl Tree {
     }
 }
 
+/// The value of the first member of that name.
 pub fn find_member<'a>(members: &'a [Member], name: &str) -> Option<&'a Tree>
     ensures { option_map (λ t. view t.now) result ≡ find_member name.now (members_of (map member_view members.now)) }
 {

@@ -1,7 +1,7 @@
 ghost use Rattle.std.specs.Prelude.{◌≡◌, ◌++◌, false, OnOk, OnErr};
-ghost use Rattle.lrs_json.specs.Written.{Extends, written_tree, list_text, object_text, text_of_member};
+ghost use Rattle.lrs_json.specs.Written.{Extends, comma_if, written_tree, list_text, object_text, text_of_member};
 
-use crate::appending::{put, put_comma, put_quoted};
+use crate::appending::{put, put_comma, put_name, put_quoted};
 use crate::{Member, Memory, Tree};
 
 /// Appends the written form of the tree, or nothing where memory runs out.
@@ -50,13 +50,21 @@ fn put_items(items: &[Tree], into: &mut Vec<u8>) -> Result<(), Memory>
     ensures kept { Extends into.old.items into.new.items }
 {
     for (i, item) in items.iter().enumerate() {
-        put_comma(i > 0, into)?;
-        put_tree(item, into)?;
+        put_item(i > 0, item, into)?;
     }
-    into.push(b']')?;
-    Ok(())
+    put(b"]", into)
 }
 
+#[cycle(write)]
+fn put_item(later: bool, item: &Tree, into: &mut Vec<u8>) -> Result<(), Memory>
+    ensures ok { OnOk result (into.new.items ≡ into.old.items ++ (comma_if later ++ written_tree item.now)) }
+    ensures kept { Extends into.old.items into.new.items }
+{
+    put_comma(later, into)?;
+    put_tree(item, into)
+}
+
+// The members and the closing brace.
 #[cycle(write)]
 #[tactic(auto, using(crate::proofs::Extending::extends_trans))]
 fn put_members(members: &[Member], into: &mut Vec<u8>) -> Result<(), Memory>
@@ -64,19 +72,16 @@ fn put_members(members: &[Member], into: &mut Vec<u8>) -> Result<(), Memory>
     ensures kept { Extends into.old.items into.new.items }
 {
     for (i, member) in members.iter().enumerate() {
-        put_comma(i > 0, into)?;
-        put_member(member, into)?;
+        put_member(i > 0, member, into)?;
     }
-    into.push(b'}')?;
-    Ok(())
+    put(b"}", into)
 }
 
 #[cycle(write)]
-fn put_member(member: &Member, into: &mut Vec<u8>) -> Result<(), Memory>
-    ensures ok { OnOk result (into.new.items ≡ into.old.items ++ text_of_member member.now) }
+fn put_member(later: bool, member: &Member, into: &mut Vec<u8>) -> Result<(), Memory>
+    ensures ok { OnOk result (into.new.items ≡ into.old.items ++ (comma_if later ++ text_of_member member.now)) }
     ensures kept { Extends into.old.items into.new.items }
 {
-    put_quoted(member.name.as_str(), into)?;
-    into.push(b':')?;
+    put_name(later, member.name.as_str(), into)?;
     put_tree(&member.value, into)
 }

@@ -1,6 +1,8 @@
 ghost use Rattle.std.specs.Prelude.{◌≤◌};
 
-use lrs_json::{Items, Memory, ReadRefused, Text, Tree, read, read_to, same_value, write};
+use lrs_json::{Items, Memory, Text, Tree, write};
+use lrs_json_equal::same_value;
+use lrs_json_reader::{ReadRefused, read, read_to};
 use std::alloc::Global;
 
 // Whether the written form of what is read is that text.

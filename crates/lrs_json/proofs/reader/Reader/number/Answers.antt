@@ -1,7 +1,0 @@
-use Rattle.lrs_json.proofs.Views.{view-Number}
-use Rattle.lrs_json.proofs.Readings.{number_done}
-use Rattle.lrs_json.proofs.reader.Reader.number.Goals as goal
-
-pub returns : goal.returns
-returns c =
-    number_done _ c.in_ok-spelling.spelling _ _ _ _ (view-Number c.in_ok-spelling.spelling) c.len-left.ensures c.note_number.ensures.cursor c.in_ok-spelling.ensures.found c.in_ok-spelling.ensures.all c.note_number.ensures.places

@@ -1,0 +1,17 @@
+pub mod Spaces
+pub mod StepLemmas
+pub mod Texts
+pub mod Parts
+pub mod Values
+pub mod FirstBytes
+pub mod Readings
+pub mod Ends
+pub mod Noting
+pub mod Lists
+pub mod Objects
+pub mod Names
+pub mod Scan
+pub mod Whole
+pub mod Escapes
+pub mod WrittenLemmas
+pub mod Judgement

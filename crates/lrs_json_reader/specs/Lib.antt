@@ -1,0 +1,8 @@
+pub mod Strings
+pub mod Placed
+pub mod Grammar
+pub mod Brackets
+pub mod Faults
+pub mod Refusals
+pub mod Steps
+pub mod Reading

@@ -1,0 +1,43 @@
+-- What the cursor's private functions say.
+use Rattle.std.specs.Prelude.{◌≡◌, ◌≢◌, ℕ, ◌≤◌, take, drop, IsUtf8, length, List, [], ◌∷◌, Bool, true, false, Result, MatchResult, IfOk, OnOk}
+use Rattle.lrs_json.specs.Written.{is_plain}
+use Rattle.lrs_json_reader.specs.Grammar.{is_space, Spaces, Comma, Chars}
+use Rattle.std.specs.List.{flat_map}
+use Rattle.lrs_decimal.specs.Numbers.{Each}
+use Rattle.lrs_json_reader.specs.Strings.{piece_text}
+use Rattle.lrs_json_reader.specs.declared.strings.Piece.{Piece}
+use Rattle.lrs_json_reader.specs.declared.cursor.Fault.{Fault}
+use Rattle.lrs_json_reader.specs.declared.cursor.Fault.TheVariants.{Memory}
+
+-- it is Ok with P, or memory ran out
+abbrev pub Finds : {T : Type 0} → Result T Fault → (T → Type 0) → Type 0
+Finds r P = MatchResult r P (λ e. e ≡ Memory)
+
+-- neither white space nor the byte comes first
+abbrev pub Opens : ℕ → List ℕ → Type 0
+Opens close [] = ⊥
+Opens close (b ∷ bs) = (is_space b ≡ false) × (b ≢ close)
+
+-- The cursor went from old to new. It stands behind a comma, where one is wanted, and white space, or behind the closing bracket.
+pub record GoesOn (later : Bool) (close : ℕ) (old : List ℕ) (r : Result Bool Fault) (new : List ℕ) : Type 0 where
+  pub goes : IfOk r (λ more. more ≡ true → (a : List ℕ) × Comma later old a × Spaces a new)
+  pub ends : IfOk r (λ more. more ≡ false → Spaces old (close ∷ new))
+  pub all_more : (a b : List ℕ) → Comma later old a → Spaces a b → Opens close b → Finds r (λ more. (more ≡ true) × (new ≡ b))
+  pub all_end : (rest : List ℕ) → Spaces old (close ∷ rest) → Finds r (λ more. (more ≡ false) × (new ≡ rest))
+  pub no_longer : OnOk r (length new ≤ length old)
+
+-- a byte that may close an array or an object
+pub record Closes (close : ℕ) : Type 0 where
+  pub no_space : is_space close ≡ false
+  pub no_comma : 44 ≢ close
+
+-- so many bytes that stand for themselves, and a quote
+pub record IsPlain (n : ℕ) (bytes : List ℕ) : Type 0 where
+  pub within : n ≤ length bytes
+  pub plain : Each is_plain (take n bytes)
+  pub rest : List ℕ
+  pub quote : drop n bytes ≡ 34 ∷ rest
+
+-- a string behind its opening quote
+abbrev pub Within : List ℕ → List ℕ → List ℕ → Type 0
+Within text bytes rest = (ps : List Piece) × Chars ps bytes rest × (text ≡ flat_map piece_text ps) × IsUtf8 text

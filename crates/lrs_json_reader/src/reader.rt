@@ -1,0 +1,186 @@
+ghost use Rattle.std.specs.Prelude.{◌≡◌, ◌≢◌, ◌<◌, ℕ, List, [], ◌∷◌, OnOk, IfOk, map, Some, length};
+ghost use Rattle.lrs_json.specs.View.{member_view};
+ghost use Rattle.lrs_json_reader.specs.Faults.{earlier, earliest};
+ghost use Rattle.lrs_json_reader.specs.Placed.{number};
+ghost use Rattle.lrs_json_reader.specs.Reading.{no_places, noted, ReadsWord, ReadsString, ReadsNumber, ReadsValue, ReadsMember, repeated_among};
+
+use crate::cursor::{Cursor, Fault};
+use lrs_decimal::is_in_range;
+use lrs_json::{Items, Member, Memory, Text, Tree};
+use std::alloc::Global;
+use std::collections::BTreeSet;
+
+/// The earliest repeated name and the earliest number out of range, each by the bytes that are left from it on.
+#[derive(Clone, Copy, Debug, PartialEq, Eq)]
+pub struct Places {
+    pub repeated: Option<usize>,
+    pub out_of_range: Option<usize>,
+}
+
+// The earlier place has more bytes left.
+fn earlier(known: Option<usize>, left: usize) -> Option<usize>
+    ensures { result ≡ earlier known (Some left) }
+{
+    match known {
+        Some(other) => Some(other.max(left)),
+        None => Some(left),
+    }
+}
+
+/// Reads a value, and notes the faults in it that are no fault of the grammar.
+#[derive(Drop)]
+pub struct Reader<'a> {
+    pub cursor: Cursor<'a>,
+    pub places: Places,
+}
+
+impl<'a> Reader<'a> {
+    pub fn new(alloc: Global, bytes: &'a [u8]) -> Reader<'a>
+        ensures cursor { result.cursor ≡ bytes.now }
+        ensures places { result.places ≡ no_places }
+    {
+        let cursor = Cursor::new(alloc, bytes);
+        let places = Places {
+            repeated: None,
+            out_of_range: None,
+        };
+        Reader { cursor, places }
+    }
+}
+
+impl Reader<'_> {
+    fn literal(&mut self, word: &[u8], tree: Tree) -> Result<Tree, Fault>
+        requires { 0 < length word.now }
+        ensures { ReadsWord word.now tree self.old result self.new }
+    {
+        self.cursor.word(word)?;
+        Ok(tree)
+    }
+
+    fn string(&mut self) -> Result<Tree, Fault>
+        ensures { ReadsString self.old result self.new }
+    {
+        Ok(Tree::Words(self.cursor.quoted()?))
+    }
+
+    fn number(&mut self) -> Result<Tree, Fault>
+        ensures { ReadsNumber self.old result self.new }
+    {
+        let left = self.cursor.len();
+        let spelling = self.cursor.number()?;
+        self.note_number(left, &spelling);
+        Ok(Tree::Number(spelling))
+    }
+
+    fn note_number(&mut self, left: usize, spelling: &Text)
+        ensures cursor { self.new.cursor ≡ self.old.cursor }
+        ensures places { self.new.places ≡ noted self.old.places (number left spelling.now) }
+    {
+        if !is_in_range(spelling.as_bytes()) {
+            self.places.out_of_range = earlier(self.places.out_of_range, left);
+        }
+    }
+
+    // A value that holds no others.
+    fn leaf(&mut self) -> Result<Tree, Fault>
+        requires no_list { (rest : List ℕ) → self.old.cursor ≢ 91 ∷ rest }
+        requires no_object { (rest : List ℕ) → self.old.cursor ≢ 123 ∷ rest }
+        ensures { ReadsValue self.old result self.new }
+    {
+        let Some(first) = self.cursor.first() else {
+            return Err(Fault::Bad);
+        };
+        match first {
+            b'n' => self.literal(b"null", Tree::Null),
+            b't' => self.literal(b"true", Tree::Bool(true)),
+            b'f' => self.literal(b"false", Tree::Bool(false)),
+            b'"' => self.string(),
+            _ => self.number(),
+        }
+    }
+}
+
+impl Reader<'_> {
+    #[cycle(reader)]
+    pub fn value(&mut self) -> Result<Tree, Fault>
+        ensures { ReadsValue self.old result self.new }
+    {
+        match self.cursor.first() {
+            Some(b'[') => self.list(),
+            Some(b'{') => self.object(),
+            _ => self.leaf(),
+        }
+    }
+
+    #[cycle(reader)]
+    fn list(&mut self) -> Result<Tree, Fault>
+        requires { (rest : List ℕ) × (self.old.cursor ≡ 91 ∷ rest) }
+        ensures { ReadsValue self.old result self.new }
+    {
+        self.cursor.advance(1);
+        let mut items = Items::new(self.cursor.allocator());
+        while self.cursor.goes_on(!items.is_empty(), b']')? {
+            items.push(self.value()?)?;
+        }
+        Ok(Tree::List(items))
+    }
+
+    #[cycle(reader)]
+    fn object(&mut self) -> Result<Tree, Fault>
+        requires { (rest : List ℕ) × (self.old.cursor ≡ 123 ∷ rest) }
+        ensures { ReadsValue self.old result self.new }
+    {
+        self.cursor.advance(1);
+        let mut members = Items::new(self.cursor.allocator());
+        let mut lefts = Vec::new(self.cursor.allocator());
+        while self.cursor.goes_on(!members.is_empty(), b'}')? {
+            lefts.push(self.cursor.len())?;
+            members.push(self.member()?)?;
+        }
+        self.note_repeated(members.as_slice(), &lefts)?;
+        Ok(Tree::Object(members))
+    }
+
+    #[cycle(reader)]
+    fn member(&mut self) -> Result<Member, Fault>
+        ensures { ReadsMember self.old result self.new }
+    {
+        let name = self.cursor.quoted()?;
+        self.cursor.skip_spaces();
+        self.cursor.word(b":")?;
+        self.cursor.skip_spaces();
+        let value = self.value()?;
+        Ok(Member { name, value })
+    }
+
+    // Notes the names that equal an earlier one.
+    fn note_repeated(&mut self, members: &[Member], lefts: &[usize]) -> Result<(), Memory>
+        ensures cursor { self.new.cursor ≡ self.old.cursor }
+        ensures repeated { OnOk result (self.new.places.repeated ≡ earlier self.old.places.repeated
+            (earliest (repeated_among [] (map (λ m. (member_view m).0) members.now) lefts.now))) }
+        ensures out_of_range { self.new.places.out_of_range ≡ self.old.places.out_of_range }
+    {
+        if let Some(left) = earliest_repeated(self.cursor.allocator(), members, lefts)? {
+            self.places.repeated = earlier(self.places.repeated, left);
+        }
+        Ok(())
+    }
+}
+
+// Of the names that equal an earlier one, the place of the first.
+fn earliest_repeated(
+    alloc: Global,
+    members: &[Member],
+    lefts: &[usize],
+) -> Result<Option<usize>, Memory>
+    ensures { IfOk result (λ r. r ≡ earliest (repeated_among [] (map (λ m. (member_view m).0) members.now) lefts.now)) }
+{
+    let mut found = None;
+    let mut names = BTreeSet::new(alloc);
+    for (member, left) in members.iter().zip(lefts) {
+        if !names.insert(member.name.as_str())? {
+            found = earlier(found, *left);
+        }
+    }
+    Ok(found)
+}

@@ -1,0 +1,117 @@
+ghost use Rattle.std.specs.Prelude.{◌≡◌, ◌≤◌, ◌+◌, ℕ, ◌↔◌, IsTrue, IfOk, Err};
+ghost use Rattle.lrs_json.specs.Json.{Json};
+ghost use Rattle.lrs_json.specs.View.{view};
+ghost use Rattle.lrs_json.specs.Written.{written};
+ghost use Rattle.lrs_json.specs.Fits.{IsReadable};
+ghost use Rattle.lrs_json.specs.declared.tree.Tree.{Tree as SpecTree};
+ghost use Rattle.lrs_json_reader.specs.Refusals.{is_too_deep, Spells, IsBad, RepeatedAt, OutOfRangeAt, Gives, Refuses};
+ghost use Rattle.lrs_json_reader.specs.Reading.{ReadsText, Judges};
+
+use crate::cursor::{Cursor, Fault};
+use crate::depth::reaches;
+use crate::reader::{Places, Reader};
+use lrs_json::{Memory, Tree};
+use std::alloc::Global;
+
+/// Why a text is refused, in the order in which the causes are looked for.
+#[derive(Clone, Copy, Debug, PartialEq, Eq)]
+pub enum ReadRefused {
+    /// The brackets nest deeper than is allowed.
+    TooDeep,
+    /// The bytes are no JSON text.
+    Bad,
+    /// A name equals an earlier name of the same object, once both are decoded. The place is the offset of the
+    /// opening quote of the earliest such name.
+    Repeated { place: usize },
+    /// A number is out of range. The place is the offset of the earliest such number.
+    NumberRange { place: usize },
+    /// Want of memory.
+    Memory,
+}
+
+impl From<Memory> for ReadRefused {
+    ghost use Rattle.std.specs.Prelude.{◌≡◌};
+    ghost use Rattle.lrs_json_reader.specs.declared.reading.ReadRefused.TheVariants as Refused;
+
+    ghost from_gives = { λ _ e. e ≡ Refused.Memory };
+
+    fn from(_: Memory) -> ReadRefused {
+        ReadRefused::Memory
+    }
+}
+
+/// The tree that the bytes spell, nested at most 64 deep.
+pub fn read(alloc: Global, bytes: &[u8]) -> Result<Tree, ReadRefused>
+    ensures too_deep { (result ≡ Err ReadRefused.TooDeep) ↔ IsTrue (is_too_deep 64 bytes.now) }
+    ensures bad { Refuses result ReadRefused.Bad (IsBad 64 bytes.now) }
+    ensures repeated { (place : ℕ) → Refuses result (ReadRefused.Repeated place) (RepeatedAt 64 bytes.now place) }
+    ensures number_range { (place : ℕ) →
+        Refuses result (ReadRefused.NumberRange place) (OutOfRangeAt 64 bytes.now place) }
+    ensures found { IfOk result (λ t. Spells 64 bytes.now (view t)) }
+    ensures all { (j : Json) → Spells 64 bytes.now j → Gives result (λ t. view t ≡ j) }
+
+    // A tree that is given can be read again, and what is written from it is read as the same tree.
+    ensures readable { IfOk result (λ t. IsReadable 64 (view t)) }
+    ensures again { (t : SpecTree) → IsReadable 64 (view t) → bytes.now ≡ written (view t) →
+        Gives result (λ u. u ≡ t) }
+{
+    read_to(alloc, bytes, 64)
+}
+
+/// The tree that the bytes spell, nested at most `depth` deep.
+pub fn read_to(alloc: Global, bytes: &[u8], depth: u32) -> Result<Tree, ReadRefused>
+    requires { depth ≤ 128 }
+    ensures too_deep { (result ≡ Err ReadRefused.TooDeep) ↔ IsTrue (is_too_deep depth bytes.now) }
+    ensures bad { Refuses result ReadRefused.Bad (IsBad depth bytes.now) }
+    ensures repeated { (place : ℕ) → Refuses result (ReadRefused.Repeated place) (RepeatedAt depth bytes.now place) }
+    ensures number_range { (place : ℕ) →
+        Refuses result (ReadRefused.NumberRange place) (OutOfRangeAt depth bytes.now place) }
+    ensures found { IfOk result (λ t. Spells depth bytes.now (view t)) }
+    ensures all { (j : Json) → Spells depth bytes.now j → Gives result (λ t. view t ≡ j) }
+
+    // A tree that is given can be read again, and what is written from it is read as the same tree.
+    ensures readable { IfOk result (λ t. IsReadable depth (view t)) }
+    ensures again { (t : SpecTree) → IsReadable depth (view t) → bytes.now ≡ written (view t) →
+        Gives result (λ u. u ≡ t) }
+{
+    if reaches(bytes, depth + 1) {
+        return Err(ReadRefused::TooDeep);
+    }
+    match read_text(alloc, bytes) {
+        Ok((tree, places)) => judge(tree, places, bytes.len()),
+        Err(Fault::Memory) => Err(ReadRefused::Memory),
+        Err(Fault::Bad) => Err(ReadRefused::Bad),
+    }
+}
+
+// The value of the whole text, and the places of what is wrong with it.
+fn read_text(alloc: Global, bytes: &[u8]) -> Result<(Tree, Places), Fault>
+    ensures { ReadsText bytes.now result }
+{
+    let mut reader = Reader::new(alloc, bytes);
+    reader.cursor.skip_spaces();
+    let tree = reader.value()?;
+    reader.cursor.skip_spaces();
+    if reader.cursor.is_empty() {
+        Ok((tree, reader.places))
+    } else {
+        Err(Fault::Bad)
+    }
+}
+
+// A repeated name goes before a number out of range.
+fn judge(tree: Tree, places: Places, length: usize) -> Result<Tree, ReadRefused>
+    ensures { Judges tree places length result }
+{
+    if let Some(left) = places.repeated {
+        return Err(ReadRefused::Repeated {
+            place: length.saturating_sub(left),
+        });
+    }
+    if let Some(left) = places.out_of_range {
+        return Err(ReadRefused::NumberRange {
+            place: length.saturating_sub(left),
+        });
+    }
+    Ok(tree)
+}
