@@ -11,10 +11,10 @@ pub record DoorsAsked : Type 0 where
   pub count : ℕ
 
 -- What was asked is added to what was asked before. Without memory nothing was asked.
-abbrev pub Asks : {T : Type 0} → DoorsAsked → Result T DoorsRefused → Option (List DoorsAsked) → Option (List DoorsAsked) → Type 0
-Asks request (Ok doors) old new = new ≡ option_map (λ (before : List DoorsAsked). before ++ request ∷ []) old
-Asks request (Err refusals.Failed) old new = new ≡ option_map (λ (before : List DoorsAsked). before ++ request ∷ []) old
-Asks request (Err refusals.Memory) old new = new ≡ old
+abbrev pub AsksForDoors : {T : Type 0} → DoorsAsked → Result T DoorsRefused → Option (List DoorsAsked) → Option (List DoorsAsked) → Type 0
+AsksForDoors request (Ok doors) old new = new ≡ option_map (λ (before : List DoorsAsked). before ++ request ∷ []) old
+AsksForDoors request (Err refusals.Failed) old new = new ≡ option_map (λ (before : List DoorsAsked). before ++ request ∷ []) old
+AsksForDoors request (Err refusals.Memory) old new = new ≡ old
 
 -- the count of faults rises where doors are refused but for want of memory, and stays otherwise
 abbrev pub HasDoorsCause : {T : Type 0} → ℕ → ℕ → Result T DoorsRefused → Type 0

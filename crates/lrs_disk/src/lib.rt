@@ -9,7 +9,6 @@ mod door;
 mod failed;
 mod link;
 mod lobby;
-mod memory;
 mod shelf;
 mod streams;
 
@@ -18,8 +17,5 @@ pub use door::{Door, Next};
 pub use failed::Failed;
 pub use link::Link;
 pub use lobby::{DoorsRefused, Lobby};
-pub use memory::{
-    MemDisk, MemDoor, MemLink, MemLobby, MemShelf, MemSink, MemSource, Memory, Pending,
-};
 pub use shelf::Shelf;
 pub use streams::{Sink, Source};

@@ -1,6 +1,6 @@
 ghost use Rattle.std.specs.Prelude.{◌≡◌, ◌≤◌, List, ℕ, Option, All, length, map, option_map, IfOk};
 ghost use Rattle.lrs_disk.specs.Door.{DoorState, IsFresh};
-ghost use Rattle.lrs_disk.specs.Lobby.{DoorsAsked, Asks, HasDoorsCause, CountsFaults};
+ghost use Rattle.lrs_disk.specs.Lobby.{DoorsAsked, AsksForDoors, HasDoorsCause, CountsFaults};
 ghost use Rattle.lrs_disk.specs.Readings.{AddsReading};
 
 use crate::Door;
@@ -48,7 +48,7 @@ pub trait Lobby: Drop {
         requires { (1 ≤ count) × (count ≤ 16) }
         ensures number { IfOk result (λ doors. length doors.items ≡ count) }
         ensures fresh { IfOk result (λ doors. All (λ door. IsFresh (Self.Door.state door)) doors.items) }
-        ensures asked { Asks (record { address = address.now; count = count }) result (asked self.old)
+        ensures asked { AsksForDoors (record { address = address.now; count = count }) result (asked self.old)
             (asked self.new) }
         ensures cause { HasDoorsCause (fault_count self.old) (fault_count self.new) result }
         ensures readings_kept { readings self.new ≡ readings self.old }

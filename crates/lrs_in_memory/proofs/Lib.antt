@@ -1,0 +1,3 @@
+mod CallLists
+mod Shelves
+mod StepLists

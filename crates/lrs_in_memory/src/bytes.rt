@@ -1,0 +1,137 @@
+ghost use Rattle.std.specs.Prelude.{◌≡◌, ◌≤◌, ◌+◌, ◌-◌, length, take, drop, min, sum_by, vec_capacity, IfOk, OnOk, IsOk};
+ghost use Rattle.lrs_disk.specs.Disk.{written};
+ghost use Rattle.lrs_in_memory.specs.Steps.{read_after, image_after, torn_write, torn_cut, crash_image};
+ghost use Rattle.lrs_in_memory.specs.Calls.{steps, step_of};
+
+use crate::call::{Act, Call, Pending};
+use std::alloc::{AllocError, Global};
+
+// Writes over what is there, and past the end. With room for it, no memory is taken.
+pub(crate) fn overwrite(bytes: &mut Vec<u8>, place: u64, piece: &[u8]) -> Result<(), AllocError>
+    ensures written { OnOk result (bytes.new.items ≡ written bytes.old.items place piece.now) }
+    ensures capacity { vec_capacity bytes.old ≤ vec_capacity bytes.new }
+    ensures room { place ≤ length bytes.old.items → place + length piece.now ≤ vec_capacity bytes.old → IsOk result }
+{
+    let place = place.min(bytes.len() as u64) as usize;
+    if piece.len() <= bytes.len() - place {
+        bytes[place..place + piece.len()].copy_from_slice(piece);
+        return Ok(());
+    }
+    bytes.truncate(place);
+    bytes.extend_from_slice(piece)
+}
+
+// What a read gives after a call.
+fn read_on(read: &mut Vec<u8>, call: Call, piece: &[u8]) -> Result<(), AllocError>
+    ensures { OnOk result (read.new.items ≡ read_after (step_of call piece.now) read.old.items) }
+{
+    if call.failed {
+        return Ok(());
+    }
+    match call.act {
+        Act::Look => Ok(()),
+        Act::Sync => Ok(()),
+        Act::Cut { to } => {
+            cut_back(read, to);
+            Ok(())
+        }
+        Act::Write { place } => overwrite(read, place, piece),
+    }
+}
+
+fn cut_back(bytes: &mut Vec<u8>, to: u64)
+    ensures { bytes.new.items ≡ take to bytes.old.items }
+{
+    bytes.truncate(to as usize);
+}
+
+// What a crash leaves of a write.
+fn tear(
+    alloc: Global,
+    left: &mut Vec<u8>,
+    place: u64,
+    piece: &[u8],
+    pending: Pending,
+) -> Result<(), AllocError>
+    ensures { OnOk result (left.new.items ≡ torn_write pending place piece.now left.old.items) }
+{
+    if place > left.len() as u64 {
+        return Ok(());
+    }
+    match pending {
+        Pending::Lost => Ok(()),
+        Pending::Landed => overwrite(left, place, piece),
+        Pending::Torn(byte) => {
+            let mut other = Vec::new(alloc);
+            other.resize(piece.len(), byte)?;
+            overwrite(left, place, &other)
+        }
+    }
+}
+
+// What a crash leaves after a call.
+fn leave(
+    alloc: Global,
+    left: &mut Vec<u8>,
+    read: &[u8],
+    call: Call,
+    piece: &[u8],
+    pending: Pending,
+) -> Result<(), AllocError>
+    ensures { OnOk result (left.new.items ≡ image_after pending (step_of call piece.now) read.now left.old.items) }
+{
+    match call.act {
+        Act::Look => Ok(()),
+        Act::Sync => {
+            if call.failed {
+                return Ok(());
+            }
+            left.clear();
+            left.extend_from_slice(read)
+        }
+        Act::Cut { to } => {
+            if pending != Pending::Lost {
+                cut_back(left, to);
+            }
+            Ok(())
+        }
+        Act::Write { place } => tear(alloc, left, place, piece, pending),
+    }
+}
+
+// What a crash leaves after these calls.
+pub(crate) fn replay(
+    alloc: Global,
+    calls: &[Call],
+    log: &[u8],
+    first: &[u8],
+    pending: Pending,
+) -> Result<Vec<u8>, AllocError>
+    requires { sum_by (λ (call : _). call.size) calls.now ≤ length log.now }
+    ensures { IfOk result (λ v. v.items ≡ crash_image pending (steps calls.now log.now) first.now first.now) }
+{
+    let mut read = first.to_vec(alloc)?;
+    let mut left = first.to_vec(alloc)?;
+    let mut rest = log;
+    for call in calls {
+        let (piece, more) = rest.split_at(call.size);
+        leave(alloc, &mut left, &read, *call, piece, pending)?;
+        read_on(&mut read, *call, piece)?;
+        rest = more;
+    }
+    Ok(left)
+}
+
+// Copies what stands from a place on, as much as there is room for, and answers how much.
+pub(crate) fn copied(bytes: &[u8], place: u64, into: &mut [u8]) -> usize
+    ensures number { result ≡ min (length into.old) (length bytes.now - place) }
+    ensures bytes { take result into.new ≡ take result (drop place bytes.now) }
+{
+    if place >= bytes.len() as u64 {
+        return 0;
+    }
+    let rest = &bytes[place as usize..];
+    let number = rest.len().min(into.len());
+    into[..number].copy_from_slice(&rest[..number]);
+    number
+}

@@ -1,0 +1,5 @@
+//! The tests of lrs_in_memory: the outside in memory.
+#![tactic(auto)]
+
+#[cfg(test)]
+mod tests;
