@@ -4,7 +4,8 @@ use Rattle.std.specs.Str.{bytes_eq}
 use Rattle.xapi_values.specs.declared.kinds.Kind.{Kind}
 use Rattle.xapi_equal.specs.declared.place.Place.TheVariants.{Statement}
 use Rattle.xapi_equal.specs.Normal.{Words, Normal, nothing, truth, amount, words, items, thing, Normals, none, more, Named, unnamed, named, normal}
-use Rattle.xapi_equal.specs.Alike.{same_truth, same_kind, same_words, same_amount, alike, all_alike, same_bag, has_name, any_named, named_alike, are_named}
+use Rattle.xapi_values.specs.Kinds.{same_kind}
+use Rattle.xapi_equal.specs.Alike.{same_truth, same_words, same_amount, alike, all_alike, same_bag, has_name, any_named, named_alike, are_named}
 use Rattle.xapi_equal.specs.Same.{IsSameness}
 use Rattle.xapi_equal.proofs.LeafLaws.{and_left, and_right, both, truth_is, truth_refl, kind_is, kind_refl, amount_refl, amount_congr, words_refl, words_congr}
 use Rattle.xapi_equal.proofs.Neat.{Neat, NeatAll, NeatNamed, find_named, Leads, leads_on, leads_first, none_some, found_case, neat}

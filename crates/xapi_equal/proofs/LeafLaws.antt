@@ -11,7 +11,8 @@ use Rattle.lrs_time.proofs.DurationLemmas.{same_span_equivalence}
 use Rattle.xapi_values.specs.Numbers.{is_decimal}
 use Rattle.xapi_values.specs.declared.kinds.Kind.{Kind}
 use Rattle.xapi_equal.specs.Normal.{Words, letters, uuid, instant, lasting}
-use Rattle.xapi_equal.specs.Alike.{same_amount, same_words, same_kind, same_truth}
+use Rattle.xapi_values.specs.Kinds.{same_kind}
+use Rattle.xapi_equal.specs.Alike.{same_amount, same_words, same_truth}
 
 -- ---- truth values
 

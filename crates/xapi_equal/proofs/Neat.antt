@@ -3,7 +3,7 @@ use Rattle.std.proofs.Common.{◌≡◌, ℕ, List, [], ◌∷◌, Bool, true, f
 use Rattle.std.proofs.lemmas.Cmp.{nat_list_eq_equiv}
 use Rattle.std.specs.Str.{bytes_eq}
 use Rattle.lrs_json.specs.Json.{Json, null, boolean, number, string, array, object, Elements, no_elements, element, Members, no_members, member}
-use Rattle.lrs_json.specs.Faults.{is_among}
+use Rattle.lrs_json.specs.Names.{is_among}
 use Rattle.lrs_json.specs.Fits.{Fits, FitElements, FitMembers}
 use Rattle.xapi_values.specs.Kinds.{kind_of}
 use Rattle.xapi_equal.specs.declared.place.Place.{Place}

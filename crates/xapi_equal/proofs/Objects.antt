@@ -3,7 +3,7 @@ use Rattle.std.proofs.Common.{◌≡◌, ℕ, List, [], ◌∷◌, Bool, true, f
 use Rattle.std.proofs.lemmas.Cmp.{nat_list_eq_equiv}
 use Rattle.std.specs.Str.{bytes_eq}
 use Rattle.std.proofs.lemmas.Slice.Eq.{bytes_eq-Decides}
-use Rattle.lrs_json.specs.Faults.{is_among}
+use Rattle.lrs_json.specs.Names.{is_among}
 use Rattle.xapi_equal.specs.Normal.{Normal, Named, unnamed, named}
 use Rattle.xapi_equal.specs.Alike.{alike, has_name, any_named, named_alike, are_named}
 use Rattle.xapi_equal.proofs.LeafLaws.{and_left, and_right, both, either, or_left, or_right, both_ways}

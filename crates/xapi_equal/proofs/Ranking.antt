@@ -10,7 +10,7 @@ use Rattle.std.proofs.lemmas.List.{length-map}
 use Rattle.std.proofs.lemmas.List.Sorted.{length_permutation, sum_by-IsPermutation}
 use Rattle.std.proofs.lemmas.List.Sums.{sum_by-cons, sum_by_push}
 use Rattle.std.proofs.lemmas.Option.{slice_get_cases}
-use Rattle.lrs_json.specs.Faults.{is_among}
+use Rattle.lrs_json.specs.Names.{is_among}
 use Rattle.lrs_json.specs.Json.{Json, null, boolean, number, string, array, object, Elements, no_elements, element, Members, no_members, member}
 use Rattle.lrs_json.specs.View.{view, elements_of}
 use Rattle.lrs_json.specs.declared.tree.Tree.{Tree}

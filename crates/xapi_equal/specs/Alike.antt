@@ -5,7 +5,7 @@ use Rattle.std.specs.Str.{bytes_eq}
 use Rattle.lrs_decimal.specs.Values.{order}
 use Rattle.lrs_time.specs.Duration.{same_span}
 use Rattle.xapi_values.specs.Numbers.{is_decimal}
-use Rattle.xapi_values.specs.declared.kinds.Kind.{Kind}
+use Rattle.xapi_values.specs.Kinds.{same_kind}
 use Rattle.xapi_equal.specs.Normal.{Words, letters, uuid, instant, lasting, Normal, nothing, truth, amount, words, items, thing, Normals, none, more, Named, unnamed, named}
 
 -- one spelling, or two of one value
@@ -19,16 +19,6 @@ same_words (uuid i) (uuid j) = bytes_eq i j
 same_words (instant i) (instant j) = int_eq i j
 same_words (lasting s) (lasting t) = same_span s t
 same_words _ _ = false
-
-abbrev pub same_kind : Kind → Kind → Bool
-same_kind Kind.Unstated Kind.Unstated = true
-same_kind Kind.Activity Kind.Activity = true
-same_kind Kind.Agent Kind.Agent = true
-same_kind Kind.Group Kind.Group = true
-same_kind Kind.StatementRef Kind.StatementRef = true
-same_kind Kind.SubStatement Kind.SubStatement = true
-same_kind Kind.Other Kind.Other = true
-same_kind _ _ = false
 
 -- one has that name
 abbrev pub has_name : List ℕ → Named → Bool

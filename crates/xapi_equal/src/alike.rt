@@ -7,7 +7,7 @@ ghost use Rattle.xapi_equal.specs.Alike.{alike, all_alike, as_often, same_bag, c
 ghost use Rattle.xapi_equal.specs.Steps.{is_alike_within, is_named_within, any_alike, has_member_named};
 ghost use Rattle.xapi_equal.specs.Ranks.{places_to, have_own_names};
 
-use crate::leaves::{is_same_amount, is_same_kind, is_same_text};
+use crate::leaves::{is_same_amount, is_same_text};
 use crate::partners::Partners;
 use crate::place::Place;
 use crate::ranks::{MOST, Places, first_extra, have_own_names, rank};
@@ -75,7 +75,7 @@ fn values_are_alike(place: Place, a: &Tree, b: &Tree) -> bool
         }
         (Tree::Object(x), Tree::Object(y)) => {
             let kind = place.kind(Kind::of(a));
-            is_same_kind(kind, place.kind(Kind::of(b)))
+            kind.same(place.kind(Kind::of(b)))
                 && objects_are_alike(place.of_object(kind), x.as_slice(), y.as_slice())
         }
         _ => false,

@@ -2,7 +2,7 @@
 ghost use Rattle.std.specs.Prelude.{◌≡◌};
 ghost use Rattle.xapi_values.specs.Numbers.{is_decimal};
 ghost use Rattle.xapi_equal.specs.Normal.{id_or, instant_or, span_or, said_at};
-ghost use Rattle.xapi_equal.specs.Alike.{same_amount, same_words, same_kind};
+ghost use Rattle.xapi_equal.specs.Alike.{same_amount, same_words};
 ghost use Rattle.lrs_names.specs.Ids.{id_of};
 ghost use Rattle.lrs_time.specs.Reading.{timestamp_at, duration_at};
 ghost use Rattle.std.specs.Ordering.{is_eq};
@@ -13,7 +13,6 @@ use crate::place::Place;
 use lrs_json::Text;
 use lrs_names::Id;
 use lrs_time::{Duration, read_timestamp};
-use xapi_values::Kind;
 use xapi_values::numbers::decimal_of;
 
 /// Whether the spellings of numbers are one, or are of one value.
@@ -76,10 +75,4 @@ fn is_same_span(a: &Text, b: &Text) -> bool
         (None, None) => a == b,
         _ => false,
     }
-}
-
-pub fn is_same_kind(a: Kind, b: Kind) -> bool
-    ensures { result ≡ same_kind a b }
-{
-    a == b
 }

@@ -1,4 +1,4 @@
-use lrs_json::read;
+use lrs_json_reader::read;
 use std::alloc::Global;
 use std::test::Fail;
 use xapi_equal::same;

@@ -19,11 +19,15 @@ abbrev pub account_name : Authority → List ℕ
 account_name Admin = codes "admin"
 account_name (Provider number name) = codes "provider:" ++ decimal number
 
--- {"objectType":"Agent","name":N,"account":{"homePage":"https://lrs.invalid/callers","name":A}}
+-- {"homePage":"https://lrs.invalid/callers","name":A}
+abbrev pub account_json : List ℕ → Json
+account_json account =
+    object (members_of ((codes "homePage", string callers_page) ∷ (codes "name", string account) ∷ []))
+
+-- {"objectType":"Agent","name":N,"account":{..}}
 abbrev pub caller_agent : List ℕ → List ℕ → Json
 caller_agent name account =
-    object (members_of ((codes "objectType", string (codes "Agent")) ∷ (codes "name", string name)
-    ∷ (codes "account", object (members_of ((codes "homePage", string callers_page) ∷ (codes "name", string account) ∷ []))) ∷ []))
+    object (members_of ((codes "objectType", string (codes "Agent")) ∷ (codes "name", string name) ∷ (codes "account", account_json account) ∷ []))
 
 abbrev pub authority_json : Authority → Json
 authority_json authority = caller_agent (authority_name authority) (account_name authority)

@@ -7,6 +7,7 @@ use Rattle.lrs_json.specs.View.{member_view, members_of}
 use Rattle.lrs_json.specs.declared.tree.Member.{Member}
 use Rattle.lrs_names.specs.Ids.{id_text}
 use Rattle.lrs_names.specs.Members.{is_one_of}
+use Rattle.xapi_format.specs.Memberwise.{with_each_member}
 use Rattle.xapi_format.specs.Nested.{is_nested}
 
 -- ---- context activities (section 2.4.6.2)
@@ -20,39 +21,22 @@ in_array (string s) = string s
 in_array (array js) = array js
 in_array (object ms) = array (element (object ms) no_elements)
 
-abbrev pub each_in_array : Members → Members
-each_in_array no_members = no_members
-each_in_array (member name j ms) = member name (in_array j) (each_in_array ms)
-
-abbrev pub plural_activities : Json → Json
-plural_activities null = null
-plural_activities (boolean b) = boolean b
-plural_activities (number s) = number s
-plural_activities (string s) = string s
-plural_activities (array js) = array js
-plural_activities (object ms) = object (each_in_array ms)
-
--- the members, with what a function makes of those of a name
-abbrev pub changed : List ℕ → (Json → Json) → Members → Members
-changed name change no_members = no_members
-changed name change (member k j ms) = member k (if bytes_eq k name then change j else j) (changed name change ms)
-
--- the same of an object
-abbrev pub with_changed : List ℕ → (Json → Json) → Json → Json
-with_changed name change null = null
-with_changed name change (boolean b) = boolean b
-with_changed name change (number s) = number s
-with_changed name change (string s) = string s
-with_changed name change (array js) = array js
-with_changed name change (object ms) = object (changed name change ms)
+-- context activities of one name
+abbrev pub plural_activities_member : List ℕ → Json → Json
+plural_activities_member name j = in_array j
 
 -- a context, each of its context activities in an array
-abbrev pub plural_context : Json → Json
-plural_context j = with_changed (codes "contextActivities") plural_activities j
+abbrev pub plural_context_member : List ℕ → Json → Json
+plural_context_member name j =
+    if bytes_eq name (codes "contextActivities") then with_each_member plural_activities_member j else j
 
--- the object of a statement: a SubStatement has a context of its own
+-- a SubStatement, which has a context of its own
+abbrev pub plural_nested_member : List ℕ → Json → Json
+plural_nested_member name j = if bytes_eq name (codes "context") then with_each_member plural_context_member j else j
+
+-- the object of a statement
 abbrev pub plural_object : Json → Json
-plural_object j = if is_nested j then with_changed (codes "context") plural_context j else j
+plural_object j = if is_nested j then with_each_member plural_nested_member j else j
 
 -- ---- the whole
 
@@ -62,7 +46,8 @@ added_names = codes "id" ∷ codes "timestamp" ∷ codes "stored" ∷ codes "aut
 
 abbrev pub plural_member : List ℕ → Json → Json
 plural_member name j =
-    if bytes_eq name (codes "context") then plural_context j else (if bytes_eq name (codes "object") then plural_object j else j)
+    if bytes_eq name (codes "context") then with_each_member plural_context_member j
+    else (if bytes_eq name (codes "object") then plural_object j else j)
 
 -- the other members in their order, and these behind them
 abbrev pub kept_before : Members → Members → Members
@@ -79,12 +64,21 @@ abbrev pub HasOneMore : List Member → List ℕ → Json → List Member → Ty
 HasOneMore old name j new =
     (behind : Members) → followed_by (members_of (map member_view new)) behind ≡ followed_by (members_of (map member_view old)) (member name j behind)
 
--- What the store writes behind them. The time at which it happened is the one that was given, else the stored moment.
+-- the member of that name as it was given, else this text
+abbrev pub given_or : List ℕ → Json → List ℕ → Json
+given_or name received otherwise = unwrap_or (find name received) (string otherwise)
+
+abbrev pub added_last : Json → Json → Members
+added_last received authority = members_of ((codes "authority", authority) ∷ (codes "version", given_or (codes "version") received (codes "1.0.0")) ∷ [])
+
+-- The time at which it happened is the one that was given, else the stored moment.
+abbrev pub added_behind_id : Json → List ℕ → Json → Members
+added_behind_id received stored authority =
+    member (codes "timestamp") (given_or (codes "timestamp") received stored) (member (codes "stored") (string stored) (added_last received authority))
+
+-- What the store writes behind them.
 abbrev pub added : Json → List ℕ → List ℕ → Json → Members
-added received id stored authority =
-    members_of ((codes "id", string (id_text id)) ∷ (codes "timestamp", unwrap_or (find (codes "timestamp") received) (string stored))
-    ∷ (codes "stored", string stored) ∷ (codes "authority", authority)
-    ∷ (codes "version", unwrap_or (find (codes "version") received) (string (codes "1.0.0"))) ∷ [])
+added received id stored authority = member (codes "id") (string (id_text id)) (added_behind_id received stored authority)
 
 -- The completed form of a received statement: under an id, with the text of its stored moment and an authority.
 unfoldable pub completed : Json → List ℕ → List ℕ → Json → Json

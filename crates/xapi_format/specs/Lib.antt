@@ -1,3 +1,4 @@
+pub mod Memberwise
 pub mod Nested
 pub mod Party
 pub mod Authorities

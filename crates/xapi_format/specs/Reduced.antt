@@ -8,6 +8,7 @@ use Rattle.lrs_names.specs.Agents.{identifiers}
 use Rattle.lrs_names.specs.Members.{has_member, is_one_of}
 use Rattle.xapi_values.specs.Kinds.{kind_of, same_kind}
 use Rattle.xapi_values.specs.declared.kinds.Kind.{Kind}
+use Rattle.xapi_format.specs.Memberwise.{with_each_member}
 use Rattle.xapi_format.specs.Nested.{is_nested}
 
 -- ---- parts of values
@@ -39,20 +40,6 @@ with_each_item change (number s) = number s
 with_each_item change (string s) = string s
 with_each_item change (array js) = array (each_item change js)
 with_each_item change (object ms) = object ms
-
--- what a function makes of each member's value, by its name
-abbrev pub each_member : (List ℕ → Json → Json) → Members → Members
-each_member change no_members = no_members
-each_member change (member name j ms) = member name (change name j) (each_member change ms)
-
--- the same of an object
-abbrev pub with_each_member : (List ℕ → Json → Json) → Json → Json
-with_each_member change null = null
-with_each_member change (boolean b) = boolean b
-with_each_member change (number s) = number s
-with_each_member change (string s) = string s
-with_each_member change (array js) = array js
-with_each_member change (object ms) = object (each_member change ms)
 
 -- ---- Agents and Groups
 

@@ -1,15 +1,14 @@
 // The completed form of a statement as a tree of its own.
-ghost use Rattle.std.specs.Prelude.{◌≡◌, ◌∷◌, ◌++◌, [], IfOk, OnOk, map, codes, if◌then◌else◌, unwrap_or};
-ghost use Rattle.std.specs.Str.{bytes_eq};
-ghost use Rattle.lrs_json.specs.Find.{find};
+ghost use Rattle.std.specs.Prelude.{◌≡◌, ◌∷◌, ◌++◌, [], IfOk, OnOk, map};
 ghost use Rattle.lrs_json.specs.Json.{Members, no_members, member, object, string};
 ghost use Rattle.lrs_json.specs.View.{view, member_view, members_of};
-ghost use Rattle.xapi_format.specs.Authorities.{account_name, authority_json};
-ghost use Rattle.xapi_format.specs.Completed.{HasOneMore, added, changed, completed, each_in_array, followed_by, in_array, kept_before, plural_activities, plural_context, plural_member, plural_object};
+ghost use Rattle.xapi_format.specs.Authorities.{account_json, account_name, authority_json};
+ghost use Rattle.xapi_format.specs.Completed.{HasOneMore, added, added_behind_id, completed, followed_by, given_or, kept_before};
 ghost use Rattle.lrs_time.specs.Moments.{moment_text};
 
+use crate::Authority;
+use crate::plural::{OfStatement, push_made};
 use crate::showing::is_added;
-use crate::{Authority, is_nested};
 use lrs_json::{Items, Member, Memory, Text, Tree, utf8_text};
 use lrs_names::Id;
 use lrs_time::{Moment, moment_text};
@@ -42,8 +41,8 @@ pub fn whole(built: Items<Member>) -> Tree
     Tree::Object(built)
 }
 
-// One member more.
-fn push(name: &str, value: Tree, built: &mut Items<Member>) -> Result<(), Memory>
+/// One member more.
+pub fn push(name: &str, value: Tree, built: &mut Items<Member>) -> Result<(), Memory>
     ensures { OnOk result (HasOneMore built.old name.now (view value) built.new) }
 {
     push_last(name, value, built)
@@ -75,127 +74,10 @@ fn push_if_kept(alloc: Global, part: &Member, built: &mut Items<Member>) -> Resu
         (kept_before (member part.now.name (view part.now.value) ms) behind)
         ≡ followed_by (members_of (map member_view built.new)) (kept_before ms behind)) }
 {
-    let name = part.name.as_str();
-    if is_added(name) {
+    if is_added(part.name.as_str()) {
         return Ok(());
     }
-    push(name, plural_member(alloc, part)?, built)
-}
-
-fn plural_member(alloc: Global, member: &Member) -> Result<Tree, Memory>
-    ensures { IfOk result (λ tree. view tree ≡ plural_member member.now.name (view member.now.value)) }
-{
-    match member.name.as_str() {
-        "context" => plural_context(alloc, &member.value),
-        "object" => plural_object(alloc, &member.value),
-        _ => Ok(member.value.clone()?),
-    }
-}
-
-fn plural_object(alloc: Global, tree: &Tree) -> Result<Tree, Memory>
-    ensures { IfOk result (λ made. view made ≡ plural_object (view tree.now)) }
-{
-    match tree {
-        Tree::Object(members) if is_nested(tree) => plural_nested(alloc, members.as_slice()),
-        _ => Ok(tree.clone()?),
-    }
-}
-
-// A SubStatement.
-fn plural_nested(alloc: Global, members: &[Member]) -> Result<Tree, Memory>
-    ensures { IfOk result (λ made. view made
-        ≡ object (changed (codes "context") plural_context (members_of (map member_view members.now)))) }
-{
-    let mut built = Items::new(alloc);
-    for part in members {
-        push_nested(alloc, part, &mut built)?;
-    }
-    Ok(whole(built))
-}
-
-fn push_nested(alloc: Global, part: &Member, built: &mut Items<Member>) -> Result<(), Memory>
-    ensures { OnOk result (HasOneMore built.old part.now.name
-        (if bytes_eq part.now.name (codes "context") then plural_context (view part.now.value) else view part.now.value)
-        built.new) }
-{
-    let name = part.name.as_str();
-    if name == "context" {
-        push(name, plural_context(alloc, &part.value)?, built)
-    } else {
-        push(name, part.value.clone()?, built)
-    }
-}
-
-fn plural_context(alloc: Global, tree: &Tree) -> Result<Tree, Memory>
-    ensures { IfOk result (λ made. view made ≡ plural_context (view tree.now)) }
-{
-    match tree {
-        Tree::Object(members) => plural_context_members(alloc, members.as_slice()),
-        _ => Ok(tree.clone()?),
-    }
-}
-
-fn plural_context_members(alloc: Global, members: &[Member]) -> Result<Tree, Memory>
-    ensures { IfOk result (λ made. view made
-        ≡ object (changed (codes "contextActivities") plural_activities (members_of (map member_view members.now)))) }
-{
-    let mut built = Items::new(alloc);
-    for part in members {
-        push_of_context(alloc, part, &mut built)?;
-    }
-    Ok(whole(built))
-}
-
-fn push_of_context(alloc: Global, part: &Member, built: &mut Items<Member>) -> Result<(), Memory>
-    ensures { OnOk result (HasOneMore built.old part.now.name
-        (if bytes_eq part.now.name (codes "contextActivities") then plural_activities (view part.now.value)
-        else view part.now.value) built.new) }
-{
-    let name = part.name.as_str();
-    if name == "contextActivities" {
-        push(name, plural_activities(alloc, &part.value)?, built)
-    } else {
-        push(name, part.value.clone()?, built)
-    }
-}
-
-fn plural_activities(alloc: Global, tree: &Tree) -> Result<Tree, Memory>
-    ensures { IfOk result (λ made. view made ≡ plural_activities (view tree.now)) }
-{
-    match tree {
-        Tree::Object(members) => each_in_array(alloc, members.as_slice()),
-        _ => Ok(tree.clone()?),
-    }
-}
-
-fn each_in_array(alloc: Global, members: &[Member]) -> Result<Tree, Memory>
-    ensures { IfOk result (λ made. view made ≡ object (each_in_array (members_of (map member_view members.now)))) }
-{
-    let mut built = Items::new(alloc);
-    for part in members {
-        push_in_array(alloc, part, &mut built)?;
-    }
-    Ok(whole(built))
-}
-
-fn push_in_array(alloc: Global, part: &Member, built: &mut Items<Member>) -> Result<(), Memory>
-    ensures { OnOk result (HasOneMore built.old part.now.name (in_array (view part.now.value)) built.new) }
-{
-    push(part.name.as_str(), in_array(alloc, &part.value)?, built)
-}
-
-fn in_array(alloc: Global, tree: &Tree) -> Result<Tree, Memory>
-    ensures { IfOk result (λ made. view made ≡ in_array (view tree.now)) }
-{
-    let own = tree.clone()?;
-    match tree {
-        Tree::Object(_) => {
-            let mut items = Items::new(alloc);
-            items.push(own)?;
-            Ok(Tree::List(items))
-        }
-        _ => Ok(own),
-    }
+    push_made::<OfStatement>(alloc, part, built)
 }
 
 // What the store writes behind the members that are kept.
@@ -211,22 +93,51 @@ fn push_added(
         ≡ followed_by (members_of (map member_view built.old))
         (added (view received.now) id.now (moment_text stored) (authority_json authority.now))) }
 {
-    let moment = moment_text(stored);
-    let moment = utf8_text(&moment);
     let id = id.text();
-    push("id", words(alloc, utf8_text(&id))?, built)?;
-    push(
-        "timestamp",
-        given(alloc, received, "timestamp", moment)?,
-        built,
-    )?;
-    push("stored", words(alloc, moment)?, built)?;
+    push_words(alloc, "id", utf8_text(&id), built)?;
+    let moment = moment_text(stored);
+    push_behind_id(alloc, received, utf8_text(&moment), authority, built)
+}
+
+fn push_behind_id(
+    alloc: Global,
+    received: &Tree,
+    stored: &str,
+    authority: &Authority,
+    built: &mut Items<Member>,
+) -> Result<(), Memory>
+    ensures { OnOk result (followed_by (members_of (map member_view built.new)) no_members
+        ≡ followed_by (members_of (map member_view built.old))
+        (added_behind_id (view received.now) stored.now (authority_json authority.now))) }
+{
+    push_given(alloc, received, "timestamp", stored, built)?;
+    push_words(alloc, "stored", stored, built)?;
     push("authority", agent(alloc, authority)?, built)?;
-    push(
-        "version",
-        given(alloc, received, "version", "1.0.0")?,
-        built,
-    )
+    push_given(alloc, received, "version", "1.0.0", built)
+}
+
+fn push_words(
+    alloc: Global,
+    name: &str,
+    text: &str,
+    built: &mut Items<Member>,
+) -> Result<(), Memory>
+    ensures { OnOk result (HasOneMore built.old name.now (string text.now) built.new) }
+{
+    push(name, words(alloc, text)?, built)
+}
+
+fn push_given(
+    alloc: Global,
+    received: &Tree,
+    name: &str,
+    otherwise: &str,
+    built: &mut Items<Member>,
+) -> Result<(), Memory>
+    ensures { OnOk result (HasOneMore built.old name.now (given_or name.now (view received.now) otherwise.now)
+        built.new) }
+{
+    push(name, given(alloc, received, name, otherwise)?, built)
 }
 
 fn words(alloc: Global, text: &str) -> Result<Tree, Memory>
@@ -237,7 +148,7 @@ fn words(alloc: Global, text: &str) -> Result<Tree, Memory>
 
 // The member of that name as it was given, else this text.
 fn given(alloc: Global, received: &Tree, name: &str, otherwise: &str) -> Result<Tree, Memory>
-    ensures { IfOk result (λ tree. view tree ≡ unwrap_or (find name.now (view received.now)) (string otherwise.now)) }
+    ensures { IfOk result (λ tree. view tree ≡ given_or name.now (view received.now) otherwise.now) }
 {
     match received.get(name) {
         Some(given) => Ok(given.clone()?),
@@ -249,18 +160,20 @@ fn given(alloc: Global, received: &Tree, name: &str, otherwise: &str) -> Result<
 pub fn agent(alloc: Global, authority: &Authority) -> Result<Tree, Memory>
     ensures { IfOk result (λ tree. view tree ≡ authority_json authority.now) }
 {
-    let mut account = Items::new(alloc);
-    push(
-        "homePage",
-        words(alloc, Authority::HOME_PAGE)?,
-        &mut account,
-    )?;
-    push("name", account_name(alloc, authority)?, &mut account)?;
     let mut agent = Items::new(alloc);
-    push("objectType", words(alloc, "Agent")?, &mut agent)?;
-    push("name", words(alloc, authority.name())?, &mut agent)?;
-    push("account", whole(account), &mut agent)?;
+    push_words(alloc, "objectType", "Agent", &mut agent)?;
+    push_words(alloc, "name", authority.name(), &mut agent)?;
+    push("account", account(alloc, authority)?, &mut agent)?;
     Ok(whole(agent))
+}
+
+fn account(alloc: Global, authority: &Authority) -> Result<Tree, Memory>
+    ensures { IfOk result (λ tree. view tree ≡ account_json (account_name authority.now)) }
+{
+    let mut account = Items::new(alloc);
+    push_words(alloc, "homePage", Authority::HOME_PAGE, &mut account)?;
+    push("name", account_name(alloc, authority)?, &mut account)?;
+    Ok(whole(account))
 }
 
 fn account_name(alloc: Global, authority: &Authority) -> Result<Tree, Memory>

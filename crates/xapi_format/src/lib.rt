@@ -6,6 +6,7 @@ mod authority;
 mod building;
 mod format;
 mod nested;
+mod plural;
 mod reducing;
 mod showing;
 

@@ -3,7 +3,8 @@ ghost use Rattle.std.specs.Prelude.{◌≡◌, ◌∷◌, ◌++◌, [], ℕ, Lis
 ghost use Rattle.lrs_json.specs.Json.{Json, object};
 ghost use Rattle.lrs_json.specs.View.{member_view, members_of, view};
 ghost use Rattle.xapi_format.specs.Completed.{HasOneMore};
-ghost use Rattle.xapi_format.specs.Reduced.{each_member, has_identifier, is_anonymous, only, reduced, reduced_activities, reduced_context_member, reduced_group, reduced_group_member, reduced_member, reduced_nested_member, reduced_object, reduced_part, reduced_party, reduced_plain_object, with_each_item, with_each_member, with_only};
+ghost use Rattle.xapi_format.specs.Reduced.{has_identifier, is_anonymous, only, reduced, reduced_activities, reduced_context_member, reduced_group, reduced_group_member, reduced_member, reduced_nested_member, reduced_object, reduced_part, reduced_party, reduced_plain_object, with_each_item, with_only};
+ghost use Rattle.xapi_format.specs.Memberwise.{each_member, with_each_member};
 
 use crate::building::whole;
 use crate::is_nested;

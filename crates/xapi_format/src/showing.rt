@@ -1,16 +1,17 @@
 // The text of a completed statement, written from what was received.
-ghost use Rattle.std.specs.Prelude.{◌≡◌, ◌∷◌, [], ◌++◌, false, true, map, unwrap_or, IfOk, OnOk, codes};
-ghost use Rattle.lrs_json.specs.Find.{find};
-ghost use Rattle.lrs_json.specs.Json.{Members, member, object, string};
+ghost use Rattle.std.specs.Prelude.{◌≡◌, ◌∷◌, [], ◌++◌, false, true, map, IfOk, OnOk, codes};
+ghost use Rattle.lrs_json.specs.Json.{Members, member, string};
 ghost use Rattle.lrs_json.specs.Texts.{member_text};
 ghost use Rattle.lrs_json.specs.View.{view, member_view, members_of};
-ghost use Rattle.lrs_json.specs.Written.{Extends, members_text, quoted, written};
-ghost use Rattle.xapi_format.specs.Authorities.{account_name, authority_json, callers_page};
-ghost use Rattle.xapi_format.specs.Completed.{added, added_names, changed, completed, each_in_array, in_array, kept_before, plural_activities, plural_context, plural_member, plural_object};
+ghost use Rattle.lrs_json.specs.Written.{Extends, members_text, written};
+ghost use Rattle.std.specs.Fmt.{decimal};
+ghost use Rattle.xapi_format.specs.Authorities.{account_json, account_name, authority_json, authority_name, callers_page};
+ghost use Rattle.xapi_format.specs.Completed.{added, added_behind_id, added_last, added_names, completed, given_or, kept_before};
 ghost use Rattle.lrs_time.specs.Moments.{moment_text};
 ghost use Rattle.lrs_names.specs.Members.{is_one_of};
 
-use crate::{Authority, is_nested};
+use crate::Authority;
+use crate::plural::{OfStatement, put_member};
 use lrs_json::appending::{put, put_name, put_quoted, put_quoted_parts, put_text, put_tree};
 use lrs_json::{Member, Memory, Tree, utf8_text};
 use lrs_names::Id;
@@ -73,126 +74,8 @@ fn put_if_kept(later: bool, part: &Member, into: &mut Vec<u8>) -> Result<bool, M
     if is_added(part.name.as_str()) {
         return Ok(later);
     }
-    put_member(later, part, into)?;
+    put_member::<OfStatement>(later, part, into)?;
     Ok(true)
-}
-
-#[tactic(auto, using(lrs_json::proofs::Extending::extends_trans))]
-fn put_member(later: bool, member: &Member, into: &mut Vec<u8>) -> Result<(), Memory>
-    ensures ok { OnOk result (into.new.items ≡ into.old.items
-        ++ member_text later member.now.name (plural_member member.now.name (view member.now.value))) }
-    ensures kept { Extends into.old.items into.new.items }
-{
-    let name = member.name.as_str();
-    put_name(later, name, into)?;
-    match name {
-        "context" => put_context(&member.value, into),
-        "object" => put_object(&member.value, into),
-        _ => put_tree(&member.value, into),
-    }
-}
-
-// The object of the statement.
-#[tactic(auto, using(lrs_json::proofs::Extending::extends_trans))]
-fn put_object(tree: &Tree, into: &mut Vec<u8>) -> Result<(), Memory>
-    ensures ok { OnOk result (into.new.items ≡ into.old.items ++ written (plural_object (view tree.now))) }
-    ensures kept { Extends into.old.items into.new.items }
-{
-    match tree {
-        Tree::Object(members) if is_nested(tree) => put_nested(members.as_slice(), into),
-        _ => put_tree(tree, into),
-    }
-}
-
-// A SubStatement.
-#[tactic(auto, using(lrs_json::proofs::Extending::extends_trans))]
-fn put_nested(members: &[Member], into: &mut Vec<u8>) -> Result<(), Memory>
-    ensures ok { OnOk result (into.new.items ≡ into.old.items
-        ++ written (object (changed (codes "context") plural_context (members_of (map member_view members.now))))) }
-    ensures kept { Extends into.old.items into.new.items }
-{
-    put(b"{", into)?;
-    for (i, member) in members.iter().enumerate() {
-        let name = member.name.as_str();
-        put_name(i > 0, name, into)?;
-        if name == "context" {
-            put_context(&member.value, into)?;
-        } else {
-            put_tree(&member.value, into)?;
-        }
-    }
-    put(b"}", into)
-}
-
-#[tactic(auto, using(lrs_json::proofs::Extending::extends_trans))]
-fn put_context(tree: &Tree, into: &mut Vec<u8>) -> Result<(), Memory>
-    ensures ok { OnOk result (into.new.items ≡ into.old.items ++ written (plural_context (view tree.now))) }
-    ensures kept { Extends into.old.items into.new.items }
-{
-    match tree {
-        Tree::Object(members) => put_context_members(members.as_slice(), into),
-        _ => put_tree(tree, into),
-    }
-}
-
-#[tactic(auto, using(lrs_json::proofs::Extending::extends_trans))]
-fn put_context_members(members: &[Member], into: &mut Vec<u8>) -> Result<(), Memory>
-    ensures ok { OnOk result (into.new.items ≡ into.old.items
-        ++ written (object (changed (codes "contextActivities") plural_activities
-        (members_of (map member_view members.now))))) }
-    ensures kept { Extends into.old.items into.new.items }
-{
-    put(b"{", into)?;
-    for (i, member) in members.iter().enumerate() {
-        let name = member.name.as_str();
-        put_name(i > 0, name, into)?;
-        if name == "contextActivities" {
-            put_activities(&member.value, into)?;
-        } else {
-            put_tree(&member.value, into)?;
-        }
-    }
-    put(b"}", into)
-}
-
-#[tactic(auto, using(lrs_json::proofs::Extending::extends_trans))]
-fn put_activities(tree: &Tree, into: &mut Vec<u8>) -> Result<(), Memory>
-    ensures ok { OnOk result (into.new.items ≡ into.old.items ++ written (plural_activities (view tree.now))) }
-    ensures kept { Extends into.old.items into.new.items }
-{
-    match tree {
-        Tree::Object(members) => put_each_in_array(members.as_slice(), into),
-        _ => put_tree(tree, into),
-    }
-}
-
-#[tactic(auto, using(lrs_json::proofs::Extending::extends_trans))]
-fn put_each_in_array(members: &[Member], into: &mut Vec<u8>) -> Result<(), Memory>
-    ensures ok { OnOk result (into.new.items ≡ into.old.items
-        ++ written (object (each_in_array (members_of (map member_view members.now))))) }
-    ensures kept { Extends into.old.items into.new.items }
-{
-    put(b"{", into)?;
-    for (i, member) in members.iter().enumerate() {
-        put_name(i > 0, member.name.as_str(), into)?;
-        put_in_array(&member.value, into)?;
-    }
-    put(b"}", into)
-}
-
-#[tactic(auto, using(lrs_json::proofs::Extending::extends_trans))]
-fn put_in_array(tree: &Tree, into: &mut Vec<u8>) -> Result<(), Memory>
-    ensures ok { OnOk result (into.new.items ≡ into.old.items ++ written (in_array (view tree.now))) }
-    ensures kept { Extends into.old.items into.new.items }
-{
-    match tree {
-        Tree::Object(_) => {
-            put(b"[", into)?;
-            put_tree(tree, into)?;
-            put(b"]", into)
-        }
-        _ => put_tree(tree, into),
-    }
 }
 
 // What the store writes behind the members that are kept, and the closing brace.
@@ -212,9 +95,43 @@ fn put_added(
     let id = id.text();
     put_text(later, "id", utf8_text(&id), into)?;
     let moment = moment_text(stored);
-    let moment = utf8_text(&moment);
-    put_given(received, "timestamp", moment, into)?;
-    put_text(true, "stored", moment, into)?;
+    put_behind_id(received, utf8_text(&moment), authority, into)
+}
+
+#[tactic(auto, using(lrs_json::proofs::Extending::extends_trans))]
+fn put_behind_id(
+    received: &Tree,
+    stored: &str,
+    authority: &Authority,
+    into: &mut Vec<u8>,
+) -> Result<(), Memory>
+    ensures ok { OnOk result (into.new.items ≡ into.old.items
+        ++ members_text true (added_behind_id (view received.now) stored.now (authority_json authority.now))) }
+    ensures kept { Extends into.old.items into.new.items }
+{
+    put_times(received, stored, into)?;
+    put_signature(received, authority, into)
+}
+
+// When it happened, and when it was stored.
+#[tactic(auto, using(lrs_json::proofs::Extending::extends_trans))]
+fn put_times(received: &Tree, stored: &str, into: &mut Vec<u8>) -> Result<(), Memory>
+    ensures ok { OnOk result (into.new.items ≡ into.old.items
+        ++ (member_text true (codes "timestamp") (given_or (codes "timestamp") (view received.now) stored.now)
+        ++ member_text true (codes "stored") (string stored.now))) }
+    ensures kept { Extends into.old.items into.new.items }
+{
+    put_given(received, "timestamp", stored, into)?;
+    put_text(true, "stored", stored, into)
+}
+
+// Under whose authority it stands, its version, and the closing brace.
+#[tactic(auto, using(lrs_json::proofs::Extending::extends_trans))]
+fn put_signature(received: &Tree, authority: &Authority, into: &mut Vec<u8>) -> Result<(), Memory>
+    ensures ok { OnOk result (into.new.items ≡ into.old.items
+        ++ members_text true (added_last (view received.now) (authority_json authority.now))) }
+    ensures kept { Extends into.old.items into.new.items }
+{
     put_authority(authority, into)?;
     put_given(received, "version", "1.0.0", into)?;
     put(b"}", into)
@@ -224,7 +141,7 @@ fn put_added(
 #[tactic(auto, using(lrs_json::proofs::Extending::extends_trans))]
 fn put_given(received: &Tree, name: &str, otherwise: &str, into: &mut Vec<u8>) -> Result<(), Memory>
     ensures ok { OnOk result (into.new.items ≡ into.old.items
-        ++ member_text true name.now (unwrap_or (find name.now (view received.now)) (string otherwise.now))) }
+        ++ member_text true name.now (given_or name.now (view received.now) otherwise.now)) }
     ensures kept { Extends into.old.items into.new.items }
 {
     put_name(true, name, into)?;
@@ -241,38 +158,74 @@ fn put_authority(authority: &Authority, into: &mut Vec<u8>) -> Result<(), Memory
     ensures kept { Extends into.old.items into.new.items }
 {
     put_name(true, "authority", into)?;
-    put(b"{", into)?;
-    put_text(false, "objectType", "Agent", into)?;
-    put_text(true, "name", authority.name(), into)?;
-    put_name(true, "account", into)?;
-    put_account(authority, into)?;
-    put(b"}", into)
+    put_agent(authority, into)
 }
 
 #[tactic(auto, using(lrs_json::proofs::Extending::extends_trans))]
-fn put_account(authority: &Authority, into: &mut Vec<u8>) -> Result<(), Memory>
-    ensures ok { OnOk result (into.new.items ≡ into.old.items
-        ++ written (object (members_of ((codes "homePage", string callers_page)
-        ∷ (codes "name", string (account_name authority.now)) ∷ [])))) }
+fn put_agent(authority: &Authority, into: &mut Vec<u8>) -> Result<(), Memory>
+    ensures ok { OnOk result (into.new.items ≡ into.old.items ++ written (authority_json authority.now)) }
     ensures kept { Extends into.old.items into.new.items }
 {
     put(b"{", into)?;
+    put_agent_names(authority, into)?;
+    put_account(authority, into)
+}
+
+#[tactic(auto, using(lrs_json::proofs::Extending::extends_trans))]
+fn put_agent_names(authority: &Authority, into: &mut Vec<u8>) -> Result<(), Memory>
+    ensures ok { OnOk result (into.new.items ≡ into.old.items
+        ++ (member_text false (codes "objectType") (string (codes "Agent"))
+        ++ member_text true (codes "name") (string (authority_name authority.now)))) }
+    ensures kept { Extends into.old.items into.new.items }
+{
+    put_text(false, "objectType", "Agent", into)?;
+    put_text(true, "name", authority.name(), into)
+}
+
+// The account of the Agent, and the Agent's closing brace.
+#[tactic(auto, using(lrs_json::proofs::Extending::extends_trans))]
+fn put_account(authority: &Authority, into: &mut Vec<u8>) -> Result<(), Memory>
+    ensures ok { OnOk result (into.new.items ≡ into.old.items
+        ++ members_text true (members_of ((codes "account", account_json (account_name authority.now)) ∷ []))) }
+    ensures kept { Extends into.old.items into.new.items }
+{
+    put_name(true, "account", into)?;
+    put(b"{", into)?;
+    put_account_members(authority, into)
+}
+
+// The members of the account, its closing brace, and the Agent's.
+#[tactic(auto, using(lrs_json::proofs::Extending::extends_trans))]
+fn put_account_members(authority: &Authority, into: &mut Vec<u8>) -> Result<(), Memory>
+    ensures ok { OnOk result (into.new.items ≡ into.old.items
+        ++ (member_text false (codes "homePage") (string callers_page)
+        ++ (member_text true (codes "name") (string (account_name authority.now)) ++ codes "}}"))) }
+    ensures kept { Extends into.old.items into.new.items }
+{
     put_text(false, "homePage", Authority::HOME_PAGE, into)?;
-    put_name(true, "name", into)?;
     put_account_name(authority, into)?;
-    put(b"}", into)
+    put(b"}}", into)
 }
 
 #[tactic(auto, using(lrs_json::proofs::Extending::extends_trans))]
 fn put_account_name(authority: &Authority, into: &mut Vec<u8>) -> Result<(), Memory>
-    ensures ok { OnOk result (into.new.items ≡ into.old.items ++ quoted (account_name authority.now)) }
+    ensures ok { OnOk result (into.new.items ≡ into.old.items
+        ++ member_text true (codes "name") (string (account_name authority.now))) }
     ensures kept { Extends into.old.items into.new.items }
 {
     match authority {
-        Authority::Admin => put_quoted("admin", into),
-        Authority::Provider { number, name: _ } => {
-            let mut buffer = itoa::Buffer::new();
-            put_quoted_parts("provider:", buffer.format(*number), into)
-        }
+        Authority::Admin => put_text(true, "name", "admin", into),
+        Authority::Provider { number, name: _ } => put_numbered(*number, into),
     }
+}
+
+#[tactic(auto, using(lrs_json::proofs::Extending::extends_trans))]
+fn put_numbered(number: u32, into: &mut Vec<u8>) -> Result<(), Memory>
+    ensures ok { OnOk result (into.new.items ≡ into.old.items
+        ++ member_text true (codes "name") (string (codes "provider:" ++ decimal number))) }
+    ensures kept { Extends into.old.items into.new.items }
+{
+    let mut buffer = itoa::Buffer::new();
+    put_name(true, "name", into)?;
+    put_quoted_parts("provider:", buffer.format(number), into)
 }

@@ -1,4 +1,5 @@
-use lrs_json::{Text, Tree, read, write};
+use lrs_json::{Text, Tree, write};
+use lrs_json_reader::read;
 use lrs_names::{Id, Ifi};
 use lrs_time::Moment;
 use std::alloc::Global;

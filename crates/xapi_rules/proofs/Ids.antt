@@ -7,7 +7,7 @@ use Rattle.std.specs.Ordering.{nat_cmp}
 use Rattle.std.proofs.lemmas.Cmp.{nat_list_eq_equiv}
 use Rattle.std.proofs.lemmas.Map.Text.{is_eq-slice_cmp}
 use denote.Ref.{Bor}
-use Rattle.lrs_json.specs.Faults.{is_among}
+use Rattle.lrs_json.specs.Names.{is_among}
 use Rattle.xapi_rules.specs.Objects.{are_new}
 
 abbrev pub Ids : Type 0

@@ -2,12 +2,12 @@
 use Rattle.std.specs.Prelude.{ℕ, List, [], ◌∷◌, ◌++◌, Bool, true, false, not, ◌&&◌, codes}
 use Rattle.std.specs.Option.{option_to_list}
 use Rattle.lrs_json.specs.Json.{Json, null, boolean, number, string, array, object, Elements, no_elements, element}
-use Rattle.lrs_json.specs.Faults.{is_among}
+use Rattle.lrs_json.specs.Names.{is_among}
 use Rattle.lrs_names.specs.Rules.{unless}
 use Rattle.lrs_names.specs.Iris.{iri_faults}
 use Rattle.lrs_names.specs.Languages.{language_map_faults}
 use Rattle.lrs_names.specs.Agents.{agent_faults, group_faults}
-use Rattle.lrs_names.specs.Members.{is_string, is_string_that, is_one_of, is_word, has_only, has_member, has_member_that, if_member, faults_of_member, member_text}
+use Rattle.lrs_names.specs.Members.{is_string, is_string_that, is_one_of, is_word, has_only, has_member, has_member_that, if_member, faults_of_member, text_under}
 use Rattle.xapi_values.specs.Shapes.{is_object, is_string_array, is_uuid, extension_faults}
 use Rattle.xapi_values.specs.Kinds.{kind_of}
 use Rattle.xapi_values.specs.declared.kinds.Kind.{Kind}
@@ -42,7 +42,7 @@ faults_of_components (element j js) = component_faults j ++ faults_of_components
 -- the ids that the components have
 abbrev pub ids_of : Elements → List (List ℕ)
 ids_of no_elements = []
-ids_of (element j js) = option_to_list (member_text (codes "id") j) ++ ids_of js
+ids_of (element j js) = option_to_list (text_under (codes "id") j) ++ ids_of js
 
 -- each is none of those before it, nor one of the names
 abbrev pub are_new : List (List ℕ) → List (List ℕ) → Bool

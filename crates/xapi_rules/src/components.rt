@@ -6,7 +6,7 @@ ghost use Rattle.lrs_names.specs.Rules.{least};
 ghost use Rattle.xapi_rules.specs.Objects.{is_component, are_components, component_faults, faults_of_components, ids_of, are_new, component_list_faults, is_interaction, interaction_faults, is_interaction_type};
 
 use lrs_json::{Memory, Tree};
-use lrs_names::{has_only, has_string, lesser, member_text, unless};
+use lrs_names::{has_only, has_string, lesser, text_under, unless};
 use std::alloc::Global;
 use std::collections::BTreeSet;
 use xapi_values::broken_map_at;
@@ -52,7 +52,7 @@ fn are_distinct(alloc: Global, items: &[Tree]) -> Result<bool, Memory>
 {
     let mut ids = BTreeSet::new(alloc);
     for item in items {
-        let Some(id) = member_text(item, "id") else {
+        let Some(id) = text_under(item, "id") else {
             continue;
         };
         if !ids.insert(id.as_str())? {

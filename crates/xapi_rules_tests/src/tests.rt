@@ -2,7 +2,7 @@ mod nulls;
 mod objects;
 mod parts;
 
-use lrs_json::read;
+use lrs_json_reader::read;
 use std::alloc::Global;
 use std::test::Fail;
 use xapi_rules::broken_rule;

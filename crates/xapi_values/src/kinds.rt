@@ -24,7 +24,7 @@ pub enum Kind {
 }
 
 impl Kind {
-    ghost use Rattle.xapi_values.specs.Kinds.{kind_of, kind_named, is_activity_kind, is_party_kind};
+    ghost use Rattle.xapi_values.specs.Kinds.{kind_of, kind_named, is_activity_kind, is_party_kind, same_kind};
 
     /// An `objectType` that is no string, or that is none of the five words in their letters, is `Other`.
     #[tactic(auto, unfolding(crate::specs::Kinds::kind_of))]
@@ -50,6 +50,13 @@ impl Kind {
         ensures { result ≡ is_party_kind self }
     {
         matches!(self, Kind::Agent | Kind::Group)
+    }
+
+    /// Whether both say the same.
+    pub fn same(self, other: Kind) -> bool
+        ensures { result ≡ same_kind self other }
+    {
+        self == other
     }
 
     fn named(kind: &Tree) -> Kind

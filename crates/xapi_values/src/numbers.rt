@@ -1,6 +1,6 @@
 // Numbers, by their exact values.
 ghost use Rattle.std.specs.Prelude.{◌≡◌, ◌↔◌, IsTrue, option_map, is_some, IfSome};
-ghost use Rattle.lrs_decimal.specs.Values.{Means};
+ghost use Rattle.lrs_decimal.specs.Values.{HasValue};
 ghost use Rattle.lrs_json.specs.View.{view};
 ghost use Rattle.xapi_values.specs.Numbers.{IsNumberInRange, is_decimal, is_number, spelling_of, member_number, compared, is_below, is_not_above, is_natural, is_count, are_numbers, are_in_order, is_score};
 ghost use Rattle.lrs_names.specs.Members.{if_member};
@@ -32,7 +32,7 @@ pub fn member_number<'a>(tree: &'a Tree, name: &str) -> Option<&'a [u8]>
 /// The value of a spelling, where it is a number in range.
 pub fn decimal_of(spelling: &[u8]) -> Option<Decimal>
     ensures some { is_some result ≡ is_decimal spelling.now }
-    ensures value { IfSome result (λ d. Means d spelling.now) }
+    ensures value { IfSome result (λ d. HasValue d spelling.now) }
 {
     Decimal::of(spelling)
 }

@@ -1,4 +1,5 @@
-use lrs_json::{Tree, read};
+use lrs_json::Tree;
+use lrs_json_reader::read;
 use std::alloc::Global;
 use std::test::Fail;
 use xapi_values::numbers::{is_count, is_score};

@@ -2,7 +2,7 @@ use Rattle.std.proofs.Common.{◌≡◌, map}
 use Rattle.std.specs.Vec.Iter.{into_iter_items}
 use Rattle.lrs_json.specs.View.{member_view, members_of}
 use Rattle.xapi_format.specs.Completed.{followed_by}
-use Rattle.xapi_format.specs.Reduced.{each_member}
+use Rattle.xapi_format.specs.Memberwise.{each_member}
 use Rattle.xapi_format.proofs.reducing.each_member.Given as goal
 
 -- what was made so far, and what is left
