@@ -5,7 +5,7 @@ use Rattle.std.proofs.lemmas.Nat.{pow-add}
 use Rattle.std.proofs.lemmas.Grind.{common_steps}
 use Rattle.std.specs.Ordering.{nat_cmp, ordering_then, ordering_reverse}
 use Rattle.lrs_decimal.specs.Parts.{is_negative, all_digits, digits_value, point_right, point_left}
-use Rattle.lrs_decimal.specs.Values.{Signed, signed, signed_cmp, scaled, order, units, Means}
+use Rattle.lrs_decimal.specs.Values.{Signed, signed, signed_cmp, scaled, order, units, HasValue}
 use Rattle.lrs_decimal.specs.declared.decimal.Decimal.{Decimal}
 
 cmp_less : (x y : ℕ) → x < y → nat_cmp x y ≡ Less
@@ -135,7 +135,7 @@ pub signed_steps : (b : Bool) (n i j k : ℕ) → i + j ≡ k → times (signed 
 signed_steps b n i j k e = sym (signed_times b (n * 10 ^ i) (10 ^ j)) ∙ ap (signed b) (power_steps n i j k e)
 
 -- what a decimal means, times a further power of ten
-means_more : (d : Decimal) (s : List ℕ) (k : ℕ) → Means d s → times (units d) (10 ^ (point_left s + k)) ≡ scaled s (point_right s + 999 + k)
+means_more : (d : Decimal) (s : List ℕ) (k : ℕ) → HasValue d s → times (units d) (10 ^ (point_left s + k)) ≡ scaled s (point_right s + 999 + k)
 means_more d s k m =
     let d_all : d.scale + (point_left s + k) ≡ d.scale + point_left s + k = omega arith in
     signed_steps d.negative d.coefficient d.scale (point_left s + k) (d.scale + point_left s + k) d_all
@@ -147,7 +147,7 @@ means_more d s k m =
 scaled_more : (s : List ℕ) (k : ℕ) → times (scaled s (point_right s + k)) (10 ^ 999) ≡ scaled s (point_right s + 999 + k)
 scaled_more s k = signed_steps (is_negative s) (digits_value (all_digits s)) (point_right s + k) 999 (point_right s + 999 + k) (omega arith)
 
-pub spelled_order : (d e : Decimal) (s t : List ℕ) → Means d s → Means e t → signed_cmp (units d) (units e) ≡ order s t
+pub spelled_order : (d e : Decimal) (s t : List ℕ) → HasValue d s → HasValue e t → signed_cmp (units d) (units e) ≡ order s t
 spelled_order d e s t m n =
     let both = point_left s + point_left t in
     let swap : point_left t + point_left s ≡ both = omega arith in

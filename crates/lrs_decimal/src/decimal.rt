@@ -25,12 +25,12 @@ pub struct Decimal {
 }
 
 impl Decimal {
-    ghost use Rattle.lrs_decimal.specs.Values.{signed_cmp, order, units, Means};
+    ghost use Rattle.lrs_decimal.specs.Values.{signed_cmp, order, units, HasValue};
 
     /// The value of the spelling, or `None` where the bytes are no number in range.
     pub fn of(spelling: &[u8]) -> Option<Decimal>
         ensures exact { IsSome result ↔ (IsNumber spelling.now × IsTrue (is_in_range spelling.now)) }
-        ensures value { IfSome result (λ d. Means d spelling.now) }
+        ensures value { IfSome result (λ d. HasValue d spelling.now) }
     {
         if is_number(spelling) && is_in_range(spelling) {
             Some(Decimal::exact(spelling))
@@ -41,7 +41,7 @@ impl Decimal {
 
     fn exact(spelling: &[u8]) -> Decimal
         requires { IsTrue (is_in_range spelling.now) }
-        ensures { Means result spelling.now }
+        ensures { HasValue result spelling.now }
     {
         let mantissa = mantissa(spelling);
         let digits = count(mantissa);
@@ -64,7 +64,7 @@ impl Decimal {
     /// The order of the values.
     pub fn cmp(&self, other: &Decimal) -> Ordering
         ensures value { result ≡ signed_cmp (units self.now) (units other.now) }
-        ensures spelled { (s t : List ℕ) → Means self.now s → Means other.now t → result ≡ order s t }
+        ensures spelled { (s t : List ℕ) → HasValue self.now s → HasValue other.now t → result ≡ order s t }
     {
         self.cmp_units(other)
     }

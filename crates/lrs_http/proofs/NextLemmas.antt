@@ -13,7 +13,7 @@ use Rattle.lrs_http.specs.declared.request.RequestRefused.TheVariants as refused
 use Rattle.lrs_http.specs.Head.{HeadParts, parts_of, announced, request_of, most_fields}
 use Rattle.lrs_http.specs.Links.{stream_left, GivesRefusal, GivesNext, IsCause}
 use Rattle.httparse.specs.Spans.{span_bytes, header_bytes, name_and_value}
-use Rattle.lrs_http.specs.Prospect.{IsHeadAt, IsRefused, IsJudged, parts_at}
+use Rattle.lrs_http.specs.Prospect.{IsHeadAt, IsRequestRefused, IsJudged, parts_at}
 use Rattle.lrs_http.specs.Reading.{IsAtEnd, IsBodyAt, IsNoBody, IsEarlyEnd, IsQuiet}
 use Rattle.lrs_http.specs.Stream.{stands, IsItem, Item, item_with, with_body, window, longest_head}
 
@@ -29,7 +29,7 @@ given before refused.Cut known = known
 given before refused.LinkFault known = tt
 given before refused.Memory known = tt
 
-always : (kept : List ℕ) (e : RequestRefused) → IsRefused kept e → (e ≡ refused.Memory) ⊎ ((more : List ℕ) → IsItem (kept ++ more) (Err e))
+always : (kept : List ℕ) (e : RequestRefused) → IsRequestRefused kept e → (e ≡ refused.Memory) ⊎ ((more : List ℕ) → IsItem (kept ++ more) (Err e))
 always kept refused.End known = inr known
 always kept (refused.Malformed rule) known = inr known
 always kept refused.HeadTooLong known = inr known
@@ -43,7 +43,7 @@ always kept refused.Memory known = inl refl
 memory_is_free : (before : Option (List ℕ)) (e : RequestRefused) → e ≡ refused.Memory → GivesRefusal before e
 memory_is_free before e is = subst (λ (r : RequestRefused). GivesRefusal before r) (sym is) tt
 
-pub refused_early : (kept : List ℕ) (left : Option (List ℕ)) (e : RequestRefused) → IsRefused kept e → GivesRefusal (stream_left kept left) e
+pub refused_early : (kept : List ℕ) (left : Option (List ℕ)) (e : RequestRefused) → IsRequestRefused kept e → GivesRefusal (stream_left kept left) e
 refused_early kept left e known = ⊎_elim
     (λ is. memory_is_free (stream_left kept left) e is)
     (λ f. given (stream_left kept left) e (told left f))
@@ -190,7 +190,7 @@ quiet_cause before now refused.Cut quiet is = is
 quiet_cause before now refused.LinkFault quiet is = absurd quiet
 quiet_cause before now refused.Memory quiet is = is
 
-pub quiet_early : (kept : List ℕ) (e : RequestRefused) → IsRefused kept e → IsQuiet e
+pub quiet_early : (kept : List ℕ) (e : RequestRefused) → IsRequestRefused kept e → IsQuiet e
 quiet_early kept refused.End known = tt
 quiet_early kept (refused.Malformed rule) known = tt
 quiet_early kept refused.HeadTooLong known = tt

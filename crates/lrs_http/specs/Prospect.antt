@@ -38,10 +38,10 @@ pub record IsHeadAt (bytes : List ℕ) (fields : List HeaderSpan) (spans : Reque
   pub front : (more : List ℕ) → IsFront (bytes ++ more) (stands head (drop spans.len (bytes ++ more)))
 
 -- whatever follows the bytes, this is the answer; want of memory is free
-abbrev pub IsRefused : List ℕ → RequestRefused → Type 0
-IsRefused bytes refused.Memory = ⊤
-IsRefused bytes refused.LinkFault = ⊥
-IsRefused bytes refusal = (more : List ℕ) → IsItem (bytes ++ more) (Err refusal)
+abbrev pub IsRequestRefused : List ℕ → RequestRefused → Type 0
+IsRequestRefused bytes refused.Memory = ⊤
+IsRequestRefused bytes refused.LinkFault = ⊥
+IsRequestRefused bytes refusal = (more : List ℕ) → IsItem (bytes ++ more) (Err refusal)
 
 -- the same where the stream ends behind the bytes, if they are fewer than a head may have
 abbrev pub IsJudged : List ℕ → RequestRefused → Type 0

@@ -4,7 +4,7 @@ ghost use Rattle.std.specs.List.{list_all};
 ghost use Rattle.httparse.specs.Grammar.{is_uri_byte, NeverHasRequest};
 ghost use Rattle.httparse.specs.Spans.{RequestOverflows};
 ghost use Rattle.lrs_http.specs.Head.{most_fields};
-ghost use Rattle.lrs_http.specs.Prospect.{IsProspect, IsHeadAt, IsRefused, IsJudged, refusal_for};
+ghost use Rattle.lrs_http.specs.Prospect.{IsProspect, IsHeadAt, IsRequestRefused, IsJudged, refusal_for};
 ghost use Rattle.lrs_http.specs.Reach.{reaches, method_reaches};
 ghost use Rattle.lrs_http.specs.Stream.{window, longest_head, is_line_end};
 
@@ -145,7 +145,7 @@ pub(crate) fn look(
     fields: &mut [HeaderSpan; MOST_FIELDS],
 ) -> Result<Option<RequestSpans>, RequestRefused>
     ensures head { IfOk result (λ found. IfSome found (IsHeadAt bytes.now fields.new)) }
-    ensures refused { IfErr result (IsRefused bytes.now) }
+    ensures refused { IfErr result (IsRequestRefused bytes.now) }
 {
     match examine(alloc, window_of(bytes), fields)? {
         Prospect::Whole(spans) => Ok(Some(spans)),

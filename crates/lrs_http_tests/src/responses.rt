@@ -2,8 +2,8 @@
 ghost use Rattle.std.specs.Prelude.{◌≡◌, ◌≢◌, [], IsTrue};
 ghost use Rattle.lrs_http.specs.Response.{IsStatus};
 
-use lrs_disk::MemLink;
 use lrs_http::{LinkFault, Reply2, write_response};
+use lrs_in_memory::MemLink;
 use std::alloc::Global;
 use std::test::Fail;
 

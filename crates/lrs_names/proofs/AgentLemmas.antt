@@ -10,7 +10,7 @@ use Rattle.std.specs.Option.{option_map_or}
 use Rattle.lrs_names.specs.Agents.{mailbox_faults, sha1_faults, openid_faults, account_faults, is_mailbox, is_sha1, is_account, identifier_count, identifier_faults, is_agent, agent_faults, faults_of_agents, faults_of_members, is_group, group_faults}
 use Rattle.lrs_names.specs.Identifiers.{or_else, account_of, identifier_of}
 use Rattle.lrs_names.specs.Iris.{is_iri, iri_faults}
-use Rattle.lrs_names.specs.Members.{is_string_that, is_string, text_of, has_member, has_member_that, faults_of_member, member_text, has_only}
+use Rattle.lrs_names.specs.Members.{is_string_that, is_string, text_of, has_member, has_member_that, faults_of_member, text_under, has_only}
 use Rattle.lrs_names.specs.Readings.{IsAgentOf, AreAgentsOf}
 use Rattle.lrs_names.specs.declared.agents.Agent.{Agent}
 use Rattle.lrs_names.specs.declared.identifiers.Ifi.{Ifi}
@@ -114,7 +114,7 @@ no_account (Some j) none without =
     let page : least (faults_of_member (codes "homePage") iri_faults j) ≡ None = none_right (unless (is_account j) 10) (faults_of_member (codes "homePage") iri_faults j) none in
     let name_is : has_member_that (codes "name") is_string j ≡ true = second_true (has_only (codes "homePage" ∷ codes "name" ∷ []) j && has_member (codes "homePage") j) _ shape in
     let home_is : has_member (codes "homePage") j ≡ true = second_true (has_only (codes "homePage" ∷ codes "name" ∷ []) j) _ (first_true _ (has_member_that (codes "name") is_string j) shape) in
-    elim (both_none (member_text (codes "homePage") j) (member_text (codes "name") j) without) [
+    elim (both_none (text_under (codes "homePage") j) (text_under (codes "name") j) without) [
       | inl none_home ↦ absurd (some_iri (find (codes "homePage") j) home_is page none_home)
       | inr none_name ↦ absurd (some_text (find (codes "name") j) name_is none_name)
     ]

@@ -57,8 +57,8 @@ abbrev pub faults_of_member : List ℕ → (Json → List ℕ) → Json → List
 faults_of_member name faults j = option_map_or faults (find name j) []
 
 -- the text of the member, where it is a string
-abbrev pub member_text : List ℕ → Json → Option (List ℕ)
-member_text name j = option_and_then text_of (find name j)
+abbrev pub text_under : List ℕ → Json → Option (List ℕ)
+text_under name j = option_and_then text_of (find name j)
 
 abbrev pub is_one_of : List (List ℕ) → List ℕ → Bool
 is_one_of names text = list_any (λ name. bytes_eq name text) names

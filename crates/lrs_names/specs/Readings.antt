@@ -4,13 +4,13 @@ use Rattle.std.specs.Option.{option_map_or}
 use Rattle.lrs_json.specs.Json.{Json, Elements, no_elements, element}
 use Rattle.lrs_json.specs.Find.{find}
 use Rattle.lrs_names.specs.Identifiers.{identifier_of}
-use Rattle.lrs_names.specs.Members.{member_text, items_of}
+use Rattle.lrs_names.specs.Members.{text_under, items_of}
 use Rattle.lrs_names.specs.declared.agents.Agent.{Agent}
 use Rattle.lrs_names.specs.declared.groups.Group.{Group}
 
 pub record IsAgentOf (j : Json) (a : Agent) : Type 0 where
   pub ifi : identifier_of j ≡ Some a.ifi
-  pub name : member_text (codes "name") j ≡ a.name
+  pub name : text_under (codes "name") j ≡ a.name
 
 -- one for each, in their order
 abbrev pub AreAgentsOf : Elements → List Agent → Type 0
@@ -25,5 +25,5 @@ member_items j = option_map_or items_of (find (codes "member") j) no_elements
 
 pub record IsGroupOf (j : Json) (g : Group) : Type 0 where
   pub ifi : identifier_of j ≡ g.ifi
-  pub name : member_text (codes "name") j ≡ g.name
+  pub name : text_under (codes "name") j ≡ g.name
   pub members : AreAgentsOf (member_items j) g.members

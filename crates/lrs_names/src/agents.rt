@@ -1,11 +1,11 @@
 ghost use Rattle.std.specs.Prelude.{◌≡◌, IfSome, IfNone, IfOk, None, MatchResult, Err, codes};
 ghost use Rattle.lrs_json.specs.View.{view};
 ghost use Rattle.lrs_names.specs.Agents.{is_agent, agent_faults};
-ghost use Rattle.lrs_names.specs.Members.{if_member, is_word, member_text};
+ghost use Rattle.lrs_names.specs.Members.{if_member, is_word, text_under};
 ghost use Rattle.lrs_names.specs.Rules.{least, IsLeast};
 
 use crate::identifiers::{broken_identifiers, identifier_count};
-use crate::members::{has_only, is_string_if_there, is_word, member_text};
+use crate::members::{has_only, is_string_if_there, is_word, text_under};
 use crate::rules::{lesser, unless};
 use crate::{Ifi, NameRefused};
 use lrs_json::{Memory, Text, Tree};
@@ -85,9 +85,9 @@ fn is_agent_kind(tree: &Tree) -> bool
 
 /// The `name` of an agent or a group.
 pub(crate) fn name_of(alloc: Global, tree: &Tree) -> Result<Option<Text>, Memory>
-    ensures { IfOk result (λ name. name ≡ member_text (codes "name") (view tree.now)) }
+    ensures { IfOk result (λ name. name ≡ text_under (codes "name") (view tree.now)) }
 {
-    match member_text(tree, "name") {
+    match text_under(tree, "name") {
         Some(name) => Ok(Some(Text::of(alloc, name.as_str())?)),
         None => Ok(None),
     }

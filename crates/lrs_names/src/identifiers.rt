@@ -10,7 +10,7 @@ ghost use Rattle.lrs_names.specs.Members.{is_string_that, faults_of_member};
 ghost use Rattle.lrs_names.specs.Rules.{least};
 
 use crate::iris::{broken_iri, is_control_or_space};
-use crate::members::{has_member, has_only, has_string, member_text};
+use crate::members::{has_member, has_only, has_string, text_under};
 use crate::rules::{lesser, unless};
 use lrs_json::{Memory, Text, Tree};
 use std::alloc::Global;
@@ -99,13 +99,13 @@ fn is_same(a: &Lent<'_>, b: &Lent<'_>) -> bool
 fn identifier_in(tree: &Tree) -> Option<Lent<'_>>
     ensures { option_map lent result ≡ identifier_of (view tree.now) }
 {
-    if let Some(text) = member_text(tree, "mbox") {
+    if let Some(text) = text_under(tree, "mbox") {
         return Some(Lent::Mbox(text));
     }
-    if let Some(text) = member_text(tree, "mbox_sha1sum") {
+    if let Some(text) = text_under(tree, "mbox_sha1sum") {
         return Some(Lent::MboxSha1(text));
     }
-    if let Some(text) = member_text(tree, "openid") {
+    if let Some(text) = text_under(tree, "openid") {
         return Some(Lent::OpenId(text));
     }
     account_in(tree.get("account")?)
@@ -114,8 +114,8 @@ fn identifier_in(tree: &Tree) -> Option<Lent<'_>>
 fn account_in(tree: &Tree) -> Option<Lent<'_>>
     ensures { option_map lent result ≡ account_of (view tree.now) }
 {
-    let home = member_text(tree, "homePage")?;
-    let name = member_text(tree, "name")?;
+    let home = text_under(tree, "homePage")?;
+    let name = text_under(tree, "name")?;
     Some(Lent::Account { home, name })
 }
 

@@ -25,8 +25,8 @@ pub use iris::{Iri, broken_iri, holds_iri};
 pub use languages::{LangTag, broken_language_map, is_language_map};
 pub use lrs_json::Memory;
 pub use members::{
-    has_member, has_only, has_string, is_one_of, is_string, is_string_if_there, is_word,
-    member_text, text_of,
+    has_member, has_only, has_string, is_one_of, is_string, is_string_if_there, is_word, text_of,
+    text_under,
 };
 pub use refused::NameRefused;
 pub use rules::{lesser, unless};

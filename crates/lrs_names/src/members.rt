@@ -1,7 +1,7 @@
 // What is asked of a value by its kind and by its members.
 ghost use Rattle.std.specs.Prelude.{◌≡◌, map, option_map};
 ghost use Rattle.lrs_json.specs.View.{view, member_view, members_of};
-ghost use Rattle.lrs_names.specs.Members.{is_string, is_word, text_of, member_text, has_member, has_member_that, if_member, is_one_of, are_named_by, has_only};
+ghost use Rattle.lrs_names.specs.Members.{is_string, is_word, text_of, text_under, has_member, has_member_that, if_member, is_one_of, are_named_by, has_only};
 
 use lrs_json::{Member, Text, Tree};
 
@@ -33,8 +33,8 @@ pub fn text_of(tree: &Tree) -> Option<&Text>
 }
 
 /// The text of the member of that name, where it is a string.
-pub fn member_text<'a>(tree: &'a Tree, name: &str) -> Option<&'a Text>
-    ensures { option_map (λ t. t.now) result ≡ member_text name.now (view tree.now) }
+pub fn text_under<'a>(tree: &'a Tree, name: &str) -> Option<&'a Text>
+    ensures { option_map (λ t. t.now) result ≡ text_under name.now (view tree.now) }
 {
     match tree.get(name) {
         Some(value) => text_of(value),

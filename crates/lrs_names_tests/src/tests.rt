@@ -1,4 +1,5 @@
-use lrs_json::{Items, Memory, ReadRefused, Text, Tree, read};
+use lrs_json::{Items, Memory, Text, Tree};
+use lrs_json_reader::{ReadRefused, read};
 use lrs_names::{
     Agent, Group, Id, Ifi, Iri, LangTag, NameRefused, broken_agent_or_group, fresh_id,
     is_language_map, is_one_of,

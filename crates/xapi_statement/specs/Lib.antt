@@ -1,4 +1,4 @@
 pub mod Statement
 pub mod Parties
-pub mod Completed
+pub mod Stored
 pub mod Shown

@@ -10,27 +10,27 @@ use Rattle.xapi_format.specs.Party.{is_party}
 use Rattle.xapi_format.specs.Reduced.{reduced}
 use Rattle.xapi_format.specs.declared.format.Format.{Format}
 use Rattle.xapi_format.specs.declared.format.Format.TheVariants.{Exact, Ids}
-use Rattle.xapi_statement.specs.Completed.{HeldStatement, completed_form}
+use Rattle.xapi_statement.specs.Stored.{StoredStatement, completed_form}
 use Rattle.xapi_statement.specs.Parties.{has_context_agent, has_direct_agent, nested_has_agent}
 
 -- ---- forms
 
-abbrev pub shown_form : Format → HeldStatement → Json
+abbrev pub shown_form : Format → StoredStatement → Json
 shown_form Exact held = completed_form held
 shown_form Ids held = reduced (completed_form held)
 
 -- its text
-abbrev pub shown_text : Format → HeldStatement → List ℕ
+abbrev pub shown_text : Format → StoredStatement → List ℕ
 shown_text format held = written (shown_form format held)
 
 -- ---- who takes part
 
 -- At one of the related places: the authority that the store gave it, the context, and those places of a SubStatement.
-abbrev pub related_in : Ifi → HeldStatement → Bool
+abbrev pub related_in : Ifi → StoredStatement → Bool
 related_in ifi held =
     is_party ifi (authority_json held.authority) || has_context_agent ifi (view held.received)
     || has_member_that (codes "object") (nested_has_agent ifi) (view held.received)
 
 -- The same as of a statement that was received, but that its authority is the one that the store gave it.
-abbrev pub takes_part : Ifi → Bool → HeldStatement → Bool
+abbrev pub takes_part : Ifi → Bool → StoredStatement → Bool
 takes_part ifi related held = has_direct_agent ifi (view held.received) || (related && related_in ifi held)

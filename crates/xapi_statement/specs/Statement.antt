@@ -4,7 +4,7 @@ use Rattle.lrs_json.specs.Json.{Json, null, boolean, number, string, array, obje
 use Rattle.lrs_json.specs.Find.{find}
 use Rattle.lrs_json.specs.Written.{written}
 use Rattle.lrs_names.specs.Ids.{id_of}
-use Rattle.lrs_names.specs.Members.{is_word, has_member, has_member_that, text_of, member_text}
+use Rattle.lrs_names.specs.Members.{is_word, has_member, has_member_that, text_of, text_under}
 use Rattle.xapi_format.specs.Nested.{is_nested}
 use Rattle.xapi_values.specs.Numbers.{member_number}
 use Rattle.xapi_rules.specs.Rules.{broken_rule, is_about_activity, is_about_reference}
@@ -36,7 +36,7 @@ own_id j = option_and_then id_in (find (codes "id") j)
 
 -- the id of the verb
 unfoldable pub verb_of : Json → List ℕ
-verb_of j = unwrap_or (option_and_then (member_text (codes "id")) (find (codes "verb") j)) []
+verb_of j = unwrap_or (option_and_then (text_under (codes "id")) (find (codes "verb") j)) []
 
 abbrev pub registration_in : Json → Option (List ℕ)
 registration_in context = option_and_then id_in (find (codes "registration") context)
@@ -53,7 +53,7 @@ unfoldable pub target_of : Json → Option (List ℕ)
 target_of j = option_and_then reference_in (find (codes "object") j)
 
 abbrev pub activity_in : Json → Option (List ℕ)
-activity_in j = if is_about_activity j then member_text (codes "id") j else None
+activity_in j = if is_about_activity j then text_under (codes "id") j else None
 
 -- the id of the Activity that is the object
 unfoldable pub activity_of : Json → Option (List ℕ)

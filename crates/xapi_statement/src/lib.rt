@@ -3,18 +3,18 @@
 #![tactic(auto)]
 
 mod activities;
-mod completed;
 mod length;
 mod members;
 mod parties;
 mod refused;
 mod statement;
+mod stored;
 
-pub use completed::Completed;
 pub use length::is_too_long;
 pub use lrs_json::Memory;
 pub use members::{own_id, target_of};
 pub use refused::{StatementRefused, judge};
 pub use statement::Statement;
+pub use stored::StoredStatement;
 pub use xapi_format::{Authority, Format};
 pub use xapi_rules::{broken_rule, is_voiding};

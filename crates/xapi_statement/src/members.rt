@@ -1,6 +1,6 @@
 // The members of a statement.
 ghost use Rattle.std.specs.Prelude.{◌≡◌, option_map, MatchOption, IsSomeAnd, ℕ, List, Some, None, false};
-ghost use Rattle.lrs_decimal.specs.Values.{Means};
+ghost use Rattle.lrs_decimal.specs.Values.{HasValue};
 ghost use Rattle.lrs_json.specs.View.{view};
 ghost use Rattle.lrs_names.specs.Members.{has_member};
 ghost use Rattle.xapi_values.specs.Numbers.{is_decimal};
@@ -8,7 +8,7 @@ ghost use Rattle.xapi_statement.specs.Statement.{id_in, own_id, verb_of, registr
 
 use lrs_decimal::Decimal;
 use lrs_json::{Text, Tree};
-use lrs_names::{Id, has_member, member_text};
+use lrs_names::{Id, has_member, text_under};
 use xapi_values::Kind;
 use xapi_values::numbers::{decimal_of, member_number};
 
@@ -38,7 +38,7 @@ pub fn verb_of(statement: &Tree) -> &str
     let Some(verb) = statement.get("verb") else {
         return "";
     };
-    match member_text(verb, "id") {
+    match text_under(verb, "id") {
         Some(id) => id.as_str(),
         None => "",
     }
@@ -87,7 +87,7 @@ fn activity_in(object: &Tree) -> Option<&Text>
     ensures { option_map (λ t. t.now) result ≡ activity_in (view object.now) }
 {
     if Kind::of(object).is_activity() {
-        member_text(object, "id")
+        text_under(object, "id")
     } else {
         None
     }
@@ -159,7 +159,7 @@ fn scaled_spelling(statement: &Tree) -> Option<&[u8]>
 
 pub fn scaled_of(statement: &Tree) -> Option<Decimal>
     ensures { MatchOption result ((s : List ℕ) → scaled_of (view statement.now) ≡ Some s → is_decimal s ≡ false)
-        (λ d. IsSomeAnd (scaled_of (view statement.now)) (λ s. Means d s)) }
+        (λ d. IsSomeAnd (scaled_of (view statement.now)) (λ s. HasValue d s)) }
 {
     match scaled_spelling(statement) {
         Some(spelling) => decimal_of(spelling),

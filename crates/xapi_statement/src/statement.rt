@@ -1,5 +1,5 @@
 ghost use Rattle.std.specs.Prelude.{◌≡◌, ◌⊎◌, ◌↔◌, None, Some, Err, IsTrue, MatchResult, option_map, MatchOption, IsSomeAnd, ℕ, List, codes, false};
-ghost use Rattle.lrs_decimal.specs.Values.{Means};
+ghost use Rattle.lrs_decimal.specs.Values.{HasValue};
 ghost use Rattle.lrs_json.specs.View.{view};
 ghost use Rattle.xapi_values.specs.Numbers.{is_decimal};
 ghost use Rattle.xapi_rules.specs.Rules.{is_voiding};
@@ -140,7 +140,7 @@ impl Statement {
     pub fn scaled(&self) -> Option<Decimal>
         ensures { MatchOption result
             ((s : List ℕ) → scaled_of (view self.now.tree) ≡ Some s → is_decimal s ≡ false)
-            (λ d. IsSomeAnd (scaled_of (view self.now.tree)) (λ s. Means d s)) }
+            (λ d. IsSomeAnd (scaled_of (view self.now.tree)) (λ s. HasValue d s)) }
     {
         members::scaled_of(&self.tree)
     }

@@ -1,11 +1,12 @@
 use lrs_decimal::Decimal;
-use lrs_json::{Text, Tree, read, write};
+use lrs_json::{Text, Tree, write};
+use lrs_json_reader::read;
 use lrs_names::{Id, Ifi};
 use lrs_time::Moment;
 use std::alloc::Global;
 use std::cmp::Ordering;
 use std::test::Fail;
-use xapi_statement::{Authority, Completed, Format, Statement, StatementRefused};
+use xapi_statement::{Authority, Format, Statement, StatementRefused, StoredStatement};
 
 // One with all parts, one with a SubStatement, one that voids, and one about an Agent.
 const WHOLE: &str =
@@ -286,7 +287,7 @@ fn stored() -> Moment {
 }
 
 // The statement as it is kept.
-fn kept(alloc: Global, text: &str, by: Authority) -> Result<Completed, Fail> {
+fn kept(alloc: Global, text: &str, by: Authority) -> Result<StoredStatement, Fail> {
     let id = id()?;
     match statement(alloc, text) {
         Ok(statement) => Ok(statement.complete(id, stored(), by)),
@@ -299,7 +300,7 @@ fn kept(alloc: Global, text: &str, by: Authority) -> Result<Completed, Fail> {
 
 fn is_written_as(
     alloc: Global,
-    kept: &Completed,
+    kept: &StoredStatement,
     format: Format,
     text: &str,
 ) -> Result<bool, Fail> {
@@ -308,7 +309,12 @@ fn is_written_as(
     Ok(bytes.as_slice() == text.as_bytes())
 }
 
-fn has_tree_of(alloc: Global, kept: &Completed, format: Format, text: &str) -> Result<bool, Fail> {
+fn has_tree_of(
+    alloc: Global,
+    kept: &StoredStatement,
+    format: Format,
+    text: &str,
+) -> Result<bool, Fail> {
     let tree = kept.tree(alloc, format)?;
     is_tree_written_as(alloc, &tree, text)
 }
@@ -322,7 +328,7 @@ fn is_tree_written_as(alloc: Global, tree: &Tree, text: &str) -> Result<bool, Fa
 // The number of the first row that isn't so.
 fn first_shown_wrong(
     alloc: Global,
-    kept: &Completed,
+    kept: &StoredStatement,
     rows: &[(Format, &str)],
 ) -> Result<Option<usize>, Fail> {
     for (i, (format, text)) in rows.iter().enumerate() {
@@ -344,7 +350,7 @@ fn a_kept_statement_is_shown_in_the_form_that_is_asked_for(rt: HostRuntime) -> R
     Ok(())
 }
 
-fn tells_what_it_is_kept_with(kept: &Completed, id: Id) -> bool {
+fn tells_what_it_is_kept_with(kept: &StoredStatement, id: Id) -> bool {
     kept.id() == id && kept.stored() == stored() && !kept.is_voiding() && kept.target().is_none()
 }
 
@@ -373,22 +379,26 @@ fn account(alloc: Global, name: &str) -> Result<Ifi, Fail> {
 }
 
 // Where a kept statement has who has that identifier: at the direct places, and with the related ones.
-fn places(kept: &Completed, ifi: &Ifi) -> (bool, bool) {
+fn places(kept: &StoredStatement, ifi: &Ifi) -> (bool, bool) {
     (kept.has_agent(ifi, false), kept.has_agent(ifi, true))
 }
 
-fn account_places(alloc: Global, kept: &Completed, name: &str) -> Result<(bool, bool), Fail> {
+fn account_places(alloc: Global, kept: &StoredStatement, name: &str) -> Result<(bool, bool), Fail> {
     let ifi = account(alloc, name)?;
     Ok(places(kept, &ifi))
 }
 
-fn kept_mailbox_places(alloc: Global, kept: &Completed, mail: &str) -> Result<(bool, bool), Fail> {
+fn kept_mailbox_places(
+    alloc: Global,
+    kept: &StoredStatement,
+    mail: &str,
+) -> Result<(bool, bool), Fail> {
     let ifi = mailbox(alloc, mail)?;
     Ok(places(kept, &ifi))
 }
 
 // The authority that the store gives takes part at the related places, the one that was received doesn't.
-fn is_the_callers(alloc: Global, kept: &Completed) -> Result<bool, Fail> {
+fn is_the_callers(alloc: Global, kept: &StoredStatement) -> Result<bool, Fail> {
     Ok(
         account_places(alloc, kept, "provider:12")? == (false, true)
             && account_places(alloc, kept, "admin")? == (false, false)

@@ -2,7 +2,7 @@ use Rattle.std.proofs.Common.{◌≡◌, ◌∙◌, List, ℕ, Option, subst, le
 use Rattle.std.proofs.lemmas.Result.{err_from_is_err_and, IfErr-weaker}
 use Rattle.lrs_http.specs.declared.request.RequestRefused.{RequestRefused}
 use Rattle.lrs_http.specs.Links.{GivesRefusal, stream_left}
-use Rattle.lrs_http.specs.Prospect.{IsRefused, IsJudged}
+use Rattle.lrs_http.specs.Prospect.{IsRequestRefused, IsJudged}
 use Rattle.lrs_http.proofs.NextLemmas.{refused_early, refused_last}
 use Rattle.lrs_http.proofs.reading.read_head.Goals as goal
 
@@ -10,7 +10,7 @@ pub returns-in_err-spans-clause-refused : goal.returns-in_err-spans-clause-refus
 returns-in_err-spans-clause-refused g c =
     let p = err_from_is_err_and c.from_residual.result c.from_residual.ensures.1 in
     let e = c.in_err-spans.field-0.0 in
-    let at : IsRefused c.loop-search.kept.items e = subst (λ (l : List ℕ). IsRefused l e) c.deref-in-loop-search.ensures.value c.in_err-spans.ensures.refused in
+    let at : IsRequestRefused c.loop-search.kept.items e = subst (λ (l : List ℕ). IsRequestRefused l e) c.deref-in-loop-search.ensures.value c.in_err-spans.ensures.refused in
     rw (p.1, p.2) (subst (λ (o : Option (List ℕ)). GivesRefusal o e) c.loop-search.invariant.told (refused_early c.loop-search.kept.items (g.L.Link.left c.loop-search.link) e at))
 
 pub returns-then-not-branch-clause-refused : goal.returns-then-not-branch-clause-refused

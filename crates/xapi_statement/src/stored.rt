@@ -16,19 +16,19 @@ use xapi_format::{completed, put_completed, reduced};
 /// A statement as the store keeps it: as it was received, under its id, with the moment at which it was accepted and
 /// under whose authority it stands.
 #[derive(Drop)]
-pub struct Completed {
+pub struct StoredStatement {
     statement: Statement,
     id: Id,
     stored: Moment,
     authority: Authority,
 }
 
-impl Model for Completed {
-    ghost use Rattle.xapi_statement.specs.Completed.{HeldStatement};
+impl Model for StoredStatement {
+    ghost use Rattle.xapi_statement.specs.Stored.{StoredStatement as SpecStatement};
     ghost use Rattle.std.specs.Coded.{codes};
     ghost use Rattle.lrs_json.specs.contracts.tree.Tree as tree;
 
-    ghost Value = { HeldStatement };
+    ghost Value = { SpecStatement };
 
     ghost coded = { Prim.hlevel (codes, tree.the_row.coded) };
 
@@ -37,10 +37,10 @@ impl Model for Completed {
 
 impl Statement {
     /// The statement as the store keeps it. The tree is taken over as it is.
-    pub fn complete(self, id: Id, stored: Moment, authority: Authority) -> Completed
+    pub fn complete(self, id: Id, stored: Moment, authority: Authority) -> StoredStatement
         ensures { result ≡ record { received = self.tree; id = id; stored = stored; authority = authority } }
     {
-        Completed {
+        StoredStatement {
             statement: self,
             id,
             stored,
@@ -49,7 +49,7 @@ impl Statement {
     }
 }
 
-impl Completed {
+impl StoredStatement {
     /// The statement as it was received.
     pub fn statement(&self) -> &Statement
         ensures { result.now.tree ≡ self.now.received }

@@ -10,11 +10,11 @@ use Rattle.xapi_format.specs.declared.authority.Authority.{Authority}
 
 -- A statement as it was received, and what the store adds: its id, the moment at which it was accepted, and under whose
 -- authority it stands.
-pub record HeldStatement : Type 0 where
+pub record StoredStatement : Type 0 where
   pub received : Tree
   pub id : List ℕ
   pub stored : ℕ
   pub authority : Authority
 
-abbrev pub completed_form : HeldStatement → Json
+abbrev pub completed_form : StoredStatement → Json
 completed_form held = completed (view held.received) held.id (moment_text held.stored) (authority_json held.authority)
