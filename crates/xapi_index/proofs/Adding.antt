@@ -2,7 +2,7 @@
 use Rattle.std.proofs.Common.{◌≡◌, List, ℕ, [], ◌∷◌, ◌++◌, refl, sym, ◌∙◌, ap, Some, Bool, true, false}
 use Rattle.std.specs.Prelude.{is_some, find, cond, if◌then◌else◌}
 use Rattle.std.specs.Str.{bytes_eq}
-use Rattle.xapi_statement.specs.Completed.{HeldStatement}
+use Rattle.xapi_statement.specs.Stored.{StoredStatement}
 use Rattle.xapi_index.specs.Statements.{add, add_each, is_held, new_ones}
 
 found-append : {A : Type 0} (p : A → Bool) (xs ys : List A) → is_some (find p xs) ≡ true → is_some (find p (xs ++ ys)) ≡ true
@@ -15,23 +15,23 @@ found-append {A} p (x ∷ xs) ys is = by_test (p x) (λ rest. found-append p xs 
     by_test false more is = more is
 
 -- what is held stays held
-pub is_held-append : (id : List ℕ) (held more : List HeldStatement) → is_held id held ≡ true → is_held id (held ++ more) ≡ true
-is_held-append id held more is = found-append (λ (s : HeldStatement). bytes_eq s.id id) held more is
+pub is_held-append : (id : List ℕ) (held more : List StoredStatement) → is_held id held ≡ true → is_held id (held ++ more) ≡ true
+is_held-append id held more is = found-append (λ (s : StoredStatement). bytes_eq s.id id) held more is
 
-pub is_held-add : (id : List ℕ) (held : List HeldStatement) (s : HeldStatement) → is_held id held ≡ true → is_held id (add held s) ≡ true
+pub is_held-add : (id : List ℕ) (held : List StoredStatement) (s : StoredStatement) → is_held id held ≡ true → is_held id (add held s) ≡ true
 is_held-add id held s is = by_test (is_held s.id held)
   where
     by_test : (b : Bool) → is_held id (if b then held else held ++ s ∷ []) ≡ true
     by_test true = is
     by_test false = is_held-append id held (s ∷ []) is
 
-pub add-old : (held : List HeldStatement) (s : HeldStatement) → is_held s.id held ≡ true → add held s ≡ held
+pub add-old : (held : List StoredStatement) (s : StoredStatement) → is_held s.id held ≡ true → add held s ≡ held
 add-old held s is = ap (λ b. if b then held else held ++ s ∷ []) is
 
-pub add-new : (held : List HeldStatement) (s : HeldStatement) → is_held s.id held ≡ false → add held s ≡ held ++ s ∷ []
+pub add-new : (held : List StoredStatement) (s : StoredStatement) → is_held s.id held ≡ false → add held s ≡ held ++ s ∷ []
 add-new held s is = ap (λ b. if b then held else held ++ s ∷ []) is
 
-each_new : (held more xs : List HeldStatement) → ((id : List ℕ) → is_held id held ≡ true → is_held id more ≡ true) → add_each more (new_ones held xs) ≡ add_each more xs
+each_new : (held more xs : List StoredStatement) → ((id : List ℕ) → is_held id held ≡ true → is_held id more ≡ true) → add_each more (new_ones held xs) ≡ add_each more xs
 each_new held more [] keeps = refl
 each_new held more (x ∷ xs) keeps =
     by_test (is_held x.id held) (each_new held more xs keeps) (each_new held (add more x) xs (λ id there. is_held-add id more x (keeps id there))) refl
@@ -42,5 +42,5 @@ each_new held more (x ∷ xs) keeps =
     by_test false old new is = new
 
 -- those that are held needn't be looked at
-pub add_each-new : (held xs : List HeldStatement) → add_each held (new_ones held xs) ≡ add_each held xs
+pub add_each-new : (held xs : List StoredStatement) → add_each held (new_ones held xs) ≡ add_each held xs
 add_each-new held xs = each_new held held xs (λ id is. is)

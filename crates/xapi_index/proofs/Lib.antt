@@ -1,10 +1,4 @@
 pub mod Adding
 pub mod Rooms
-pub mod Turns
-pub mod MadeIds
-pub mod Walks
-pub mod References
-pub mod Ways
-pub mod Fronts
+pub mod Supplies
 pub mod Firsts
-pub mod Bodies

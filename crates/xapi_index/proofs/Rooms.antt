@@ -11,7 +11,7 @@ use Rattle.std.specs.Ordering.{nat_cmp}
 use Rattle.std.proofs.lemmas.Map.Text.{is_eq-slice_cmp}
 use Rattle.lrs_register.specs.Places.{HasPlace, place_of}
 use Rattle.lrs_register.proofs.Firsts.{position-push}
-use Rattle.xapi_statement.specs.Completed.{HeldStatement}
+use Rattle.xapi_statement.specs.Stored.{StoredStatement}
 use Rattle.xapi_index.specs.Index.{HasPlaceFor}
 use Rattle.xapi_index.specs.Statements.{is_held, is_that_id}
 
@@ -50,9 +50,9 @@ pub found_at : {A : Type 0} (p : A → Bool) (xs : List A) (o : Option ℕ) → 
 found_at p xs o is = ap (λ q. is_some q) (is ∙ position_from-zero p xs) ∙ found-from p 0 xs
 
 -- an id has a place exactly where a statement is held under it
-pub held-place : (ids : List (List ℕ × Option ℕ)) (held : List HeldStatement) (id key : List ℕ) (o : Option ℕ) → id ≡ key → o ≡ place_of (slice_cmp nat_cmp) ids id
-    → ((k : List ℕ) → place_of (slice_cmp nat_cmp) ids k ≡ position (λ (s : HeldStatement). bytes_eq s.id k) held) → is_some o ≡ is_held key held
-held-place ids held id key o same is found = found_at (λ (s : HeldStatement). bytes_eq s.id key) held o (is ∙ (ap (λ k. place_of (slice_cmp nat_cmp) ids k) same ∙ found key))
+pub held-place : (ids : List (List ℕ × Option ℕ)) (held : List StoredStatement) (id key : List ℕ) (o : Option ℕ) → id ≡ key → o ≡ place_of (slice_cmp nat_cmp) ids id
+    → ((k : List ℕ) → place_of (slice_cmp nat_cmp) ids k ≡ position (λ (s : StoredStatement). bytes_eq s.id k) held) → is_some o ≡ is_held key held
+held-place ids held id key o same is found = found_at (λ (s : StoredStatement). bytes_eq s.id key) held o (is ∙ (ap (λ k. place_of (slice_cmp nat_cmp) ids k) same ∙ found key))
 
 -- the place of what is voided, if anything is
 pub target-some : (old new : Option ℕ) (target : Option (List ℕ)) (id k : List ℕ) (place : ℕ) → target ≡ Some id → new ≡ option_or old (if is_at (slice_cmp nat_cmp id) k then Some place else None)

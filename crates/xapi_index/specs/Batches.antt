@@ -3,9 +3,9 @@ use Rattle.std.specs.Prelude.{ℕ, List, [], ◌∷◌, map, Option, Some, None}
 use Rattle.lrs_json.specs.View.{view}
 use Rattle.lrs_json.specs.declared.tree.Tree.{Tree}
 use Rattle.xapi_format.specs.declared.authority.Authority.{Authority}
-use Rattle.xapi_statement.specs.Completed.{HeldStatement}
+use Rattle.xapi_statement.specs.Stored.{StoredStatement}
 use Rattle.xapi_statement.specs.Statement.{own_id}
-use Rattle.xapi_index.specs.Ids.{Supply, rest_of}
+use Rattle.lrs_ids.specs.Ids.{Supply, rest_of}
 
 -- a statement, and the id under which it goes
 pub record Named : Type 0 where
@@ -36,13 +36,18 @@ abbrev pub named : Supply → List Tree → List Named
 named supply [] = []
 named supply (t ∷ ts) = record { id = id_for (supply 0) (own_id (view t)); tree = t } ∷ named (supply_behind supply (own_id (view t))) ts
 
-abbrev pub names_of : List Named → List (List ℕ)
-names_of named = map (λ (s : Named). s.id) named
+-- what is left behind all of them
+abbrev pub supply_after : Supply → List Tree → Supply
+supply_after supply [] = supply
+supply_after supply (t ∷ ts) = supply_after (supply_behind supply (own_id (view t))) ts
 
-abbrev pub held_of : ℕ → Authority → Named → HeldStatement
+abbrev pub ids_of_named : List Named → List (List ℕ)
+ids_of_named named = map (λ (s : Named). s.id) named
+
+abbrev pub held_of : ℕ → Authority → Named → StoredStatement
 held_of moment by s = record { received = s.tree; id = s.id; stored = moment; authority = by }
 
 -- the statements as they are kept, where their caller has an authority
-abbrev pub kept_by : ℕ → Option Authority → List Named → List HeldStatement
+abbrev pub kept_by : ℕ → Option Authority → List Named → List StoredStatement
 kept_by moment None named = []
 kept_by moment (Some by) named = map (held_of moment by) named

@@ -6,25 +6,25 @@ use Rattle.std.specs.Cmp.Lexicographic.{slice_cmp}
 use Rattle.std.specs.Ordering.{nat_cmp}
 use Rattle.std.specs.Str.{bytes_eq}
 use Rattle.lrs_register.specs.Places.{HasPlace, place_of}
-use Rattle.xapi_statement.specs.Completed.{HeldStatement}
+use Rattle.xapi_statement.specs.Stored.{StoredStatement}
 use Rattle.xapi_index.specs.Statements.{is_that_id, voided_by, voids}
 
 -- Their list, the places by id and by the id of what is voided, and for how many more there is room in the list.
 pub record Indexed : Type 0 where
-  pub held : List HeldStatement
+  pub held : List StoredStatement
   pub ids : List (List ℕ × Option ℕ)
   pub targets : List (List ℕ × Option ℕ)
   pub spare : ℕ
 
 -- each id has the place of its statement
-abbrev pub FindsIds : List (List ℕ × Option ℕ) → List HeldStatement → Type 0
+abbrev pub FindsIds : List (List ℕ × Option ℕ) → List StoredStatement → Type 0
 FindsIds ids held = (k : List ℕ) → place_of (slice_cmp nat_cmp) ids k ≡ position (λ s. bytes_eq s.id k) held
 
 -- each id has the place of the first statement that voids it
-abbrev pub FindsTargets : List (List ℕ × Option ℕ) → List HeldStatement → Type 0
+abbrev pub FindsTargets : List (List ℕ × Option ℕ) → List StoredStatement → Type 0
 FindsTargets targets held = (k : List ℕ) → place_of (slice_cmp nat_cmp) targets k ≡ position (voids k) held
 
-pub record IsIndex (ids targets : List (List ℕ × Option ℕ)) (held : List HeldStatement) : Type 0 where
+pub record IsIndex (ids targets : List (List ℕ × Option ℕ)) (held : List StoredStatement) : Type 0 where
   pub found : FindsIds ids held
   pub voided : FindsTargets targets held
 
@@ -41,11 +41,11 @@ HasPlaceFor places None = Unit {0}
 HasPlaceFor places (Some id) = HasPlace (slice_cmp nat_cmp) places id
 
 -- places were made for a statement's id and for that of the one that it voids, if any
-pub record HasPlaces (ids targets : List (List ℕ × Option ℕ)) (s : HeldStatement) : Type 0 where
+pub record HasPlaces (ids targets : List (List ℕ × Option ℕ)) (s : StoredStatement) : Type 0 where
   pub id : HasPlace (slice_cmp nat_cmp) ids s.id
   pub target : HasPlaceFor targets (voided_by s)
 
 -- there is room for these statements
-pub record IsReadyFor (index : Indexed) (statements : List HeldStatement) : Type 0 where
+pub record IsReadyFor (index : Indexed) (statements : List StoredStatement) : Type 0 where
   pub places : AllByRecursion (HasPlaces index.ids index.targets) statements
   pub spare : length statements ≤ index.spare

@@ -6,24 +6,25 @@ ghost use Rattle.std.specs.Str.{bytes_eq};
 ghost use Rattle.std.specs.Cmp.Lexicographic.{slice_cmp};
 ghost use Rattle.std.specs.Ordering.{nat_cmp};
 ghost use Rattle.lrs_register.specs.Places.{KeepsPlaces, SamePlaces};
-ghost use Rattle.xapi_statement.specs.Completed.{HeldStatement};
+ghost use Rattle.xapi_statement.specs.Stored.{StoredStatement as SpecStatement};
 ghost use Rattle.xapi_index.specs.Statements.{add, add_each, held_under, is_held, is_target, is_voided, voided_by, voids};
-ghost use Rattle.xapi_index.specs.Chains.{place_referred, referred_at};
+ghost use Rattle.xapi_index.specs.Statements.{position_referred, referred_at};
 ghost use Rattle.xapi_index.specs.Index.{FillsTarget, FindsIds, FindsTargets, HasPlaceFor, HasPlaces, IsReadyFor};
 
+use lrs_ids::UsedIds;
 use lrs_json::Memory;
 use lrs_names::Id;
 use lrs_register::Places;
 use std::alloc::Global;
 use std::marker::Model;
-use xapi_statement::Completed;
+use xapi_statement::StoredStatement;
 
 /// The statements in their order, found by id; and of each id the first voiding statement that has it as its target.
 #[derive(Drop)]
 pub struct Index {
     ids: Places<Id>,
     targets: Places<Id>,
-    held: Vec<Completed>,
+    held: Vec<StoredStatement>,
 }
 
 impl Model for Index {
@@ -65,19 +66,19 @@ impl Index {
         self.held.len()
     }
 
-    // The place of the statement that is held under an id, in their order.
-    fn place(&self, id: &Id) -> Option<usize>
+    // The position of the statement that is held under an id, in their order.
+    fn position_of(&self, id: &Id) -> Option<usize>
         ensures { result ≡ position (λ s. bytes_eq s.id id.now) self.now.held }
     {
         self.ids.get(id)
     }
 
     /// The statement that is held under an id.
-    pub fn find(&self, id: &Id) -> Option<&Completed>
+    pub fn find(&self, id: &Id) -> Option<&StoredStatement>
         ensures { option_copied result ≡ held_under id.now self.now.held }
     {
-        match self.place(id) {
-            Some(place) => self.get(place),
+        match self.position_of(id) {
+            Some(position) => self.get(position),
             None => None,
         }
     }
@@ -90,43 +91,43 @@ impl Index {
     }
 
     /// The statement at a position.
-    pub fn get(&self, place: usize) -> Option<&Completed>
-        ensures { option_copied result ≡ slice_get self.now.held place }
+    pub fn get(&self, at: usize) -> Option<&StoredStatement>
+        ensures { option_copied result ≡ slice_get self.now.held at }
     {
-        self.held.get(place)
+        self.held.get(at)
     }
 
-    // The place of the statement under an id among the first n.
-    fn place_in(&self, n: usize, id: &Id) -> Option<usize>
+    // The position of the statement under an id among the first n.
+    fn position_in(&self, n: usize, id: &Id) -> Option<usize>
         ensures { result ≡ position (λ s. bytes_eq s.id id.now) (take n self.now.held) }
     {
-        match self.place(id) {
-            Some(place) => { if place < n { Some(place) } else { None } }
+        match self.position_of(id) {
+            Some(position) => { if position < n { Some(position) } else { None } }
             None => None,
         }
     }
 
-    /// The place of the statement to which the one at a place refers, among the first n.
-    pub(crate) fn referred_at(&self, n: usize, place: usize) -> Option<usize>
-        requires { place < n }
-        ensures { result ≡ referred_at (take n self.now.held) place }
+    /// The position of the statement to which the one at a position refers, among the first n.
+    pub fn referred_at(&self, n: usize, at: usize) -> Option<usize>
+        requires { at < n }
+        ensures { result ≡ referred_at (take n self.now.held) at }
     {
-        match self.held.get(place) {
-            Some(statement) => self.place_referred(n, statement),
+        match self.held.get(at) {
+            Some(statement) => self.position_referred(n, statement),
             None => None,
         }
     }
 
-    fn place_referred(&self, n: usize, statement: &Completed) -> Option<usize>
-        ensures { result ≡ place_referred (take n self.now.held) statement.now }
+    fn position_referred(&self, n: usize, statement: &StoredStatement) -> Option<usize>
+        ensures { result ≡ position_referred (take n self.now.held) statement.now }
     {
         match statement.target() {
-            Some(id) => self.place_in(n, &id),
+            Some(id) => self.position_in(n, &id),
             None => None,
         }
     }
 
-    // The place of the first voiding statement that has that id as its target.
+    // The position of the first voiding statement that has that id as its target.
     fn voiding(&self, id: &Id) -> Option<usize>
         ensures { result ≡ position (voids id.now) self.now.held }
     {
@@ -134,7 +135,7 @@ impl Index {
     }
 
     /// Whether a statement is voided by one that is held.
-    pub fn is_voided(&self, statement: &Completed) -> bool
+    pub fn is_voided(&self, statement: &StoredStatement) -> bool
         ensures { result ≡ is_voided self.now.held statement.now }
     {
         !statement.is_voiding() && self.is_target(&statement.id())
@@ -147,7 +148,7 @@ impl Index {
     }
 
     /// Whether a statement is voided by one of the first n.
-    pub(crate) fn is_voided_in(&self, n: usize, statement: &Completed) -> bool
+    pub fn is_voided_in(&self, n: usize, statement: &StoredStatement) -> bool
         ensures { result ≡ is_voided (take n self.now.held) statement.now }
     {
         !statement.is_voiding() && self.is_target_in(n, &statement.id())
@@ -158,13 +159,13 @@ impl Index {
         ensures { result ≡ is_target id.now (take n self.now.held) }
     {
         match self.voiding(id) {
-            Some(place) => place < n,
+            Some(position) => position < n,
             None => false,
         }
     }
 
     /// Makes room for these statements.
-    pub fn ready(&mut self, statements: &[Completed]) -> Result<(), Memory>
+    pub fn ready(&mut self, statements: &[StoredStatement]) -> Result<(), Memory>
         ensures held { self.new.held ≡ self.old.held }
         ensures ready { OnOk result (IsReadyFor self.new statements.now) }
     {
@@ -173,7 +174,7 @@ impl Index {
     }
 
     /// Takes statements in for which there is room, each but for one whose id is held. It takes no memory.
-    pub fn install(&mut self, statements: Vec<Completed>)
+    pub fn install(&mut self, statements: Vec<StoredStatement>)
         requires { IsReadyFor self.old statements.items }
         ensures { self.new.held ≡ add_each self.old.held statements.items }
     {
@@ -181,11 +182,29 @@ impl Index {
     }
 }
 
+// The ids of the statements are used.
+impl UsedIds for Index {
+    ghost use Rattle.lrs_ids.specs.Ids.{those};
+    ghost use Rattle.xapi_index.specs.Statements.{ids_of};
+
+    ghost used = { λ index. those (ids_of index.held) };
+
+    #[tactic(auto, using(crate::proofs::Supplies::used_held))]
+    fn is_used(&self, id: &Id) -> bool {
+        self.is_held(id)
+    }
+
+    #[tactic(auto, using(crate::proofs::Supplies::held_counted))]
+    fn count(&self) -> u128 {
+        self.held.len() as u128
+    }
+}
+
 // Makes places for statements that are to come.
 fn make_places(
     ids: &mut Places<Id>,
     targets: &mut Places<Id>,
-    statements: &[Completed],
+    statements: &[StoredStatement],
 ) -> Result<(), Memory>
     ensures ids { SamePlaces (slice_cmp nat_cmp) ids.old ids.new }
     ensures targets { SamePlaces (slice_cmp nat_cmp) targets.old targets.new }
@@ -212,8 +231,8 @@ fn make_target(targets: &mut Places<Id>, target: Option<Id>) -> Result<(), Memor
 fn install_each(
     ids: &mut Places<Id>,
     targets: &mut Places<Id>,
-    held: &mut Vec<Completed>,
-    statements: Vec<Completed>,
+    held: &mut Vec<StoredStatement>,
+    statements: Vec<StoredStatement>,
 )
     requires places { AllByRecursion (HasPlaces ids.old targets.old) statements.items }
     requires spare { length statements.items ≤ vec_capacity held.old - vec_len held.old }
@@ -231,8 +250,8 @@ fn install_each(
 fn install_one(
     ids: &mut Places<Id>,
     targets: &mut Places<Id>,
-    held: &mut Vec<Completed>,
-    statement: Completed,
+    held: &mut Vec<StoredStatement>,
+    statement: StoredStatement,
 )
     requires places { HasPlaces ids.old targets.old statement }
     requires spare { 1 ≤ vec_capacity held.old - vec_len held.old }
@@ -241,7 +260,7 @@ fn install_one(
     ensures held { held.new.items ≡ add held.old.items statement }
     ensures found { FindsIds ids.new held.new.items }
     ensures voided { FindsTargets targets.new held.new.items }
-    ensures kept { (s : HeldStatement) → HasPlaces ids.old targets.old s → HasPlaces ids.new targets.new s }
+    ensures kept { (s : SpecStatement) → HasPlaces ids.old targets.old s → HasPlaces ids.new targets.new s }
     ensures spare { (vec_capacity held.new ≡ vec_capacity held.old) × (vec_len held.new ≤ vec_len held.old + 1) }
 {
     let id = statement.id();
@@ -267,7 +286,7 @@ fn fill_target(targets: &mut Places<Id>, target: Option<Id>, place: usize)
 }
 
 // The id of the statement that this one voids.
-fn voided_by(statement: &Completed) -> Option<Id>
+fn voided_by(statement: &StoredStatement) -> Option<Id>
     ensures { result ≡ voided_by statement.now }
 {
     if statement.is_voiding() {

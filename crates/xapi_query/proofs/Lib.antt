@@ -1,10 +1,1 @@
-pub mod Actors
-pub mod Least
-pub mod PairLemmas
-pub mod Numbers
 pub mod Forms
-pub mod Bytes
-pub mod Slots
-pub mod OneJson
-pub mod LinkAlone
-pub mod LinkBack

@@ -3,7 +3,7 @@ use Rattle.std.specs.Prelude.{ℕ, ℤ, pos, ◌*◌, ◌==◌, ◌&&◌, int_lt
 use Rattle.std.specs.Option.{option_map_or}
 use Rattle.std.specs.Str.{bytes_eq}
 use Rattle.lrs_json.specs.View.{view}
-use Rattle.xapi_statement.specs.Completed.{HeldStatement}
+use Rattle.xapi_statement.specs.Stored.{StoredStatement}
 use Rattle.xapi_statement.specs.Shown.{takes_part}
 use Rattle.xapi_statement.specs.Statement.{has_activity, registration_of, verb_of}
 use Rattle.xapi_format.specs.declared.authority.Authority.{Authority}
@@ -15,35 +15,35 @@ use Rattle.xapi_query.specs.declared.sight.Sight.TheVariants.{Nothing, All, Prov
 -- ---- filters: where one isn't given, every statement passes it
 
 -- the identifier is that of an agent or group that takes part
-abbrev pub passes_agent : Query → HeldStatement → Bool
+abbrev pub passes_agent : Query → StoredStatement → Bool
 passes_agent query s = option_map_or (λ actor. takes_part actor.value query.related_agents s) query.agent true
 
-abbrev pub passes_verb : Query → HeldStatement → Bool
+abbrev pub passes_verb : Query → StoredStatement → Bool
 passes_verb query s = option_map_or (λ id. bytes_eq (verb_of (view s.received)) id) query.verb true
 
 -- it is about that activity
-abbrev pub passes_activity : Query → HeldStatement → Bool
+abbrev pub passes_activity : Query → StoredStatement → Bool
 passes_activity query s = option_map_or (λ id. has_activity id query.related_activities (view s.received)) query.activity true
 
 -- its context names that registration
-abbrev pub is_registered : List ℕ → HeldStatement → Bool
+abbrev pub is_registered : List ℕ → StoredStatement → Bool
 is_registered id s = option_map_or (λ own. bytes_eq own id) (registration_of (view s.received)) false
 
-abbrev pub passes_registration : Query → HeldStatement → Bool
+abbrev pub passes_registration : Query → StoredStatement → Bool
 passes_registration query s = option_map_or (λ id. is_registered id s) query.registration true
 
 -- It passes each filter that is given, but for the times.
-abbrev pub direct : Query → HeldStatement → Bool
+abbrev pub direct : Query → StoredStatement → Bool
 direct query s = passes_agent query s && passes_verb query s && passes_activity query s && passes_registration query s
 
 -- ---- times
 
 -- the moment at which it was accepted, in nanoseconds since 1970
-abbrev pub stored_instant : HeldStatement → ℤ
+abbrev pub stored_instant : StoredStatement → ℤ
 stored_instant s = pos (s.stored * 1_000_000)
 
 -- stored later than the first instant, and not later than the last
-abbrev pub in_time : Query → HeldStatement → Bool
+abbrev pub in_time : Query → StoredStatement → Bool
 in_time query s =
     option_map_or (λ first. int_lt first.value (stored_instant s)) query.since true
     && option_map_or (λ last. not (int_lt last.value (stored_instant s))) query.until true
@@ -55,7 +55,7 @@ is_of_provider k authority.Admin = false
 is_of_provider k (authority.Provider j name) = j == k
 
 -- nothing, each statement, those under the authority of a provider, or those whose context names a registration
-abbrev pub sees : Sight → HeldStatement → Bool
+abbrev pub sees : Sight → StoredStatement → Bool
 sees Nothing s = false
 sees All s = true
 sees (Provider k) s = is_of_provider k s.authority

@@ -1,7 +1,2 @@
-pub mod Pairs
-pub mod Values
-pub mod Parameters
-pub mod Queries
-pub mod Wants
 pub mod Filters
 pub mod Links

@@ -1,19 +1,13 @@
 -- The links from a page of a list to the next one.
-use Rattle.std.specs.Prelude.{◌≡◌, ◌⊎◌, ◌<◌, ◌^◌, ℕ, ◌==◌, Bool, true, false, List, [], ◌∷◌, ◌++◌, Option, Some, None, option_map, codes, if◌then◌else◌}
+use Rattle.std.specs.Prelude.{◌≡◌, ℕ, ◌==◌, Bool, true, false, List, [], ◌∷◌, ◌++◌, Option, Some, None, option_map, codes, if◌then◌else◌}
 use Rattle.std.specs.Fmt.{decimal}
 use Rattle.form_urlencoded.specs.Form.{extend_pairs}
 use Rattle.form_urlencoded.specs.Target.{Target}
 use Rattle.lrs_names.specs.Ids.{id_text}
 use Rattle.xapi_format.specs.declared.format.Format.{Format}
 use Rattle.xapi_format.specs.declared.format.Format.TheVariants.{Exact, Ids}
-use Rattle.xapi_query.specs.Pairs.{AreTexts, pairs_of}
-use Rattle.xapi_query.specs.Parameters.{LeastOfGet, LeastOfLink, number_under}
-use Rattle.xapi_query.specs.Queries.{IsQuery}
 use Rattle.xapi_query.specs.declared.link.MoreLink.{MoreLink}
-use Rattle.xapi_query.specs.declared.pair.Pair.{Pair}
 use Rattle.xapi_query.specs.declared.query.Query.{Query}
-
--- ---- written
 
 -- the pair of that name, where there is a text to give
 abbrev pub pair_if : List ℕ → Option (List ℕ) → List (List ℕ × List ℕ)
@@ -69,32 +63,3 @@ Appends old new pairs = new ≡ record old { form = extend_pairs old.form pairs 
 -- The text of a link. Its path has no `?`, so what stands behind the first one is the query.
 unfoldable pub link_text : MoreLink → List ℕ
 link_text link = codes "/xapi/statements/more?" ++ link_query link
-
--- ---- read
-
--- the link that parameters ask for
-pub record IsLink (pairs : List Pair) (link : MoreLink) : Type 0 where
-  pub query_is : IsQuery pairs link.query
-  pub asof_is : link.asof ≡ number_under (codes "asof") pairs
-  pub after_is : link.after ≡ number_under (codes "after") pairs
-
--- ---- written and read
-
--- It may stand in a page: its query is one that a request for a list or a link asked for, and it goes on within the list.
-pub record IsWritable (link : MoreLink) : Type 0 where
-  pub pairs : List Pair
-  pub texts : AreTexts pairs
-  pub unbroken : LeastOfGet None pairs ⊎ LeastOfLink None pairs
-  pub asked : IsQuery pairs link.query
-  pub within : link.after < link.asof
-  pub short : link.asof < 10 ^ 18
-
--- a written link is read as itself
-abbrev pub LinksAreReadBack : Type 0
-LinksAreReadBack =
-    (link : MoreLink) → IsWritable link
-    → AreTexts (pairs_of (link_query link)) × LeastOfLink None (pairs_of (link_query link)) × IsLink (pairs_of (link_query link)) link
-
--- and as no other
-abbrev pub LinksAreReadAlone : Type 0
-LinksAreReadAlone = (pairs : List Pair) (a b : MoreLink) → IsLink pairs a → IsLink pairs b → a ≡ b

@@ -6,10 +6,10 @@ ghost use Rattle.xapi_query.specs.Filters.{direct, in_time, passes_activity, pas
 use crate::Query;
 use crate::sight::is_registered;
 use lrs_time::Instant;
-use xapi_statement::Completed;
+use xapi_statement::StoredStatement;
 
 /// Whether the statement passes each filter that is given, but for the times.
-pub fn direct(query: &Query, statement: &Completed) -> bool
+pub fn direct(query: &Query, statement: &StoredStatement) -> bool
     ensures { result ≡ direct query.now statement.now }
 {
     passes_agent(query, statement)
@@ -18,7 +18,7 @@ pub fn direct(query: &Query, statement: &Completed) -> bool
         && passes_registration(query, statement)
 }
 
-fn passes_agent(query: &Query, statement: &Completed) -> bool
+fn passes_agent(query: &Query, statement: &StoredStatement) -> bool
     ensures { result ≡ passes_agent query.now statement.now }
 {
     match &query.agent {
@@ -27,7 +27,7 @@ fn passes_agent(query: &Query, statement: &Completed) -> bool
     }
 }
 
-fn passes_verb(query: &Query, statement: &Completed) -> bool
+fn passes_verb(query: &Query, statement: &StoredStatement) -> bool
     ensures { result ≡ passes_verb query.now statement.now }
 {
     match &query.verb {
@@ -36,7 +36,7 @@ fn passes_verb(query: &Query, statement: &Completed) -> bool
     }
 }
 
-fn passes_activity(query: &Query, statement: &Completed) -> bool
+fn passes_activity(query: &Query, statement: &StoredStatement) -> bool
     ensures { result ≡ passes_activity query.now statement.now }
 {
     match &query.activity {
@@ -45,7 +45,7 @@ fn passes_activity(query: &Query, statement: &Completed) -> bool
     }
 }
 
-fn passes_registration(query: &Query, statement: &Completed) -> bool
+fn passes_registration(query: &Query, statement: &StoredStatement) -> bool
     ensures { result ≡ passes_registration query.now statement.now }
 {
     match &query.registration {
@@ -55,7 +55,7 @@ fn passes_registration(query: &Query, statement: &Completed) -> bool
 }
 
 /// Whether the statement was stored within the times that are given.
-pub fn in_time(query: &Query, statement: &Completed) -> bool
+pub fn in_time(query: &Query, statement: &StoredStatement) -> bool
     ensures { result ≡ in_time query.now statement.now }
 {
     let stored = statement.stored().instant();

@@ -1,14 +1,13 @@
 // The parameters of a link, one after the other, as a form has them.
-ghost use Rattle.std.specs.Prelude.{◌≡◌, ◌∷◌, [], OnOk, IsUtf8, option_map};
+ghost use Rattle.std.specs.Prelude.{◌≡◌, ◌∷◌, [], OnOk, option_map};
 ghost use Rattle.std.specs.Fmt.{decimal};
 ghost use Rattle.std.specs.Option.{option_copied};
 ghost use Rattle.lrs_names.specs.Ids.{id_text};
 ghost use Rattle.xapi_query.specs.Links.{Appends, filter_pairs, format_pair, limit_pair, page_pairs, pair_if, pair_if_true, query_pairs, related_pairs, time_pairs};
 
-use crate::asked::MOST_OF_PAGE;
-use crate::query::{Given, Query};
+use crate::query::{Given, MOST_OF_PAGE, Query};
 use form_urlencoded::Serializer;
-use lrs_json::{Memory, Text};
+use lrs_json::{Memory, Text, utf8_text};
 use lrs_names::{Id, Iri};
 use std::alloc::Global;
 use xapi_statement::Format;
@@ -96,7 +95,7 @@ fn put_id(form: &mut Serializer, name: &str, id: &Option<Id>) -> Result<(), Memo
     ensures { OnOk result (Appends form.old form.new (pair_if name.now (option_map id_text id.now))) }
 {
     match id {
-        Some(id) => put(form, name, ascii(&id.text())),
+        Some(id) => put(form, name, utf8_text(&id.text())),
         None => Ok(()),
     }
 }
@@ -136,15 +135,5 @@ fn iri_text(iri: &Option<Iri>) -> Option<&Text>
     match iri {
         Some(iri) => Some(iri.text()),
         None => None,
-    }
-}
-
-fn ascii(bytes: &[u8]) -> &str
-    requires { IsUtf8 bytes.now }
-    ensures { result.now ≡ bytes.now }
-{
-    match str::from_utf8(bytes) {
-        Ok(text) => text,
-        Err(_) => unreachable!(),
     }
 }

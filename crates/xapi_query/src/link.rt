@@ -1,14 +1,8 @@
 ghost use Rattle.std.specs.Prelude.{◌≡◌, IfOk};
 ghost use Rattle.xapi_query.specs.Links.{link_text};
-ghost use Rattle.xapi_query.specs.Parameters.{LeastOfLink, are_among, link_names};
 
-use crate::asked::{has_places, number_under};
+use crate::Query;
 use crate::form::{put_number, put_query};
-use crate::parameters::{are_among, are_distinct};
-use crate::values::{
-    has_actor, has_format, has_ids, has_iris, has_limit, has_timestamps, has_truths,
-};
-use crate::{Pair, Query, QueryRefused};
 use form_urlencoded::Serializer;
 use lrs_json::{Memory, Text};
 use std::alloc::Global;
@@ -25,30 +19,8 @@ pub struct MoreLink {
 }
 
 impl MoreLink {
-    ghost use Rattle.std.specs.Prelude.{◌≡◌, ◌≢◌, ◌++◌, ℕ, Option, None, Some, Err, IfOk, OnOk, OnErr};
-    ghost use Rattle.xapi_query.specs.Links.{IsLink, link_text};
-    ghost use Rattle.xapi_query.specs.Parameters.{Answers, LeastOfLink};
-
-    /// The link that the parameters of a GET of more statements ask for.
-    pub fn read(alloc: Global, pairs: &[Pair]) -> Result<MoreLink, QueryRefused>
-        ensures link { IfOk result (λ link. LeastOfLink None pairs.now × IsLink pairs.now link) }
-
-        // The least broken rule, and a refusal by a rule only where one is broken.
-        ensures broken { (rule : ℕ) → result ≡ Err (QueryRefused.BadParameter rule) → LeastOfLink (Some rule) pairs.now
-            × (rule ≢ 14) }
-        ensures bad { result ≡ Err QueryRefused.BadLink → LeastOfLink (Some 14) pairs.now }
-        ensures always { (found : Option ℕ) → LeastOfLink found pairs.now → Answers found result }
-    {
-        match broken_by_link(alloc, pairs)? {
-            Some(14) => Err(QueryRefused::BadLink),
-            Some(number) => Err(QueryRefused::BadParameter { number }),
-            None => Ok(MoreLink {
-                query: Query::of(alloc, pairs)?,
-                asof: number_under(pairs, "asof"),
-                after: number_under(pairs, "after"),
-            }),
-        }
-    }
+    ghost use Rattle.std.specs.Prelude.{◌≡◌, ◌++◌, IfOk, OnOk, OnErr};
+    ghost use Rattle.xapi_query.specs.Links.{link_text};
 
     /// The link's text.
     pub fn text(&self, alloc: Global) -> Result<Text, Memory>
@@ -83,54 +55,3 @@ pub fn link_text(alloc: Global, query: &Query, asof: u64, after: u64) -> Result<
 }
 
 const PATH: &str = "/xapi/statements/more?";
-
-fn broken_by_link(alloc: Global, pairs: &[Pair]) -> Result<Option<u8>, Memory>
-    ensures { IfOk result (λ found. LeastOfLink found pairs.now) }
-{
-    if !are_link_names(pairs) {
-        Ok(Some(2))
-    } else if !are_distinct(pairs) {
-        Ok(Some(3))
-    } else if !has_ids(pairs) {
-        Ok(Some(5))
-    } else if !has_actor(alloc, pairs)? {
-        Ok(Some(6))
-    } else if !has_iris(pairs) {
-        Ok(Some(7))
-    } else if !has_truths(pairs) {
-        Ok(Some(8))
-    } else if !has_timestamps(pairs) {
-        Ok(Some(9))
-    } else if !has_limit(pairs) {
-        Ok(Some(10))
-    } else if !has_format(pairs) {
-        Ok(Some(11))
-    } else if !has_places(pairs) {
-        Ok(Some(14))
-    } else {
-        Ok(None)
-    }
-}
-
-fn are_link_names(pairs: &[Pair]) -> bool
-    ensures { result ≡ are_among link_names pairs.now }
-{
-    are_among(
-        pairs,
-        &[
-            "asof",
-            "after",
-            "agent",
-            "verb",
-            "activity",
-            "registration",
-            "related_activities",
-            "related_agents",
-            "since",
-            "until",
-            "limit",
-            "ascending",
-            "format",
-        ],
-    )
-}

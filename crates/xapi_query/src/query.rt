@@ -1,11 +1,6 @@
-use crate::Pair;
-use crate::asked::{
-    actor_under, format_under, id_under, instant_under, iri_under, is_asked, page_under,
-};
-use lrs_json::{Memory, Text};
+use lrs_json::Text;
 use lrs_names::{Id, Ifi, Iri};
 use lrs_time::Instant;
-use std::alloc::Global;
 use xapi_statement::Format;
 
 /// What was given as a parameter: its text, and what that means.
@@ -44,28 +39,5 @@ pub struct Query {
     pub format: Format,
 }
 
-impl Query {
-    ghost use Rattle.std.specs.Prelude.{IfOk};
-    ghost use Rattle.xapi_query.specs.Queries.{AreFilters, IsQuery};
-
-    /// The query that parameters ask for, of which those on filters break no rule.
-    pub(crate) fn of(alloc: Global, pairs: &[Pair]) -> Result<Query, Memory>
-        requires { AreFilters pairs.now }
-        ensures { IfOk result (λ query. IsQuery pairs.now query) }
-    {
-        // The agent comes last: what an earlier `?` lets go is short then.
-        Ok(Query {
-            verb: iri_under(pairs, "verb")?,
-            activity: iri_under(pairs, "activity")?,
-            registration: id_under(pairs, "registration"),
-            related_agents: is_asked(pairs, "related_agents"),
-            related_activities: is_asked(pairs, "related_activities"),
-            since: instant_under(pairs, "since")?,
-            until: instant_under(pairs, "until")?,
-            page: page_under(pairs),
-            ascending: is_asked(pairs, "ascending"),
-            format: format_under(pairs),
-            agent: actor_under(alloc, pairs)?,
-        })
-    }
-}
+/// How many statements a page has at most where no fewer are asked for.
+pub const MOST_OF_PAGE: u32 = 100;

@@ -2,7 +2,7 @@ ghost use Rattle.std.specs.Prelude.{◌≡◌};
 ghost use Rattle.xapi_query.specs.Filters.{is_of_provider, is_registered, sees};
 
 use lrs_names::Id;
-use xapi_statement::{Authority, Completed};
+use xapi_statement::{Authority, StoredStatement};
 
 /// What a caller sees of the statements.
 #[derive(Clone, Copy, PartialEq, Eq)]
@@ -18,7 +18,7 @@ pub enum Sight {
 }
 
 /// Whether a caller of that sight sees the statement.
-pub fn sees(sight: &Sight, statement: &Completed) -> bool
+pub fn sees(sight: &Sight, statement: &StoredStatement) -> bool
     ensures { result ≡ sees sight.now statement.now }
 {
     match sight {
@@ -42,7 +42,7 @@ fn is_of_provider(number: u32, authority: &Authority) -> bool
 }
 
 /// Whether the statement's context names that registration.
-pub fn is_registered(id: &Id, statement: &Completed) -> bool
+pub fn is_registered(id: &Id, statement: &StoredStatement) -> bool
     ensures { result ≡ is_registered id.now statement.now }
 {
     match statement.registration() {

@@ -1,13 +1,12 @@
-use lrs_json::{Text, read};
+use lrs_json::Text;
+use lrs_json_reader::read;
 use lrs_names::Id;
 use lrs_time::Moment;
 use std::alloc::Global;
 use std::test::Fail;
-use xapi_query::{
-    MoreLink, Pair, Query, QueryRefused, Sight, Wanted, direct, in_time, no_parameters, pairs,
-    put_id, sees,
-};
-use xapi_statement::{Authority, Completed, Statement};
+use xapi_parameters::{Pair, QueryRefused, no_parameters, pairs, put_id, read_link, read_wanted};
+use xapi_query::{MoreLink, Query, Sight, Wanted, direct, in_time, sees};
+use xapi_statement::{Authority, Statement, StoredStatement};
 
 fn found_pairs(alloc: Global, query: &str) -> Result<Vec<Pair>, Fail> {
     Ok(pairs(alloc, &Text::of(alloc, query)?)?)
@@ -141,7 +140,7 @@ fn is_answered(found: &Result<Wanted, QueryRefused>, number: Option<u8>, voided:
 }
 
 fn is_got(alloc: Global, pairs: &[Pair], number: Option<u8>, voided: bool) -> bool {
-    let found = Wanted::read(alloc, pairs);
+    let found = read_wanted(alloc, pairs);
     let answered = is_answered(&found, number, voided);
     drop(found);
     answered
@@ -276,7 +275,7 @@ fn text_of(alloc: Global, link: &MoreLink) -> Result<Text, Fail> {
 // The link of a text.
 fn read_back(alloc: Global, text: &str) -> Result<MoreLink, Fail> {
     let (_path, behind) = text.split_once('?').ok_or("no query")?;
-    Ok(MoreLink::read(alloc, found_pairs(alloc, behind)?.as_slice())?)
+    Ok(read_link(alloc, found_pairs(alloc, behind)?.as_slice())?)
 }
 
 // Whether a link that was read back is that of the ninth of ten statements, and is written as before.
@@ -299,7 +298,7 @@ fn is_text_of(alloc: Global, link: &MoreLink, behind: &str) -> Result<bool, Fail
 }
 
 // Whether that is the link behind the ninth of ten statements, and is read as itself.
-fn is_linked(alloc: Global, query: Query, behind: &str) -> Result<bool, Fail> {
+fn is_linked(alloc: Global, query: Query, number: Option<u8>, behind: &str) -> Result<bool, Fail> {
     let link = MoreLink {
         query,
         asof: 10,
@@ -307,7 +306,7 @@ fn is_linked(alloc: Global, query: Query, behind: &str) -> Result<bool, Fail> {
     };
     let linked = is_text_of(alloc, &link, behind);
     drop(link);
-    linked
+    Ok(linked? && number.is_none())
 }
 
 fn is_listed(
@@ -316,8 +315,8 @@ fn is_listed(
     number: Option<u8>,
     behind: &str,
 ) -> Result<bool, Fail> {
-    match Wanted::read(alloc, pairs) {
-        Ok(Wanted::Many(query)) => Ok(is_linked(alloc, query, behind)? && number.is_none()),
+    match read_wanted(alloc, pairs) {
+        Ok(Wanted::Many(query)) => is_linked(alloc, query, number, behind),
         Ok(Wanted::One(_, _) | Wanted::Voided(_, _)) => Ok(false),
         Err(refused) => Ok(number == Some(number_of(refused))),
     }
@@ -365,7 +364,7 @@ const LINKS: [(&str, Option<u8>); 19] = [
 ];
 
 fn link_broken_by(alloc: Global, pairs: &[Pair]) -> Option<u8> {
-    let found = MoreLink::read(alloc, pairs);
+    let found = read_link(alloc, pairs);
     let number = broken_by(&found);
     drop(found);
     number
@@ -462,7 +461,7 @@ const TIMES: [(&str, bool); 8] = [
     ),
 ];
 
-fn kept(alloc: Global, text: &str, by: Authority) -> Result<Completed, Fail> {
+fn kept(alloc: Global, text: &str, by: Authority) -> Result<StoredStatement, Fail> {
     let id = Id::read(b"11111111-1111-4111-8111-111111111111").ok_or("no id")?;
     let statement = Statement::read(alloc, read(alloc, text.as_bytes())?)?;
     Ok(statement.complete(id, Moment::clamp(1_700_000_000_000), by))
@@ -470,7 +469,7 @@ fn kept(alloc: Global, text: &str, by: Authority) -> Result<Completed, Fail> {
 
 fn asked(alloc: Global, query: &str) -> Result<Query, Fail> {
     let found = found_pairs(alloc, query)?;
-    match Wanted::read(alloc, found.as_slice()) {
+    match read_wanted(alloc, found.as_slice()) {
         Ok(Wanted::Many(query)) => Ok(query),
         Ok(Wanted::One(_, _) | Wanted::Voided(_, _)) => Err(Fail::from("no list")),
         Err(_) => Err(Fail::from("refused")),
@@ -479,8 +478,8 @@ fn asked(alloc: Global, query: &str) -> Result<Query, Fail> {
 
 fn first_wrong_filter(
     alloc: Global,
-    did: &Completed,
-    refers: &Completed,
+    did: &StoredStatement,
+    refers: &StoredStatement,
 ) -> Result<Option<usize>, Fail> {
     for (i, (query, first, second)) in FILTERS.iter().enumerate() {
         let query = asked(alloc, query)?;
@@ -493,7 +492,7 @@ fn first_wrong_filter(
     Ok(None)
 }
 
-fn first_wrong_filter_of(alloc: Global, did: &Completed) -> Result<Option<usize>, Fail> {
+fn first_wrong_filter_of(alloc: Global, did: &StoredStatement) -> Result<Option<usize>, Fail> {
     let refers = kept(alloc, REFERS, Authority::Admin)?;
     let wrong = first_wrong_filter(alloc, did, &refers);
     drop(refers);
@@ -510,7 +509,7 @@ fn filters_are_held_against_one_statement(rt: HostRuntime) -> Result<(), Fail> {
     Ok(())
 }
 
-fn first_wrong_time(alloc: Global, did: &Completed) -> Result<Option<usize>, Fail> {
+fn first_wrong_time(alloc: Global, did: &StoredStatement) -> Result<Option<usize>, Fail> {
     for (i, (query, within)) in TIMES.iter().enumerate() {
         let query = asked(alloc, query)?;
         let right = in_time(&query, did) == *within;
@@ -533,7 +532,10 @@ fn times_are_held_at_their_edges(rt: HostRuntime) -> Result<(), Fail> {
 }
 
 // The place of the first sight that doesn't see the first or the second as it should.
-fn first_wrong_sight(first: &Completed, second: &Completed) -> Result<Option<usize>, Fail> {
+fn first_wrong_sight(
+    first: &StoredStatement,
+    second: &StoredStatement,
+) -> Result<Option<usize>, Fail> {
     let named = Id::read(b"aaaaaaaa-1111-4111-8111-111111111111").ok_or("no id")?;
     let other = Id::read(b"11111111-1111-4111-8111-111111111111").ok_or("no id")?;
     let rows = [
@@ -552,7 +554,7 @@ fn first_wrong_sight(first: &Completed, second: &Completed) -> Result<Option<usi
     Ok(None)
 }
 
-fn first_wrong_sight_of(alloc: Global, first: &Completed) -> Result<Option<usize>, Fail> {
+fn first_wrong_sight_of(alloc: Global, first: &StoredStatement) -> Result<Option<usize>, Fail> {
     let own = kept(alloc, REFERS, Authority::Admin)?;
     let wrong = first_wrong_sight(first, &own);
     drop(own);

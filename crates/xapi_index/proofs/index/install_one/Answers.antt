@@ -6,7 +6,7 @@ use Rattle.std.specs.Cmp.Lexicographic.{slice_cmp}
 use Rattle.std.specs.Ordering.{nat_cmp}
 use Rattle.std.proofs.lemmas.Map.Text.{is_eq-slice_cmp}
 use Rattle.lrs_register.specs.Places.{place_of}
-use Rattle.xapi_statement.specs.Completed.{HeldStatement}
+use Rattle.xapi_statement.specs.Stored.{StoredStatement}
 use Rattle.xapi_index.specs.Statements.{is_that_id, voided_by, voids}
 use Rattle.xapi_index.proofs.Adding.{add-new, add-old}
 use Rattle.xapi_index.proofs.Rooms.{held-place, place-more, still_for}
@@ -26,7 +26,7 @@ pub returns-in-None-clause-found : goal.returns-in-None-clause-found
 returns-in-None-clause-found c =
     let long : c.args.held.now.len ≡ length c.args.held.now.items = search rules in
     rw c.push_reserved.ensures.items
-    (λ k. place-more (λ (s : HeldStatement). bytes_eq s.id k) c.args.held.now.items c.args.statement (place_of (slice_cmp nat_cmp) c.args.ids.now k) (place_of (slice_cmp nat_cmp) c.fill.new.self k)
+    (λ k. place-more (λ (s : StoredStatement). bytes_eq s.id k) c.args.held.now.items c.args.statement (place_of (slice_cmp nat_cmp) c.args.ids.now k) (place_of (slice_cmp nat_cmp) c.fill.new.self k)
     (is_at (slice_cmp nat_cmp c.id-id.result) k) c.len-in-None.result (c.fill.ensures.filled k) (c.requires.found k) (is_eq-slice_cmp c.id-id.result k ∙ ap (λ i. bytes_eq i k) c.id-id.ensures) (c.len-in-None.ensures ∙ long))
 
 pub returns-in-None-clause-voided : goal.returns-in-None-clause-voided

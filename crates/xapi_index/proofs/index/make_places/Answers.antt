@@ -7,7 +7,7 @@ use Rattle.lrs_register.specs.Places.{HasPlace}
 use Rattle.xapi_index.specs.Index.{HasPlaceFor, HasPlaces}
 use Rattle.xapi_index.specs.Statements.{voided_by}
 use Rattle.xapi_index.proofs.Rooms.{still_for}
-use Rattle.xapi_index.proofs.Turns.{turn}
+use Rattle.lrs_ids.proofs.Turns.{turn}
 use Rattle.xapi_index.proofs.index.make_places.Goals as goal
 
 pub loop-statement-preserved : goal.loop-statement-preserved

@@ -1,0 +1,3 @@
+pub mod Choices
+pub mod Ids
+pub mod Making

@@ -1,9 +1,0 @@
-use Rattle.std.proofs.Common.{arith}
-use Rattle.xapi_index.proofs.Turns.{turn}
-use Rattle.xapi_index.proofs.MadeIds.{set-more}
-use Rattle.xapi_index.proofs.naming.set_of.Goals as goal
-
-pub loop-id-preserved : goal.loop-id-preserved
-loop-id-preserved c =
-    set-more c.loop-id.ids.keys c.add_id.new.ids.keys c.args.given.now c.loop-id.id-index c.id-item.result
-    (turn c.args.given.now c.loop-id.id-index c.id-item.result (omega arith) c.id-item.is) c.in_ok-_new.ensures.added c.loop-id.invariant

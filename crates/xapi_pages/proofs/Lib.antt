@@ -1,0 +1,5 @@
+pub mod Walks
+pub mod References
+pub mod Ways
+pub mod Fronts
+pub mod Bodies

@@ -1,0 +1,106 @@
+-- Chains of references by the positions of statements: what holds of whether one passes.
+use Rattle.std.proofs.Common.{◌≡◌, ◌<◌, ◌≤◌, ◌&&◌, ◌||◌, ℕ, zero, suc, List, length, take, refl, sym, ◌∙◌, ap, subst, arith, Option, Some, None, Bool, true, false, cond, nat_lt, slice_get}
+use Rattle.std.specs.Prelude.{option_and_then, position}
+use Rattle.std.specs.List.{list_any, position_or_len}
+use Rattle.std.specs.Option.{option_map_or}
+use Rattle.std.specs.Str.{bytes_eq}
+use Rattle.std.proofs.lemmas.Grind.{common_steps}
+use Rattle.std.proofs.lemmas.List.{length-take-le}
+use Rattle.lrs_json.specs.View.{view}
+use Rattle.xapi_query.specs.Filters.{direct, sees}
+use Rattle.xapi_query.specs.declared.query.Query.{Query}
+use Rattle.xapi_query.specs.declared.sight.Sight.{Sight}
+use Rattle.xapi_statement.specs.Stored.{StoredStatement}
+use Rattle.xapi_statement.specs.Statement.{target_of}
+use Rattle.xapi_pages.specs.Listings.{chain_from, referred}
+use Rattle.xapi_index.specs.Statements.{held_under}
+use Rattle.xapi_pages.specs.Chains.{chain_passes, is_among, is_direct_at}
+use Rattle.xapi_index.specs.Statements.{position_referred, referred_at}
+use Rattle.lrs_register.proofs.Firsts.{position-item}
+use Rattle.xapi_pages.proofs.Walks.{enough, none_reached, reach, reaches}
+
+-- Positions below n, some of which pass, each with a next one or none; and whether one that passes is met on the way from a position.
+pub record IsVerdict (p : ℕ → Bool) (next : ℕ → Option ℕ) (n : ℕ) (v : ℕ → Bool) : Type 0 where
+  pub here : (k : ℕ) → p k ≡ true → v k ≡ true
+  pub on : (k j : ℕ) → k < n → p k ≡ false → next k ≡ Some j → v k ≡ v j
+  pub ends : (k : ℕ) → k < n → p k ≡ false → next k ≡ None → v k ≡ false
+  pub round : (path : List ℕ) → ((w : ℕ) → is_among path w ≡ true → p w ≡ false) → ((w j : ℕ) → is_among path w ≡ true → next w ≡ Some j → is_among path j ≡ true)
+      → (w : ℕ) → is_among path w ≡ true → v w ≡ false
+  pub within : (k j : ℕ) → next k ≡ Some j → j < n
+
+position-below : {A : Type 0} (q : A → Bool) (xs : List A) (j : ℕ) → position q xs ≡ Some j → j < length xs
+position-below q xs j is = by_test (nat_lt (position_or_len q xs) (length xs)) refl is
+  where
+    below : nat_lt (position_or_len q xs) (length xs) ≡ true → position_or_len q xs < length xs
+    below e = grind (arith, common_steps)
+
+    by_test : (b : Bool) → nat_lt (position_or_len q xs) (length xs) ≡ b → cond b (Some (position_or_len q xs)) None ≡ Some j → j < length xs
+    by_test true lt at = let same : position_or_len q xs ≡ j = cc at in subst (λ k. k < length xs) same (below lt)
+    by_test false lt at = cc at
+
+module _ (held : List StoredStatement) where
+  at_position : (s : StoredStatement) → option_and_then (λ k. slice_get held k) (position_referred held s) ≡ referred held s
+  at_position s = by_target (target_of (view s.received))
+    where
+      by_target : (o : Option (List ℕ)) → option_and_then (λ k. slice_get held k) (option_and_then (λ id. position (λ t. bytes_eq t.id id) held) o) ≡ option_and_then (λ id. held_under id held) o
+      by_target None = refl
+      by_target (Some id) = position-item (λ t. bytes_eq t.id id) held
+
+  referred-below : (k j : ℕ) → referred_at held k ≡ Some j → j < length held
+  referred-below k j is = by_held (slice_get held k) is
+    where
+      by_target : (o : Option (List ℕ)) → option_and_then (λ id. position (λ (t : StoredStatement). bytes_eq t.id id) held) o ≡ Some j → j < length held
+      by_target None at = cc at
+      by_target (Some id) at = position-below (λ t. bytes_eq t.id id) held j at
+
+      by_held : (o : Option StoredStatement) → option_and_then (position_referred held) o ≡ Some j → j < length held
+      by_held None at = cc at
+      by_held (Some s) at = by_target (target_of (view s.received)) at
+
+  or_false : (b : Bool) → b ≡ b || false
+  or_false true = refl
+  or_false false = refl
+
+  -- a walk over positions meets what a chain of statements has
+  tie : (query : Query) (sight : Sight) (steps : ℕ) (o : Option ℕ)
+      → reaches (is_direct_at query sight held) (referred_at held) steps o ≡ list_any (λ s. sees sight s && direct query s) (chain_from held steps (option_and_then (λ k. slice_get held k) o))
+  tie query sight steps None = refl
+  tie query sight zero (Some k) = one (slice_get held k)
+    where
+      one : (o : Option StoredStatement) → option_map_or (λ s. sees sight s && direct query s) o false ≡ list_any (λ s. sees sight s && direct query s) (chain_from held 0 o)
+      one None = refl
+      one (Some s) = or_false (sees sight s && direct query s)
+  tie query sight (suc steps) (Some k) = one (slice_get held k) (tie query sight steps (referred_at held k))
+    where
+      one : (o : Option StoredStatement)
+          → reaches (is_direct_at query sight held) (referred_at held) steps (option_and_then (position_referred held) o)
+          ≡ list_any (λ s. sees sight s && direct query s) (chain_from held steps (option_and_then (λ k. slice_get held k) (option_and_then (position_referred held) o)))
+          → (option_map_or (λ s. sees sight s && direct query s) o false || reaches (is_direct_at query sight held) (referred_at held) steps (option_and_then (position_referred held) o))
+          ≡ list_any (λ s. sees sight s && direct query s) (chain_from held (suc steps) o)
+      one None more = refl
+      one (Some s) more = ap (λ b. (sees sight s && direct query s) || b) (more ∙ ap (λ o. list_any (λ s. sees sight s && direct query s) (chain_from held steps o)) (at_position s))
+
+  known : (query : Query) (sight : Sight) (k : ℕ) → reaches (is_direct_at query sight held) (referred_at held) (length held) (Some k) ≡ chain_passes query sight held k
+  known query sight k = tie query sight (length held) (Some k)
+
+  further : (query : Query) (sight : Sight) (k : ℕ) (o : Option ℕ) → k < length held → is_direct_at query sight held k ≡ false → referred_at held k ≡ o
+      → reaches (is_direct_at query sight held) (referred_at held) (length held) (Some k) ≡ reaches (is_direct_at query sight held) (referred_at held) (length held) o
+  further query sight k o lt fails at =
+      sym (enough (is_direct_at query sight held) (referred_at held) (length held) referred-below k lt)
+      ∙ (ap (λ b. b || reaches (is_direct_at query sight held) (referred_at held) (length held) (referred_at held k)) fails
+      ∙ ap (λ o. reaches (is_direct_at query sight held) (referred_at held) (length held) o) at)
+
+  pub verdict : (query : Query) (sight : Sight) → IsVerdict (is_direct_at query sight held) (referred_at held) (length held) (chain_passes query sight held)
+  verdict query sight = record {
+    here = λ k is. sym (known query sight k) ∙ reach (is_direct_at query sight held) (referred_at held) (length held) 0 k (omega arith) is;
+    on = λ k j lt fails at. sym (known query sight k) ∙ (further query sight k (Some j) lt fails at ∙ known query sight j);
+    ends = λ k lt fails at. sym (known query sight k) ∙ further query sight k None lt fails at;
+    round = λ path fails closed w among. sym (known query sight w) ∙ none_reached (is_direct_at query sight held) (referred_at held) path fails closed (length held) w among;
+    within = referred-below;
+  }
+
+-- the same of the first n statements
+pub verdict_first : (query : Query) (sight : Sight) (held : List StoredStatement) (n : ℕ) → n ≤ length held
+    → IsVerdict (is_direct_at query sight (take n held)) (referred_at (take n held)) n (chain_passes query sight (take n held))
+verdict_first query sight held n le =
+    subst (λ m. IsVerdict (is_direct_at query sight (take n held)) (referred_at (take n held)) m (chain_passes query sight (take n held))) (length-take-le n held le) (verdict (take n held) query sight)

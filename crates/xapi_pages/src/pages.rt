@@ -1,0 +1,124 @@
+// The bodies of pages.
+ghost use Rattle.std.specs.Prelude.{◌≡◌, ◌≤◌, ◌∷◌, ◌++◌, ℕ, List, false, length, take, IfOk, OnOk};
+ghost use Rattle.lrs_json.specs.Written.{comma_if, quoted};
+ghost use Rattle.xapi_statement.specs.Shown.{shown_text};
+ghost use Rattle.xapi_pages.specs.Listings.{Paged, items_text, more_text, page_behind, page_body};
+
+use crate::listing::{Page, find_page};
+use lrs_json::{Memory, Tree, write};
+use std::alloc::Global;
+use xapi_index::Index;
+use xapi_query::{Query, Sight, link_text};
+use xapi_statement::{Format, StoredStatement};
+
+/// The body of the page behind a position, in the list as of the first n statements.
+pub fn page_text(
+    alloc: Global,
+    index: &Index,
+    query: &Query,
+    sight: &Sight,
+    n: usize,
+    after: Option<usize>,
+) -> Result<Vec<u8>, Memory>
+    requires { n ≤ length index.now.held }
+    ensures { IfOk result (λ body.
+        body.items
+        ≡ page_body query.now n index.now.held (page_behind query.now sight.now (take n index.now.held) after)) }
+{
+    let page = find_page(alloc, index, query, sight, n, after)?;
+    body_text(alloc, index, query, n, &page)
+}
+
+// The body of a page, in a list of the first n statements.
+fn body_text(
+    alloc: Global,
+    index: &Index,
+    query: &Query,
+    n: usize,
+    page: &Page,
+) -> Result<Vec<u8>, Memory>
+    ensures { IfOk result (λ body.
+        let shown : Paged = record { positions = page.now.positions.items; link = page.now.link } in
+        body.items ≡ page_body query.now n index.now.held shown) }
+{
+    let mut body = b"{\"statements\":[".to_vec(alloc)?;
+    put_statements(index, query.format, page.positions.as_slice(), &mut body)?;
+    body.extend_from_slice(b",\"more\":")?;
+    put_more(alloc, query, n, page.link, &mut body)?;
+    body.push(b'}')?;
+    Ok(body)
+}
+
+// The statements at these positions, and the closing bracket.
+fn put_statements(
+    index: &Index,
+    format: Format,
+    positions: &[usize],
+    body: &mut Vec<u8>,
+) -> Result<(), Memory>
+    ensures { OnOk result (body.new.items ≡ body.old.items ++ items_text format index.now.held false positions.now) }
+{
+    let mut later = false;
+    for position in positions {
+        later = put_at(index, format, *position, later, body)?;
+    }
+    body.push(b']')?;
+    Ok(())
+}
+
+// The statement at a position, where one stands there; whether one was put by then.
+fn put_at(
+    index: &Index,
+    format: Format,
+    position: usize,
+    later: bool,
+    body: &mut Vec<u8>,
+) -> Result<bool, Memory>
+    ensures { IfOk result (λ put.
+        (behind : List ℕ) → body.new.items ++ items_text format index.now.held put behind
+        ≡ body.old.items ++ items_text format index.now.held later (position ∷ behind)) }
+{
+    match index.get(position) {
+        Some(statement) => {
+            put_statement(format, statement, later, body)?;
+            Ok(true)
+        }
+        None => Ok(later),
+    }
+}
+
+fn put_statement(
+    format: Format,
+    statement: &StoredStatement,
+    later: bool,
+    body: &mut Vec<u8>,
+) -> Result<(), Memory>
+    ensures { OnOk result (body.new.items ≡ body.old.items ++ comma_if later ++ shown_text format statement.now) }
+{
+    if later {
+        body.push(b',')?;
+    }
+    statement.write(format, body)
+}
+
+// The link behind a position as a string, which is empty where there is none.
+fn put_more(
+    alloc: Global,
+    query: &Query,
+    n: usize,
+    after: Option<usize>,
+    body: &mut Vec<u8>,
+) -> Result<(), Memory>
+    ensures { OnOk result (body.new.items ≡ body.old.items ++ quoted (more_text query.now n after)) }
+{
+    match after {
+        Some(after) => {
+            let link = link_text(alloc, query, n as u64, after as u64)?;
+            write(&Tree::Words(link), body)
+        }
+        None => {
+            body.extend_from_slice(b"\"\"")?;
+            Ok(())
+        }
+    }
+}

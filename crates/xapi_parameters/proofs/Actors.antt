@@ -1,0 +1,67 @@
+-- What the text of an agent tells.
+use Rattle.std.proofs.Common.{◌≡◌, ℕ, List, Option, Some, None, Result, Ok, Err, IfOk, MatchBool, MatchOption, Bool, is_some, sym, ap, ◌∙◌, subst}
+use Rattle.lrs_json.specs.Json.{Json}
+use Rattle.lrs_json_reader.specs.Refusals.{Spells}
+use Rattle.lrs_json.specs.View.{view}
+use Rattle.lrs_json.specs.declared.tree.Tree.{Tree}
+use Rattle.lrs_json.specs.declared.memory.Memory.{Memory}
+use Rattle.lrs_names.specs.Agents.{agent_or_group_faults}
+use Rattle.lrs_names.specs.Identifiers.{identifier_of}
+use Rattle.lrs_names.specs.Rules.{least}
+use Rattle.lrs_names.specs.declared.identifiers.Ifi.{Ifi}
+use Rattle.xapi_parameters.specs.Values.{IsActor, IsActorOf}
+
+-- it is the one value that the text spells
+abbrev pub IsAlone : List ℕ → Json → Type 0
+IsAlone text j = (k : Json) → Spells 64 text k → j ≡ k
+
+-- What reading gives, by whether it gives a value.
+abbrev pub Reads : List ℕ → Option Tree → Type 0
+Reads bytes found =
+    MatchOption found ((j : Json) → Spells 64 bytes j → ⊥) (λ tree. Spells 64 bytes (view tree) × ((j : Json) → Spells 64 bytes j → view tree ≡ j))
+
+pub spelled_at : (bytes : List ℕ) (found : Option Tree) (tree : Tree) → found ≡ Some tree → Reads bytes found → Spells 64 bytes (view tree) × IsAlone bytes (view tree)
+spelled_at bytes found tree is reads = let P : Option Tree → Type 0 = λ o. Reads bytes o in subst P is reads
+
+pub unspelled_at : (bytes : List ℕ) (found : Option Tree) → found ≡ None → Reads bytes found → (j : Json) → Spells 64 bytes j → ⊥
+unspelled_at bytes found is reads = let P : Option Tree → Type 0 = λ o. Reads bytes o in subst P is reads
+
+pub no_actor : (text : List ℕ) → ((j : Json) → Spells 64 text j → ⊥) → ¬ (IsActor text)
+no_actor text none actor = none actor.1.0 actor.1.1
+
+pub broken_actor : (text : List ℕ) (j : Json) (rule : ℕ) → IsAlone text j → Some rule ≡ least (agent_or_group_faults 6 j) → ¬ (IsActor text)
+broken_actor text j rule alone broken actor =
+    let same = alone actor.1.0 actor.1.1 in
+    let none : Some rule ≡ None = broken ∙ ap (λ k. least (agent_or_group_faults 6 k)) same ∙ actor.1.2 in absurd (cc none)
+
+unidentified : (text : List ℕ) (j : Json) → IsAlone text j → identifier_of j ≡ None → ¬ (IsActor text)
+unidentified text j alone none actor =
+    let same = alone actor.1.0 actor.1.1 in
+    let both : ◌≡◌ {A = Option Ifi} None (Some actor.0) = sym none ∙ ap identifier_of same ∙ actor.1.3 in absurd (cc both)
+
+pub identified : (text : List ℕ) (j : Json) (result : Result (Option Ifi) Memory) → Spells 64 text j → IsAlone text j → None ≡ least (agent_or_group_faults 6 j)
+    → IfOk result (λ ifi. ifi ≡ identifier_of j) → IfOk result (λ found. MatchOption found (¬ (IsActor text)) (IsActorOf text))
+identified text j (Ok None) spells alone unbroken is = unidentified text j alone (sym is)
+identified text j (Ok (Some ifi)) spells alone unbroken is = (j, spells, sym unbroken, sym is)
+identified text j (Err e) spells alone unbroken is = tt
+
+passes_so : (text : List ℕ) (found : Option Ifi) → MatchOption found (¬ (IsActor text)) (IsActorOf text) → MatchBool (is_some found) (IsActor text) (¬ (IsActor text))
+passes_so text None none = none
+passes_so text (Some ifi) actor = (ifi, actor)
+
+-- where a text is given
+pub passes_as : (given : Option (List ℕ)) (text : List ℕ) (found : Option Ifi) (met : Bool) → Some text ≡ given → met ≡ is_some found
+    → MatchOption found (¬ (IsActor text)) (IsActorOf text) → MatchBool met (MatchOption given (Unit {0}) IsActor) (¬ (MatchOption given (Unit {0}) IsActor))
+passes_as given text found met is same judged =
+    let P : Bool → Type 0 = λ m. MatchBool m (IsActor text) (¬ (IsActor text)) in
+    let Q : Option (List ℕ) → Type 0 = λ g. MatchBool met (MatchOption g (Unit {0}) IsActor) (¬ (MatchOption g (Unit {0}) IsActor)) in
+    subst Q is (subst P (sym same) (passes_so text found judged))
+
+-- the bytes are the text's
+pub at_text : (bytes text : List ℕ) → bytes ≡ text → ¬ (IsActor bytes) → ¬ (IsActor text)
+at_text bytes text lent none = let P : List ℕ → Type 0 = λ b. ¬ (IsActor b) in subst P lent none
+
+pub identified_at : (bytes text : List ℕ) (result : Result (Option Ifi) Memory) → bytes ≡ text
+    → IfOk result (λ found. MatchOption found (¬ (IsActor bytes)) (IsActorOf bytes)) → IfOk result (λ found. MatchOption found (¬ (IsActor text)) (IsActorOf text))
+identified_at bytes text result lent judged =
+    let P : List ℕ → Type 0 = λ b. IfOk result (λ found. MatchOption found (¬ (IsActor b)) (IsActorOf b)) in subst P lent judged

@@ -1,0 +1,9 @@
+pub mod Actors
+pub mod Least
+pub mod PairLemmas
+pub mod Numbers
+pub mod Bytes
+pub mod Slots
+pub mod OneJson
+pub mod LinkAlone
+pub mod LinkBack

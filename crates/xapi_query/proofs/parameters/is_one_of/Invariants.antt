@@ -1,6 +1,0 @@
-use Rattle.std.proofs.Common.{◌≡◌, drop, map}
-use Rattle.lrs_names.specs.Members.{is_one_of}
-use Rattle.xapi_query.proofs.parameters.is_one_of.Given as goal
-
-abbrev pub invariant-loop-name : goal.invariant-loop-name
-invariant-loop-name l = is_one_of (map (λ name. name.now) l.names) l.text ≡ is_one_of (map (λ name. name.now) (drop l.name-index l.names)) l.text

@@ -1,7 +1,0 @@
-ghost use Rattle.xapi_query.specs.Links.{LinksAreReadAlone, LinksAreReadBack};
-
-/// A link that stands in a page is read as itself, and as no other.
-pub fn law_of_links()
-    ensures back { LinksAreReadBack }
-    ensures alone { LinksAreReadAlone }
-{}
