@@ -1,7 +1,7 @@
 -- `BadEntry` comes exactly where the bytes are the text of no lawful entry.
 use Rattle.std.proofs.Common.{◌≡◌, ◌⊎◌, ℕ, List, Result, Ok, Err, IfOk, IsErrAnd, MatchResult, inl, inr, refl, ap, ◌∙◌}
-use Rattle.lrs_json.specs.declared.reading.ReadRefused.{ReadRefused}
-use Rattle.lrs_json.specs.declared.reading.ReadRefused.TheVariants as read
+use Rattle.lrs_json_reader.specs.declared.reading.ReadRefused.{ReadRefused}
+use Rattle.lrs_json_reader.specs.declared.reading.ReadRefused.TheVariants as read
 use Rattle.lrs_record.specs.Entries.{IsEntryText, IsLawful, written_entry}
 use Rattle.lrs_record.specs.Refusals.{refused_as}
 use Rattle.lrs_record.specs.declared.entry.Entry.{Entry}

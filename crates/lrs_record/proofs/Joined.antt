@@ -1,5 +1,5 @@
 -- Parts that are appended one after the other are the whole text.
-use Rattle.std.proofs.Common.{◌≡◌, ℕ, List, [], ◌∷◌, ◌++◌, append_assoc, refl, sym, ap, ◌∙◌}
+use Rattle.std.proofs.Common.{◌≡◌, ℕ, List, [], ◌∷◌, ◌++◌, append_assoc, refl}
 
 -- four members, in braces
 pub four_members : (o s t u v w z a b c d : List ℕ) → s ≡ o ++ 123 ∷ [] → t ≡ s ++ a → u ≡ t ++ b → v ≡ u ++ c → w ≡ v ++ d → z ≡ w ++ 125 ∷ []
@@ -9,14 +9,6 @@ four_members o s t u v w z a b c d one two three four five six =
 
 -- a member whose value is an object of one member, whose value is an object; `m` is what stands in that object, with its brace
 pub member_of_member : (o s t u v w z n k m : List ℕ) → s ≡ o ++ (n ++ 58 ∷ []) → t ≡ s ++ 123 ∷ [] → u ≡ t ++ (k ++ 58 ∷ []) → v ≡ u ++ 123 ∷ []
-    → w ++ 125 ∷ [] ≡ v ++ m → z ≡ w ++ 125 ∷ 125 ∷ [] → z ≡ o ++ (n ++ 58 ∷ (123 ∷ (k ++ 58 ∷ (123 ∷ m) ++ 125 ∷ [])))
+    → w ≡ v ++ m → z ≡ w ++ 125 ∷ [] → z ≡ o ++ (n ++ 58 ∷ (123 ∷ (k ++ 58 ∷ (123 ∷ m) ++ 125 ∷ [])))
 member_of_member o s t u v w z n k m one two three four five six =
-    six ∙ sym (append_assoc w (125 ∷ []) (125 ∷ [])) ∙ ap (λ x. x ++ 125 ∷ []) five ∙ rw (four, three, two, one) (simp append_assoc refl)
-
--- two members, and a brace
-pub two_members : (o s t a b : List ℕ) → s ≡ o ++ a → t ≡ s ++ b → t ++ 125 ∷ [] ≡ o ++ (a ++ (b ++ 125 ∷ []))
-two_members o s t a b one two = rw (two, one, append_assoc, append_assoc) refl
-
--- a name and its colon, and its value behind them
-pub member_of_tree : (o s t n v : List ℕ) → s ≡ o ++ (n ++ 58 ∷ []) → t ≡ s ++ v → t ≡ o ++ (n ++ 58 ∷ v)
-member_of_tree o s t n v one two = rw (two, one, append_assoc, append_assoc) refl
+    rw (six, five, four, three, two, one) (simp append_assoc refl)

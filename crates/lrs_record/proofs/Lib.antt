@@ -6,9 +6,10 @@ pub mod SameParts
 pub mod EntryParts
 pub mod Decimals
 pub mod Exactly
+pub mod ManyTrees
+pub mod Values
+pub mod Writes
 pub mod Readable
 pub mod ValueKinds
 pub mod SameWritten
-pub mod Writes
-pub mod ManyTrees
 pub mod Told

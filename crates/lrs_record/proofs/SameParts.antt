@@ -1,5 +1,5 @@
 -- Two objects that are the same have the same members, one by one.
-use Rattle.std.proofs.Common.{◌≡◌, ℕ, List, [], ◌∷◌, ap, sym, ◌∙◌}
+use Rattle.std.proofs.Common.{◌≡◌, ℕ, List, [], ◌∷◌, refl, ap, sym, ◌∙◌}
 use Rattle.lrs_json.specs.Json.{Json, Members, no_members, member, number, object}
 use Rattle.lrs_json.specs.View.{members_of, view}
 use Rattle.lrs_json.specs.declared.tree.Tree.{Tree, Number}
@@ -21,11 +21,19 @@ same_members ms ns same = cc same
 pub one_part : (seen : Json) (a p : List ℕ × Json) → seen ≡ object (members_of (a ∷ [])) → seen ≡ object (members_of (p ∷ [])) → a ≡ p
 one_part seen a p x y = (first_member a p no_members no_members (same_members _ _ (sym x ∙ y))).0
 
-pub two_parts : (seen : Json) (a b p q : List ℕ × Json) → seen ≡ object (members_of (a ∷ b ∷ [])) → seen ≡ object (members_of (p ∷ q ∷ [])) → (a ≡ p) × (b ≡ q)
-two_parts seen a b p q x y =
-    let first = first_member a p _ _ (same_members (members_of (a ∷ b ∷ [])) (members_of (p ∷ q ∷ [])) (sym x ∙ y)) in
-    let second = first_member b q no_members no_members first.1 in
-    (first.0, second.0)
+same_lists : (a b : List ℕ × Json) (others more : List (List ℕ × Json)) → a ≡ b → others ≡ more → a ∷ others ≡ b ∷ more
+same_lists a b others more x y = rw (x, y) refl
+
+told_members : (ms ns : List (List ℕ × Json)) → members_of ms ≡ members_of ns → ms ≡ ns
+told_members [] [] same = refl
+told_members [] (b ∷ ns) same = absurd (cc same)
+told_members (a ∷ ms) [] same = absurd (cc same)
+told_members (a ∷ ms) (b ∷ ns) same =
+    let parts = first_member a b (members_of ms) (members_of ns) same in
+    same_lists a b ms ns parts.0 (told_members ms ns parts.1)
+
+pub all_parts : (ms ns : List (List ℕ × Json)) → object (members_of ms) ≡ object (members_of ns) → ms ≡ ns
+all_parts ms ns same = told_members ms ns (same_members (members_of ms) (members_of ns) same)
 
 pub four_parts : (seen : Json) (a b c d p q r s : List ℕ × Json) → seen ≡ object (members_of (a ∷ b ∷ c ∷ d ∷ [])) → seen ≡ object (members_of (p ∷ q ∷ r ∷ s ∷ []))
     → (a ≡ p) × (b ≡ q) × (c ≡ r) × (d ≡ s)

@@ -7,7 +7,7 @@ use Rattle.lrs_decimal.specs.Numbers.{number_end}
 use Rattle.lrs_json.specs.Fits.{Fits, FitElements, FitMembers}
 use Rattle.lrs_json.specs.Json.{Json, null, boolean, number, string, array, object, Elements, no_elements, element, Members, no_members, member}
 use Rattle.lrs_json.specs.Written.{comma_if, elements_text, members_text, written}
-use Rattle.lrs_json.proofs.Escapes.{same_quoted}
+use Rattle.lrs_json_reader.proofs.Escapes.{same_quoted}
 use Rattle.lrs_record.proofs.ValueKinds.{begins_none, elements_in, first, kind, kind_at, kind_told, members_in, of_kind, text_in, value_of}
 
 same_number : (a b r s : List ℕ) → IsNumber a → IsNumber b → Ends r → Ends s → a ++ r ≡ b ++ s → (a ≡ b) × (r ≡ s)

@@ -1,22 +1,22 @@
 -- The text of an entry: `{"caller":C,"moment":MS,"draw":HEX64,"command":{NAME:ARGS}}`, in the written form of JSON.
-use Rattle.std.specs.Prelude.{◌≡◌, ◌≢◌, ◌<◌, ◌≤◌, ◌^◌, ℕ, List, [], ◌∷◌, ◌++◌, map, codes, IsUtf8}
+use Rattle.std.specs.Prelude.{◌≡◌, ◌≢◌, ◌<◌, ◌≤◌, ◌^◌, ℕ, List, [], ◌∷◌, ◌++◌, codes, IsUtf8}
 use Rattle.std.specs.Fmt.{decimal}
 use Rattle.std.specs.Int.{to_be_bytes, w128}
 use Rattle.std.specs.List.{AllByRecursion}
 use Rattle.hex.specs.Hex.{encode_lower}
 use Rattle.lrs_json.specs.Fits.{IsReadable}
-use Rattle.lrs_json.specs.Json.{Json, number, string, array, object}
-use Rattle.lrs_json.specs.View.{view, elements_of, members_of}
+use Rattle.lrs_json.specs.Json.{Json, number, string, object}
+use Rattle.lrs_json.specs.View.{view, members_of}
 use Rattle.lrs_json.specs.Written.{written}
 use Rattle.lrs_json.specs.declared.tree.Tree.{Tree}
-use Rattle.lrs_names.specs.Ids.{IsId, id_text}
+use Rattle.lrs_names.specs.Ids.{IsId}
 use Rattle.lrs_names.specs.declared.draw.Draw.{Draw}
 use Rattle.lrs_record.specs.declared.entry.Caller.{Caller}
 use Rattle.lrs_record.specs.declared.entry.Caller.TheVariants.{Nobody, Operator, Token}
 use Rattle.lrs_record.specs.declared.entry.Write.{Write}
-use Rattle.lrs_record.specs.declared.entry.Write.TheVariants.{Found, Provider, Put, Post}
 use Rattle.lrs_record.specs.declared.entry.Entry.{Entry}
 use Rattle.lrs_record.specs.Moments.{latest}
+use Rattle.lrs_record.specs.Writes.{Value, text_value, id_value, tree_value, trees_value, members_for, write_fields, write_name}
 
 -- an object of these members
 abbrev pub fields : List (List ℕ × Json) → Json
@@ -36,33 +36,8 @@ word_text word = encode_lower (to_be_bytes w128 word)
 abbrev pub draw_text : Draw → List ℕ
 draw_text draw = word_text draw.name ++ word_text draw.secret
 
--- the name under which a write is kept
-abbrev pub write_name : Write → List ℕ
-write_name (Found admin base) = codes "found"
-write_name (Provider name) = codes "provider"
-write_name (Put id statement) = codes "put"
-write_name (Post statements) = codes "post"
-
-abbrev pub found_args : List ℕ → List ℕ → List (List ℕ × Json)
-found_args admin base = (codes "admin", string admin) ∷ (codes "base", string base) ∷ []
-
-abbrev pub provider_args : List ℕ → List (List ℕ × Json)
-provider_args name = (codes "name", string name) ∷ []
-
-abbrev pub put_args : List ℕ → Json → List (List ℕ × Json)
-put_args id statement = (codes "id", string (id_text id)) ∷ (codes "statement", statement) ∷ []
-
-abbrev pub post_args : List Tree → List (List ℕ × Json)
-post_args statements = (codes "statements", array (elements_of (map view statements))) ∷ []
-
-abbrev pub write_args : Write → List (List ℕ × Json)
-write_args (Found admin base) = found_args admin base
-write_args (Provider name) = provider_args name
-write_args (Put id statement) = put_args id (view statement)
-write_args (Post statements) = post_args statements
-
 abbrev pub write_json : Write → Json
-write_json write = fields ((write_name write, fields (write_args write)) ∷ [])
+write_json write = fields ((write_name write, fields (members_for (write_fields write))) ∷ [])
 
 unfoldable pub entry_json : Entry → Json
 entry_json entry =
@@ -85,12 +60,15 @@ IsLawfulTree tree = IsReadable 64 tree
 abbrev pub AreLawfulTrees : List Tree → Type 0
 AreLawfulTrees trees = AllByRecursion (λ tree. IsLawfulTree (view tree)) trees
 
+abbrev pub IsLawfulValue : Value → Type 0
+IsLawfulValue (text_value t) = Unit {0}
+IsLawfulValue (id_value i) = Unit {0}
+IsLawfulValue (tree_value t) = IsLawfulTree (view t)
+IsLawfulValue (trees_value ts) = AreLawfulTrees ts
+
 -- Its trees are such as reading gives.
 abbrev pub IsLawfulWrite : Write → Type 0
-IsLawfulWrite (Found admin base) = Unit {0}
-IsLawfulWrite (Provider name) = Unit {0}
-IsLawfulWrite (Put id statement) = IsLawfulTree (view statement)
-IsLawfulWrite (Post statements) = AreLawfulTrees statements
+IsLawfulWrite write = AllByRecursion (λ field. IsLawfulValue field.1) (write_fields write)
 
 -- Each text is UTF-8.
 abbrev pub HoldsCaller : Caller → Type 0
@@ -98,12 +76,15 @@ HoldsCaller Nobody = Unit {0}
 HoldsCaller Operator = Unit {0}
 HoldsCaller (Token token) = IsUtf8 token
 
--- Each text that is kept is UTF-8, and each id has its sixteen bytes.
+-- A text is UTF-8, and an id has its sixteen bytes.
+abbrev pub HoldsValue : Value → Type 0
+HoldsValue (text_value t) = IsUtf8 t
+HoldsValue (id_value i) = IsId i
+HoldsValue (tree_value t) = Unit {0}
+HoldsValue (trees_value ts) = Unit {0}
+
 abbrev pub HoldsWrite : Write → Type 0
-HoldsWrite (Found admin base) = IsUtf8 admin × IsUtf8 base
-HoldsWrite (Provider name) = IsUtf8 name
-HoldsWrite (Put id statement) = IsId id
-HoldsWrite (Post statements) = Unit {0}
+HoldsWrite write = AllByRecursion (λ field. HoldsValue field.1) (write_fields write)
 
 -- two words of 128 bits
 abbrev pub HoldsDraw : Draw → Type 0

@@ -1,4 +1,5 @@
 pub mod Moments
+pub mod Writes
 pub mod Entries
 pub mod Widths
 pub mod Refusals

@@ -1,6 +1,6 @@
 -- What is refused as JSON is no entry.
-use Rattle.lrs_json.specs.declared.reading.ReadRefused.{ReadRefused}
-use Rattle.lrs_json.specs.declared.reading.ReadRefused.TheVariants as read
+use Rattle.lrs_json_reader.specs.declared.reading.ReadRefused.{ReadRefused}
+use Rattle.lrs_json_reader.specs.declared.reading.ReadRefused.TheVariants as read
 use Rattle.lrs_record.specs.declared.refused.EntryRefused.{EntryRefused}
 use Rattle.lrs_record.specs.declared.refused.EntryRefused.TheVariants.{BadEntry, Memory}
 

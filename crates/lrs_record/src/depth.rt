@@ -16,8 +16,9 @@ pub fn is_within(tree: &Tree, levels: u32) -> bool
     }
 }
 
+/// Whether those of each of them do.
 #[cycle(within)]
-fn are_within(items: &[Tree], levels: u32) -> bool
+pub fn are_within(items: &[Tree], levels: u32) -> bool
     ensures { IsTrue result ↔ (depth_of_elements (elements_of (map view items.now)) ≤ levels) }
 {
     for item in items {

@@ -1,8 +1,14 @@
-ghost use Rattle.std.specs.Prelude.{◌≡◌};
-ghost use Rattle.lrs_record.specs.Entries.{HoldsCaller, caller_text, write_name};
+ghost use Rattle.std.specs.Prelude.{◌≡◌, ◌++◌, false, IfSome, OnOk};
+ghost use Rattle.std.specs.List.{AllByRecursion};
+ghost use Rattle.lrs_json.specs.Fits.{Fits};
+ghost use Rattle.lrs_json.specs.View.{members_of};
+ghost use Rattle.lrs_json.specs.Written.{Extends, members_text};
+ghost use Rattle.lrs_record.specs.Entries.{HoldsCaller, HoldsWrite, IsLawfulWrite, caller_text};
+ghost use Rattle.lrs_record.specs.Writes.{members_for, values_left, write_fields, write_name, write_of};
 
 use crate::Moment;
-use lrs_json::{Items, Text, Tree};
+use crate::fields::{Fields, Lent, put_fields};
+use lrs_json::{Items, Memory, Text, Tree};
 use lrs_names::{Draw, Id};
 
 /// What is presented for a command.
@@ -49,6 +55,59 @@ impl Write {
             Write::Provider { .. } => "provider",
             Write::Put { .. } => "put",
             Write::Post { .. } => "post",
+        }
+    }
+
+    // Appends the fields as the members of an object, and the closing brace.
+    pub(crate) fn put_fields(&self, into: &mut Vec<u8>) -> Result<(), Memory>
+        ensures ok { OnOk result (into.new.items ≡ into.old.items ++ members_text false
+            (members_of (members_for (write_fields self.now)))) }
+        ensures kept { Extends into.old.items into.new.items }
+        ensures holds { OnOk result (HoldsWrite self.now) }
+    {
+        match self {
+            Write::Found { admin, base } => {
+                put_fields(
+                    &[("admin", Lent::Text(admin)), ("base", Lent::Text(base))],
+                    into,
+                )
+            }
+            Write::Provider { name } => put_fields(&[("name", Lent::Text(name))], into),
+            Write::Put { id, statement } => {
+                put_fields(
+                    &[("id", Lent::Id(id)), ("statement", Lent::Tree(statement))],
+                    into,
+                )
+            }
+            Write::Post { statements } => put_fields(
+                &[("statements", Lent::Trees(statements))],
+                into,
+            ),
+        }
+    }
+
+    // The write of that name and of these fields.
+    pub(crate) fn of(name: &str, fields: &mut Fields) -> Option<Write>
+        requires { AllByRecursion Fits (values_left fields.old) }
+        ensures is { result ≡ write_of name.now (values_left fields.old) }
+        ensures lawful { IfSome result IsLawfulWrite }
+    {
+        match name {
+            "found" => Some(Write::Found {
+                admin: fields.text()?,
+                base: fields.text()?,
+            }),
+            "provider" => Some(Write::Provider {
+                name: fields.text()?,
+            }),
+            "put" => Some(Write::Put {
+                id: fields.id()?,
+                statement: fields.tree()?,
+            }),
+            "post" => Some(Write::Post {
+                statements: fields.trees()?,
+            }),
+            _ => None,
         }
     }
 }

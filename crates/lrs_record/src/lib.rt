@@ -5,6 +5,7 @@
 mod depth;
 mod digits;
 mod entry;
+mod fields;
 mod members;
 mod parts;
 mod reading;

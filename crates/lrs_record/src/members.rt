@@ -1,10 +1,9 @@
 ghost use Rattle.std.specs.Prelude.{◌≡◌, ◌≤◌, [], ◌∷◌, ◌++◌, ◌+◌, ℕ, List, Some, map, IsSome, IfSome, vec_len};
-ghost use Rattle.lrs_json.specs.Json.{Json, array, object, string};
-ghost use Rattle.lrs_json.specs.View.{elements_of, member_view, members_of, view};
-ghost use Rattle.lrs_json.specs.declared.tree.Tree.{Tree as SpecTree};
+ghost use Rattle.lrs_json.specs.Json.{Json, object, string};
+ghost use Rattle.lrs_json.specs.View.{member_view, members_of, view};
 ghost use Rattle.lrs_record.specs.Widths.{width};
 
-use lrs_json::{Items, Member, Text, Tree};
+use lrs_json::{Member, Text, Tree};
 
 /// The member of the tree, where it is an object of one.
 pub fn one(tree: Tree) -> Option<Member>
@@ -18,17 +17,6 @@ pub fn one(tree: Tree) -> Option<Member>
     } else {
         None
     }
-}
-
-/// The members of the tree, where it is an object of two.
-pub fn two(tree: Tree) -> Option<(Member, Member)>
-    ensures found { IfSome result (λ members. view tree ≡ object (members_of (member_view members.0
-        ∷ member_view members.1 ∷ []))) }
-    ensures all { width (view tree) ≡ Some 2 → IsSome result }
-{
-    let mut members = members(tree)?;
-    let pair = last_two(&mut members)?;
-    if members.is_empty() { Some(pair) } else { None }
 }
 
 /// The members of the tree, where it is an object of four.
@@ -58,8 +46,8 @@ fn last_two(members: &mut Vec<Member>) -> Option<(Member, Member)>
     Some((first, second))
 }
 
-// The members of the tree, where it is an object.
-fn members(tree: Tree) -> Option<Vec<Member>>
+/// The members of the tree, where it is an object.
+pub fn members(tree: Tree) -> Option<Vec<Member>>
     ensures found { IfSome result (λ members. view tree ≡ object (members_of (map member_view members.items))) }
     ensures all { (n : ℕ) → width (view tree) ≡ Some n → IsSome result }
     ensures length { (n : ℕ) → width (view tree) ≡ Some n → IfSome result (λ members. vec_len members ≡ n) }
@@ -89,18 +77,6 @@ pub fn text(member: Member, name: &str) -> Option<Text>
 {
     match named(member, name)? {
         Tree::Words(text) => Some(text),
-        _ => None,
-    }
-}
-
-/// The items of the array that is the value of the member, where it has that name.
-pub fn items(member: Member, name: &str) -> Option<Items<Tree>>
-    ensures found { IfSome result (λ items. member_view member ≡ (name.now, array (elements_of (map view items)))) }
-    ensures all { (items : List SpecTree) → member_view member ≡ (name.now, array (elements_of (map view items)))
-        → result ≡ Some items }
-{
-    match named(member, name)? {
-        Tree::List(items) => Some(items),
         _ => None,
     }
 }

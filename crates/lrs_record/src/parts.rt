@@ -1,24 +1,20 @@
-ghost use Rattle.std.specs.Prelude.{◌≡◌, ◌≤◌, ◌↔◌, ℕ, List, Some, IfSome, IsTrue, MatchOption, codes};
+ghost use Rattle.std.specs.Prelude.{◌≡◌, ◌≤◌, ℕ, Some, IfSome, MatchOption, codes};
 ghost use Rattle.std.specs.Fmt.{decimal};
-ghost use Rattle.std.specs.List.{AllByRecursion};
-ghost use Rattle.lrs_json.specs.Depth.{depth};
 ghost use Rattle.lrs_json.specs.Fits.{Fits};
 ghost use Rattle.lrs_json.specs.Json.{number, string};
 ghost use Rattle.lrs_json.specs.View.{member_view, view};
-ghost use Rattle.lrs_json.specs.declared.tree.Tree.{Tree as SpecTree};
-ghost use Rattle.lrs_names.specs.Ids.{IsId};
-ghost use Rattle.lrs_record.specs.Entries.{AreLawfulTrees, HoldsWrite, IsLawful, IsLawfulCaller, IsLawfulWrite, IsLawfulTree, caller_text, write_json, draw_text, entry_json, fields, found_args, post_args, provider_args, put_args};
+ghost use Rattle.lrs_record.specs.Entries.{HoldsWrite, IsLawful, IsLawfulCaller, IsLawfulWrite, caller_text, draw_text, entry_json, write_json};
 ghost use Rattle.lrs_record.specs.Moments.{latest};
 ghost use Rattle.lrs_record.specs.declared.entry.Caller.{Caller as SpecCaller};
 ghost use Rattle.lrs_record.specs.declared.entry.Write.{Write as SpecWrite};
 ghost use Rattle.lrs_record.specs.declared.entry.Entry.{Entry as SpecEntry};
 
-use crate::depth::is_within;
 use crate::digits::draw_of;
-use crate::members::{four, items, named, one, text, two};
+use crate::fields::Fields;
+use crate::members::{four, named, one, text};
 use crate::{Caller, Entry, Moment, Write};
 use lrs_json::{Member, Text, Tree};
-use lrs_names::{Draw, Id};
+use lrs_names::Draw;
 
 // What these read may be spelled in other ways than an entry's text: the text, written again, tells.
 
@@ -91,73 +87,6 @@ fn write_of(member: Member) -> Option<Write>
         → member_view member ≡ (codes "command", write_json write) → result ≡ Some write }
 {
     let Member { name, value } = one(named(member, "command")?)?;
-    match name.as_str() {
-        "found" => found_of(value),
-        "provider" => provider_of(value),
-        "put" => put_of(value),
-        "post" => post_of(value),
-        _ => None,
-    }
-}
-
-fn found_of(args: Tree) -> Option<Write>
-    ensures lawful { IfSome result IsLawfulWrite }
-    ensures all { (admin base : List ℕ) → view args ≡ fields (found_args admin base)
-        → result ≡ Some (Write.Found admin base) }
-{
-    let (admin, base) = two(args)?;
-    Some(Write::Found {
-        admin: text(admin, "admin")?,
-        base: text(base, "base")?,
-    })
-}
-
-fn provider_of(args: Tree) -> Option<Write>
-    ensures lawful { IfSome result IsLawfulWrite }
-    ensures all { (name : List ℕ) → view args ≡ fields (provider_args name) → result ≡ Some (Write.Provider name) }
-{
-    Some(Write::Provider {
-        name: text(one(args)?, "name")?,
-    })
-}
-
-fn put_of(args: Tree) -> Option<Write>
-    requires { Fits (view args) }
-    ensures lawful { IfSome result IsLawfulWrite }
-    ensures all { (id : List ℕ) (statement : SpecTree) → IsId id → IsLawfulTree (view statement)
-        → view args ≡ fields (put_args id (view statement)) → result ≡ Some (Write.Put id statement) }
-{
-    let (id, statement) = two(args)?;
-    let id = Id::read(text(id, "id")?.as_bytes())?;
-    let statement = named(statement, "statement")?;
-    if is_within(&statement, 64) {
-        Some(Write::Put { id, statement })
-    } else {
-        None
-    }
-}
-
-fn post_of(args: Tree) -> Option<Write>
-    requires { Fits (view args) }
-    ensures lawful { IfSome result IsLawfulWrite }
-    ensures all { (statements : List SpecTree) → AreLawfulTrees statements → view args ≡ fields (post_args statements)
-        → result ≡ Some (Write.Post statements) }
-{
-    let statements = items(one(args)?, "statements")?;
-    if are_all_within(statements.as_slice(), 64) {
-        Some(Write::Post { statements })
-    } else {
-        None
-    }
-}
-
-fn are_all_within(trees: &[Tree], levels: u32) -> bool
-    ensures { IsTrue result ↔ AllByRecursion (λ tree. depth (view tree) ≤ levels) trees.now }
-{
-    for tree in trees {
-        if !is_within(tree, levels) {
-            return false;
-        }
-    }
-    true
+    let mut fields = Fields::of(value)?;
+    Write::of(name.as_str(), &mut fields)
 }

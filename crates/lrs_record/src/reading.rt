@@ -2,13 +2,15 @@ ghost use Rattle.std.specs.Prelude.{◌≡◌, ◌↔◌, ◌⊎◌, IfOk, IsTru
 ghost use Rattle.lrs_record.specs.Entries.{IsEntryText, IsLawful, IsLawfulCaller, IsLawfulWrite, written_entry};
 ghost use Rattle.lrs_record.specs.declared.entry.Entry.{Entry as SpecEntry};
 
+use crate::fields::STATEMENT_DEPTH;
 use crate::parts::entry_of;
 use crate::{Entry, EntryRefused, write_entry};
-use lrs_json::{Memory, read_to};
+use lrs_json::Memory;
+use lrs_json_reader::read_to;
 use std::alloc::Global;
 
-/// How deep an entry's text may nest: a statement of 64 levels may stand four levels down, as those of a `post` do.
-const DEPTH: u32 = 68;
+/// How deep an entry's text may nest: a statement may stand four levels down, as those of a `post` do.
+const DEPTH: u32 = STATEMENT_DEPTH + 4;
 
 /// The entry whose text the bytes are, with nothing before, between or behind.
 pub fn read_entry(alloc: Global, bytes: &[u8]) -> Result<Entry, EntryRefused>

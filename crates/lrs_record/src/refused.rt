@@ -1,4 +1,5 @@
-use lrs_json::{Memory, ReadRefused};
+use lrs_json::Memory;
+use lrs_json_reader::ReadRefused;
 
 /// Why a text is refused as an entry.
 #[derive(Clone, Copy, Debug, PartialEq, Eq)]

@@ -1,7 +1,7 @@
 use Rattle.std.proofs.Common.{◌≡◌, ◌++◌, drop, false, map, nat_lt}
 use Rattle.lrs_json.specs.View.{elements_of, view}
 use Rattle.lrs_json.specs.Written.{Extends, elements_text}
-use Rattle.lrs_record.proofs.writing.put_trees.Given as goal
+use Rattle.lrs_record.proofs.fields.put_trees.Given as goal
 
 -- what is written and what is left are the whole text
 abbrev pub invariant-loop-i : goal.invariant-loop-i

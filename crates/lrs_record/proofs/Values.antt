@@ -1,0 +1,56 @@
+-- What is read of the value that a field's text is, is what the field holds.
+use Rattle.std.proofs.Common.{◌≡◌, ◌≤◌, ℕ, List, [], ◌∷◌, map, Some, option_and_then, refl, sym, ap, ◌∙◌, subst}
+use Rattle.std.specs.List.{AllByRecursion}
+use Rattle.std.proofs.lemmas.Bool.{le-leb}
+use Rattle.lrs_json.specs.Depth.{depth, depth_of_elements}
+use Rattle.lrs_json.specs.Fits.{Fits, FitElements, FitMembers}
+use Rattle.lrs_json.specs.Json.{Json, array, object, string}
+use Rattle.lrs_json.specs.Trees.{trees_of}
+use Rattle.lrs_json.specs.View.{elements_of, members_of, view}
+use Rattle.lrs_json.specs.declared.tree.Tree.{Tree, List as Many}
+use Rattle.lrs_json.proofs.Back.{back}
+use Rattle.lrs_json.proofs.Views.{view-List}
+use Rattle.lrs_names.specs.Ids.{IsId, id_text}
+use Rattle.lrs_names.proofs.IdTexts.{id_of-id_text}
+use Rattle.lrs_record.specs.Writes.{id_in, read_first, tree_in, trees_in, value_first, values_in}
+use Rattle.lrs_record.proofs.SameParts.{all_parts}
+
+pub read_id : (id : List ℕ) → IsId id → id_in (string (id_text id)) ≡ Some id
+read_id id is = id_of-id_text id is
+
+pub read_tree : (tree : Tree) → depth (view tree) ≤ 64 → tree_in (view tree) ≡ Some tree
+read_tree tree shallow = rw (le-leb (depth (view tree)) 64 shallow, back tree) refl
+
+trees_back : (trees : List Tree) → trees_of (elements_of (map view trees)) ≡ trees
+trees_back [] = refl
+trees_back (tree ∷ trees) = rw (back tree, trees_back trees) refl
+
+pub read_trees : (trees : List Tree) → depth_of_elements (elements_of (map view trees)) ≤ 64 → trees_in (array (elements_of (map view trees))) ≡ Some trees
+read_trees trees shallow = rw (le-leb (depth_of_elements (elements_of (map view trees))) 64 shallow, trees_back trees) refl
+
+-- the same of the first of several values
+
+pub first_tree : (values : List Json) (tree : Tree) → Some (view tree) ≡ value_first values → depth (view tree) ≤ 64 → Some tree ≡ read_first tree_in values
+first_tree values tree is shallow = sym (ap (λ value. option_and_then tree_in value) (sym is) ∙ read_tree tree shallow)
+
+pub first_trees : (values : List Json) (tree : Tree) (trees : List Tree) → tree ≡ Many trees → Some (view tree) ≡ value_first values
+    → depth_of_elements (elements_of (map view trees)) ≤ 64 → Some trees ≡ read_first trees_in values
+first_trees values tree trees kind is shallow =
+    let seen : Some (view tree) ≡ Some (array (elements_of (map view trees))) = ap Some (ap view kind ∙ view-List trees) in
+    sym (ap (λ value. option_and_then trees_in value) (sym is ∙ seen) ∙ read_trees trees shallow)
+
+-- the items of a tree that is such as reading gives
+pub fit_items : (tree : Tree) (trees : List Tree) → tree ≡ Many trees → Fits (view tree) → FitElements (elements_of (map view trees))
+fit_items tree trees kind fits = let whole : Fits (array (elements_of (map view trees))) = subst Fits (ap view kind ∙ view-List trees) fits in whole
+
+-- ---- what holds of the values of an object's members
+
+fit_members : (before : List (List ℕ)) (ms : List (List ℕ × Json)) → FitMembers before (members_of ms) → AllByRecursion Fits (values_in ms)
+fit_members before [] fits = tt
+fit_members before (m ∷ ms) fits = (fits.2, fit_members (m.0 ∷ before) ms fits.3)
+
+pub fit_values : (seen : Json) (ms : List (List ℕ × Json)) → seen ≡ object (members_of ms) → Fits seen → AllByRecursion Fits (values_in ms)
+fit_values seen ms is fits = let whole : Fits (object (members_of ms)) = subst Fits is fits in fit_members [] ms whole
+
+pub same_values : (seen : Json) (ms ns : List (List ℕ × Json)) → seen ≡ object (members_of ms) → seen ≡ object (members_of ns) → values_in ms ≡ values_in ns
+same_values seen ms ns x y = ap values_in (all_parts ms ns (sym x ∙ y))
