@@ -1,6 +1,7 @@
--- The names of rules.
-use Rattle.std.specs.Prelude.{ℕ, List, ◌∷◌}
+-- The names of rules, and what it is to break a rule on JSON.
+use Rattle.std.specs.Prelude.{◌≡◌, ◌⊎◌, ℕ, List, ◌∷◌, IsTrue}
 use Rattle.std.specs.Fmt.{decimal}
+use Rattle.lrs_json_reader.specs.Refusals.{IsBad, OutOfRangeAt, RepeatedAt, is_too_deep}
 use Rattle.lrs_command.specs.declared.rule.Rule.{Rule}
 use Rattle.lrs_command.specs.declared.rule.Rule.TheVariants.{A, B, C, F, J, P, S}
 
@@ -26,3 +27,11 @@ number_of (S n) = n
 -- its letter and its number, such as S4
 abbrev pub rule_text : Rule → List ℕ
 rule_text rule = letter_of rule ∷ decimal (number_of rule)
+
+-- The rules on JSON, in their order: the depth, the grammar, repeated names, the range of numbers.
+abbrev pub BreaksJson : List ℕ → Rule → Type 0
+BreaksJson bytes r =
+    ((r ≡ J 1) × IsTrue (is_too_deep 64 bytes))
+    ⊎ (((r ≡ J 2) × IsBad 64 bytes)
+    ⊎ (((r ≡ J 3) × ((place : ℕ) × RepeatedAt 64 bytes place))
+    ⊎ ((r ≡ J 4) × ((place : ℕ) × OutOfRangeAt 64 bytes place))))

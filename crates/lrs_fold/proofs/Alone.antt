@@ -11,12 +11,12 @@ use Rattle.lrs_parts.specs.State.{State}
 use Rattle.lrs_record.specs.declared.entry.Write.TheVariants.{Post}
 use Rattle.lrs_replies.specs.declared.answered.Refusal.{Refusal}
 use Rattle.xapi_index.specs.Batches.{Named, id_for, named, supply_behind}
-use Rattle.xapi_index.specs.Ids.{Supply}
+use Rattle.lrs_ids.specs.Ids.{Supply}
 use Rattle.xapi_index.specs.Statements.{held_under}
-use Rattle.xapi_statement.specs.Completed.{HeldStatement}
+use Rattle.xapi_statement.specs.Stored.{StoredStatement}
 use Rattle.xapi_statement.specs.Statement.{own_id}
 
-refused_alone : (st : State) (at : Occasion) (before : List HeldStatement) (supply : Supply) (ts : List Tree) → refused_in st at before (named supply ts) ≡ refused_each st at.by ts
+refused_alone : (st : State) (at : Occasion) (before : List StoredStatement) (supply : Supply) (ts : List Tree) → refused_in st at before (named supply ts) ≡ refused_each st at.by ts
 refused_alone st at before supply [] = refl
 refused_alone st at before supply (t ∷ ts) =
     let n : Named = record { id = id_for (supply 0) (own_id (view t)); tree = t } in
@@ -24,7 +24,7 @@ refused_alone st at before supply (t ∷ ts) =
     (refused_alone st at (before_next st at before n) (supply_behind supply (own_id (view t))) ts)
     ∙ ap (λ o. option_or o (refused_each st at.by ts)) (whichever (own_id (view t)))
   where
-    over : (o : Option HeldStatement) (id : List ℕ) → refused_over st at.by before id (view t) o ≡ refused_over st at.by st.statements id (view t) o
+    over : (o : Option StoredStatement) (id : List ℕ) → refused_over st at.by before id (view t) o ≡ refused_over st at.by st.statements id (view t) o
     over None id = refl
     over (Some held) id = refl
 

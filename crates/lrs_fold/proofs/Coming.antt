@@ -3,7 +3,7 @@ use Rattle.std.proofs.Common.{◌≡◌, ℕ, Bool, true, false, not, ◌&&◌, 
 use Rattle.std.specs.Prelude.{is_none, nat_le, option_map}
 use Rattle.std.specs.Option.{option_or}
 use Rattle.lrs_fold.specs.Next.{is_founding, may_be_next, may_come, Changes, Comes}
-use Rattle.lrs_history.specs.Answers.{acceptance}
+use Rattle.lrs_history.specs.Answers.{write_said}
 use Rattle.lrs_history.specs.Effects.{effect}
 use Rattle.lrs_history.specs.History.{refused}
 use Rattle.lrs_history.specs.Refusals.{refusal}
@@ -12,7 +12,7 @@ use Rattle.lrs_parts.specs.declared.effect.Effect.{Effect}
 use Rattle.lrs_record.specs.declared.entry.Entry.{Entry}
 use Rattle.lrs_replies.specs.declared.answered.Answered.{Answered}
 use Rattle.lrs_replies.specs.declared.answered.Refusal.{Refusal}
-use Rattle.xapi_index.specs.Choices.{when}
+use Rattle.lrs_ids.specs.Choices.{when}
 
 unsaid : (r : Option Refusal) (b : Bool) (a : Answered) → is_none (option_or (option_map refused r) (when b a)) ≡ is_none r && not b
 unsaid None true a = refl
@@ -35,7 +35,7 @@ moved false b c d = refl
 come_is : (first : Bool) (limit place : ℕ) (st : State) (e : Entry) → may_come first limit place st e ≡ may_be_next first limit place st e && (first || not (changes_nothing (effect st e)))
 come_is true limit place st e = with_true (is_founding e)
 come_is false limit place st e =
-    ap (λ b. b && nat_le st.last e.moment && nat_lt place limit) (unsaid (refusal st e) (changes_nothing (effect st e)) (acceptance st e.write (effect st e)))
+    ap (λ b. b && nat_le st.last e.moment && nat_lt place limit) (unsaid (refusal st e) (changes_nothing (effect st e)) (write_said (effect st e)))
     ∙ moved (is_none (refusal st e)) (not (changes_nothing (effect st e))) (nat_le st.last e.moment) (nat_lt place limit)
 
 pub comes : (first : Bool) (limit place : ℕ) (st : State) (e : Entry) (o : Option Effect) → may_be_next first limit place st e ≡ true → Changes first st e o → Comes first limit place st e o

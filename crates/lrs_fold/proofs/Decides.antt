@@ -6,11 +6,11 @@ use Rattle.std.proofs.lemmas.Grind.{common_steps}
 use Rattle.lrs_command.specs.declared.command.Command.TheVariants as command
 use Rattle.lrs_fold.specs.Judged.{IsJudged}
 use Rattle.lrs_fold.specs.Next.{founds, is_founding, is_operator, is_zero, may_come}
-use Rattle.lrs_history.specs.Answers.{acceptance}
+use Rattle.lrs_history.specs.Answers.{write_said}
 use Rattle.lrs_history.specs.Effects.{effect}
-use Rattle.lrs_history.specs.History.{Answer, answer_of, said_at_once, entry_at, need, end_place, state, verdict, verdict_by, ComesNext, IsFounding, Founds}
+use Rattle.lrs_history.specs.History.{Answer, answer_of, said_at_once, entry_at, need, end_place, state, outcome, outcome_by, ComesNext, IsFounding, Founds}
 use Rattle.lrs_history.proofs.Kept.{no_room, kept_answer}
-use Rattle.lrs_history.proofs.Verdicts.{accepted_again}
+use Rattle.lrs_history.proofs.Outcomes.{accepted_again}
 use Rattle.lrs_names.specs.declared.draw.Draw.{Draw}
 use Rattle.lrs_parts.specs.Founding.{is_base, is_token}
 use Rattle.lrs_parts.specs.State.{State}
@@ -97,9 +97,9 @@ abbrev later : ℕ → ℕ → State → Entry → Bool
 later limit place st e = may_come false limit place st e
 
 later_forth : (limit place : ℕ) (st : State) (e : Entry) → e.moment ≤ latest → later limit (place + (5 + length (written_entry e))) st e ≡ true
-    → (answer_of limit place (verdict st e.caller (command.Write e.write) e.moment e.draw)).entry ≡ Some e
+    → (answer_of limit place (outcome st e.caller (command.Write e.write) e.moment e.draw)).entry ≡ Some e
 later_forth limit place st e early is =
-    ap (λ v. (answer_of limit place v).entry) (accepted_again st e (acceptance st e.write (effect st e)) same at_once refl) ∙ by_test (nat_lt limit (need place e)) refl
+    ap (λ v. (answer_of limit place v).entry) (accepted_again st e (write_said (effect st e)) same at_once refl) ∙ by_test (nat_lt limit (need place e)) refl
   where
     two : is_none (said_at_once st e) && nat_le st.last e.moment ≡ true
     two = first (is_none (said_at_once st e) && nat_le st.last e.moment) (nat_lt (place + (5 + length (written_entry e))) limit) is
@@ -122,7 +122,7 @@ later_forth limit place st e early is =
     roomy : (p n l : ℕ) → nat_lt (p + (5 + n)) l ≡ true → nat_lt l (p + 6 + n) ≡ true → ⊥
     roomy p n l a b = let below : p + (5 + n) < l = grind (arith, common_steps) in let above : l < p + 6 + n = grind (arith, common_steps) in omega (arith, below, above)
 
-    by_test : (b : Bool) → nat_lt limit (need place e) ≡ b → entry_of (if b then no_room limit place e else kept_answer (acceptance st e.write (effect st e)) e) ≡ Some e
+    by_test : (b : Bool) → nat_lt limit (need place e) ≡ b → entry_of (if b then no_room limit place e else kept_answer (write_said (effect st e)) e) ≡ Some e
     by_test true is = absurd (roomy place (length (written_entry e)) limit lt is)
     by_test false is = refl
 
@@ -131,7 +131,7 @@ abbrev entry_now : State → Entry → Entry
 entry_now st e = entry_at e.caller e.write (max (clamped e.moment) st.last) e.draw
 
 later_back : (limit place : ℕ) (st : State) (e : Entry) (o : Option Answered) → said_at_once st (entry_now st e) ≡ o
-    → (answer_of limit place (verdict_by o (entry_now st e) (acceptance st e.write (effect st (entry_now st e))))).entry ≡ Some e → later limit (place + (5 + length (written_entry e))) st e ≡ true
+    → (answer_of limit place (outcome_by o (entry_now st e) (write_said (effect st (entry_now st e))))).entry ≡ Some e → later limit (place + (5 + length (written_entry e))) st e ≡ true
 later_back limit place st e (Some s) at is = cc is
 later_back limit place st e None at is = by_test (nat_lt limit (need place (entry_now st e))) refl is
   where
@@ -142,7 +142,7 @@ later_back limit place st e None at is = by_test (nat_lt limit (need place (entr
     roomy p n l a = let fits : p + 6 + n ≤ l = grind (arith, common_steps) in let below : p + (5 + n) < l = omega (arith, fits) in grind (arith, common_steps)
 
     by_test : (b : Bool) → nat_lt limit (need place (entry_now st e)) ≡ b
-        → entry_of (if b then no_room limit place (entry_now st e) else kept_answer (acceptance st e.write (effect st (entry_now st e))) (entry_now st e)) ≡ Some e
+        → entry_of (if b then no_room limit place (entry_now st e) else kept_answer (write_said (effect st (entry_now st e))) (entry_now st e)) ≡ Some e
         → later limit (place + (5 + length (written_entry e))) st e ≡ true
     by_test true full is = cc is
     by_test false room is =

@@ -12,8 +12,8 @@ use Rattle.lrs_record.specs.declared.entry.Write.TheVariants.{Found, Provider, P
 use Rattle.lrs_replies.specs.declared.answered.Refusal.{Refusal}
 use Rattle.lrs_replies.specs.declared.answered.Refusal.TheVariants.{Broken, TooLong}
 use Rattle.xapi_index.specs.Batches.{given_ids}
-use Rattle.xapi_index.specs.Choices.{first_some, when}
-use Rattle.xapi_index.specs.Ids.{are_distinct}
+use Rattle.lrs_ids.specs.Choices.{first_some, when}
+use Rattle.lrs_ids.specs.Ids.{are_distinct}
 use Rattle.xapi_rules.specs.Rules.{broken_rule}
 use Rattle.xapi_statement.specs.Statement.{is_statement, is_too_long, own_id, refusal}
 

@@ -1,8 +1,6 @@
 pub mod Judged
 pub mod Alone
 pub mod Naming
-pub mod Thanked
-pub mod Turns
 pub mod Coming
 pub mod Late
 pub mod Promised

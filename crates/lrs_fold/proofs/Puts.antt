@@ -10,7 +10,7 @@ use Rattle.lrs_command.specs.declared.rule.Rule.TheVariants as rule
 use Rattle.lrs_command.specs.declared.who.Who.TheVariants as who
 use Rattle.lrs_fold.specs.Own.{IsPut, MayRefusePut, SaysOfPut}
 use Rattle.lrs_history.specs.Effects.{effect}
-use Rattle.lrs_history.specs.History.{next_entry, refused, verdict, verdict_by}
+use Rattle.lrs_history.specs.History.{next_entry, refused, outcome, outcome_by}
 use Rattle.lrs_history.specs.Refusals.{broken, forbidden, other_id, refused_form, refused_over}
 use Rattle.lrs_json.specs.Json.{Json}
 use Rattle.lrs_json.specs.View.{view}
@@ -24,10 +24,10 @@ use Rattle.lrs_replies.specs.declared.answered.Answered.TheVariants.{Kept, Same}
 use Rattle.lrs_replies.specs.declared.answered.Refusal.{Refusal}
 use Rattle.lrs_replies.specs.declared.answered.Refusal.TheVariants.{Broken, Conflict, Forbidden, TooLong}
 use Rattle.xapi_equal.specs.Same.{same}
-use Rattle.xapi_index.specs.Choices.{first_some, when}
+use Rattle.lrs_ids.specs.Choices.{first_some, when}
 use Rattle.xapi_index.specs.Statements.{held_under}
 use Rattle.xapi_rules.specs.Rules.{broken_rule, is_voiding}
-use Rattle.xapi_statement.specs.Completed.{HeldStatement}
+use Rattle.xapi_statement.specs.Stored.{StoredStatement}
 use Rattle.xapi_statement.specs.Statement.{is_too_long, own_id}
 
 abbrev MayRefuse : Option Refusal → Type 0
@@ -59,17 +59,17 @@ may_void : (b : Bool) → MayRefuse (when (b && false) (Forbidden (rule.C 2)))
 may_void true = tt
 may_void false = tt
 
-may_meet : (st : State) (before : List HeldStatement) (id : List ℕ) (j : Json) (held : Option HeldStatement) → MayRefuse (refused_over st who.Admin before id j held)
+may_meet : (st : State) (before : List StoredStatement) (id : List ℕ) (j : Json) (held : Option StoredStatement) → MayRefuse (refused_over st who.Admin before id j held)
 may_meet st before id j None = may_void (is_voiding j)
 may_meet st before id j (Some held) = may_when (not (same (view held.received) j)) (Conflict id) tt
 
 by_refusal : (o : Option Refusal) (b : Bool) (e : Entry) → MayRefuse o
-    → SaysOfPut (verdict_by (option_or (option_map refused o) (when b (if b then Same else Kept))) e (if b then Same else Kept))
+    → SaysOfPut (outcome_by (option_or (option_map refused o) (when b (if b then Same else Kept))) e (if b then Same else Kept))
 by_refusal (Some r) b e may = may
 by_refusal None true e may = tt
 by_refusal None false e may = tt
 
-pub put_says : (st : State) (caller : Caller) (c : Command) (clock : ℕ) (draw : Draw) → IsPut caller c → SaysOfPut (verdict st caller c clock draw)
+pub put_says : (st : State) (caller : Caller) (c : Command) (clock : ℕ) (draw : Draw) → IsPut caller c → SaysOfPut (outcome st caller c clock draw)
 put_says st Operator (command.Write (Put id statement)) clock draw is =
     let e : Entry = next_entry st Operator (Put id statement) clock draw in
     by_refusal (first_some (None ∷ refused_form id (view statement) ∷ refused_over st who.Admin st.statements id (view statement) (held_under id st.statements) ∷ [])) (changes_nothing (effect st e)) e

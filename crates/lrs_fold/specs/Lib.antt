@@ -3,7 +3,6 @@ pub mod Naming
 pub mod Meeting
 pub mod Keeping
 pub mod Telling
-pub mod Acceptance
 pub mod Next
-pub mod Verdicts
+pub mod Outcomes
 pub mod Own

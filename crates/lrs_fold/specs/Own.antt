@@ -2,7 +2,7 @@
 use Rattle.std.specs.Prelude.{ℕ, List}
 use Rattle.lrs_command.specs.declared.command.Command.{Command}
 use Rattle.lrs_command.specs.declared.command.Command.TheVariants as command
-use Rattle.lrs_history.specs.History.{Verdict, Told, Accepted, entry_at}
+use Rattle.lrs_history.specs.History.{Outcome, Told, Accepted, entry_at}
 use Rattle.lrs_json.specs.declared.tree.Tree.{Tree}
 use Rattle.lrs_record.specs.Moments.{clamped}
 use Rattle.lrs_record.specs.declared.entry.Caller.{Caller}
@@ -44,6 +44,6 @@ IsOfPut (Refused refusal) = MayRefusePut refusal
 IsOfPut other = Unit {0}
 
 -- the same of what becomes of a command
-abbrev pub SaysOfPut : Verdict → Type 0
+abbrev pub SaysOfPut : Outcome → Type 0
 SaysOfPut (Told said) = IsOfPut said
 SaysOfPut (Accepted e said) = IsOfPut said

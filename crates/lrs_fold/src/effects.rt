@@ -2,25 +2,25 @@
 ghost use Rattle.std.specs.Prelude.{◌≡◌, ◌∷◌, ◌++◌, [], Some, IfOk, OnOk};
 ghost use Rattle.std.specs.List.{AllByRecursion};
 ghost use Rattle.lrs_fold.specs.Judged.{IsJudged, IsJudgedTree};
-ghost use Rattle.lrs_fold.specs.Keeping.{keeping, new_by};
+ghost use Rattle.lrs_fold.specs.Keeping.{keeping, keeping_all, making_by, new_by};
 ghost use Rattle.lrs_fold.specs.Naming.{named_of};
 ghost use Rattle.lrs_history.specs.Effects.{Occasion, effect, effect_of, supply_in};
 ghost use Rattle.lrs_parts.specs.Parts.{state_of};
+ghost use Rattle.lrs_parts.specs.declared.acceptance.Acceptance.TheVariants as acceptance;
 ghost use Rattle.lrs_parts.specs.State.{no_change};
 ghost use Rattle.lrs_record.specs.declared.entry.Write.TheVariants as write;
-ghost use Rattle.lrs_replies.specs.Texts.{token_text};
 ghost use Rattle.xapi_index.specs.Batches.{named};
 
 use crate::Fold;
 use lrs_command::Who;
 use lrs_json::{Items, Memory, Text, Tree};
 use lrs_names::{Draw, Id};
-use lrs_parts::{CallersChange, Effect, Founding, HeldCaller};
+use lrs_parts::{Acceptance, Effect, Founding, HeldProvider, ProvidersChange};
 use lrs_record::{Entry, Moment, Write};
 use lrs_replies::token_text;
 use std::alloc::Global;
 use xapi_index::batch_ids;
-use xapi_statement::{Completed, Statement};
+use xapi_statement::{Statement, StoredStatement};
 
 impl Fold {
     /// What an entry changes, whose write isn't refused. Its statements move into the effect.
@@ -54,17 +54,14 @@ impl Fold {
         moment: Moment,
         draw: &Draw,
     ) -> Result<Effect, Memory>
-        ensures { IfOk result (λ made. made ≡ record (no_change moment) {
-          callers = record {
-            new = Some (record { name = name; token = token_text self.now.parts.length draw.now.secret });
-          };
-        }) }
+        ensures { IfOk result (λ made. made ≡ making_by (state_of self.now.parts) moment name draw.now.secret) }
     {
         let token = token_text(alloc, self.parts.length, draw.secret)?;
+        let told = token.clone()?;
+        let place = self.parts.providers.len();
         let mut effect = Effect::none(alloc, moment);
-        effect.callers = CallersChange {
-            new: Some(HeldCaller { name, token }),
-        };
+        effect.providers = ProvidersChange::of_new(HeldProvider { name, token });
+        effect.acceptance = Acceptance::Provider { place, token: told };
         Ok(effect)
     }
 
@@ -80,11 +77,9 @@ impl Fold {
         ensures { IfOk result (λ made. made
             ≡ keeping (state_of self.now.parts) who moment (record { id = id; tree = statement } ∷ [])) }
     {
-        let mut told = Vec::new(alloc);
-        told.push(id)?;
         let mut added = Vec::new(alloc);
         self.push_new(&mut added, who, moment, &id, statement)?;
-        Ok(writing(alloc, moment, added, told))
+        Ok(writing(alloc, moment, added))
     }
 
     #[tactic(auto, using(crate::proofs::Naming::named_again))]
@@ -97,18 +92,18 @@ impl Fold {
         statements: Vec<Tree>,
     ) -> Result<Effect, Memory>
         requires { AllByRecursion IsJudgedTree statements.items }
-        ensures { IfOk result (λ made. made ≡ keeping (state_of self.now.parts) who moment
+        ensures { IfOk result (λ made. made ≡ keeping_all (state_of self.now.parts) who moment
             (named (supply_in (state_of self.now.parts) (write.Post statements.items) draw.now) statements.items)) }
     {
-        let told = batch_ids(alloc, &self.parts.statements, statements.as_slice(), draw)?;
-        let added = self.new_of_batch(alloc, who, moment, told.as_slice(), statements)?;
-        Ok(writing(alloc, moment, added, told))
+        let ids = batch_ids(alloc, &self.parts.statements, statements.as_slice(), draw)?;
+        let added = self.new_of_batch(alloc, who, moment, ids.as_slice(), statements)?;
+        Ok(writing_all(alloc, moment, added, ids))
     }
 
     // Puts a statement behind the new ones, where its id isn't held and its caller has an authority.
     fn push_new(
         &self,
-        added: &mut Vec<Completed>,
+        added: &mut Vec<StoredStatement>,
         who: Who,
         moment: Moment,
         id: &Id,
@@ -136,7 +131,7 @@ impl Fold {
         moment: Moment,
         ids: &[Id],
         statements: Vec<Tree>,
-    ) -> Result<Vec<Completed>, Memory>
+    ) -> Result<Vec<StoredStatement>, Memory>
         requires { AllByRecursion IsJudgedTree statements.items }
         ensures { IfOk result (λ added. added.items
             ≡ new_by (state_of self.now.parts) who moment (named_of ids.now statements.items)) }
@@ -161,11 +156,18 @@ fn founding(alloc: Global, admin: Text, base: Text, moment: Moment) -> Effect
     effect
 }
 
-fn writing(alloc: Global, moment: Moment, added: Vec<Completed>, told: Vec<Id>) -> Effect
-    ensures { result ≡ record (no_change moment) { statements = added.items; told = told.items } }
+fn writing(alloc: Global, moment: Moment, added: Vec<StoredStatement>) -> Effect
+    ensures { result ≡ record (no_change moment) { statements = added.items } }
 {
     let mut effect = Effect::none(alloc, moment);
     effect.statements = Items::from_vec(added);
-    effect.told = Items::from_vec(told);
+    effect
+}
+
+fn writing_all(alloc: Global, moment: Moment, added: Vec<StoredStatement>, ids: Vec<Id>) -> Effect
+    ensures { result ≡ record (no_change moment) { statements = added.items; acceptance = acceptance.Ids ids.items } }
+{
+    let mut effect = writing(alloc, moment, added);
+    effect.acceptance = Acceptance::Ids(Items::from_vec(ids));
     effect
 }

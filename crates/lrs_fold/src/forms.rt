@@ -1,34 +1,25 @@
-// What a write is refused by its form.
+// What statements are refused by their form.
 ghost use Rattle.std.specs.Prelude.{◌≡◌, IfOk};
 ghost use Rattle.std.specs.List.{list_any};
 ghost use Rattle.lrs_json.specs.View.{view};
 ghost use Rattle.xapi_statement.specs.Statement.{is_too_long};
-ghost use Rattle.lrs_history.specs.Refusals.{bad_form, broken_in, is_too_large, other_id, refused_batch, refused_form};
+ghost use Rattle.lrs_history.specs.Refusals.{broken_in, is_too_large, other_id, refused_batch, refused_form};
 
 use lrs_command::Rule;
-use lrs_history::{MOST_OF_BATCH, refused_name};
+use lrs_history::MOST_OF_BATCH;
 use lrs_json::{Memory, Tree};
 use lrs_names::Id;
-use lrs_record::Write;
 use lrs_replies::Refusal;
 use std::alloc::Global;
 use xapi_index::have_distinct_ids;
 use xapi_statement::{broken_rule, is_too_long, own_id};
 
-/// Why a write isn't looked at, whatever the store holds.
-pub(crate) fn bad_form(alloc: Global, write: &Write) -> Result<Option<Refusal>, Memory>
-    ensures { IfOk result (λ refused. refused ≡ bad_form write.now) }
-{
-    match write {
-        Write::Found { .. } => Ok(Some(Refusal::NotFound)),
-        Write::Provider { name } => Ok(refused_name(name)),
-        Write::Put { id, statement } => refused_form(alloc, id, statement),
-        Write::Post { statements } => refused_batch(alloc, statements.as_slice()),
-    }
-}
-
-// Why a statement isn't looked at under an id.
-fn refused_form(alloc: Global, id: &Id, statement: &Tree) -> Result<Option<Refusal>, Memory>
+/// Why a statement isn't looked at under an id.
+pub(crate) fn refused_form(
+    alloc: Global,
+    id: &Id,
+    statement: &Tree,
+) -> Result<Option<Refusal>, Memory>
     ensures { IfOk result (λ refused. refused ≡ refused_form id.now (view statement.now)) }
 {
     if is_too_long(statement) {
@@ -51,8 +42,8 @@ fn other_id(id: &Id, own: Option<Id>) -> Option<Refusal>
     }
 }
 
-// Why statements that come together aren't looked at.
-fn refused_batch(alloc: Global, statements: &[Tree]) -> Result<Option<Refusal>, Memory>
+/// Why statements that come together aren't looked at.
+pub(crate) fn refused_batch(alloc: Global, statements: &[Tree]) -> Result<Option<Refusal>, Memory>
     ensures { IfOk result (λ refused. refused ≡ refused_batch statements.now) }
 {
     if is_too_large(statements) {

@@ -2,19 +2,18 @@
 //! changes and what is told of it. There is no disk here.
 #![tactic(auto)]
 
-mod acceptance;
 mod effects;
 mod fold;
 mod forms;
 mod meeting;
 mod next;
+mod outcome;
 mod own;
 mod questions;
 mod refusals;
-mod verdict;
+mod saying;
 mod whose;
 
-pub use acceptance::Thanks;
 pub use fold::Fold;
+pub use outcome::{Accepted, Outcome, frame_of};
 pub use own::{founding_entry, put_of};
-pub use verdict::{Accepted, Verdict, frame_of};

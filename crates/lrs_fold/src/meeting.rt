@@ -6,7 +6,7 @@ ghost use Rattle.lrs_json.specs.View.{view};
 ghost use Rattle.lrs_parts.specs.Parts.{state_of};
 ghost use Rattle.lrs_replies.specs.declared.answered.Refusal.TheVariants as refusal;
 ghost use Rattle.xapi_equal.specs.Same.{same};
-ghost use Rattle.xapi_index.specs.Choices.{when};
+ghost use Rattle.lrs_ids.specs.Choices.{when};
 ghost use Rattle.xapi_index.specs.Statements.{held_under};
 ghost use Rattle.xapi_statement.specs.Statement.{own_id};
 
@@ -16,7 +16,7 @@ use lrs_json::Tree;
 use lrs_names::Id;
 use lrs_replies::Refusal;
 use xapi_equal::same_received;
-use xapi_statement::{Completed, is_voiding, own_id};
+use xapi_statement::{StoredStatement, is_voiding, own_id};
 
 fn may_void(who: Who) -> bool
     ensures { result ≡ may_void who }
@@ -28,7 +28,7 @@ fn may_void(who: Who) -> bool
 }
 
 // Why a statement isn't kept that comes under an id under which that one is held.
-fn refused_beside(id: &Id, statement: &Tree, held: &Completed) -> Option<Refusal>
+fn refused_beside(id: &Id, statement: &Tree, held: &StoredStatement) -> Option<Refusal>
     ensures { result ≡ when (not (same (view held.now.received) (view statement.now))) (refusal.Conflict id.now) }
 {
     if same_received(held.received(), statement) {

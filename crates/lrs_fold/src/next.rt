@@ -102,6 +102,6 @@ fn founds(alloc: Global, write: &Write) -> Result<bool, Memory>
             }
             is_base(alloc, base)
         }
-        Write::Provider { .. } | Write::Put { .. } | Write::Post { .. } => Ok(false),
+        _ => Ok(false),
     }
 }

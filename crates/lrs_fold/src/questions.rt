@@ -16,9 +16,9 @@ use lrs_names::Id;
 use lrs_record::Caller;
 use lrs_replies::{Answered, Refusal, versions_text};
 use std::alloc::Global;
-use xapi_index::page_text;
+use xapi_pages::page_text;
 use xapi_query::{MoreLink, Query, Wanted, sees};
-use xapi_statement::{Completed, Format};
+use xapi_statement::{Format, StoredStatement};
 
 impl Fold {
     /// What a caller is told who asks.
@@ -100,7 +100,7 @@ impl Fold {
         })
     }
 
-    fn is_shown(&self, who: Who, voided: bool, held: &Completed) -> bool
+    fn is_shown(&self, who: Who, voided: bool, held: &StoredStatement) -> bool
         ensures { result ≡ is_shown (state_of self.now.parts) who voided held.now }
     {
         sees(&self.sight(who), held) && self.parts.statements.is_voided(held) == voided
@@ -137,7 +137,7 @@ impl Fold {
 const BODY_ROOM: usize = 1_024;
 
 // A statement as it is shown.
-fn statement_text(alloc: Global, format: Format, held: &Completed) -> Result<Vec<u8>, Memory>
+fn statement_text(alloc: Global, format: Format, held: &StoredStatement) -> Result<Vec<u8>, Memory>
     ensures { IfOk result (λ body. body.items ≡ shown_text format held.now) }
 {
     let mut body = Vec::with_capacity(alloc, BODY_ROOM)?;

@@ -2,17 +2,29 @@
 ghost use Rattle.std.specs.Prelude.{◌≡◌, IfOk, Ok, None};
 ghost use Rattle.lrs_fold.specs.Judged.{IsJudged};
 ghost use Rattle.lrs_history.specs.Effects.{Occasion};
-ghost use Rattle.lrs_history.specs.Refusals.{conflict, refusal, refusal_at};
+ghost use Rattle.lrs_history.specs.Refusals.{bad_form, conflict, refusal, refusal_at};
 ghost use Rattle.lrs_parts.specs.Parts.{state_of};
 
 use crate::Fold;
-use crate::forms::bad_form;
+use crate::forms::{refused_batch, refused_form};
 use lrs_command::Who;
-use lrs_history::{area_of, barred};
+use lrs_history::{area_of, barred, refused_name};
 use lrs_json::Memory;
 use lrs_record::{Entry, Write};
 use lrs_replies::Refusal;
 use std::alloc::Global;
+
+// Why a write isn't looked at, whatever the store holds.
+fn bad_form(alloc: Global, write: &Write) -> Result<Option<Refusal>, Memory>
+    ensures { IfOk result (λ refused. refused ≡ bad_form write.now) }
+{
+    match write {
+        Write::Found { .. } => Ok(Some(Refusal::NotFound)),
+        Write::Provider { name } => Ok(refused_name(name)),
+        Write::Put { id, statement } => refused_form(alloc, id, statement),
+        Write::Post { statements } => refused_batch(alloc, statements.as_slice()),
+    }
+}
 
 impl Fold {
     /// Why an entry's write is refused whatever room there is. What isn't refused breaks no rule on statements.
@@ -38,13 +50,14 @@ impl Fold {
         Ok(self.conflict(who, write))
     }
 
+    // What a write meets in the store.
     fn conflict(&self, who: Who, write: &Write) -> Option<Refusal>
         ensures { (at : Occasion) → at.by ≡ who → result ≡ conflict (state_of self.now.parts) at write.now }
     {
         match write {
             Write::Put { id, statement } => self.refused_under(who, Some(*id), statement),
             Write::Post { statements } => self.refused_each(who, statements.as_slice()),
-            Write::Found { .. } | Write::Provider { .. } => None,
+            _ => None,
         }
     }
 }

@@ -29,7 +29,7 @@ impl Fold {
         if is_admin(&self.parts.founding, token) {
             return Who::Admin;
         }
-        match self.parts.callers.find(token) {
+        match self.parts.providers.find(token) {
             Some(k) => Who::Provider(k),
             None => Who::Unknown,
         }
@@ -42,7 +42,7 @@ impl Fold {
         match who {
             Who::Unknown => Ok(None),
             Who::Admin => Ok(Some(Authority::Admin)),
-            Who::Provider(number) => match self.parts.callers.get(number) {
+            Who::Provider(number) => match self.parts.providers.get(number) {
                 Some(caller) => Ok(Some(Authority::Provider {
                     number,
                     name: caller.name.clone()?,

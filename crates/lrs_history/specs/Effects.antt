@@ -1,18 +1,20 @@
 -- What an entry changes in the parts of a store.
-use Rattle.std.specs.Prelude.{ℕ, List, [], ◌∷◌, Some}
+use Rattle.std.specs.Prelude.{ℕ, List, [], ◌∷◌, length, Some}
 use Rattle.lrs_command.specs.declared.who.Who.{Who}
 use Rattle.lrs_history.specs.Whose.{authority_of, who_is}
 use Rattle.lrs_names.specs.declared.draw.Draw.{Draw}
+use Rattle.lrs_parts.specs.Providers.{unchanged_providers}
 use Rattle.lrs_parts.specs.State.{State, no_change, used_in}
+use Rattle.lrs_parts.specs.declared.acceptance.Acceptance.TheVariants as acceptance
 use Rattle.lrs_parts.specs.declared.effect.Effect.{Effect}
 use Rattle.lrs_record.specs.declared.entry.Entry.{Entry}
 use Rattle.lrs_record.specs.declared.entry.Write.{Write}
 use Rattle.lrs_record.specs.declared.entry.Write.TheVariants.{Found, Provider, Put, Post}
 use Rattle.lrs_replies.specs.Texts.{token_text}
-use Rattle.xapi_index.specs.Batches.{Named, given_ids, kept_by, named, names_of}
-use Rattle.xapi_index.specs.Ids.{Supply, supply_of}
+use Rattle.xapi_index.specs.Batches.{Named, given_ids, kept_by, named, ids_of_named}
+use Rattle.lrs_ids.specs.Ids.{Supply, supply_of}
 use Rattle.xapi_index.specs.Statements.{new_ones}
-use Rattle.xapi_statement.specs.Completed.{HeldStatement}
+use Rattle.xapi_statement.specs.Stored.{StoredStatement}
 
 -- What an entry has beside its write: who asks, when, the token that it can give away, and the ids that it can make.
 pub record Occasion : Type 0 where
@@ -49,23 +51,33 @@ named_in at (Post statements) = named at.supply statements
 named_in at other = []
 
 -- the same as they are kept: with the moment of the entry and its caller's authority
-abbrev pub brought : State → Occasion → Write → List HeldStatement
+abbrev pub brought : State → Occasion → Write → List StoredStatement
 brought st at write = kept_by at.moment (authority_of st at.by) (named_in at write)
 
--- Those that aren't held are new, and all are told.
+-- Those that aren't held are new.
 abbrev pub writing : State → Occasion → Write → Effect
-writing st at write = record (no_change at.moment) {
-  statements = new_ones st.statements (brought st at write);
-  told = names_of (named_in at write);
+writing st at write = record (no_change at.moment) { statements = new_ones st.statements (brought st at write) }
+
+-- Of statements that come together all ids are told.
+abbrev pub writing_all : State → Occasion → Write → Effect
+writing_all st at write = record (writing st at write) { acceptance = acceptance.Ids (ids_of_named (named_in at write)) }
+
+-- ---- providers
+
+-- its place and its token are told
+abbrev pub making : State → Occasion → List ℕ → Effect
+making st at name = record (no_change at.moment) {
+  providers = record unchanged_providers { new = Some (record { name = name; token = at.token }) };
+  acceptance = acceptance.Provider (length st.providers) at.token;
 }
 
 -- ---- all of them
 
 abbrev pub effect_of : State → Occasion → Write → Effect
 effect_of st at (Found admin base) = record (no_change at.moment) { founding = Some (record { admin = admin; base = base }) }
-effect_of st at (Provider name) = record (no_change at.moment) { callers = record { new = Some (record { name = name; token = at.token }) } }
+effect_of st at (Provider name) = making st at name
 effect_of st at (Put id statement) = writing st at (Put id statement)
-effect_of st at (Post statements) = writing st at (Post statements)
+effect_of st at (Post statements) = writing_all st at (Post statements)
 
 abbrev pub effect : State → Entry → Effect
 effect st e = effect_of st (occasion st e) e.write

@@ -3,7 +3,7 @@ use Rattle.std.specs.Prelude.{◌≡◌, ◌<◌, ◌+◌, ◌-◌, ◌^◌, ℕ
 use Rattle.std.specs.Option.{option_or}
 use Rattle.lrs_command.specs.declared.command.Command.{Command}
 use Rattle.lrs_command.specs.declared.command.Command.TheVariants as command
-use Rattle.lrs_history.specs.Answers.{acceptance, reading}
+use Rattle.lrs_history.specs.Answers.{reading, write_said}
 use Rattle.lrs_history.specs.Effects.{effect}
 use Rattle.lrs_history.specs.Refusals.{barred, read_refusal, refusal, refused_with}
 use Rattle.lrs_history.specs.Whose.{who_is}
@@ -22,7 +22,7 @@ use Rattle.lrs_replies.specs.declared.answered.Answered.{Answered}
 use Rattle.lrs_replies.specs.declared.answered.Answered.TheVariants as answered
 use Rattle.lrs_replies.specs.declared.answered.Refusal.{Refusal}
 use Rattle.lrs_replies.specs.declared.answered.Refusal.TheVariants.{Full}
-use Rattle.xapi_index.specs.Choices.{when}
+use Rattle.lrs_ids.specs.Choices.{when}
 
 -- ---- what the entries give
 
@@ -63,14 +63,14 @@ need place e = place + 6 + length (written_entry e)
 
 -- where there is room for its entry, a write is accepted
 abbrev pub kept : ℕ → ℕ → Answered → Entry → Answer
-kept limit place acceptance e =
-    if nat_lt limit (need place e) then only (refused (Full (min (need place e) (2 ^ 64 - 1)) limit)) else record { said = acceptance; entry = Some e }
+kept limit place said e =
+    if nat_lt limit (need place e) then only (refused (Full (min (need place e) (2 ^ 64 - 1)) limit)) else record { said = said; entry = Some e }
 
 -- What is said to a write whatever room there is, or None where it is to have its entry: why it is refused, or what is told
 -- where nothing changes.
 abbrev pub said_at_once : State → Entry → Option Answered
 said_at_once st e =
-    option_or (option_map refused (refusal st e)) (when (changes_nothing (effect st e)) (acceptance st e.write (effect st e)))
+    option_or (option_map refused (refusal st e)) (when (changes_nothing (effect st e)) (write_said (effect st e)))
 
 abbrev pub entry_at : Caller → Write → ℕ → Draw → Entry
 entry_at caller write moment draw = record { caller = caller; write = write; moment = moment; draw = draw }
@@ -80,30 +80,30 @@ abbrev pub next_entry : State → Caller → Write → ℕ → Draw → Entry
 next_entry st caller write clock draw = entry_at caller write (max (clamped clock) st.last) draw
 
 -- What becomes of a command: it is told something at once, or has an entry and is told this where there is room for it.
-pub data Verdict : Type 0 where
-  Told : Answered → Verdict
-  Accepted : Entry → Answered → Verdict
+pub data Outcome : Type 0 where
+  Told : Answered → Outcome
+  Accepted : Entry → Answered → Outcome
 
-abbrev pub verdict_by : Option Answered → Entry → Answered → Verdict
-verdict_by (Some said) e acceptance = Told said
-verdict_by None e acceptance = Accepted e acceptance
+abbrev pub outcome_by : Option Answered → Entry → Answered → Outcome
+outcome_by (Some said) e then_said = Told said
+outcome_by None e then_said = Accepted e then_said
 
 -- a form that is refused is told so once its caller is let in
-abbrev pub verdict : State → Caller → Command → ℕ → Draw → Verdict
-verdict st caller (command.Write write) clock draw =
-    let e = next_entry st caller write clock draw in verdict_by (said_at_once st e) e (acceptance st write (effect st e))
-verdict st caller (command.Read read) clock draw =
+abbrev pub outcome : State → Caller → Command → ℕ → Draw → Outcome
+outcome st caller (command.Write write) clock draw =
+    let e = next_entry st caller write clock draw in outcome_by (said_at_once st e) e (write_said (effect st e))
+outcome st caller (command.Read read) clock draw =
     Told (refused_or (read_refusal st (who_is st caller) read) (reading st (who_is st caller) read))
-verdict st caller (command.Refused area status rule) clock draw =
+outcome st caller (command.Refused area status rule) clock draw =
     Told (refused_or (barred area (who_is st caller)) (refused (refused_with status rule)))
 
-abbrev pub answer_of : ℕ → ℕ → Verdict → Answer
+abbrev pub answer_of : ℕ → ℕ → Outcome → Answer
 answer_of limit place (Told said) = only said
-answer_of limit place (Accepted e acceptance) = kept limit place acceptance e
+answer_of limit place (Accepted e said) = kept limit place said e
 
 -- the answer over a store of this limit whose end gate stands there
 abbrev pub answer_in : ℕ → ℕ → State → Caller → Command → ℕ → Draw → Answer
-answer_in limit place st caller command clock draw = answer_of limit place (verdict st caller command clock draw)
+answer_in limit place st caller command clock draw = answer_of limit place (outcome st caller command clock draw)
 
 -- The abstract store: what it answers a command over a history.
 abbrev pub answer : ℕ → List Entry → Caller → Command → ℕ → Draw → Answer

@@ -19,7 +19,7 @@ use Rattle.lrs_history.specs.declared.admitting.TheConstants.{MOST_OF_BATCH}
 use Rattle.lrs_json.specs.Json.{Json}
 use Rattle.lrs_json.specs.View.{view}
 use Rattle.lrs_json.specs.declared.tree.Tree.{Tree}
-use Rattle.lrs_parts.specs.Callers.{is_name}
+use Rattle.lrs_parts.specs.Providers.{is_name}
 use Rattle.lrs_parts.specs.State.{State}
 use Rattle.lrs_record.specs.declared.entry.Entry.{Entry}
 use Rattle.lrs_record.specs.declared.entry.Write.{Write}
@@ -28,11 +28,11 @@ use Rattle.lrs_replies.specs.declared.answered.Refusal.{Refusal}
 use Rattle.lrs_replies.specs.declared.answered.Refusal.TheVariants.{Conflict, Broken, TooLong, Unauthorized, Forbidden, NotFound}
 use Rattle.xapi_equal.specs.Same.{same}
 use Rattle.xapi_index.specs.Batches.{Named, given_ids, kept_by}
-use Rattle.xapi_index.specs.Choices.{first_some, when}
-use Rattle.xapi_index.specs.Ids.{are_distinct}
+use Rattle.lrs_ids.specs.Choices.{first_some, when}
+use Rattle.lrs_ids.specs.Ids.{are_distinct}
 use Rattle.xapi_index.specs.Statements.{add_each, held_under}
 use Rattle.xapi_rules.specs.Rules.{broken_rule, is_voiding}
-use Rattle.xapi_statement.specs.Completed.{HeldStatement}
+use Rattle.xapi_statement.specs.Stored.{StoredStatement}
 use Rattle.xapi_statement.specs.Statement.{is_too_long, own_id}
 
 -- ---- the caller
@@ -108,25 +108,25 @@ may_void who.Admin = true
 may_void other = false
 
 -- Why a new statement isn't kept: only an admin voids (C2). Those before it are held, or stand before it in its batch.
-abbrev pub forbidden : State → Who → List HeldStatement → Json → Option Refusal
+abbrev pub forbidden : State → Who → List StoredStatement → Json → Option Refusal
 forbidden st by before j = when (is_voiding j && not (may_void by)) (Forbidden (rule.C 2))
 
 -- why a statement of this id isn't kept, where that one is held under it
-abbrev pub refused_over : State → Who → List HeldStatement → List ℕ → Json → Option HeldStatement → Option Refusal
+abbrev pub refused_over : State → Who → List StoredStatement → List ℕ → Json → Option StoredStatement → Option Refusal
 refused_over st by before id j None = forbidden st by before j
 refused_over st by before id j (Some held) = when (not (same (view held.received) j)) (Conflict id)
 
 -- Why a statement isn't kept that comes under an id. A made one is that of no held statement.
-abbrev pub refused_under : State → Who → List HeldStatement → Option (List ℕ) → Json → Option Refusal
+abbrev pub refused_under : State → Who → List StoredStatement → Option (List ℕ) → Json → Option Refusal
 refused_under st by before None j = forbidden st by before j
 refused_under st by before (Some id) j = refused_over st by before id j (held_under id st.statements)
 
 -- those before the next one, behind this one
-abbrev pub before_next : State → Occasion → List HeldStatement → Named → List HeldStatement
+abbrev pub before_next : State → Occasion → List StoredStatement → Named → List StoredStatement
 before_next st at before n = add_each before (kept_by at.moment (authority_of st at.by) (n ∷ []))
 
 -- Each in its order, with those before it. No two of them have one id, so none comes under that of an earlier one of them.
-abbrev pub refused_in : State → Occasion → List HeldStatement → List Named → Option Refusal
+abbrev pub refused_in : State → Occasion → List StoredStatement → List Named → Option Refusal
 refused_in st at before [] = None
 refused_in st at before (n ∷ ns) = option_or
     (refused_under st at.by before (own_id (view n.tree)) (view n.tree))

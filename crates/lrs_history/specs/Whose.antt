@@ -2,7 +2,7 @@
 use Rattle.std.specs.Prelude.{ℕ, List, Option, Some, None, option_map, slice_get, if◌then◌else◌}
 use Rattle.lrs_command.specs.declared.who.Who.{Who}
 use Rattle.lrs_command.specs.declared.who.Who.TheVariants as who
-use Rattle.lrs_parts.specs.Callers.{place_of_token}
+use Rattle.lrs_parts.specs.Providers.{place_of_token}
 use Rattle.lrs_parts.specs.Founding.{is_admin}
 use Rattle.lrs_parts.specs.State.{State}
 use Rattle.lrs_record.specs.declared.entry.Caller.{Caller}
@@ -19,7 +19,7 @@ provider_at (Some k) = who.Provider k
 
 -- whose the token is: the admin's, or that of a provider
 abbrev pub who_presents : State → List ℕ → Who
-who_presents st token = if is_admin st.founding token then who.Admin else provider_at (place_of_token token st.callers)
+who_presents st token = if is_admin st.founding token then who.Admin else provider_at (place_of_token token st.providers)
 
 -- what a store makes of a caller
 abbrev pub who_is : State → Caller → Who
@@ -31,7 +31,7 @@ who_is st (Token token) = who_presents st token
 abbrev pub authority_of : State → Who → Option Authority
 authority_of st who.Unknown = None
 authority_of st who.Admin = Some Admin
-authority_of st (who.Provider k) = option_map (λ c. Provider k c.name) (slice_get st.callers k)
+authority_of st (who.Provider k) = option_map (λ c. Provider k c.name) (slice_get st.providers k)
 
 -- what a caller sees: an admin each statement, a provider those under its own authority
 abbrev pub sight_of : State → Who → Sight

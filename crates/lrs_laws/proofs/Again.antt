@@ -6,9 +6,9 @@ use Rattle.std.specs.Option.{option_or}
 use Rattle.lrs_command.specs.declared.command.Area.TheVariants.{Store}
 use Rattle.lrs_command.specs.declared.command.Command.TheVariants as command
 use Rattle.lrs_command.specs.declared.who.Who.{Who}
-use Rattle.lrs_history.specs.Answers.{acceptance}
+use Rattle.lrs_history.specs.Answers.{write_said}
 use Rattle.lrs_history.specs.Effects.{Occasion, effect}
-use Rattle.lrs_history.specs.History.{answer, answer_of, end_place, next_entry, only, refused, said_at_once, state, verdict_by}
+use Rattle.lrs_history.specs.History.{answer, answer_of, end_place, next_entry, only, refused, said_at_once, state, outcome_by}
 use Rattle.lrs_history.specs.Refusals.{barred, before_next, conflict, refused_in, refused_over, refused_under, refusal}
 use Rattle.lrs_history.specs.Whose.{authority_of}
 use Rattle.lrs_json.specs.View.{view}
@@ -27,11 +27,11 @@ use Rattle.lrs_replies.specs.declared.answered.Refusal.{Refusal}
 use Rattle.lrs_replies.specs.declared.answered.Refusal.TheVariants.{Conflict}
 use Rattle.xapi_equal.specs.Same.{same}
 use Rattle.xapi_format.specs.declared.authority.Authority.{Authority}
-use Rattle.xapi_index.specs.Batches.{Named, given_ids, held_of, id_for, kept_by, named, names_of, supply_behind, with_given}
-use Rattle.xapi_index.specs.Choices.{first_some, when}
-use Rattle.xapi_index.specs.Ids.{Supply}
+use Rattle.xapi_index.specs.Batches.{Named, given_ids, held_of, id_for, kept_by, named, ids_of_named, supply_behind, with_given}
+use Rattle.lrs_ids.specs.Choices.{first_some, when}
+use Rattle.lrs_ids.specs.Ids.{Supply}
 use Rattle.xapi_index.specs.Statements.{add_each, is_held, new_ones}
-use Rattle.xapi_statement.specs.Completed.{HeldStatement}
+use Rattle.xapi_statement.specs.Stored.{StoredStatement}
 use Rattle.xapi_statement.specs.Statement.{own_id}
 
 -- what is said at once is all that is answered
@@ -39,17 +39,17 @@ pub at_once : (limit : ℕ) (h : List Entry) (caller : Caller) (write : Write) (
     → answer limit h caller (command.Write write) clock draw ≡ only s
 at_once limit h caller write clock draw s is =
     let e = next_entry (state h) caller write clock draw in
-    ap (λ o. answer_of limit (end_place limit h) (verdict_by o e (acceptance (state h) write (effect (state h) e)))) is
+    ap (λ o. answer_of limit (end_place limit h) (outcome_by o e (write_said (effect (state h) e)))) is
 
 -- what is refused is told so
 said_refused : (st : State) (e : Entry) (r : Refusal) → refusal st e ≡ Some r → said_at_once st e ≡ Some (refused r)
-said_refused st e r is = ap (λ o. option_or (option_map refused o) (when (changes_nothing (effect st e)) (acceptance st e.write (effect st e)))) is
+said_refused st e r is = ap (λ o. option_or (option_map refused o) (when (changes_nothing (effect st e)) (write_said (effect st e)))) is
 
 -- what changes nothing is accepted at once
-said_unchanged : (st : State) (e : Entry) → refusal st e ≡ None → changes_nothing (effect st e) ≡ true → said_at_once st e ≡ Some (acceptance st e.write (effect st e))
+said_unchanged : (st : State) (e : Entry) → refusal st e ≡ None → changes_nothing (effect st e) ≡ true → said_at_once st e ≡ Some (write_said (effect st e))
 said_unchanged st e none same =
-    ap (λ o. option_or (option_map refused o) (when (changes_nothing (effect st e)) (acceptance st e.write (effect st e)))) none
-    ∙ ap (λ b. when b (acceptance st e.write (effect st e))) same
+    ap (λ o. option_or (option_map refused o) (when (changes_nothing (effect st e)) (write_said (effect st e)))) none
+    ∙ ap (λ b. when b (write_said (effect st e))) same
 
 -- the last of the reasons, where there is none before it
 last_reason : (a b c : Option Refusal) → a ≡ None → b ≡ None → first_some (a ∷ b ∷ c ∷ []) ≡ c
@@ -65,20 +65,20 @@ last_reason a b c none neither =
 abbrev put_entry : List Entry → Caller → List ℕ → Tree → ℕ → Draw → Entry
 put_entry h caller id t clock draw = next_entry (state h) caller (Put id t) clock draw
 
-put_met : (h : List Entry) (caller : Caller) (id : List ℕ) (t : Tree) (s : HeldStatement) (clock : ℕ) (draw : Draw) (b : Bool) → ComesUnder h caller id t s → same (view s.received) (view t) ≡ b
+put_met : (h : List Entry) (caller : Caller) (id : List ℕ) (t : Tree) (s : StoredStatement) (clock : ℕ) (draw : Draw) (b : Bool) → ComesUnder h caller id t s → same (view s.received) (view t) ≡ b
     → refusal (state h) (put_entry h caller id t clock draw) ≡ when (not b) (Conflict id)
 put_met h caller id t s clock draw b meets is =
     let st : State = state h in
-    let held : List HeldStatement = st.statements in
+    let held : List StoredStatement = st.statements in
     last_reason (barred Store (who_in h caller)) _ (refused_under st (who_in h caller) held (Some id) (view t)) meets.let_in meets.formed
     ∙ (ap (λ o. refused_over st (who_in h caller) held id (view t) o) meets.held ∙ ap (λ c. when (not c) (Conflict id)) is)
 
 -- where it is held, it isn't new
-old_one : (moment : ℕ) (o : Option Authority) (held : List HeldStatement) (n : Named) → is_held n.id held ≡ true → new_ones held (kept_by moment o (n ∷ [])) ≡ []
+old_one : (moment : ℕ) (o : Option Authority) (held : List StoredStatement) (n : Named) → is_held n.id held ≡ true → new_ones held (kept_by moment o (n ∷ [])) ≡ []
 old_one moment None held n is = refl
 old_one moment (Some by) held n is = ap (λ b. if b then [] else held_of moment by n ∷ []) is
 
-put_unchanged : (h : List Entry) (caller : Caller) (id : List ℕ) (t : Tree) (s : HeldStatement) (clock : ℕ) (draw : Draw) → ComesUnder h caller id t s
+put_unchanged : (h : List Entry) (caller : Caller) (id : List ℕ) (t : Tree) (s : StoredStatement) (clock : ℕ) (draw : Draw) → ComesUnder h caller id t s
     → changes_nothing (effect (state h) (put_entry h caller id t clock draw)) ≡ true
 put_unchanged h caller id t s clock draw meets =
     let e = put_entry h caller id t clock draw in
@@ -106,12 +106,12 @@ post_met : (h : List Entry) (caller : Caller) (trees : List Tree) (clock : ℕ) 
 post_met h caller trees clock draw o together is =
     last_reason (barred Store (who_in h caller)) _ (conflict (state h) (occasion_of h caller trees clock draw) (Post trees)) together.let_in together.formed ∙ is
 
-repeated : (st : State) (by : Who) (before : List HeldStatement) (t : Tree) → Repeats st.statements t → refused_under st by before (own_id (view t)) (view t) ≡ None
+repeated : (st : State) (by : Who) (before : List StoredStatement) (t : Tree) → Repeats st.statements t → refused_under st by before (own_id (view t)) (view t) ≡ None
 repeated st by before t again =
     ap (λ o. refused_under st by before o (view t)) again.own
     ∙ (ap (λ o. refused_over st by before again.id (view t) o) again.there ∙ ap (λ b. when (not b) (Conflict again.id)) again.equal)
 
-none_refused : (st : State) (at : Occasion) (before : List HeldStatement) (supply : Supply) (ts : List Tree) → AllByRecursion (Repeats st.statements) ts → refused_in st at before (named supply ts) ≡ None
+none_refused : (st : State) (at : Occasion) (before : List StoredStatement) (supply : Supply) (ts : List Tree) → AllByRecursion (Repeats st.statements) ts → refused_in st at before (named supply ts) ≡ None
 none_refused st at before supply [] each = refl
 none_refused st at before supply (t ∷ ts) each =
     let n : Named = record { id = id_for (supply 0) (own_id (view t)); tree = t } in
@@ -119,13 +119,13 @@ none_refused st at before supply (t ∷ ts) each =
     ∙ none_refused st at (before_next st at before n) (supply_behind supply (own_id (view t))) ts each.1
 
 -- they go under the ids that they give themselves
-own_names : (held : List HeldStatement) (supply : Supply) (ts : List Tree) → AllByRecursion (Repeats held) ts → names_of (named supply ts) ≡ given_ids ts
+own_names : (held : List StoredStatement) (supply : Supply) (ts : List Tree) → AllByRecursion (Repeats held) ts → ids_of_named (named supply ts) ≡ given_ids ts
 own_names held supply [] each = refl
 own_names held supply (t ∷ ts) each =
-    ap (λ o. id_for (supply 0) o ∷ names_of (named (supply_behind supply o) ts)) each.0.own
+    ap (λ o. id_for (supply 0) o ∷ ids_of_named (named (supply_behind supply o) ts)) each.0.own
     ∙ (ap (λ ids. each.0.id ∷ ids) (own_names held supply ts each.1) ∙ sym (ap (λ o. with_given o (given_ids ts)) each.0.own))
 
-none_new : (moment : ℕ) (o : Option Authority) (held : List HeldStatement) (supply : Supply) (ts : List Tree) → AllByRecursion (Repeats held) ts → new_ones held (kept_by moment o (named supply ts)) ≡ []
+none_new : (moment : ℕ) (o : Option Authority) (held : List StoredStatement) (supply : Supply) (ts : List Tree) → AllByRecursion (Repeats held) ts → new_ones held (kept_by moment o (named supply ts)) ≡ []
 none_new moment None held supply ts each = refl
 none_new moment (Some by) held supply [] each = refl
 none_new moment (Some by) held supply (t ∷ ts) each =
@@ -143,7 +143,7 @@ repeated_batches_are_taken limit h caller trees clock draw together each =
     (ap (λ xs. is_empty xs) (none_new at.moment (authority_of (state h) at.by) (state h).statements at.supply trees each))
     ∙ ap (λ ids. Some (Shown (ids_body ids) None)) (own_names (state h).statements at.supply trees each))
 
-contradicted : (st : State) (by : Who) (before : List HeldStatement) (t : Tree) (id : List ℕ) → Contradicts st.statements t id → refused_under st by before (own_id (view t)) (view t) ≡ Some (Conflict id)
+contradicted : (st : State) (by : Who) (before : List StoredStatement) (t : Tree) (id : List ℕ) → Contradicts st.statements t id → refused_under st by before (own_id (view t)) (view t) ≡ Some (Conflict id)
 contradicted st by before t id against =
     ap (λ o. refused_under st by before o (view t)) against.own
     ∙ (ap (λ o. refused_over st by before id (view t) o) against.there ∙ ap (λ b. when (not b) (Conflict id)) against.other)
@@ -152,8 +152,8 @@ pub first_none : (o p : Option Refusal) → option_or o p ≡ None → (o ≡ No
 first_none None p is = (refl, is)
 first_none (Some r) p is = cc is
 
-first_refused : (st : State) (at : Occasion) (before : List HeldStatement) (supply : Supply) (ts behind : List Tree) (t : Tree) (r : Refusal) → refused_in st at before (named supply ts) ≡ None
-    → ((those : List HeldStatement) → refused_under st at.by those (own_id (view t)) (view t) ≡ Some r) → refused_in st at before (named supply (ts ++ t ∷ behind)) ≡ Some r
+first_refused : (st : State) (at : Occasion) (before : List StoredStatement) (supply : Supply) (ts behind : List Tree) (t : Tree) (r : Refusal) → refused_in st at before (named supply ts) ≡ None
+    → ((those : List StoredStatement) → refused_under st at.by those (own_id (view t)) (view t) ≡ Some r) → refused_in st at before (named supply (ts ++ t ∷ behind)) ≡ Some r
 first_refused st at before supply [] behind t r none is =
     let n : Named = record { id = id_for (supply 0) (own_id (view t)); tree = t } in
     ap (λ o. option_or o (refused_in st at (before_next st at before n) (named (supply_behind supply (own_id (view t))) behind))) (is before)

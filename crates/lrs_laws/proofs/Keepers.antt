@@ -10,22 +10,22 @@ use Rattle.lrs_json.specs.View.{view}
 use Rattle.lrs_names.specs.Members.{is_one_of}
 use Rattle.lrs_record.specs.declared.entry.Entry.{Entry}
 use Rattle.xapi_rules.specs.Rules.{is_voiding}
-use Rattle.xapi_statement.specs.Completed.{HeldStatement}
+use Rattle.xapi_statement.specs.Stored.{StoredStatement}
 use Rattle.lrs_history.specs.Effects.{effect}
 use Rattle.lrs_history.specs.History.{state, state_from, step}
 use Rattle.lrs_parts.specs.State.{State, nothing}
-use Rattle.xapi_index.specs.Ids.{are_distinct}
+use Rattle.lrs_ids.specs.Ids.{are_distinct}
 use Rattle.xapi_index.specs.Statements.{add, add_each, held_under, ids_of, is_held, is_target, is_voided, voids}
 use Rattle.lrs_laws.specs.Laws.{NamesForGood, NamesOne, StaysVoided}
 
 -- ---- one list
 
-held_cond : (b : Bool) (x : HeldStatement) (o : Option HeldStatement) → is_some (cond b (Some x) o) ≡ b || is_some o
+held_cond : (b : Bool) (x : StoredStatement) (o : Option StoredStatement) → is_some (cond b (Some x) o) ≡ b || is_some o
 held_cond true x o = refl
 held_cond false x o = refl
 
 -- an id is held where it is one of the ids
-pub held_one : (id : List ℕ) (held : List HeldStatement) → is_held id held ≡ is_one_of (ids_of held) id
+pub held_one : (id : List ℕ) (held : List StoredStatement) → is_held id held ≡ is_one_of (ids_of held) id
 held_one id [] = refl
 held_one id (x ∷ held) = held_cond (bytes_eq x.id id) x (held_under id held) ∙ ap (λ b. bytes_eq x.id id || b) (held_one id held)
 
@@ -52,25 +52,25 @@ distinct_push (x ∷ ids) id is =
 
 -- ---- one statement more
 
-pub distinct_add : (held : List HeldStatement) (s : HeldStatement) → are_distinct (ids_of held) ≡ true → are_distinct (ids_of (add held s)) ≡ true
+pub distinct_add : (held : List StoredStatement) (s : StoredStatement) → are_distinct (ids_of held) ≡ true → are_distinct (ids_of (add held s)) ≡ true
 distinct_add held s is = by_held (is_held s.id held) refl
   where
     by_held : (b : Bool) → is_held s.id held ≡ b → are_distinct (ids_of (if b then held else held ++ s ∷ [])) ≡ true
     by_held true there = is
     by_held false new =
-        ap are_distinct (map-append (λ (x : HeldStatement). x.id) held (s ∷ [])) ∙ (distinct_push (ids_of held) s.id (sym (held_one s.id held) ∙ new) ∙ is)
+        ap are_distinct (map-append (λ (x : StoredStatement). x.id) held (s ∷ [])) ∙ (distinct_push (ids_of held) s.id (sym (held_one s.id held) ∙ new) ∙ is)
 
-pub stays_behind : (id : List ℕ) (held more : List HeldStatement) (x : HeldStatement) → held_under id held ≡ Some x → held_under id (held ++ more) ≡ Some x
-stays_behind id held more x is = find-append (λ (s : HeldStatement). bytes_eq s.id id) held more ∙ ap (λ o. option_or o (held_under id more)) is
+pub stays_behind : (id : List ℕ) (held more : List StoredStatement) (x : StoredStatement) → held_under id held ≡ Some x → held_under id (held ++ more) ≡ Some x
+stays_behind id held more x is = find-append (λ (s : StoredStatement). bytes_eq s.id id) held more ∙ ap (λ o. option_or o (held_under id more)) is
 
-stays_add : (id : List ℕ) (held : List HeldStatement) (s x : HeldStatement) → held_under id held ≡ Some x → held_under id (add held s) ≡ Some x
+stays_add : (id : List ℕ) (held : List StoredStatement) (s x : StoredStatement) → held_under id held ≡ Some x → held_under id (add held s) ≡ Some x
 stays_add id held s x is = by_held (is_held s.id held)
   where
     by_held : (b : Bool) → held_under id (if b then held else held ++ s ∷ []) ≡ Some x
     by_held true = is
     by_held false = stays_behind id held (s ∷ []) x is
 
-target_add : (id : List ℕ) (held : List HeldStatement) (s : HeldStatement) → is_target id held ≡ true → is_target id (add held s) ≡ true
+target_add : (id : List ℕ) (held : List StoredStatement) (s : StoredStatement) → is_target id held ≡ true → is_target id (add held s) ≡ true
 target_add id held s is = by_held (is_held s.id held)
   where
     by_held : (b : Bool) → is_target id (if b then held else held ++ s ∷ []) ≡ true
@@ -79,15 +79,15 @@ target_add id held s is = by_held (is_held s.id held)
 
 -- ---- more statements
 
-pub distinct_each : (held more : List HeldStatement) → are_distinct (ids_of held) ≡ true → are_distinct (ids_of (add_each held more)) ≡ true
+pub distinct_each : (held more : List StoredStatement) → are_distinct (ids_of held) ≡ true → are_distinct (ids_of (add_each held more)) ≡ true
 distinct_each held [] is = is
 distinct_each held (s ∷ more) is = distinct_each (add held s) more (distinct_add held s is)
 
-pub stays_each : (id : List ℕ) (held more : List HeldStatement) (x : HeldStatement) → held_under id held ≡ Some x → held_under id (add_each held more) ≡ Some x
+pub stays_each : (id : List ℕ) (held more : List StoredStatement) (x : StoredStatement) → held_under id held ≡ Some x → held_under id (add_each held more) ≡ Some x
 stays_each id held [] x is = is
 stays_each id held (s ∷ more) x is = stays_each id (add held s) more x (stays_add id held s x is)
 
-target_each : (id : List ℕ) (held more : List HeldStatement) → is_target id held ≡ true → is_target id (add_each held more) ≡ true
+target_each : (id : List ℕ) (held more : List StoredStatement) → is_target id held ≡ true → is_target id (add_each held more) ≡ true
 target_each id held [] is = is
 target_each id held (s ∷ more) is = target_each id (add held s) more (target_add id held s is)
 
@@ -97,7 +97,7 @@ distinct_from : (st : State) (h : List Entry) → are_distinct (ids_of st.statem
 distinct_from st [] is = is
 distinct_from st (e ∷ h) is = distinct_from (step st e) h (distinct_each st.statements (effect st e).statements is)
 
-stays_from : (st : State) (h : List Entry) (id : List ℕ) (x : HeldStatement) → held_under id st.statements ≡ Some x → held_under id (state_from st h).statements ≡ Some x
+stays_from : (st : State) (h : List Entry) (id : List ℕ) (x : StoredStatement) → held_under id st.statements ≡ Some x → held_under id (state_from st h).statements ≡ Some x
 stays_from st [] id x is = is
 stays_from st (e ∷ h) id x is = stays_from (step st e) h id x (stays_each id st.statements (effect st e).statements x is)
 

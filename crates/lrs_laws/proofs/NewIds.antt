@@ -19,16 +19,16 @@ use Rattle.lrs_names.specs.Ids.{id_of_word}
 use Rattle.lrs_names.specs.Members.{is_one_of}
 use Rattle.lrs_names.proofs.FreshLemmas.{not_all_used}
 use Rattle.lrs_replies.specs.declared.answered.Refusal.TheVariants.{Broken, TooLong}
-use Rattle.xapi_index.specs.Batches.{Named, given_ids, id_for, named, names_of, supply_behind, with_given}
-use Rattle.xapi_index.specs.Choices.{first_some, when}
-use Rattle.xapi_index.specs.Ids.{Supply, Used, IsCounted, are_distinct, free_word, is_free, made_id, supply_of, those, words_from}
+use Rattle.xapi_index.specs.Batches.{Named, given_ids, id_for, named, ids_of_named, supply_behind, with_given}
+use Rattle.lrs_ids.specs.Choices.{first_some, when}
+use Rattle.lrs_ids.specs.Ids.{Supply, Used, IsCounted, are_distinct, free_word, is_free, made_id, supply_of, those, words_from}
 use Rattle.xapi_index.specs.Statements.{ids_of, is_held}
-use Rattle.xapi_statement.specs.Completed.{HeldStatement}
+use Rattle.xapi_statement.specs.Stored.{StoredStatement}
 use Rattle.xapi_statement.specs.Statement.{own_id}
 
 -- the ids under which statements go that come together
 abbrev ids_from : Supply → List Tree → List (List ℕ)
-ids_from supply ts = names_of (named supply ts)
+ids_from supply ts = ids_of_named (named supply ts)
 
 -- ---- the search
 
@@ -241,17 +241,17 @@ distinct_given ts formed = by_size (is_too_large ts) formed
 -- ---- the law
 
 -- the ids of statements are counted
-pub counted : (held : List HeldStatement) → IsCounted (those (ids_of held))
+pub counted : (held : List StoredStatement) → IsCounted (those (ids_of held))
 counted held = record { ids = ids_of held; same = λ id. refl; count = refl }
 
-suffices_at_first : (held : List HeldStatement) (ts : List Tree) → length held + length ts < 2 ^ 122 → Suffices (those (ids_of held)) (given_ids ts) (length (ids_of held) + length (given_ids ts)) (missing ts)
-suffices_at_first held ts small = (omega arith, omega (arith, small, given_missing ts, length-map held (λ (s : HeldStatement). s.id)))
+suffices_at_first : (held : List StoredStatement) (ts : List Tree) → length held + length ts < 2 ^ 122 → Suffices (those (ids_of held)) (given_ids ts) (length (ids_of held) + length (given_ids ts)) (missing ts)
+suffices_at_first held ts small = (omega arith, omega (arith, small, given_missing ts, length-map held (λ (s : StoredStatement). s.id)))
 
 -- the statements of a batch, as a store of these would name them
-abbrev pub batch : List HeldStatement → ℕ → List Tree → List Named
+abbrev pub batch : List StoredStatement → ℕ → List Tree → List Named
 batch held name ts = named (supply_of (those (ids_of held)) (given_ids ts) name) ts
 
-pub batch_distinct : (held : List HeldStatement) (name : ℕ) (ts : List Tree) → length held + length ts < 2 ^ 122 → refused_batch ts ≡ None → are_distinct (names_of (batch held name ts)) ≡ true
+pub batch_distinct : (held : List StoredStatement) (name : ℕ) (ts : List Tree) → length held + length ts < 2 ^ 122 → refused_batch ts ≡ None → are_distinct (ids_of_named (batch held name ts)) ≡ true
 batch_distinct held name ts small formed =
     distinct_ids (those (ids_of held)) (counted held) (given_ids ts) (length (ids_of held) + length (given_ids ts)) (name % 2 ^ 122) ts (suffices_at_first held ts small) (distinct_given ts formed) (λ g there. there)
 
@@ -259,18 +259,18 @@ each_implied : (P Q : Named → Type 0) → ((n : Named) → P n → Q n) → (n
 each_implied P Q from [] each = tt
 each_implied P Q from (n ∷ ns) each = (from n each.0, each_implied P Q from ns each.1)
 
-pub batch_new : (held : List HeldStatement) (name : ℕ) (ts : List Tree) → length held + length ts < 2 ^ 122 → AllByRecursion (λ (n : Named). own_id (view n.tree) ≡ None → is_held n.id held ≡ false) (batch held name ts)
+pub batch_new : (held : List StoredStatement) (name : ℕ) (ts : List Tree) → length held + length ts < 2 ^ 122 → AllByRecursion (λ (n : Named). own_id (view n.tree) ≡ None → is_held n.id held ≡ false) (batch held name ts)
 batch_new held name ts small =
     each_implied (IsNew (those (ids_of held))) (λ (n : Named). own_id (view n.tree) ≡ None → is_held n.id held ≡ false) (λ n new none. held_one n.id held ∙ new none) (batch held name ts)
     (made_new (those (ids_of held)) (counted held) (given_ids ts) (length (ids_of held) + length (given_ids ts)) (name % 2 ^ 122) ts (suffices_at_first held ts small))
 
 -- the used ids are as many as the statements
-pub few_held : (held : List HeldStatement) (ts : List Tree) → length (ids_of held) + length ts < 2 ^ 122 → length held + length ts < 2 ^ 122
-few_held held ts small = omega (arith, small, length-map held (λ (s : HeldStatement). s.id))
+pub few_held : (held : List StoredStatement) (ts : List Tree) → length (ids_of held) + length ts < 2 ^ 122 → length held + length ts < 2 ^ 122
+few_held held ts small = omega (arith, small, length-map held (λ (s : StoredStatement). s.id))
 
 pub made_ids_are_new : MadeIdsAreNew
 made_ids_are_new h trees draw small formed =
-    let held : List HeldStatement = (state h).statements in
+    let held : List StoredStatement = (state h).statements in
     let few : length held + length trees < 2 ^ 122 = few_held held trees small in (
       batch_distinct held draw.name trees few formed,
       made_new (those (ids_of held)) (counted held) (given_ids trees) (length (ids_of held) + length (given_ids trees)) (draw.name % 2 ^ 122) trees (suffices_at_first held trees few),

@@ -1,10 +1,8 @@
 -- The pages of a list give it whole, and a link is told the same page for ever.
-use Rattle.std.proofs.Common.{◌≡◌, ◌≢◌, ℕ, zero, suc, ◌+◌, ◌-◌, ◌<◌, ◌≤◌, List, [], ◌∷◌, ◌++◌, length, take, map, reverse, Bool, true, false, Option, Some, None, cond, refl, sym, ap, subst, ◌∙◌, arith, nat_lt, length-append, append_assoc}
-use Rattle.std.specs.Prelude.{filter, filter_map, position, slice_get, MatchOption, if◌then◌else◌}
-use Rattle.std.specs.List.{AllByRecursion, cons_option, position_from, range_with_len}
-use Rattle.std.specs.Str.{bytes_eq}
+use Rattle.std.proofs.Common.{◌≡◌, ◌≢◌, ℕ, zero, suc, ◌+◌, ◌-◌, ◌<◌, ◌≤◌, List, [], ◌∷◌, ◌++◌, length, take, map, reverse, Bool, true, false, Option, Some, None, refl, sym, ap, subst, ◌∙◌, arith, nat_lt, length-append, append_assoc}
+use Rattle.std.specs.Prelude.{filter, filter_map, slice_get, MatchOption, if◌then◌else◌}
+use Rattle.std.specs.List.{AllByRecursion, cons_option, range_with_len}
 use Rattle.std.proofs.lemmas.Bool.Decides.{nat_tests}
-use Rattle.std.proofs.lemmas.Iterator.Adapters.{position_from-zero}
 use Rattle.std.proofs.lemmas.List.{append-nil, length-drop, length-take, reverse-append, take-append-drop, take-append-le}
 use Rattle.std.proofs.Math.Seq.{take-append_seam, take-length}
 use Rattle.lrs_command.specs.declared.command.Area.TheVariants.{Store}
@@ -21,13 +19,11 @@ use Rattle.lrs_json.specs.Written.{written}
 use Rattle.lrs_laws.specs.Laws.{FirstPagesAreTold, Follows, LinksGoOn, LinksStay, LinksWhereMoreComes, PagesEnd, PagesGiveTheList, PositionsComeOnce, IsLetIn, sight_in, who_in}
 use Rattle.lrs_laws.proofs.Keepers.{state_from-append}
 use Rattle.lrs_laws.proofs.Paging.{IsInOrder, Links, distinct_in_order, each_at, each_filtered, filtered_in_order, linked, positions_in_order, unlinked}
-use Rattle.lrs_parts.specs.Callers.{callers_after, place_of_token}
+use Rattle.lrs_parts.proofs.Tokens.{place_kept}
+use Rattle.lrs_parts.specs.Providers.{place_of_token}
 use Rattle.lrs_parts.specs.Founding.{founding_after, is_admin}
 use Rattle.lrs_parts.specs.State.{State, nothing}
-use Rattle.lrs_parts.specs.declared.callers.CallersChange.{CallersChange}
-use Rattle.lrs_parts.specs.declared.callers.HeldCaller.{HeldCaller}
 use Rattle.lrs_parts.specs.declared.founding.Founding.{Founding}
-use Rattle.lrs_register.specs.Register.{with_new}
 use Rattle.lrs_record.specs.declared.entry.Caller.{Caller}
 use Rattle.lrs_record.specs.declared.entry.Caller.TheVariants.{Nobody, Operator, Token}
 use Rattle.lrs_record.specs.declared.entry.Entry.{Entry}
@@ -37,44 +33,44 @@ use Rattle.lrs_replies.specs.declared.answered.Answered.{Answered}
 use Rattle.lrs_replies.specs.declared.answered.Answered.TheVariants.{Shown}
 use Rattle.lrs_replies.specs.declared.answered.Refusal.{Refusal}
 use Rattle.lrs_replies.specs.declared.answered.Refusal.TheVariants.{Broken}
-use Rattle.xapi_index.specs.Choices.{first_some, when}
-use Rattle.xapi_index.specs.Listings.{is_behind, is_listed_at, list_json, listing, listing_behind, more_text, page_behind, page_body, positions_of}
+use Rattle.lrs_ids.specs.Choices.{first_some, when}
+use Rattle.xapi_pages.specs.Listings.{is_behind, is_listed_at, list_json, listing, listing_behind, more_text, page_behind, page_body, positions_of}
 use Rattle.xapi_index.specs.Statements.{add, add_each, is_held}
 use Rattle.xapi_query.specs.declared.link.MoreLink.{MoreLink}
 use Rattle.xapi_query.specs.declared.query.Query.{Query}
 use Rattle.xapi_query.specs.declared.sight.Sight.{Sight}
 use Rattle.xapi_query.specs.declared.wanted.Wanted.TheVariants.{Many}
-use Rattle.xapi_statement.specs.Completed.{HeldStatement}
+use Rattle.xapi_statement.specs.Stored.{StoredStatement}
 
 -- ---- one list
 
-abbrev the_list : Query → Sight → List HeldStatement → List ℕ
+abbrev the_list : Query → Sight → List StoredStatement → List ℕ
 the_list query sight s = listing query sight s
 
-in_order : (query : Query) (sight : Sight) (s : List HeldStatement) → IsInOrder query.ascending (listing query sight s)
+in_order : (query : Query) (sight : Sight) (s : List StoredStatement) → IsInOrder query.ascending (listing query sight s)
 in_order query sight s = filtered_in_order query.ascending (is_listed_at query sight s) (positions_of query.ascending (length s)) (positions_in_order query.ascending (length s))
 
 from_none : (ascending : Bool) (ks : List ℕ) → filter (is_behind ascending None) ks ≡ ks
 from_none ascending [] = refl
 from_none ascending (k ∷ ks) = ap (λ js. k ∷ js) (from_none ascending ks)
 
-links : (query : Query) (sight : Sight) (s : List HeldStatement) (after : Option ℕ) (last : ℕ) → 0 < query.page → (page_behind query sight s after).link ≡ Some last
+links : (query : Query) (sight : Sight) (s : List StoredStatement) (after : Option ℕ) (last : ℕ) → 0 < query.page → (page_behind query sight s after).link ≡ Some last
     → Links query.ascending (listing query sight s) after query.page last
 links query sight s after last some is = linked query.ascending (listing query sight s) after query.page last some (in_order query sight s) is
 
 -- ---- following
 
 -- what is given by one page and those behind it
-abbrev FollowsOf : Query → Sight → ℕ → List HeldStatement → List (List HeldStatement) → Option ℕ → List ℕ → Type 0
+abbrev FollowsOf : Query → Sight → ℕ → List StoredStatement → List (List StoredStatement) → Option ℕ → List ℕ → Type 0
 FollowsOf query sight n s later after given =
     MatchOption (page_behind query sight s after).link (given ≡ (page_behind query sight s after).positions)
     (λ last. (rest : List ℕ) × (given ≡ (page_behind query sight s after).positions ++ rest) × Follows query sight n later (Some last) rest)
 
 -- each list has these first statements
-abbrev pub AreGrown : ℕ → List HeldStatement → List (List HeldStatement) → Type 0
+abbrev pub AreGrown : ℕ → List StoredStatement → List (List StoredStatement) → Type 0
 AreGrown n s helds = AllByRecursion (λ held. take n held ≡ s) helds
 
-whole_from : (query : Query) (sight : Sight) (n : ℕ) (s : List HeldStatement) (helds : List (List HeldStatement)) (after : Option ℕ) (given : List ℕ) → 0 < query.page → AreGrown n s helds
+whole_from : (query : Query) (sight : Sight) (n : ℕ) (s : List StoredStatement) (helds : List (List StoredStatement)) (after : Option ℕ) (given : List ℕ) → 0 < query.page → AreGrown n s helds
     → Follows query sight n helds after given → given ≡ listing_behind query sight s after
 whole_from query sight n s [] after given some grown follows = absurd follows
 whole_from query sight n s (held ∷ later) after given some grown follows =
@@ -91,7 +87,7 @@ whole_from query sight n s (held ∷ later) after given some grown follows =
         ∙ (ap (λ rest. take query.page (listing_behind query sight s after) ++ rest) (next last gives.0 gives.2 ∙ (links query sight s after last some is).rest)
         ∙ take-append-drop query.page (listing_behind query sight s after))
 
-ends_from : (query : Query) (sight : Sight) (n : ℕ) (s : List HeldStatement) (helds : List (List HeldStatement)) (after : Option ℕ) → 0 < query.page → AreGrown n s helds
+ends_from : (query : Query) (sight : Sight) (n : ℕ) (s : List StoredStatement) (helds : List (List StoredStatement)) (after : Option ℕ) → 0 < query.page → AreGrown n s helds
     → length (listing_behind query sight s after) < length helds → Follows query sight n helds after (listing_behind query sight s after)
 ends_from query sight n s [] after some grown fewer = absurd (omega (arith, fewer))
 ends_from query sight n s (held ∷ later) after some grown fewer =
@@ -121,31 +117,25 @@ GoesOn {A} old new = (more : List A) × (new ≡ old ++ more)
 on_and_on : {A : Type 0} (a b c : List A) → GoesOn a b → GoesOn b c → GoesOn a c
 on_and_on a b c first next = (first.0 ++ next.0, next.1 ∙ (ap (λ xs. xs ++ next.0) first.1 ∙ append_assoc a first.0 next.0))
 
-add_on : (held : List HeldStatement) (s : HeldStatement) → GoesOn held (add held s)
+add_on : (held : List StoredStatement) (s : StoredStatement) → GoesOn held (add held s)
 add_on held s = by_held (is_held s.id held)
   where
     by_held : (b : Bool) → GoesOn held (if b then held else held ++ s ∷ [])
     by_held true = ([], sym (append-nil held))
     by_held false = (s ∷ [], refl)
 
-each_on : (held more : List HeldStatement) → GoesOn held (add_each held more)
+each_on : (held more : List StoredStatement) → GoesOn held (add_each held more)
 each_on held [] = ([], sym (append-nil held))
 each_on held (s ∷ more) = on_and_on held (add held s) (add_each (add held s) more) (add_on held s) (each_on (add held s) more)
-
-callers_on : (callers : List HeldCaller) (change : CallersChange) → GoesOn callers (callers_after callers change)
-callers_on callers change = by_new change.new
-  where
-    by_new : (o : Option HeldCaller) → GoesOn callers (with_new callers o)
-    by_new None = ([], sym (append-nil callers))
-    by_new (Some c) = (c ∷ [], refl)
 
 pub statements_on : (st : State) (more : List Entry) → GoesOn st.statements (state_from st more).statements
 statements_on st [] = ([], sym (append-nil st.statements))
 statements_on st (e ∷ more) = on_and_on st.statements (step st e).statements (state_from (step st e) more).statements (each_on st.statements (effect st e).statements) (statements_on (step st e) more)
 
-known_on : (st : State) (more : List Entry) → GoesOn st.callers (state_from st more).callers
-known_on st [] = ([], sym (append-nil st.callers))
-known_on st (e ∷ more) = on_and_on st.callers (step st e).callers (state_from (step st e) more).callers (callers_on st.callers (effect st e).callers) (known_on (step st e) more)
+-- a token that is known keeps its place
+known_on : (token : List ℕ) (k : ℕ) (st : State) (more : List Entry) → place_of_token token st.providers ≡ Some k → place_of_token token (state_from st more).providers ≡ Some k
+known_on token k st [] is = is
+known_on token k st (e ∷ more) is = known_on token k (step st e) more (place_kept token st.providers (effect st e).providers k is)
 
 grown_on : (h more : List Entry) → take (length (state h).statements) (state (h ++ more)).statements ≡ (state h).statements
 grown_on h more =
@@ -198,7 +188,7 @@ positions_below : (ascending : Bool) (n : ℕ) → AreBelow n (positions_of asce
 positions_below true n = range_below 0 n n (omega arith)
 positions_below false n = turn_below n (range_with_len 0 n) (range_below 0 n n (omega arith))
 
-listed_below : (query : Query) (sight : Sight) (s : List HeldStatement) (after : Option ℕ) → AreBelow (length s) (listing_behind query sight s after)
+listed_below : (query : Query) (sight : Sight) (s : List StoredStatement) (after : Option ℕ) → AreBelow (length s) (listing_behind query sight s after)
 listed_below query sight s after =
     each_filtered (λ k. k < length s) (is_behind query.ascending after) (listing query sight s)
     (each_filtered (λ k. k < length s) (is_listed_at query sight s) (positions_of query.ascending (length s)) (positions_below query.ascending (length s)))
@@ -218,7 +208,7 @@ links_where_more_comes query sight s after some = by_link (page_behind query sig
         let shown = links query sight s after last some is in
         omega (arith, shown.more, ap (λ ks. length ks) shown.rest, ap (λ ks. length ks) none, length-drop query.page (listing_behind query sight s after))
 
--- ---- what callers are told
+-- ---- what providers are told
 
 -- what is told of a question to a caller who is let in, where it comes in time
 asked : (by : Who) (late : Option Refusal) (said : Answered) → barred Store by ≡ None → late ≡ None → only (refused_or (first_some (barred Store by ∷ late ∷ [])) said) ≡ only said
@@ -248,41 +238,28 @@ has_founding limit (e ∷ h) legal =
     let first = founded e legal.1.1.write in
     (first.0, founding_on (step nothing e) h first.0 first.1)
 
-place_from : (p : HeldCaller → Bool) (i : ℕ) (xs ys : List HeldCaller) (k : ℕ) → position_from p i xs ≡ Some k → position_from p i (xs ++ ys) ≡ Some k
-place_from p i [] ys k is = cc is
-place_from p i (x ∷ xs) ys k is = by_test (p x) (λ rest. place_from p (i + 1) xs ys k rest) is
-  where
-    by_test : (b : Bool) → (position_from p (i + 1) xs ≡ Some k → position_from p (i + 1) (xs ++ ys) ≡ Some k) → cond b (Some i) (position_from p (i + 1) xs) ≡ Some k
-        → cond b (Some i) (position_from p (i + 1) (xs ++ ys)) ≡ Some k
-    by_test true more at = at
-    by_test false more at = more at
-
-place_on : (p : HeldCaller → Bool) (xs ys : List HeldCaller) (k : ℕ) → position p xs ≡ Some k → position p (xs ++ ys) ≡ Some k
-place_on p xs ys k is = position_from-zero p (xs ++ ys) ∙ place_from p 0 xs ys k (sym (position_from-zero p xs) ∙ is)
-
 -- who is let in stays who he is
-who_on : (st su : State) (more : List HeldCaller) (caller : Caller) → su.founding ≡ st.founding → su.callers ≡ st.callers ++ more → barred Store (who_is st caller) ≡ None → who_is su caller ≡ who_is st caller
-who_on st su more Nobody founding callers is = refl
-who_on st su more Operator founding callers is = refl
-who_on st su more (Token token) founding callers is =
-    ap (λ f. if is_admin f token then who.Admin else provider_at (place_of_token token su.callers)) founding
-    ∙ (ap (λ cs. if is_admin st.founding token then who.Admin else provider_at (place_of_token token cs)) callers ∙ by_admin (is_admin st.founding token) is)
+who_on : (st su : State) (caller : Caller) → su.founding ≡ st.founding → ((token : List ℕ) (k : ℕ) → place_of_token token st.providers ≡ Some k → place_of_token token su.providers ≡ Some k)
+    → barred Store (who_is st caller) ≡ None → who_is su caller ≡ who_is st caller
+who_on st su Nobody founding known is = refl
+who_on st su Operator founding known is = refl
+who_on st su (Token token) founding known is =
+    ap (λ f. if is_admin f token then who.Admin else provider_at (place_of_token token su.providers)) founding ∙ by_admin (is_admin st.founding token) is
   where
-    by_place : (o : Option ℕ) → place_of_token token st.callers ≡ o → barred Store (provider_at o) ≡ None → provider_at (place_of_token token (st.callers ++ more)) ≡ provider_at o
+    by_place : (o : Option ℕ) → place_of_token token st.providers ≡ o → barred Store (provider_at o) ≡ None → provider_at (place_of_token token su.providers) ≡ provider_at o
     by_place None at let_in = cc let_in
-    by_place (Some k) at let_in = ap provider_at (place_on (λ (c : HeldCaller). bytes_eq c.token token) st.callers more k at)
+    by_place (Some k) at let_in = ap provider_at (known token k at)
 
-    by_admin : (b : Bool) → barred Store (if b then who.Admin else provider_at (place_of_token token st.callers)) ≡ None
-        → (if b then who.Admin else provider_at (place_of_token token (st.callers ++ more))) ≡ (if b then who.Admin else provider_at (place_of_token token st.callers))
+    by_admin : (b : Bool) → barred Store (if b then who.Admin else provider_at (place_of_token token st.providers)) ≡ None
+        → (if b then who.Admin else provider_at (place_of_token token su.providers)) ≡ (if b then who.Admin else provider_at (place_of_token token st.providers))
     by_admin true let_in = refl
-    by_admin false let_in = by_place (place_of_token token st.callers) refl let_in
+    by_admin false let_in = by_place (place_of_token token st.providers) refl let_in
 
 who_stays : (limit : ℕ) (h more : List Entry) (caller : Caller) → IsLegal limit h → IsLetIn h caller → who_in (h ++ more) caller ≡ who_in h caller
 who_stays limit h more caller legal let_in =
     let founding = has_founding limit h legal in
-    let known = known_on (state h) more in
     ap (λ st. who_is st caller) (state_from-append nothing h more)
-    ∙ who_on (state h) (state_from (state h) more) known.0 caller (founding_on (state h) more founding.0 founding.1 ∙ sym founding.1) known.1 let_in
+    ∙ who_on (state h) (state_from (state h) more) caller (founding_on (state h) more founding.0 founding.1 ∙ sym founding.1) (λ token k is. known_on token k (state h) more is) let_in
 
 same_at : {A B : Type 0} (f g : A → Option B) (ks : List A) → AllByRecursion (λ k. f k ≡ g k) ks → filter_map f ks ≡ filter_map g ks
 same_at f g [] each = refl
@@ -293,7 +270,7 @@ slice_get-append [] ys k lt = absurd (omega (arith, lt))
 slice_get-append (x ∷ xs) ys zero lt = refl
 slice_get-append (x ∷ xs) ys (suc k) lt = slice_get-append xs ys k (omega (arith, lt))
 
-there_still : (n : ℕ) (xs ys : List HeldStatement) (ks : List ℕ) → AreBelow n ks → n ≤ length xs → AllByRecursion (λ k. slice_get (xs ++ ys) k ≡ slice_get xs k) ks
+there_still : (n : ℕ) (xs ys : List StoredStatement) (ks : List ℕ) → AreBelow n ks → n ≤ length xs → AllByRecursion (λ k. slice_get (xs ++ ys) k ≡ slice_get xs k) ks
 there_still n xs ys [] each fits = tt
 there_still n xs ys (k ∷ ks) each fits = (slice_get-append xs ys k (omega (arith, each.0, fits)), there_still n xs ys ks each.1 fits)
 
@@ -302,7 +279,7 @@ take_below n zero ks each = tt
 take_below n (suc size) [] each = tt
 take_below n (suc size) (k ∷ ks) each = (each.0, take_below n size ks each.1)
 
-same_body : (query : Query) (sight : Sight) (n : ℕ) (after : Option ℕ) (all more : List HeldStatement) → n ≤ length all
+same_body : (query : Query) (sight : Sight) (n : ℕ) (after : Option ℕ) (all more : List StoredStatement) → n ≤ length all
     → page_body query n (all ++ more) (page_behind query sight (take n (all ++ more)) after) ≡ page_body query n all (page_behind query sight (take n all) after)
 same_body query sight n after all more fits =
     ap (λ s. page_body query n (all ++ more) (page_behind query sight s after)) (take-append-le n all more fits)
@@ -312,7 +289,7 @@ same_body query sight n after all more fits =
     (take_below (length (take n all)) query.page (listing_behind query sight (take n all) after) (listed_below query sight (take n all) after)) (omega (arith, length-take n all))))
 
 -- the link speaks of no more statements than there are
-in_time : (st : State) (link : MoreLink) (all more : List HeldStatement) → st.statements ≡ all ++ more → link.asof ≤ length all → too_late st (read.More link) ≡ None
+in_time : (st : State) (link : MoreLink) (all more : List StoredStatement) → st.statements ≡ all ++ more → link.asof ≤ length all → too_late st (read.More link) ≡ None
 in_time st link all more is fits = ap (λ b. when b (Broken (rule.P 14))) small
   where
     isnt : (a b : ℕ) → b ≤ a → nat_lt a b ≡ false
@@ -321,7 +298,7 @@ in_time st link all more is fits = ap (λ b. when b (Broken (rule.P 14))) small
     small : nat_lt (length st.statements) link.asof ≡ false
     small = isnt (length st.statements) link.asof (omega (arith, fits, ap (λ xs. length xs) is, length-append all more))
 
-page_is : (st : State) (by : Who) (link : MoreLink) (all more : List HeldStatement) → st.statements ≡ all ++ more → link.asof ≤ length all
+page_is : (st : State) (by : Who) (link : MoreLink) (all more : List StoredStatement) → st.statements ≡ all ++ more → link.asof ≤ length all
     → page_said st by link.query link.asof (Some link.after) ≡ Shown (page_body link.query link.asof all (page_behind link.query (sight_of st by) (take link.asof all) (Some link.after))) (Some st.last)
 page_is st by link all more is fits =
     ap (λ s. Shown (page_body link.query link.asof s (page_behind link.query (sight_of st by) (take link.asof s) (Some link.after))) (Some st.last)) is

@@ -5,7 +5,7 @@ use Rattle.std.specs.List.{AllByRecursion, IsDistinct, range_with_len}
 use Rattle.std.proofs.lemmas.Bool.{false≢true, eqb-true}
 use Rattle.std.proofs.lemmas.Bool.Decides.{nat_tests}
 use Rattle.std.proofs.lemmas.List.{length-take-le, reverse-append}
-use Rattle.xapi_index.specs.Listings.{first_page, is_behind, last_of, positions_of}
+use Rattle.xapi_pages.specs.Listings.{first_page, is_behind, last_of, positions_of}
 
 -- each of them comes behind those before it
 abbrev pub IsInOrder : Bool → List ℕ → Type 0

@@ -13,9 +13,9 @@ use Rattle.std.proofs.lemmas.Option.{slice_get-get_or}
 use Rattle.lrs_command.specs.declared.command.Area.TheVariants.{Store}
 use Rattle.lrs_command.specs.declared.who.Who.{Who}
 use Rattle.lrs_command.specs.declared.who.Who.TheVariants as who
-use Rattle.lrs_history.specs.Answers.{acceptance}
+use Rattle.lrs_history.specs.Answers.{write_said}
 use Rattle.lrs_history.specs.Effects.{Occasion, brought, effect, occasion}
-use Rattle.lrs_history.specs.History.{Answer, answer_of, end_place, next_entry, need, only, refused, state, verdict_by, with_entry}
+use Rattle.lrs_history.specs.History.{Answer, answer_of, end_place, next_entry, need, only, refused, state, outcome_by, with_entry}
 use Rattle.lrs_history.specs.Refusals.{barred, before_next, conflict, refusal, refused_batch, refused_form, refused_in, refused_over, refused_under}
 use Rattle.lrs_history.specs.Whose.{authority_of, provider_at, who_is}
 use Rattle.lrs_history.proofs.Kept.{no_room, kept_answer}
@@ -26,10 +26,10 @@ use Rattle.lrs_laws.proofs.Again.{first_none}
 use Rattle.lrs_laws.proofs.Keepers.{held_one, left_false, or_false, right_false, state_from-append, stays_each}
 use Rattle.lrs_laws.proofs.NewIds.{batch_distinct, batch_new, few_held, not_true, and_left, and_right}
 use Rattle.lrs_names.specs.Members.{is_one_of}
-use Rattle.lrs_parts.specs.Callers.{place_of_token}
+use Rattle.lrs_parts.specs.Providers.{place_of_token}
 use Rattle.lrs_parts.specs.Founding.{is_admin}
 use Rattle.lrs_parts.specs.State.{State, changes_nothing, is_empty, nothing}
-use Rattle.lrs_parts.specs.declared.callers.HeldCaller.{HeldCaller}
+use Rattle.lrs_parts.specs.declared.providers.HeldProvider.{HeldProvider}
 use Rattle.lrs_record.specs.Entries.{AreLawfulTrees}
 use Rattle.lrs_record.specs.declared.entry.Caller.{Caller}
 use Rattle.lrs_record.specs.declared.entry.Caller.TheVariants.{Nobody, Operator, Token}
@@ -41,19 +41,19 @@ use Rattle.lrs_replies.specs.declared.answered.Refusal.TheVariants.{Conflict, Fu
 use Rattle.xapi_equal.specs.Same.{same, IsSameness}
 use Rattle.xapi_format.specs.declared.authority.Authority.{Authority}
 use Rattle.xapi_format.specs.declared.authority.Authority.TheVariants.{Admin, Provider}
-use Rattle.xapi_index.specs.Batches.{Named, held_of, id_for, kept_by, named, names_of, supply_behind}
-use Rattle.xapi_index.specs.Choices.{first_some, when}
-use Rattle.xapi_index.specs.Ids.{Supply, are_distinct}
+use Rattle.xapi_index.specs.Batches.{Named, held_of, id_for, kept_by, named, ids_of_named, supply_behind}
+use Rattle.lrs_ids.specs.Choices.{first_some, when}
+use Rattle.lrs_ids.specs.Ids.{Supply, are_distinct}
 use Rattle.xapi_index.specs.Statements.{add, add_each, held_under, ids_of, is_held, new_ones}
 use Rattle.xapi_index.proofs.Adding.{add-new, add_each-new}
-use Rattle.xapi_statement.specs.Completed.{HeldStatement}
+use Rattle.xapi_statement.specs.Stored.{StoredStatement}
 use Rattle.xapi_statement.specs.Statement.{own_id}
 
 -- ---- what isn't refused
 
 -- of a write whose refusal and whose change are known
 abbrev answer_by : ℕ → ℕ → Entry → Answered → Option Refusal → Bool → Answer
-answer_by limit place x t o b = answer_of limit place (verdict_by (option_or (option_map refused o) (when b t)) x t)
+answer_by limit place x t o b = answer_of limit place (outcome_by (option_or (option_map refused o) (when b t)) x t)
 
 by_answer : (P : Answer → Type 0) (limit place : ℕ) (x : Entry) (t : Answered) (o : Option Refusal) (b : Bool) → (o ≡ None → b ≡ true → P (only t)) → (o ≡ None → P (kept_answer t x))
     → IsAccepted (answer_by limit place x t o b) → P (answer_by limit place x t o b)
@@ -65,22 +65,22 @@ by_answer P limit place x t None false old new accepted = by_room (nat_lt limit 
     by_room true accepted = absurd (accepted (Full (min (need place x) (2 ^ 64 - 1)) limit) refl)
     by_room false accepted = new refl
 
-none_new : (held xs : List HeldStatement) → is_empty (new_ones held xs) ≡ true → held ≡ add_each held xs
+none_new : (held xs : List StoredStatement) → is_empty (new_ones held xs) ≡ true → held ≡ add_each held xs
 none_new held xs is = by_new (new_ones held xs) is (add_each-new held xs)
   where
-    by_new : (ns : List HeldStatement) → is_empty ns ≡ true → add_each held ns ≡ add_each held xs → held ≡ add_each held xs
+    by_new : (ns : List StoredStatement) → is_empty ns ≡ true → add_each held ns ≡ add_each held xs → held ≡ add_each held xs
     by_new [] is q = q
     by_new (n ∷ ns) is q = cc is
 
 -- it isn't refused, what it is accepted with is told, and behind it these statements are held
-abbrev IsBehind : List Entry → Entry → Answered → List HeldStatement → Answer → Type 0
+abbrev IsBehind : List Entry → Entry → Answered → List StoredStatement → Answer → Type 0
 IsBehind h x t xs a = (refusal (state h) x ≡ None) × (a.said ≡ t) × ((state (with_entry h a.entry)).statements ≡ add_each (state h).statements xs)
 
-is_behind_it : (limit place : ℕ) (h : List Entry) (x : Entry) (t : Answered) (xs : List HeldStatement) → (effect (state h) x).statements ≡ new_ones (state h).statements xs
+is_behind_it : (limit place : ℕ) (h : List Entry) (x : Entry) (t : Answered) (xs : List StoredStatement) → (effect (state h) x).statements ≡ new_ones (state h).statements xs
     → IsAccepted (answer_by limit place x t (refusal (state h) x) (changes_nothing (effect (state h) x)))
     → IsBehind h x t xs (answer_by limit place x t (refusal (state h) x) (changes_nothing (effect (state h) x)))
 is_behind_it limit place h x t xs new =
-    let held : List HeldStatement = (state h).statements in
+    let held : List StoredStatement = (state h).statements in
     by_answer (IsBehind h x t xs) limit place x t (refusal (state h) x) (changes_nothing (effect (state h) x))
     (λ none same. (none, refl, none_new held xs (ap (λ l. is_empty l) (sym new) ∙ and_right _ (is_empty (effect (state h) x).statements) same)))
     (λ none. (none, refl, ap (λ s. s.statements) (state_from-append nothing h (x ∷ [])) ∙ (ap (λ l. add_each held l) new ∙ add_each-new held xs)))
@@ -105,15 +105,15 @@ known st Nobody is = cc is
 known st Operator is = (Admin, refl)
 known st (Token token) is = by_admin (is_admin st.founding token) is
   where
-    by_place : (o : Option ℕ) → place_of_token token st.callers ≡ o → barred Store (provider_at o) ≡ None → IsKnown st (provider_at o)
+    by_place : (o : Option ℕ) → place_of_token token st.providers ≡ o → barred Store (provider_at o) ≡ None → IsKnown st (provider_at o)
     by_place None at is = cc is
     by_place (Some k) at is =
-        let found = there (λ (c : HeldCaller). bytes_eq c.token token) st.callers k at in
-        (Provider k found.0.name, ap (λ o. option_map (λ (c : HeldCaller). Provider k c.name) o) found.1)
+        let found = there (λ (c : HeldProvider). bytes_eq c.token token) st.providers k at in
+        (Provider k found.0.name, ap (λ o. option_map (λ (c : HeldProvider). Provider k c.name) o) found.1)
 
-    by_admin : (b : Bool) → barred Store (if b then who.Admin else provider_at (place_of_token token st.callers)) ≡ None → IsKnown st (if b then who.Admin else provider_at (place_of_token token st.callers))
+    by_admin : (b : Bool) → barred Store (if b then who.Admin else provider_at (place_of_token token st.providers)) ≡ None → IsKnown st (if b then who.Admin else provider_at (place_of_token token st.providers))
     by_admin true is = (Admin, refl)
-    by_admin false is = by_place (place_of_token token st.callers) refl is
+    by_admin false is = by_place (place_of_token token st.providers) refl is
 
 pub callers_have_authority : CallersHaveAuthority
 callers_have_authority h caller let_in = known (state h) caller let_in
@@ -124,40 +124,40 @@ each_both : {A : Type 0} (P Q R : A → Type 0) → ((x : A) → P x → Q x →
 each_both P Q R join [] p q = tt
 each_both P Q R join (x ∷ xs) p q = (join x p.0 q.0, each_both P Q R join xs p.1 q.1)
 
-others : (id : List ℕ) (ns : List Named) → is_one_of (names_of ns) id ≡ false → AllByRecursion (λ (n : Named). bytes_eq n.id id ≡ false) ns
+others : (id : List ℕ) (ns : List Named) → is_one_of (ids_of_named ns) id ≡ false → AllByRecursion (λ (n : Named). bytes_eq n.id id ≡ false) ns
 others id [] none = tt
 others id (n ∷ ns) none =
-    (left_false (bytes_eq n.id id) (is_one_of (names_of ns) id) none, others id ns (right_false (bytes_eq n.id id) (is_one_of (names_of ns) id) none))
+    (left_false (bytes_eq n.id id) (is_one_of (ids_of_named ns) id) none, others id ns (right_false (bytes_eq n.id id) (is_one_of (ids_of_named ns) id) none))
 
-unheld_add : (held : List HeldStatement) (x : HeldStatement) (id : List ℕ) → is_held x.id held ≡ false → bytes_eq x.id id ≡ false → is_held id held ≡ false → is_held id (add held x) ≡ false
+unheld_add : (held : List StoredStatement) (x : StoredStatement) (id : List ℕ) → is_held x.id held ≡ false → bytes_eq x.id id ≡ false → is_held id held ≡ false → is_held id (add held x) ≡ false
 unheld_add held x id new other none =
     ap (λ l. is_held id l) (add-new held x new)
     ∙ (held_one id (held ++ x ∷ [])
-    ∙ (ap (λ l. is_one_of l id) (map-append (λ (s : HeldStatement). s.id) held (x ∷ []))
+    ∙ (ap (λ l. is_one_of l id) (map-append (λ (s : StoredStatement). s.id) held (x ∷ []))
     ∙ (list_any-append (λ name. bytes_eq name id) (ids_of held) (x.id ∷ [])
     ∙ (ap (λ b. is_one_of (ids_of held) id || b) (or_false (bytes_eq x.id id) ∙ other) ∙ (or_false (is_one_of (ids_of held) id) ∙ (sym (held_one id held) ∙ none))))))
 
-none_held : (o : Option HeldStatement) → is_some o ≡ false → o ≡ None
+none_held : (o : Option StoredStatement) → is_some o ≡ false → o ≡ None
 none_held None is = refl
 none_held (Some s) is = cc is
 
-found_add : (held : List HeldStatement) (x : HeldStatement) → is_held x.id held ≡ false → held_under x.id (add held x) ≡ Some x
+found_add : (held : List StoredStatement) (x : StoredStatement) → is_held x.id held ≡ false → held_under x.id (add held x) ≡ Some x
 found_add held x new =
     ap (λ l. held_under x.id l) (add-new held x new)
-    ∙ (find-append (λ (s : HeldStatement). bytes_eq s.id x.id) held (x ∷ [])
+    ∙ (find-append (λ (s : StoredStatement). bytes_eq s.id x.id) held (x ∷ [])
     ∙ (ap (λ o. option_or o (held_under x.id (x ∷ []))) (none_held (held_under x.id held) new) ∙ ap (λ b. cond b (Some x) None) (nat_list_eq_equiv.refl x.id)))
 
 -- those of which none is held are held behind
-abbrev Added : ℕ → Authority → List HeldStatement → List Named → Named → Type 0
+abbrev Added : ℕ → Authority → List StoredStatement → List Named → Named → Type 0
 Added moment by held ns n = is_held n.id held ≡ false → held_under n.id (add_each held (map (held_of moment by) ns)) ≡ Some (held_of moment by n)
 
-added : (moment : ℕ) (by : Authority) (held : List HeldStatement) (ns : List Named) → are_distinct (names_of ns) ≡ true → AllByRecursion (Added moment by held ns) ns
+added : (moment : ℕ) (by : Authority) (held : List StoredStatement) (ns : List Named) → are_distinct (ids_of_named ns) ≡ true → AllByRecursion (Added moment by held ns) ns
 added moment by held [] apart = tt
 added moment by held (n ∷ ns) apart = (
   λ new. stays_each n.id (add held (held_of moment by n)) (map (held_of moment by) ns) (held_of moment by n) (found_add held (held_of moment by n) new),
   each_both (λ (m : Named). bytes_eq m.id n.id ≡ false) (Added moment by (add held (held_of moment by n)) ns) (Added moment by held (n ∷ ns)) (λ m other rest new. rest (by_held m other new (is_held n.id held) refl)) ns
-      (others n.id ns (not_true (is_one_of (names_of ns) n.id) (and_left _ (are_distinct (names_of ns)) apart)))
-      (added moment by (add held (held_of moment by n)) ns (and_right _ (are_distinct (names_of ns)) apart)),
+      (others n.id ns (not_true (is_one_of (ids_of_named ns) n.id) (and_left _ (are_distinct (ids_of_named ns)) apart)))
+      (added moment by (add held (held_of moment by n)) ns (and_right _ (are_distinct (ids_of_named ns)) apart)),
 )
   where
     by_held : (m : Named) → bytes_eq m.id n.id ≡ false → is_held m.id held ≡ false → (b : Bool) → is_held n.id held ≡ b → is_held m.id (add held (held_of moment by n)) ≡ false
@@ -166,17 +166,17 @@ added moment by held (n ∷ ns) apart = (
 
 -- ---- what is held under their ids
 
-abbrev IsTaken : List HeldStatement → Named → Type 0
-IsTaken held n = (s : HeldStatement) → held_under n.id held ≡ Some s → same (view s.received) (view n.tree) ≡ true
+abbrev IsTaken : List StoredStatement → Named → Type 0
+IsTaken held n = (s : StoredStatement) → held_under n.id held ≡ Some s → same (view s.received) (view n.tree) ≡ true
 
-taken_under : (st : State) (by : Who) (before : List HeldStatement) (t : Tree) (id : List ℕ) (s : HeldStatement) → refused_under st by before (Some id) (view t) ≡ None → held_under id st.statements ≡ Some s → same (view s.received) (view t) ≡ true
+taken_under : (st : State) (by : Who) (before : List StoredStatement) (t : Tree) (id : List ℕ) (s : StoredStatement) → refused_under st by before (Some id) (view t) ≡ None → held_under id st.statements ≡ Some s → same (view s.received) (view t) ≡ true
 taken_under st by before t id s none is = by_same (same (view s.received) (view t)) (sym (ap (λ o. refused_over st by before id (view t) o) is) ∙ none)
   where
     by_same : (b : Bool) → when (not b) (Conflict id) ≡ None → b ≡ true
     by_same true q = refl
     by_same false q = cc q
 
-taken_from : (st : State) (at : Occasion) (before : List HeldStatement) (supply : Supply) (ts : List Tree) → refused_in st at before (named supply ts) ≡ None
+taken_from : (st : State) (at : Occasion) (before : List StoredStatement) (supply : Supply) (ts : List Tree) → refused_in st at before (named supply ts) ≡ None
     → AllByRecursion (λ (n : Named). own_id (view n.tree) ≡ None → is_held n.id st.statements ≡ false) (named supply ts) → AllByRecursion (IsTaken st.statements) (named supply ts)
 taken_from st at before supply [] none new = tt
 taken_from st at before supply (t ∷ ts) none new = (
@@ -185,7 +185,7 @@ taken_from st at before supply (t ∷ ts) none new = (
       (first_none (refused_under st at.by before (own_id (view t)) (view t)) _ none).1 new.1,
 )
   where
-    by_own : (s : HeldStatement) (o : Option (List ℕ)) → own_id (view t) ≡ o → held_under (id_for (supply 0) (own_id (view t))) st.statements ≡ Some s → same (view s.received) (view t) ≡ true
+    by_own : (s : StoredStatement) (o : Option (List ℕ)) → own_id (view t) ≡ o → held_under (id_for (supply 0) (own_id (view t))) st.statements ≡ Some s → same (view s.received) (view t) ≡ true
     by_own s None own is = absurd (false≢true (sym (new.0 own) ∙ ap (λ o. is_some o) is))
     by_own s (Some id) own is =
         taken_under st at.by before t id s
@@ -196,15 +196,15 @@ alike_from : IsSameness → (supply : Supply) (ts : List Tree) → AreLawfulTree
 alike_from sameness supply [] lawful = tt
 alike_from sameness supply (t ∷ ts) lawful = (sameness.reflexive (view t) lawful.0.0, alike_from sameness (supply_behind supply (own_id (view t))) ts lawful.1)
 
-abbrev IsFresh : ℕ → Authority → List HeldStatement → List Named → Named → Type 0
+abbrev IsFresh : ℕ → Authority → List StoredStatement → List Named → Named → Type 0
 IsFresh moment by held ns n = Added moment by held ns n × (same (view n.tree) (view n.tree) ≡ true)
 
-kept_one : (moment : ℕ) (by : Authority) (held : List HeldStatement) (ns : List Named) (n : Named) (o : Option HeldStatement) → held_under n.id held ≡ o → IsTaken held n → IsFresh moment by held ns n
+kept_one : (moment : ℕ) (by : Authority) (held : List StoredStatement) (ns : List Named) (n : Named) (o : Option StoredStatement) → held_under n.id held ≡ o → IsTaken held n → IsFresh moment by held ns n
     → IsHeldSame (add_each held (map (held_of moment by) ns)) n
 kept_one moment by held ns n None is taken fresh = (held_of moment by n, fresh.0 (ap (λ o. is_some o) is), fresh.1)
 kept_one moment by held ns n (Some s) is taken fresh = (s, stays_each n.id held (map (held_of moment by) ns) s is, taken s is)
 
-whole_list : (moment : ℕ) (by : Authority) (held : List HeldStatement) (ns : List Named) → are_distinct (names_of ns) ≡ true → AllByRecursion (IsTaken held) ns
+whole_list : (moment : ℕ) (by : Authority) (held : List StoredStatement) (ns : List Named) → are_distinct (ids_of_named ns) ≡ true → AllByRecursion (IsTaken held) ns
     → AllByRecursion (λ (n : Named). same (view n.tree) (view n.tree) ≡ true) ns → AllByRecursion (IsHeldSame (add_each held (map (held_of moment by) ns))) ns
 whole_list moment by held ns apart taken alike =
     each_both (IsTaken held) (IsFresh moment by held ns) (IsHeldSame (add_each held (map (held_of moment by) ns))) (λ n t fresh. kept_one moment by held ns n (held_under n.id held) refl t fresh) ns taken
@@ -215,11 +215,11 @@ whole_list moment by held ns apart taken alike =
 pub puts_are_held : IsSameness → PutsAreHeld
 puts_are_held sameness limit h caller id t clock draw lawful accepted =
     let st : State = state h in
-    let held : List HeldStatement = st.statements in
+    let held : List StoredStatement = st.statements in
     let x : Entry = next_entry st caller (Put id t) clock draw in
     let at : Occasion = occasion st x in
     let n : Named = record { id = id; tree = t } in
-    let behind = is_behind_it limit (end_place limit h) h x (acceptance st (Put id t) (effect st x)) (brought st at (Put id t)) refl accepted in
+    let behind = is_behind_it limit (end_place limit h) h x (write_said (effect st x)) (brought st at (Put id t)) refl accepted in
     let reasons = no_reason (barred Store at.by) (refused_form id (view t)) (conflict st at (Put id t)) behind.0 in
     let authority = known st caller reasons.0 in
     let statements = behind.2 ∙ ap (λ o. add_each held (kept_by at.moment o (n ∷ []))) authority.1 in
@@ -229,11 +229,11 @@ puts_are_held sameness limit h caller id t clock draw lawful accepted =
 pub batches_are_whole : IsSameness → BatchesAreWhole
 batches_are_whole sameness limit h caller trees clock draw small lawful accepted =
     let st : State = state h in
-    let held : List HeldStatement = st.statements in
+    let held : List StoredStatement = st.statements in
     let x : Entry = next_entry st caller (Post trees) clock draw in
     let at : Occasion = occasion_of h caller trees clock draw in
     let batch : List Named = named_batch h trees draw in
-    let behind = is_behind_it limit (end_place limit h) h x (acceptance st (Post trees) (effect st x)) (brought st at (Post trees)) refl accepted in
+    let behind = is_behind_it limit (end_place limit h) h x (write_said (effect st x)) (brought st at (Post trees)) refl accepted in
     let reasons = no_reason (barred Store at.by) (refused_batch trees) (conflict st at (Post trees)) behind.0 in
     let authority = known st caller reasons.0 in
     let statements = behind.2 ∙ ap (λ o. add_each held (kept_by at.moment o batch)) authority.1 in

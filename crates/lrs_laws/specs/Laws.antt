@@ -24,15 +24,15 @@ use Rattle.lrs_replies.specs.declared.answered.Refusal.{Refusal}
 use Rattle.lrs_replies.specs.declared.answered.Refusal.TheVariants.{Conflict}
 use Rattle.xapi_equal.specs.Same.{same}
 use Rattle.xapi_format.specs.declared.authority.Authority.{Authority}
-use Rattle.xapi_index.specs.Batches.{Named, given_ids, named, names_of}
-use Rattle.xapi_index.specs.Ids.{are_distinct}
-use Rattle.xapi_index.specs.Listings.{is_behind, listing, listing_behind, page_behind, page_body}
+use Rattle.xapi_index.specs.Batches.{Named, given_ids, named, ids_of_named}
+use Rattle.lrs_ids.specs.Ids.{are_distinct}
+use Rattle.xapi_pages.specs.Listings.{is_behind, listing, listing_behind, page_behind, page_body}
 use Rattle.xapi_index.specs.Statements.{held_under, ids_of, is_held, is_voided}
 use Rattle.xapi_query.specs.declared.link.MoreLink.{MoreLink}
 use Rattle.xapi_query.specs.declared.query.Query.{Query}
 use Rattle.xapi_query.specs.declared.sight.Sight.{Sight}
 use Rattle.xapi_query.specs.declared.wanted.Wanted.TheVariants.{Many}
-use Rattle.xapi_statement.specs.Completed.{HeldStatement}
+use Rattle.xapi_statement.specs.Stored.{StoredStatement}
 use Rattle.xapi_statement.specs.Statement.{own_id}
 
 -- what a history makes of a caller
@@ -44,7 +44,7 @@ abbrev pub IsLetIn : List Entry → Caller → Type 0
 IsLetIn h caller = barred Store (who_in h caller) ≡ None
 
 -- a statement in form comes under an id under which this one is held
-pub record ComesUnder (h : List Entry) (caller : Caller) (id : List ℕ) (t : Tree) (s : HeldStatement) : Type 0 where
+pub record ComesUnder (h : List Entry) (caller : Caller) (id : List ℕ) (t : Tree) (s : StoredStatement) : Type 0 where
   pub let_in : IsLetIn h caller
   pub formed : refused_form id (view t) ≡ None
   pub held : held_under id (state h).statements ≡ Some s
@@ -55,16 +55,16 @@ pub record ComeTogether (h : List Entry) (caller : Caller) (trees : List Tree) :
   pub formed : refused_batch trees ≡ None
 
 -- the same statement is held under the id that this one gives itself
-pub record Repeats (held : List HeldStatement) (t : Tree) : Type 0 where
+pub record Repeats (held : List StoredStatement) (t : Tree) : Type 0 where
   pub id : List ℕ
-  pub first : HeldStatement
+  pub first : StoredStatement
   pub own : own_id (view t) ≡ Some id
   pub there : held_under id held ≡ Some first
   pub equal : same (view first.received) (view t) ≡ true
 
 -- another statement is held under the id that this one gives itself
-pub record Contradicts (held : List HeldStatement) (t : Tree) (id : List ℕ) : Type 0 where
-  pub first : HeldStatement
+pub record Contradicts (held : List StoredStatement) (t : Tree) (id : List ℕ) : Type 0 where
+  pub first : StoredStatement
   pub own : own_id (view t) ≡ Some id
   pub there : held_under id held ≡ Some first
   pub other : same (view first.received) (view t) ≡ false
@@ -95,24 +95,24 @@ NamesOne = (h : List Entry) → IsTrue (are_distinct (ids_of (state h).statement
 
 -- what an id names, it names behind every further entry
 abbrev pub NamesForGood : Type 0
-NamesForGood = (h more : List Entry) (id : List ℕ) (s : HeldStatement) → held_under id (state h).statements ≡ Some s → held_under id (state (h ++ more)).statements ≡ Some s
+NamesForGood = (h more : List Entry) (id : List ℕ) (s : StoredStatement) → held_under id (state h).statements ≡ Some s → held_under id (state (h ++ more)).statements ≡ Some s
 
 -- what is voided stays so
 abbrev pub StaysVoided : Type 0
-StaysVoided = (h more : List Entry) (s : HeldStatement) → is_voided (state h).statements s ≡ true → is_voided (state (h ++ more)).statements s ≡ true
+StaysVoided = (h more : List Entry) (s : StoredStatement) → is_voided (state h).statements s ≡ true → is_voided (state (h ++ more)).statements s ≡ true
 
 -- ---- a statement again
 
 -- the same one makes no entry
 abbrev pub RepeatsAreTaken : Type 0
 RepeatsAreTaken =
-    (limit : ℕ) (h : List Entry) (caller : Caller) (id : List ℕ) (t : Tree) (s : HeldStatement) (clock : ℕ) (draw : Draw) → ComesUnder h caller id t s
+    (limit : ℕ) (h : List Entry) (caller : Caller) (id : List ℕ) (t : Tree) (s : StoredStatement) (clock : ℕ) (draw : Draw) → ComesUnder h caller id t s
     → same (view s.received) (view t) ≡ true → answer limit h caller (Write (Put id t)) clock draw ≡ only Same
 
 -- another one is told the id, and makes none
 abbrev pub ConflictsAreTold : Type 0
 ConflictsAreTold =
-    (limit : ℕ) (h : List Entry) (caller : Caller) (id : List ℕ) (t : Tree) (s : HeldStatement) (clock : ℕ) (draw : Draw) → ComesUnder h caller id t s
+    (limit : ℕ) (h : List Entry) (caller : Caller) (id : List ℕ) (t : Tree) (s : StoredStatement) (clock : ℕ) (draw : Draw) → ComesUnder h caller id t s
     → same (view s.received) (view t) ≡ false → answer limit h caller (Write (Put id t)) clock draw ≡ only (refused (Conflict id))
 
 -- a batch of which each is held is told its ids, and makes no entry
@@ -135,7 +135,7 @@ BatchConflictsAreTold =
 abbrev pub MadeIdsAreNew : Type 0
 MadeIdsAreNew =
     (h : List Entry) (trees : List Tree) (draw : Draw) → IsSmall h trees → refused_batch trees ≡ None
-    → IsTrue (are_distinct (names_of (named_batch h trees draw)))
+    → IsTrue (are_distinct (ids_of_named (named_batch h trees draw)))
     × AllByRecursion (λ (n : Named). own_id (view n.tree) ≡ None → (used_in (state h)).is_used n.id ≡ false) (named_batch h trees draw)
 
 -- it isn't refused
@@ -143,8 +143,8 @@ abbrev pub IsAccepted : Answer → Type 0
 IsAccepted a = (r : Refusal) → a.said ≢ refused r
 
 -- under its id this statement is held, or the same one
-abbrev pub IsHeldSame : List HeldStatement → Named → Type 0
-IsHeldSame held n = (s : HeldStatement) × (held_under n.id held ≡ Some s) × (same (view s.received) (view n.tree) ≡ true)
+abbrev pub IsHeldSame : List StoredStatement → Named → Type 0
+IsHeldSame held n = (s : StoredStatement) × (held_under n.id held ≡ Some s) × (same (view s.received) (view n.tree) ≡ true)
 
 -- Behind a PUT that isn't refused its statement is held, or the same one.
 abbrev pub PutsAreHeld : Type 0
@@ -158,13 +158,13 @@ abbrev pub BatchesAreWhole : Type 0
 BatchesAreWhole =
     (limit : ℕ) (h : List Entry) (caller : Caller) (trees : List Tree) (clock : ℕ) (draw : Draw) → IsSmall h trees → AreLawfulTrees trees
     → let a = answer limit h caller (Write (Post trees)) clock draw in IsAccepted a
-    → (a.said ≡ Shown (ids_body (names_of (named_batch h trees draw))) None) × AllByRecursion (IsHeldSame (state (with_entry h a.entry)).statements) (named_batch h trees draw)
+    → (a.said ≡ Shown (ids_body (ids_of_named (named_batch h trees draw))) None) × AllByRecursion (IsHeldSame (state (with_entry h a.entry)).statements) (named_batch h trees draw)
 
 -- ---- pages
 
 -- What is given from a position on by following the links until there is none: the positions of each page in turn. For each
 -- page there are the statements that are held when it is asked for.
-abbrev pub Follows : Query → Sight → ℕ → List (List HeldStatement) → Option ℕ → List ℕ → Type 0
+abbrev pub Follows : Query → Sight → ℕ → List (List StoredStatement) → Option ℕ → List ℕ → Type 0
 Follows query sight n [] after given = ⊥
 Follows query sight n (held ∷ later) after given =
     let page = page_behind query sight (take n held) after in
@@ -181,19 +181,19 @@ PagesGiveTheList =
 
 -- and each position once
 abbrev pub PositionsComeOnce : Type 0
-PositionsComeOnce = (query : Query) (sight : Sight) (statements : List HeldStatement) → IsDistinct (λ j k. j == k) (listing query sight statements)
+PositionsComeOnce = (query : Query) (sight : Sight) (statements : List StoredStatement) → IsDistinct (λ j k. j == k) (listing query sight statements)
 
 -- a link leads on: to what lies behind it, within the list
 abbrev pub LinksGoOn : Type 0
 LinksGoOn =
-    (query : Query) (sight : Sight) (statements : List HeldStatement) (after : Option ℕ) (last : ℕ) → 0 < query.page
+    (query : Query) (sight : Sight) (statements : List StoredStatement) (after : Option ℕ) (last : ℕ) → 0 < query.page
     → (page_behind query sight statements after).link ≡ Some last
     → IsTrue (is_behind query.ascending after last) × (last < length statements)
 
 -- There is a link exactly where something comes behind the page; without one the page has all that was left.
 abbrev pub LinksWhereMoreComes : Type 0
 LinksWhereMoreComes =
-    (query : Query) (sight : Sight) (statements : List HeldStatement) (after : Option ℕ) → 0 < query.page
+    (query : Query) (sight : Sight) (statements : List StoredStatement) (after : Option ℕ) → 0 < query.page
     → let page = page_behind query sight statements after in
     MatchOption page.link (page.positions ≡ listing_behind query sight statements after) (λ last. listing_behind query sight statements (Some last) ≢ [])
 

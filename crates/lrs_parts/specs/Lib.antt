@@ -1,5 +1,5 @@
 pub mod Founding
-pub mod Callers
+pub mod Providers
 pub mod State
 pub mod Rooms
 pub mod Parts

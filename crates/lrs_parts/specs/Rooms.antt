@@ -2,12 +2,12 @@
 use Rattle.std.specs.Prelude.{◌+◌, ◌<◌, ◌^◌, ℕ, List, length}
 use Rattle.std.specs.Cmp.Lexicographic.{slice_cmp}
 use Rattle.std.specs.Ordering.{nat_cmp}
-use Rattle.lrs_parts.specs.Callers.{token_of}
-use Rattle.lrs_parts.specs.declared.callers.CallersChange.{CallersChange}
-use Rattle.lrs_parts.specs.declared.callers.HeldCaller.{HeldCaller}
-use Rattle.lrs_register.specs.Register.{HasRoomForNew, Registered}
+use Rattle.lrs_parts.specs.Providers.{ProvidersChange, token_of}
+use Rattle.lrs_parts.specs.declared.providers.HeldProvider.{HeldProvider}
+use Rattle.lrs_register.specs.Changes.{HasRoomForChange}
+use Rattle.lrs_register.specs.Register.{Registered}
 
 -- for a provider more, which can still be counted
-pub record HasRoomForCallers (callers : Registered (List ℕ) HeldCaller) (change : CallersChange) : Type 0 where
-  pub room : HasRoomForNew (slice_cmp nat_cmp) token_of callers change.new
-  pub few : length callers.held + 1 < 2 ^ 32
+pub record HasRoomForProviders (providers : Registered (List ℕ) HeldProvider) (change : ProvidersChange) : Type 0 where
+  pub room : HasRoomForChange (slice_cmp nat_cmp) token_of providers change
+  pub few : length providers.held + 1 < 2 ^ 32

@@ -1,21 +1,20 @@
 ghost use Rattle.std.specs.Prelude.{◌≡◌};
 ghost use Rattle.lrs_parts.specs.State.{changes_nothing, no_change};
 
-use crate::{CallersChange, Founding};
+use crate::{Acceptance, Founding, ProvidersChange};
 use lrs_json::Items;
-use lrs_names::Id;
 use lrs_time::Moment;
 use std::alloc::Global;
-use xapi_statement::Completed;
+use xapi_statement::StoredStatement;
 
-/// What an entry changes: a field for each part. Behind them its moment, and the ids under which its own statements go.
+/// What an entry changes: a field for each part. Behind them its moment, and what its caller is told beside that it is kept.
 #[derive(Drop)]
 pub struct Effect {
     pub founding: Option<Founding>,
-    pub callers: CallersChange,
-    pub statements: Items<Completed>,
+    pub providers: ProvidersChange,
+    pub statements: Items<StoredStatement>,
     pub moment: Moment,
-    pub told: Items<Id>,
+    pub acceptance: Acceptance,
 }
 
 impl Effect {
@@ -25,10 +24,10 @@ impl Effect {
     {
         Effect {
             founding: None,
-            callers: CallersChange::none(),
+            providers: ProvidersChange::none(),
             statements: Items::new(alloc),
             moment,
-            told: Items::new(alloc),
+            acceptance: Acceptance::Plain,
         }
     }
 
@@ -36,6 +35,6 @@ impl Effect {
     pub fn changes_nothing(&self) -> bool
         ensures { result ≡ changes_nothing self.now }
     {
-        self.founding.is_none() && !self.callers.changes() && self.statements.is_empty()
+        self.founding.is_none() && !self.providers.changes() && self.statements.is_empty()
     }
 }

@@ -2,12 +2,14 @@
 //! Each part knows its own change, and no other part. No part knows a command.
 #![tactic(auto)]
 
-mod callers;
+mod acceptance;
 mod effect;
 mod founding;
 mod parts;
+mod providers;
 
-pub use callers::{Callers, CallersChange, HeldCaller, is_name};
+pub use acceptance::Acceptance;
 pub use effect::Effect;
 pub use founding::{Founding, is_admin, is_base, is_token};
 pub use parts::Parts;
+pub use providers::{HeldProvider, Providers, ProvidersChange, is_name};

@@ -4,7 +4,7 @@ ghost use Rattle.lrs_parts.specs.Founding.{founding_after};
 ghost use Rattle.lrs_parts.specs.Parts.{state_of, IsReadyFor};
 ghost use Rattle.lrs_parts.specs.State.{apply, nothing};
 
-use crate::{Callers, Effect, Founding};
+use crate::{Effect, Founding, Providers};
 use lrs_json::Memory;
 use lrs_time::Moment;
 use std::alloc::Global;
@@ -14,7 +14,7 @@ use xapi_index::Index;
 #[derive(Drop)]
 pub struct Parts {
     pub founding: Option<Founding>,
-    pub callers: Callers,
+    pub providers: Providers,
     pub statements: Index,
     /// How many entries there are.
     pub length: u64,
@@ -29,7 +29,7 @@ impl Parts {
     {
         Parts {
             founding: None,
-            callers: Callers::new(alloc),
+            providers: Providers::new(alloc),
             statements: Index::new(alloc),
             length: 0,
             last: Moment::clamp(0),
@@ -44,7 +44,7 @@ impl Parts {
         if self.length == u64::MAX {
             return Err(Memory);
         }
-        self.callers.ready(&effect.callers)?;
+        self.providers.ready(&effect.providers)?;
         self.statements.ready(effect.statements.as_slice())
     }
 
@@ -55,13 +55,13 @@ impl Parts {
     {
         let Effect {
             founding,
-            callers,
+            providers,
             statements,
             moment,
-            told: _,
+            acceptance: _,
         } = effect;
         found(&mut self.founding, founding);
-        self.callers.install(callers);
+        self.providers.install(providers);
         self.statements.install(statements.into_vec());
         self.length += 1;
         self.last = moment;

@@ -3,9 +3,10 @@ ghost use Rattle.std.specs.Prelude.{◌≡◌, ◌≤◌, ◌+◌, ◌<◌, [], 
 ghost use Rattle.std.specs.Option.{option_copied};
 ghost use Rattle.std.specs.BTreeMap.{is_at};
 ghost use Rattle.lrs_register.specs.Places.{KeepsPlaces};
+ghost use Rattle.lrs_register.specs.Changes.{with_change, with_replaced, HasRoomForChange};
 ghost use Rattle.lrs_register.specs.Register.{place_under, with_first, with_new, HasRoomFor, HasRoomForNew};
 
-use crate::Places;
+use crate::{Change, Places};
 use std::alloc::{AllocError, Global};
 use std::marker::Model;
 
@@ -105,24 +106,43 @@ impl<K: Ord + Drop, T: Keyed<K> + Drop> Register<K, T> {
         self.held.push_reserved(item);
     }
 
-    /// Makes room for an item that may come.
-    pub fn ready_new(&mut self, item: &Option<T>) -> Result<(), AllocError>
+    /// Makes room for a change.
+    pub fn ready_change(&mut self, change: &Change<T>) -> Result<(), AllocError>
         ensures held { self.new.held ≡ self.old.held }
-        ensures room { OnOk result (HasRoomForNew K.cmp T.key self.new item.now) }
+        ensures room { OnOk result (HasRoomForChange K.cmp T.key self.new change.now) }
     {
-        match item {
+        match &change.new {
             Some(item) => self.ready(item),
             None => Ok(()),
         }
     }
 
-    /// Takes in what came, for which there is room. It takes no memory.
-    pub fn install_new(&mut self, item: Option<T>)
+    /// Takes a change in for which there is room. It takes no memory.
+    pub fn install_change(&mut self, change: Change<T>)
+        requires { HasRoomForChange K.cmp T.key self.old change }
+        ensures { self.new.held
+            ≡ with_change (λ x item. is_at (K.cmp (T.key x)) (T.key item)) self.old.held change }
+    {
+        let Change { new, replaced } = change;
+        self.install_new(new);
+        self.install_replaced(replaced);
+    }
+
+    fn install_new(&mut self, item: Option<T>)
         requires { HasRoomForNew K.cmp T.key self.old item }
         ensures { self.new.held ≡ with_new self.old.held item }
     {
         if let Some(item) = item {
             self.install(item);
+        }
+    }
+
+    fn install_replaced(&mut self, item: Option<T>)
+        ensures { self.new.held
+            ≡ with_replaced (λ x item. is_at (K.cmp (T.key x)) (T.key item)) self.old.held item }
+    {
+        if let Some(item) = item {
+            self.replace_first(item);
         }
     }
 

@@ -10,8 +10,8 @@ abbrev pub token_text : ℕ → ℕ → List ℕ
 token_text place secret = word_text secret ++ codes "-" ++ decimal place
 
 -- {"caller":k,"token":"T"}
-abbrev pub caller_body : ℕ → List ℕ → List ℕ
-caller_body k token = codes "{\"caller\":" ++ decimal k ++ codes ",\"token\":\"" ++ token ++ codes "\"}"
+abbrev pub provider_body : ℕ → List ℕ → List ℕ
+provider_body k token = codes "{\"caller\":" ++ decimal k ++ codes ",\"token\":\"" ++ token ++ codes "\"}"
 
 -- the versions of xAPI that are spoken
 abbrev pub versions_body : List ℕ

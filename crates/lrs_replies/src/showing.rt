@@ -3,7 +3,7 @@ ghost use Rattle.std.specs.Prelude.{◌≡◌, ◌++◌, IfOk, OnOk, IsUtf8, cod
 ghost use Rattle.lrs_json.specs.Written.{comma_if};
 ghost use Rattle.lrs_names.specs.Ids.{id_text};
 ghost use Rattle.lrs_record.specs.Entries.{word_text};
-ghost use Rattle.lrs_replies.specs.Texts.{token_text, caller_body, ids_body, versions_body};
+ghost use Rattle.lrs_replies.specs.Texts.{token_text, provider_body, ids_body, versions_body};
 
 use hex::encode_to_slice;
 use lrs_json::{Memory, Text};
@@ -43,8 +43,8 @@ fn ascii(bytes: &[u8]) -> &str
 }
 
 /// The body that tells of a provider its place and its token.
-pub fn caller_text(alloc: Global, place: usize, token: &Text) -> Result<Vec<u8>, Memory>
-    ensures { IfOk result (λ body. body.items ≡ caller_body place token.now) }
+pub fn provider_text(alloc: Global, place: usize, token: &Text) -> Result<Vec<u8>, Memory>
+    ensures { IfOk result (λ body. body.items ≡ provider_body place token.now) }
 {
     let place = place.to_string(alloc)?;
     let mut body = b"{\"caller\":".to_vec(alloc)?;

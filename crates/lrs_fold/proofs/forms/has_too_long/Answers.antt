@@ -2,7 +2,7 @@ use Rattle.std.proofs.Common.{◌+◌, drop, sym, ◌∙◌, arith, true}
 use Rattle.std.specs.List.{list_any}
 use Rattle.lrs_json.specs.View.{view}
 use Rattle.xapi_statement.specs.Statement.{is_too_long}
-use Rattle.lrs_fold.proofs.Turns.{turn, next_passed, next_found, none_found, any_fails, any_passes}
+use Rattle.lrs_ids.proofs.Turns.{turn, next_passed, next_found, none_found, any_fails, any_passes}
 use Rattle.lrs_fold.proofs.forms.has_too_long.Goals as goal
 
 pub loop-statement-preserved : goal.loop-statement-preserved

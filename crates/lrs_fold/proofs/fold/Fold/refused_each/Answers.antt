@@ -1,7 +1,7 @@
 use Rattle.std.proofs.Common.{◌+◌, drop, sym, ap, ◌∙◌, arith, Some}
 use Rattle.std.specs.Option.{option_or}
 use Rattle.lrs_fold.specs.Meeting.{refused_each}
-use Rattle.lrs_fold.proofs.Turns.{turn, next_passed, next_found, none_found}
+use Rattle.lrs_ids.proofs.Turns.{turn, next_passed, next_found, none_found}
 use Rattle.lrs_fold.proofs.fold.Fold.refused_each.Goals as goal
 use Rattle.lrs_parts.specs.Parts.{state_of}
 

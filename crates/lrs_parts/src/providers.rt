@@ -2,48 +2,28 @@
 ghost use Rattle.std.specs.Prelude.{◌≡◌, [], length, slice_get, OnOk};
 ghost use Rattle.std.specs.List.{list_all};
 ghost use Rattle.std.specs.Option.{option_copied};
-ghost use Rattle.lrs_parts.specs.Callers.{callers_after, changes_callers, is_name, is_name_byte, place_of_token, unchanged_callers};
-ghost use Rattle.lrs_parts.specs.Rooms.{HasRoomForCallers};
+ghost use Rattle.lrs_parts.specs.Providers.{providers_after, is_name, is_name_byte, place_of_token};
+ghost use Rattle.lrs_parts.specs.Rooms.{HasRoomForProviders};
 
 use lrs_json::{Memory, Text};
-use lrs_register::{Keyed, Register};
+use lrs_register::{Change, Keyed, Register};
 use std::alloc::{AllocError, Global};
 use std::marker::Model;
 
 /// A provider as the history made it: the name that it was given, and the token by which it is known.
 #[derive(Drop)]
-pub struct HeldCaller {
+pub struct HeldProvider {
     /// 1 to 64 letters, digits, `.`, `_`.
     pub name: Text,
     /// 32 hexadecimal digits, `-`, and the place of its entry.
     pub token: Text,
 }
 
-/// What an entry changes among the providers.
-#[derive(Drop)]
-pub struct CallersChange {
-    /// A provider that it makes.
-    pub new: Option<HeldCaller>,
-}
+/// What an entry changes among the providers: one that it makes, and one that takes the place of the first with its token.
+pub type ProvidersChange = Change<HeldProvider>;
 
-impl CallersChange {
-    /// No change.
-    pub fn none() -> CallersChange
-        ensures { result ≡ unchanged_callers }
-    {
-        CallersChange { new: None }
-    }
-
-    /// Whether anything is changed.
-    pub fn changes(&self) -> bool
-        ensures { result ≡ changes_callers self.now }
-    {
-        self.new.is_some()
-    }
-}
-
-impl Keyed<Text> for HeldCaller {
-    ghost use Rattle.lrs_parts.specs.Callers.{token_of};
+impl Keyed<Text> for HeldProvider {
+    ghost use Rattle.lrs_parts.specs.Providers.{token_of};
 
     ghost key = { token_of };
 
@@ -58,27 +38,27 @@ impl Keyed<Text> for HeldCaller {
 
 /// The providers in the order in which they were made, found by token.
 #[derive(Drop)]
-pub struct Callers {
-    list: Register<Text, HeldCaller>,
+pub struct Providers {
+    list: Register<Text, HeldProvider>,
 }
 
-impl Model for Callers {
+impl Model for Providers {
     ghost use Rattle.std.specs.Prelude.{◌<◌, ◌^◌, ℕ, List, length};
-    ghost use Rattle.lrs_parts.specs.declared.callers.HeldCaller.{HeldCaller};
+    ghost use Rattle.lrs_parts.specs.declared.providers.HeldProvider.{HeldProvider};
     ghost use Rattle.lrs_register.specs.Register.{Registered};
 
-    ghost Value = { Registered (List ℕ) HeldCaller };
+    ghost Value = { Registered (List ℕ) HeldProvider };
 
     ghost view = { λ c. c.list };
 
     ghost invariant = { λ c. length c.list.held < 2 ^ 32 };
 }
 
-impl Callers {
-    pub fn new(alloc: Global) -> Callers
+impl Providers {
+    pub fn new(alloc: Global) -> Providers
         ensures { result.held ≡ [] }
     {
-        Callers {
+        Providers {
             list: Register::new(alloc),
         }
     }
@@ -102,30 +82,30 @@ impl Callers {
     }
 
     /// The provider at that place.
-    pub fn get(&self, place: u32) -> Option<&HeldCaller>
+    pub fn get(&self, place: u32) -> Option<&HeldProvider>
         ensures { option_copied result ≡ slice_get self.now.held place }
     {
         self.list.get(place as usize)
     }
 
     /// Makes room for a change. There is none where the providers can't be counted any more.
-    pub fn ready(&mut self, change: &CallersChange) -> Result<(), Memory>
+    pub fn ready(&mut self, change: &ProvidersChange) -> Result<(), Memory>
         ensures held { self.new.held ≡ self.old.held }
-        ensures room { OnOk result (HasRoomForCallers self.new change.now) }
+        ensures room { OnOk result (HasRoomForProviders self.new change.now) }
     {
         if self.list.len() >= u32::MAX as usize {
             return Err(Memory);
         }
-        self.list.ready_new(&change.new)?;
+        self.list.ready_change(change)?;
         Ok(())
     }
 
     /// Takes a change in for which there is room. It takes no memory.
-    pub fn install(&mut self, change: CallersChange)
-        requires { HasRoomForCallers self.old change }
-        ensures { self.new.held ≡ callers_after self.old.held change }
+    pub fn install(&mut self, change: ProvidersChange)
+        requires { HasRoomForProviders self.old change }
+        ensures { self.new.held ≡ providers_after self.old.held change }
     {
-        self.list.install_new(change.new);
+        self.list.install_change(change);
     }
 }
 

@@ -2,15 +2,16 @@
 ghost use Rattle.std.specs.Prelude.{◌≡◌, max, IfOk, Ok, None};
 ghost use Rattle.lrs_command.specs.Commands.{HasReadTrees};
 ghost use Rattle.lrs_fold.specs.Judged.{IsJudged};
-ghost use Rattle.lrs_fold.specs.Verdicts.{IsVerdict, verdict_on};
-ghost use Rattle.lrs_history.specs.History.{refused, refused_or, verdict};
+ghost use Rattle.lrs_fold.specs.Outcomes.{IsOutcome, made_of, outcome_on};
+ghost use Rattle.lrs_history.specs.History.{refused, refused_or, outcome};
 ghost use Rattle.lrs_history.specs.Refusals.{barred, refusal, refused_with};
 ghost use Rattle.lrs_history.specs.Whose.{who_is};
 ghost use Rattle.lrs_parts.specs.Parts.{state_of};
 ghost use Rattle.lrs_record.specs.Entries.{IsLawful, IsLawfulCaller, IsLawfulWrite, written_entry};
 ghost use Rattle.lrs_record.specs.Moments.{clamped};
 
-use crate::{Fold, Thanks};
+use crate::Fold;
+use crate::saying::write_said;
 use lrs_command::{Area, Command, Rule};
 use lrs_history::{barred, refused_with};
 use lrs_json::{Items, Memory};
@@ -22,7 +23,7 @@ use std::alloc::Global;
 
 /// What becomes of a command.
 #[derive(Drop)]
-pub enum Verdict {
+pub enum Outcome {
     /// It is told this at once, and nothing is kept.
     Told(Answered),
     /// It is to have an entry.
@@ -44,21 +45,21 @@ const FRAME_ROOM: usize = 1_024;
 
 impl Fold {
     /// What becomes of a command. All that it takes to keep its entry is made here, but for the room in the parts.
-    pub fn verdict(
+    pub fn outcome(
         &self,
         alloc: Global,
         caller: Caller,
         command: Command,
         clock: u64,
         draw: &Draw,
-    ) -> Result<Verdict, Memory>
+    ) -> Result<Outcome, Memory>
         requires caller { IsLawfulCaller caller }
         requires command { HasReadTrees command }
         ensures { IfOk result
-            (IsVerdict (state_of self.now.parts) (verdict (state_of self.now.parts) caller command clock draw.now)) }
+            (IsOutcome (state_of self.now.parts) (outcome (state_of self.now.parts) caller command clock draw.now)) }
     {
         match command {
-            Command::Write(write) => self.write_verdict(
+            Command::Write(write) => self.write_outcome(
                 alloc,
                 Entry {
                     caller,
@@ -71,12 +72,12 @@ impl Fold {
                 let said = self.told(alloc, &caller, &read);
                 drop(caller);
                 drop(read);
-                Ok(Verdict::Told(said?))
+                Ok(Outcome::Told(said?))
             }
             Command::Refused { area, status, rule } => {
                 let said = self.refused(&caller, area, status, rule);
                 drop(caller);
-                Ok(Verdict::Told(said))
+                Ok(Outcome::Told(said))
             }
         }
     }
@@ -94,16 +95,16 @@ impl Fold {
     }
 
     #[tactic(auto, using(crate::proofs::Promised::refused_now))]
-    fn write_verdict(&self, alloc: Global, entry: Entry) -> Result<Verdict, Memory>
+    fn write_outcome(&self, alloc: Global, entry: Entry) -> Result<Outcome, Memory>
         requires caller { IsLawfulCaller entry.caller }
         requires write { IsLawfulWrite entry.write }
-        ensures { IfOk result (IsVerdict (state_of self.now.parts) (verdict_on (state_of self.now.parts) entry)) }
+        ensures { IfOk result (IsOutcome (state_of self.now.parts) (outcome_on (state_of self.now.parts) entry)) }
     {
         match self.refusal(alloc, &entry) {
             Ok(None) => self.accepted(alloc, entry),
             Ok(Some(refusal)) => {
                 drop(entry);
-                Ok(Verdict::Told(Answered::Refused(refusal)))
+                Ok(Outcome::Told(Answered::Refused(refusal)))
             }
             Err(refused) => {
                 drop(entry);
@@ -113,12 +114,12 @@ impl Fold {
     }
 
     // Of an entry that isn't refused.
-    fn accepted(&self, alloc: Global, entry: Entry) -> Result<Verdict, Memory>
+    fn accepted(&self, alloc: Global, entry: Entry) -> Result<Outcome, Memory>
         requires caller { IsLawfulCaller entry.caller }
         requires write { IsLawfulWrite entry.write }
         requires judged { IsJudged entry.write }
         requires unrefused { refusal (state_of self.now.parts) entry ≡ None }
-        ensures { IfOk result (IsVerdict (state_of self.now.parts) (verdict_on (state_of self.now.parts) entry)) }
+        ensures { IfOk result (IsOutcome (state_of self.now.parts) (outcome_on (state_of self.now.parts) entry)) }
     {
         match frame_of(alloc, &entry) {
             Ok(frame) => self.promised(alloc, frame, entry),
@@ -130,27 +131,37 @@ impl Fold {
     }
 
     // Of an entry with its frame.
-    #[tactic(auto, using(crate::proofs::Promised::told_now, crate::proofs::Promised::kept_then))]
-    fn promised(&self, alloc: Global, frame: Vec<u8>, entry: Entry) -> Result<Verdict, Memory>
+    fn promised(&self, alloc: Global, frame: Vec<u8>, entry: Entry) -> Result<Outcome, Memory>
         requires judged { IsJudged entry.write }
         requires unrefused { refusal (state_of self.now.parts) entry ≡ None }
         requires frame { frame.items ≡ written_entry entry }
         requires lawful { IsLawful entry }
-        ensures { IfOk result (IsVerdict (state_of self.now.parts) (verdict_on (state_of self.now.parts) entry)) }
+        ensures { IfOk result (IsOutcome (state_of self.now.parts) (outcome_on (state_of self.now.parts) entry)) }
     {
-        let thanks = Thanks::of(&entry.write);
         let effect = self.prepare(alloc, entry)?;
-        let said = self.acceptance(alloc, thanks, &effect)?;
-        if effect.changes_nothing() {
-            drop(effect);
-            return Ok(Verdict::Told(said));
+        match write_said(alloc, &effect) {
+            Ok(said) => Ok(outcome_of(frame, effect, said)),
+            Err(refused) => {
+                drop(effect);
+                Err(refused)
+            }
         }
-        Ok(Verdict::Accepted(Accepted {
-            frame: Items::from_vec(frame),
-            effect,
-            said,
-        }))
     }
+}
+
+// What changes nothing is told at once, all else is to be kept.
+fn outcome_of(frame: Vec<u8>, effect: Effect, said: Answered) -> Outcome
+    ensures { result ≡ made_of frame.items effect said }
+{
+    if effect.changes_nothing() {
+        drop(effect);
+        return Outcome::Told(said);
+    }
+    Outcome::Accepted(Accepted {
+        frame: Items::from_vec(frame),
+        effect,
+        said,
+    })
 }
 
 /// An entry as a frame of the journal.
