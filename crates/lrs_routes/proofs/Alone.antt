@@ -1,34 +1,22 @@
 -- A request has one account, but where memory was wanting.
-use Rattle.std.proofs.Common.{◌≡◌, true, false, map, Option, Some, None, Result, Ok, Err, refl, sym, ap, ◌∙◌, subst, inl, inr, IsErrAnd}
+use Rattle.std.proofs.Common.{◌≡◌, true, false, Option, Some, None, Result, Ok, Err, refl, sym, ap, ◌∙◌, subst, inl, inr, IsErrAnd}
 use Rattle.lrs_http.specs.declared.request.Request.{Request}
 use Rattle.lrs_command.specs.declared.command.Command.{Command}
-use Rattle.lrs_routes.specs.Asked.{Agree, IsAsked, IsRefused, IsRouted, has_version, operation_at}
+use Rattle.lrs_routes.specs.Asked.{Agree, IsAsked, IsRouteRefused, IsRouted, has_version, operation_at}
 use Rattle.lrs_routes.specs.Fields.{caller_of}
 use Rattle.lrs_routes.specs.Forms.{IsCommand}
 use Rattle.lrs_routes.specs.Paths.{Fits}
-use Rattle.lrs_routes.specs.Table.{methods_of, row_of}
+use Rattle.lrs_routes.specs.Table.{allow_of, row_of}
 use Rattle.lrs_routes.specs.declared.asked.Asked.{Asked}
 use Rattle.lrs_routes.specs.declared.asked.RouteRefused.{RouteRefused}
 use Rattle.lrs_routes.specs.declared.asked.RouteRefused.TheVariants as refused
 use Rattle.lrs_routes.specs.declared.table.Allow.{Allow}
-use Rattle.lrs_routes.specs.declared.table.Allow.TheVariants as allow
-use Rattle.lrs_routes.specs.declared.table.Operation.{Operation}
+use Rattle.lrs_routes.specs.declared.operation.Operation.{Operation}
 use Rattle.lrs_routes.specs.declared.table.Route.{Route}
 use Rattle.lrs_routes.proofs.Leads.{one_route}
 
 abbrev Account : Type 0
 Account = Result Asked RouteRefused
-
-one_allow : (a b : Allow) → methods_of a ≡ methods_of b → a ≡ b
-one_allow allow.Get allow.Get e = refl
-one_allow allow.Get allow.GetPostPut e = absurd (cc e)
-one_allow allow.Get allow.Post e = absurd (cc e)
-one_allow allow.GetPostPut allow.Get e = absurd (cc e)
-one_allow allow.GetPostPut allow.GetPostPut e = refl
-one_allow allow.GetPostPut allow.Post e = absurd (cc e)
-one_allow allow.Post allow.Get e = absurd (cc e)
-one_allow allow.Post allow.GetPostPut e = absurd (cc e)
-one_allow allow.Post allow.Post e = refl
 
 none_some : (operation : Operation) → ◌≡◌ {A = Option Operation} None (Some operation) → ⊥
 none_some operation e = cc e
@@ -53,7 +41,7 @@ module _ (request : Request) where
       → has_version a request.version ≡ false → has_version b request.version ≡ true → ⊥
   version_missing a b f g none is = true_false (sym (at_route (λ (r : Route). has_version r request.version ≡ true) a b f g is) ∙ none)
 
-  pub refused_alone : (e : RouteRefused) → IsRefused request.path request.method request.version e → (other : Account) → IsAsked request other → Agree (Err e) other
+  pub refused_alone : (e : RouteRefused) → IsRouteRefused request.path request.method request.version e → (other : Account) → IsAsked request other → Agree (Err e) other
   refused_alone refused.Memory h other o = inr (inl refl)
   refused_alone e h (Err refused.Memory) o = inr (inr refl)
   refused_alone refused.NoRoute h (Ok asked) o = absurd (h o.0 o.2.fits)
@@ -63,8 +51,8 @@ module _ (request : Request) where
   refused_alone (refused.NoMethod allow) h (Ok asked) o = absurd (method_missing h.0 o.0 o.1 h.1 o.2.fits h.2 o.2.is)
   refused_alone (refused.NoMethod allow) h (Err refused.NoRoute) o = absurd (o h.0 h.1)
   refused_alone (refused.NoMethod allow) h (Err (refused.NoMethod other)) o =
-      let methods : methods_of allow ≡ methods_of other = h.3 ∙ sym (at_route (λ (r : Route). methods_of other ≡ map (λ own. own.0) (row_of r).methods) h.0 o.0 h.1 o.1 o.3) in
-      inl (ap (λ (a : Allow). Err (refused.NoMethod a)) (one_allow allow other methods))
+      let same : allow ≡ other = h.3 ∙ ap allow_of (one_route request.path h.0 o.0 h.1 o.1) ∙ sym o.3 in
+      inl (ap (λ (a : Allow). Err (refused.NoMethod a)) same)
   refused_alone (refused.NoMethod allow) h (Err refused.NoVersion) o = absurd (method_missing h.0 o.0 o.1 h.1 o.2 h.2 o.3)
   refused_alone refused.NoVersion h (Ok asked) o = absurd (version_missing h.0 o.0 h.2 o.2.fits h.4 o.2.spoken)
   refused_alone refused.NoVersion h (Err refused.NoRoute) o = absurd (o h.0 h.2)
@@ -100,11 +88,7 @@ module _ (request : Request) where
   asked_alone asked route operation routed caller command (Err refused.NoVersion) o = absurd (version_missing o.0 route o.2 routed.fits o.4 routed.spoken)
   asked_alone asked route operation routed caller command (Err refused.Memory) o = inr (inr refl)
 
-  -- a refusal that is handed on is an account of the request, and the only one
-  pub asked_handed : (e : RouteRefused) (r : Account) → IsErrAnd r (λ own. own ≡ e) → IsRefused request.path request.method request.version e → IsAsked request r
+  -- a refusal that is handed on is an account of the request
+  pub asked_handed : (e : RouteRefused) (r : Account) → IsErrAnd r (λ own. own ≡ e) → IsRouteRefused request.path request.method request.version e → IsAsked request r
   asked_handed e (Ok asked) is h = absurd is
-  asked_handed e (Err own) is h = subst (λ (x : RouteRefused). IsRefused request.path request.method request.version x) (sym is) h
-
-  pub refused_handed : (e : RouteRefused) (r : Account) → IsErrAnd r (λ own. own ≡ e) → IsRefused request.path request.method request.version e → (other : Account) → IsAsked request other → Agree r other
-  refused_handed e (Ok asked) is h other o = absurd is
-  refused_handed e (Err own) is h other o = refused_alone own (subst (λ (x : RouteRefused). IsRefused request.path request.method request.version x) (sym is) h) other o
+  asked_handed e (Err own) is h = subst (λ (x : RouteRefused). IsRouteRefused request.path request.method request.version x) (sym is) h

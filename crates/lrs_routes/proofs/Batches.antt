@@ -7,7 +7,7 @@ use Rattle.lrs_json.specs.View.{view, elements_of}
 use Rattle.lrs_json.specs.declared.tree.Tree.{Tree}
 use Rattle.lrs_json.proofs.Back.{same_tree}
 use Rattle.lrs_record.specs.Entries.{AreLawfulTrees}
-use Rattle.lrs_routes.specs.Forms.{batch_of}
+use Rattle.lrs_routes.specs.Operations.{batch_of}
 
 pub same_trees : (ts us : List Tree) → elements_of (map view ts) ≡ elements_of (map view us) → ts ≡ us
 same_trees [] [] e = refl

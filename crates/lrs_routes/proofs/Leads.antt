@@ -135,20 +135,39 @@ none_fits (x ∷ p) (y ∷ q) path e f g =
     let more : apart p q ≡ true = grind (arith, nat_tests, two.1, heads) in
     none_fits p q i.0 more (subst (λ (xs : List ℕ). Fits p xs) tails h.2) i.2
 
+-- rows of which no two have a path that fits both
+abbrev apart_from : List ℕ → List (List ℕ × Route) → Bool
+apart_from p [] = true
+apart_from p (row ∷ rows) = (apart p row.0 && apart row.0 p) && apart_from p rows
+
+abbrev all_apart : List (List ℕ × Route) → Bool
+all_apart [] = true
+all_apart (row ∷ rows) = apart_from row.0 rows && all_apart rows
+
+from_has : (p : List ℕ) (rows : List (List ℕ × Route)) (q : List ℕ) (b : Route) → apart_from p rows ≡ true → Has rows q b → (apart p q ≡ true) × (apart q p ≡ true)
+from_has p [] q b e h = absurd h
+from_has p (row ∷ rows) q b e h =
+    let parts = and_parts (apart p row.0 && apart row.0 p) (apart_from p rows) e in
+    let both = and_parts (apart p row.0) (apart row.0 p) parts.0 in
+    elim h [
+      | inl here ↦ (subst (λ (t : List ℕ). apart p t ≡ true) here.0 both.0, subst (λ (t : List ℕ). apart t p ≡ true) here.0 both.1)
+      | inr later ↦ from_has p rows q b parts.1 later
+    ]
+
+one_row : (rows : List (List ℕ × Route)) (path p q : List ℕ) (a b : Route) → all_apart rows ≡ true → Has rows p a → Has rows q b → Fits p path → Fits q path → a ≡ b
+one_row [] path p q a b e h k f g = absurd h
+one_row (row ∷ rows) path p q a b e h k f g =
+    let parts = and_parts (apart_from row.0 rows) (all_apart rows) e in
+    elim h [
+      | inl x ↦ elim k [
+        | inl y ↦ sym x.1 ∙ y.1
+        | inr y ↦ let differ = from_has row.0 rows q b parts.0 y in absurd (none_fits p q path (subst (λ (t : List ℕ). apart t q ≡ true) x.0 differ.0) f g)
+      ]
+      | inr x ↦ elim k [
+        | inl y ↦ let differ = from_has row.0 rows p a parts.0 x in absurd (none_fits p q path (subst (λ (t : List ℕ). apart p t ≡ true) y.0 differ.1) f g)
+        | inr y ↦ one_row rows path p q a b parts.1 x y f g
+      ]
+    ]
+
 pub one_route : (path : List ℕ) (a b : Route) → Fits (row_of a).pattern path → Fits (row_of b).pattern path → a ≡ b
-one_route path route.Callers route.Callers f g = refl
-one_route path route.Callers route.About f g = absurd (none_fits (row_of route.Callers).pattern (row_of route.About).pattern path refl f g)
-one_route path route.Callers route.MoreStatements f g = absurd (none_fits (row_of route.Callers).pattern (row_of route.MoreStatements).pattern path refl f g)
-one_route path route.Callers route.Statements f g = absurd (none_fits (row_of route.Callers).pattern (row_of route.Statements).pattern path refl f g)
-one_route path route.About route.Callers f g = absurd (none_fits (row_of route.About).pattern (row_of route.Callers).pattern path refl f g)
-one_route path route.About route.About f g = refl
-one_route path route.About route.MoreStatements f g = absurd (none_fits (row_of route.About).pattern (row_of route.MoreStatements).pattern path refl f g)
-one_route path route.About route.Statements f g = absurd (none_fits (row_of route.About).pattern (row_of route.Statements).pattern path refl f g)
-one_route path route.MoreStatements route.Callers f g = absurd (none_fits (row_of route.MoreStatements).pattern (row_of route.Callers).pattern path refl f g)
-one_route path route.MoreStatements route.About f g = absurd (none_fits (row_of route.MoreStatements).pattern (row_of route.About).pattern path refl f g)
-one_route path route.MoreStatements route.MoreStatements f g = refl
-one_route path route.MoreStatements route.Statements f g = absurd (none_fits (row_of route.MoreStatements).pattern (row_of route.Statements).pattern path refl f g)
-one_route path route.Statements route.Callers f g = absurd (none_fits (row_of route.Statements).pattern (row_of route.Callers).pattern path refl f g)
-one_route path route.Statements route.About f g = absurd (none_fits (row_of route.Statements).pattern (row_of route.About).pattern path refl f g)
-one_route path route.Statements route.MoreStatements f g = absurd (none_fits (row_of route.Statements).pattern (row_of route.MoreStatements).pattern path refl f g)
-one_route path route.Statements route.Statements f g = refl
+one_route path a b f g = one_row patterns path (row_of a).pattern (row_of b).pattern a b refl (in_table a) (in_table b) f g

@@ -6,6 +6,7 @@ pub mod Stages
 pub mod Readings
 pub mod Batches
 pub mod OneWanted
+pub mod Strings
 pub mod Looks
 pub mod Alone
 pub mod OneAsked

@@ -1,44 +1,44 @@
 -- A request asks one thing, but where memory is wanting.
-use Rattle.std.proofs.Common.{◌≡◌, ◌≤◌, ℕ, Bool, true, false, List, [], ◌∷◌, Option, Some, None, Result, Ok, Err, refl, sym, ap, ◌∙◌, subst, inl, inr, arith}
-use Rattle.std.specs.Prelude.{◌==◌, MatchBool, MatchOption, codes}
+use Rattle.std.proofs.Common.{◌≡◌, ◌≤◌, ℕ, Bool, true, false, List, [], ◌∷◌, map, Option, Some, None, Result, Ok, Err, refl, sym, ap, ◌∙◌, subst, inl, inr, arith}
+use Rattle.std.specs.Prelude.{◌==◌, MatchBool, MatchOption, option_map}
 use Rattle.std.proofs.lemmas.Bool.{false≢true}
 use Rattle.std.proofs.lemmas.Bool.Decides.{nat_tests}
 use Rattle.lrs_http.specs.declared.request.Request.{Request}
 use Rattle.lrs_json.specs.Depth.{depth}
-use Rattle.lrs_json.specs.Faults.{earlier, earliest, out_of_range_numbers, repeated_names}
-use Rattle.lrs_json.specs.Grammar.{IsText}
+use Rattle.lrs_json_reader.specs.Faults.{earlier, earliest, out_of_range_numbers, repeated_names}
+use Rattle.lrs_json_reader.specs.Grammar.{IsText}
 use Rattle.lrs_json.specs.Json.{Json}
-use Rattle.lrs_json.specs.Placed.{Placed, plain}
-use Rattle.lrs_json.specs.Refusals.{Spells, is_too_deep}
+use Rattle.lrs_json_reader.specs.Placed.{Placed, plain}
+use Rattle.lrs_json_reader.specs.Refusals.{Spells, is_too_deep}
 use Rattle.lrs_json.specs.View.{view}
-use Rattle.lrs_json.specs.declared.tree.Tree.{Tree}
 use Rattle.lrs_json.proofs.Back.{same_tree}
-use Rattle.lrs_json.proofs.Scan.{shallow-scan}
-use Rattle.lrs_names.specs.Members.{has_member_that, is_string, member_text}
+use Rattle.lrs_json_reader.proofs.Scan.{shallow-scan}
+use Rattle.lrs_names.specs.Members.{text_under}
+use Rattle.lrs_command.specs.Rules.{BreaksJson}
 use Rattle.lrs_command.specs.declared.command.Command.{Command}
 use Rattle.lrs_command.specs.declared.command.Command.TheVariants as command
-use Rattle.lrs_command.specs.declared.command.Read.TheVariants as read
-use Rattle.lrs_record.specs.declared.entry.Write.TheVariants as write
 use Rattle.lrs_command.specs.declared.command.Area.{Area}
 use Rattle.lrs_command.specs.declared.rule.Rule.{Rule}
-use Rattle.xapi_query.specs.Parameters.{LeastOfGet, LeastOfLink, LeastOfPut}
-use Rattle.xapi_query.specs.declared.link.MoreLink.{MoreLink}
-use Rattle.xapi_query.specs.declared.pair.Pair.{Pair}
-use Rattle.xapi_query.specs.declared.wanted.Wanted.{Wanted}
-use Rattle.xapi_query.proofs.Least.{get_once, link_once, put_once}
-use Rattle.xapi_query.proofs.LinkAlone.{links_alone}
+use Rattle.xapi_parameters.specs.Parameters.{LeastOfGet, LeastOfLink, LeastOfPut}
+use Rattle.xapi_parameters.specs.declared.pair.Pair.{Pair}
+use Rattle.xapi_parameters.proofs.Least.{get_once, link_once, put_once}
+use Rattle.xapi_parameters.proofs.LinkAlone.{links_alone}
 use Rattle.lrs_routes.specs.Asked.{Agree, IsAsked}
 use Rattle.lrs_command.specs.declared.rule.Rule.TheVariants as rule
 use Rattle.lrs_routes.specs.Fields.{allows_json}
-use Rattle.lrs_routes.specs.Forms.{BreaksJson, FirstBroken, Given, IsCommand, LeastOfNone, Means, NamesProvider, ProviderBody, Spelled, StatementBody, Tested, batch_of, has_just, parameters_of}
+use Rattle.lrs_routes.specs.Forms.{AreStrings, BodyBreaks, FirstBroken, Given, IsCommand, LeastOfNone, Means, QueryBreaks, Spelled, StatementBody, Tested, first_unlike, has_just, parameters_of}
+use Rattle.lrs_routes.specs.Operations.{BodyForm, any_body, statement_body, statements_body, strings_body, QueryForm, any_query, no_query, query_of_get, query_of_link, query_of_put, IsBodyValue, IsQueryValue, batch_of, command_of, form_of, names_of}
 use Rattle.lrs_routes.specs.declared.asked.Asked.{Asked}
 use Rattle.lrs_routes.specs.declared.asked.RouteRefused.{RouteRefused}
-use Rattle.lrs_routes.specs.declared.table.Operation.{Operation}
-use Rattle.lrs_routes.specs.declared.table.Operation.TheVariants as operation
+use Rattle.lrs_routes.specs.declared.operation.Operation.{Operation}
+use Rattle.lrs_routes.specs.declared.values.BodyValue.{BodyValue}
+use Rattle.lrs_routes.specs.declared.values.BodyValue.TheVariants as body
+use Rattle.lrs_routes.specs.declared.values.QueryValue.{QueryValue}
+use Rattle.lrs_routes.specs.declared.values.QueryValue.TheVariants as query
 use Rattle.lrs_routes.proofs.Alone.{asked_alone, refused_alone}
 use Rattle.lrs_routes.proofs.Batches.{same_trees}
 use Rattle.lrs_routes.proofs.OneWanted.{given_least, wanted_once}
-use Rattle.xapi_query.proofs.OneJson.{one_json}
+use Rattle.xapi_parameters.proofs.OneJson.{one_json}
 
 -- a JSON text spells one value, each of its parts at one place
 abbrev OneJson : Type 0
@@ -144,12 +144,6 @@ tested_once : (passes : Bool) (r : Rule) (next : Broken → Type 0) (a b : Broke
 tested_once true r next a b once h k = once h k
 tested_once false r next a b once h k = both a b (Some r) h k
 
-names_once : (j : Json) (a b : Broken) → NamesProvider j a → NamesProvider j b → a ≡ b
-names_once j a b h k =
-    let just = has_just (codes "name" ∷ []) j in
-    let named = has_member_that (codes "name") is_string j in
-    tested_once just (rule.B 1) (λ x. Tested named (rule.B 2) x (x ≡ None)) a b (λ p q. tested_once named (rule.B 2) (λ x. x ≡ None) a b (both a b None) p q) h k
-
 module _ (own : Option ℕ → List Pair → Type 0) (pairs : List Pair) (least : (m n : Option ℕ) → own m pairs → own n pairs → m ≡ n) (next : Broken → Type 0) where
   obeyed_once : (a b : Broken) (m n : Option ℕ) → m ≡ n → (next a → next b → a ≡ b) → MatchOption m (next a) (λ i. a ≡ Some (rule.P i)) → MatchOption n (next b) (λ i. b ≡ Some (rule.P i)) → a ≡ b
   obeyed_once a b None None e once h k = once h k
@@ -185,48 +179,77 @@ statement_once one request a b h k =
     tested_once (allows_json request.media) (rule.F 3) (λ x. Spelled request.body x (λ _. x ≡ None)) a b
     (λ s t. spelled_once one request.body (λ _ x. x ≡ None) a b (λ _. both a b None) s t) h k
 
-first_once : OneJson → (o : Operation) (request : Request) (a b : Broken) → FirstBroken o request a → FirstBroken o request b → a ≡ b
-first_once one operation.TellVersions request a b h k = both a b None h k
-first_once one operation.GetStatements request a b h k =
-    let pairs = parameters_of request.query in
-    given_once LeastOfGet pairs (get_once pairs) (λ x. x ≡ None) a b (both a b None) h k
-first_once one operation.GetMoreStatements request a b h k =
-    let pairs = parameters_of request.query in
-    given_once LeastOfLink pairs (link_once pairs) (λ x. x ≡ None) a b (both a b None) h k
-first_once one operation.PostStatements request a b h k =
-    let pairs = parameters_of request.query in
-    given_once LeastOfNone pairs (none_once pairs) (StatementBody request) a b (statement_once one request a b) h k
-first_once one operation.PutStatement request a b h k =
-    let pairs = parameters_of request.query in
-    given_once LeastOfPut pairs (put_once pairs) (StatementBody request) a b (statement_once one request a b) h k
-first_once one operation.MakeProvider request a b h k =
-    let pairs = parameters_of request.query in
-    given_once LeastOfNone pairs (none_once pairs) (ProviderBody request) a b
-    (λ p q. spelled_once one request.body NamesProvider a b (λ j. names_once j a b) p q) h k
+strings_once : (members : List (List ℕ × ℕ)) (j : Json) (a b : Broken) → AreStrings members j a → AreStrings members j b → a ≡ b
+strings_once members j a b h k =
+    let unlike : Broken = option_map (λ number. rule.B number) (first_unlike members j) in
+    tested_once (has_just (names_of members) j) (rule.B 1) (λ x. x ≡ unlike) a b (both a b unlike) h k
 
-some_same : (a b : List ℕ) → Some a ≡ Some b → a ≡ b
+-- the body tells one rule
+body_once : OneJson → (form : BodyForm) (request : Request) (a b : Broken) → BodyBreaks form request a → BodyBreaks form request b → a ≡ b
+body_once one any_body request a b h k = both a b None h k
+body_once one statement_body request a b h k = statement_once one request a b h k
+body_once one statements_body request a b h k = statement_once one request a b h k
+body_once one (strings_body members) request a b h k =
+    spelled_once one request.body (λ j x. AreStrings members j x) a b (λ j. strings_once members j a b) h k
+
+-- the parameters tell one rule, where what stands behind does
+query_once : (form : QueryForm) (pairs : List Pair) (next : Broken → Type 0) (a b : Broken) → (next a → next b → a ≡ b)
+    → QueryBreaks form pairs a (next a) → QueryBreaks form pairs b (next b) → a ≡ b
+query_once any_query pairs next a b once h k = once h k
+query_once no_query pairs next a b once h k = given_once LeastOfNone pairs (none_once pairs) next a b once h k
+query_once query_of_get pairs next a b once h k = given_once LeastOfGet pairs (get_once pairs) next a b once h k
+query_once query_of_link pairs next a b once h k = given_once LeastOfLink pairs (link_once pairs) next a b once h k
+query_once query_of_put pairs next a b once h k = given_once LeastOfPut pairs (put_once pairs) next a b once h k
+
+first_once : OneJson → (o : Operation) (request : Request) (a b : Broken) → FirstBroken o request a → FirstBroken o request b → a ≡ b
+first_once one o request a b h k =
+    query_once (form_of o).query (parameters_of request.query) (λ x. BodyBreaks (form_of o).body request x) a b
+    (λ s t. body_once one (form_of o).body request a b s t) h k
+
+some_same : {A : Type 0} (a b : A) → Some a ≡ Some b → a ≡ b
 some_same a b e = cc e
+
+some_texts : (ts us : List (List ℕ)) → map Some ts ≡ map Some us → ts ≡ us
+some_texts [] [] e = refl
+some_texts [] (u ∷ us) e = absurd (cc e)
+some_texts (t ∷ ts) [] e = absurd (cc e)
+some_texts (t ∷ ts) (u ∷ us) e =
+    let first : t ≡ u = cc e in
+    let rest : map Some ts ≡ map Some us = cc e in
+    cc (first, some_texts ts us rest)
+
+-- parameters that break no rule give one value
+query_value_once : (form : QueryForm) (pairs : List Pair) (next : Type 0) (a b : QueryValue) → QueryBreaks form pairs None next → IsQueryValue form pairs a → IsQueryValue form pairs b → a ≡ b
+query_value_once any_query pairs next a b unbroken h k = h ∙ sym k
+query_value_once no_query pairs next a b unbroken h k = h ∙ sym k
+query_value_once query_of_get pairs next a b unbroken h k =
+    h.2 ∙ ap query.Wanted (wanted_once pairs (given_least pairs next unbroken) h.0 k.0 h.1 k.1) ∙ sym k.2
+query_value_once query_of_link pairs next a b unbroken h k = h.2 ∙ ap query.Link (links_alone pairs h.0 k.0 h.1 k.1) ∙ sym k.2
+query_value_once query_of_put pairs next a b unbroken h k = h.2 ∙ ap query.Id (some_same h.0 k.0 (sym h.1 ∙ k.1)) ∙ sym k.2
+
+-- a body gives one value
+body_value_once : OneJson → (form : BodyForm) (bytes : List ℕ) (a b : BodyValue) → IsBodyValue form bytes a → IsBodyValue form bytes b → a ≡ b
+body_value_once one any_body bytes a b h k = h ∙ sym k
+body_value_once one statement_body bytes a b h k =
+    let trees : h.0 ≡ k.0 = same_tree h.0 k.0 (one_value one bytes (view h.0) (view k.0) h.1 k.1) in
+    h.2 ∙ ap body.Statement trees ∙ sym k.2
+body_value_once one statements_body bytes a b h k =
+    let values : h.1 ≡ k.1 = one_value one bytes h.1 k.1 h.2 k.2 in
+    let trees : h.0 ≡ k.0 = same_trees h.0 k.0 (h.3 ∙ ap batch_of values ∙ sym k.3) in
+    h.4 ∙ ap body.Statements trees ∙ sym k.4
+body_value_once one (strings_body members) bytes a b h k =
+    let values : h.1 ≡ k.1 = one_value one bytes h.1 k.1 h.2 k.2 in
+    let texts : h.0 ≡ k.0 = some_texts h.0 k.0 (sym h.3 ∙ ap (λ (j : Json). map (λ member. text_under member.0 j) members) values ∙ k.3) in
+    h.4 ∙ ap body.Strings texts ∙ sym k.4
 
 -- what a form means that breaks no rule
 means_once : OneJson → (o : Operation) (request : Request) (c d : Command) → FirstBroken o request None → Means o request c → Means o request d → c ≡ d
-means_once one operation.TellVersions request c d unbroken h k = h ∙ sym k
-means_once one operation.GetStatements request c d unbroken h k =
-    h.2 ∙ ap (λ (wanted : Wanted). command.Read (read.Statements wanted)) (wanted_once (parameters_of request.query) (given_least (parameters_of request.query) unbroken) h.0 k.0 h.1 k.1) ∙ sym k.2
-means_once one operation.GetMoreStatements request c d unbroken h k =
-    h.2 ∙ ap (λ (link : MoreLink). command.Read (read.More link)) (links_alone (parameters_of request.query) h.0 k.0 h.1 k.1) ∙ sym k.2
-means_once one operation.PostStatements request c d unbroken h k =
-    let values : h.1 ≡ k.1 = one_value one request.body h.1 k.1 h.2 k.2 in
-    let trees : h.0 ≡ k.0 = same_trees h.0 k.0 (h.3 ∙ ap batch_of values ∙ sym k.3) in
-    h.4 ∙ ap (λ (statements : List Tree). command.Write (write.Post statements)) trees ∙ sym k.4
-means_once one operation.PutStatement request c d unbroken h k =
-    let ids : h.0 ≡ k.0 = some_same h.0 k.0 (sym h.2 ∙ k.2) in
-    let trees : h.1 ≡ k.1 = same_tree h.1 k.1 (one_value one request.body (view h.1) (view k.1) h.3 k.3) in
-    let puts : command.Write (write.Put h.0 h.1) ≡ command.Write (write.Put k.0 k.1) = λ i. command.Write (write.Put (ids i) (trees i)) in
-    h.4 ∙ puts ∙ sym k.4
-means_once one operation.MakeProvider request c d unbroken h k =
-    let values : h.1 ≡ k.1 = one_value one request.body h.1 k.1 h.2 k.2 in
-    let names : h.0 ≡ k.0 = some_same h.0 k.0 (sym h.3 ∙ ap (member_text (codes "name")) values ∙ k.3) in
-    h.4 ∙ ap (λ (name : List ℕ). command.Write (write.Provider name)) names ∙ sym k.4
+means_once one o request c d unbroken h k =
+    let pairs = parameters_of request.query in
+    let queries : h.0 ≡ k.0 = query_value_once (form_of o).query pairs (BodyBreaks (form_of o).body request None) h.0 k.0 unbroken h.2 k.2 in
+    let bodies : h.1 ≡ k.1 = body_value_once one (form_of o).body request.body h.1 k.1 h.3 k.3 in
+    let commands : command_of o h.0 h.1 ≡ command_of o k.0 k.1 = λ i. command_of o (queries i) (bodies i) in
+    some_same c d (sym h.4 ∙ commands ∙ k.4)
 
 command_at : OneJson → (area : Area) (o : Operation) (request : Request) (c d : Command) (a b : Broken) → a ≡ b → FirstBroken o request a
     → MatchOption a (Means o request c) (λ r. c ≡ command.Refused area 400 r) → MatchOption b (Means o request d) (λ r. d ≡ command.Refused area 400 r) → c ≡ d

@@ -3,17 +3,17 @@ use Rattle.std.proofs.Common.{◌≡◌, ℕ, Bool, true, false, List, Option, S
 use Rattle.std.specs.Prelude.{◌&&◌, ◌||◌, not, is_some, option_and_then, codes, MatchOption}
 use Rattle.lrs_names.specs.Ids.{id_of}
 use Rattle.lrs_command.specs.declared.rule.Rule.{Rule}
-use Rattle.xapi_query.specs.Parameters.{LeastOfGet, are_among, given, has, number_under, one_names}
-use Rattle.xapi_query.specs.Queries.{IsQuery, id_under}
-use Rattle.xapi_query.specs.Wants.{IsWanted}
+use Rattle.xapi_parameters.specs.Parameters.{LeastOfGet, are_among, given, has, number_under, one_names}
+use Rattle.xapi_parameters.specs.Queries.{IsQuery, id_under}
+use Rattle.xapi_parameters.specs.Wants.{IsWanted}
 use Rattle.xapi_query.specs.declared.link.MoreLink.{MoreLink}
-use Rattle.xapi_query.specs.declared.pair.Pair.{Pair}
+use Rattle.xapi_parameters.specs.declared.pair.Pair.{Pair}
 use Rattle.xapi_query.specs.declared.wanted.Wanted.{Wanted}
 use Rattle.xapi_query.specs.declared.wanted.Wanted.TheVariants.{One, Voided, Many}
 use Rattle.xapi_query.specs.declared.query.Query.{Query}
-use Rattle.xapi_query.proofs.LinkAlone.{links_alone}
+use Rattle.xapi_parameters.proofs.LinkAlone.{links_alone}
 use Rattle.lrs_command.specs.declared.rule.Rule.TheVariants as rule
-use Rattle.lrs_routes.specs.Parts.{OnlyGiven}
+use Rattle.lrs_routes.specs.Forms.{Given}
 
 id_given : (value : Option (List ℕ)) (id : List ℕ) → option_and_then id_of value ≡ Some id → is_some value ≡ true
 id_given None id e = cc e
@@ -82,13 +82,13 @@ wanted_once pairs least (Many p) (Many q) h k = ap Many (query_once pairs p q h.
 none_some : (r : Rule) → ◌≡◌ {A = Option Rule} None (Some r) → ⊥
 none_some r e = cc e
 
-least_at : (pairs : List Pair) (found : Option ℕ) → LeastOfGet found pairs → MatchOption found (◌≡◌ {A = Option Rule} None None) (λ n. None ≡ Some (rule.P n)) → LeastOfGet None pairs
-least_at pairs None own h = own
-least_at pairs (Some n) own h = absurd (none_some (rule.P n) h)
+least_at : (pairs : List Pair) (found : Option ℕ) (next : Type 0) → LeastOfGet found pairs → MatchOption found next (λ n. ◌≡◌ {A = Option Rule} None (Some (rule.P n))) → LeastOfGet None pairs
+least_at pairs None next own h = own
+least_at pairs (Some n) next own h = absurd (none_some (rule.P n) h)
 
 -- where a GET breaks no rule, its parameters break none
-pub given_least : (pairs : List Pair) → OnlyGiven LeastOfGet pairs None → LeastOfGet None pairs
-given_least pairs h = elim h [
-  | inl good ↦ least_at pairs good.1.0 good.1.1 good.1.2
+pub given_least : (pairs : List Pair) (next : Type 0) → Given LeastOfGet pairs None next → LeastOfGet None pairs
+given_least pairs next h = elim h [
+  | inl good ↦ least_at pairs good.1.0 next good.1.1 good.1.2
   | inr bad ↦ absurd (none_some (rule.P 1) bad.1)
 ]

@@ -1,15 +1,15 @@
 -- What a request asks: a caller and a command, or why there is no route to one.
-use Rattle.std.specs.Prelude.{◌≡◌, ◌⊎◌, ◌||◌, ℕ, List, Bool, true, false, not, map, Option, Some, None, Result, Ok, Err}
+use Rattle.std.specs.Prelude.{◌≡◌, ◌⊎◌, ◌||◌, ℕ, List, Bool, true, false, not, Option, Some, None, Result, Ok, Err}
 use Rattle.lrs_http.specs.declared.request.Method.{Method}
 use Rattle.lrs_http.specs.declared.request.Request.{Request}
 use Rattle.lrs_routes.specs.Fields.{caller_of, speaks}
 use Rattle.lrs_routes.specs.Forms.{IsCommand}
 use Rattle.lrs_routes.specs.Paths.{Fits}
-use Rattle.lrs_routes.specs.Table.{methods_of, operation_of, row_of}
+use Rattle.lrs_routes.specs.Table.{allow_of, operation_of, row_of}
 use Rattle.lrs_routes.specs.declared.asked.Asked.{Asked}
 use Rattle.lrs_routes.specs.declared.asked.RouteRefused.{RouteRefused}
 use Rattle.lrs_routes.specs.declared.asked.RouteRefused.TheVariants as refused
-use Rattle.lrs_routes.specs.declared.table.Operation.{Operation}
+use Rattle.lrs_routes.specs.declared.operation.Operation.{Operation}
 use Rattle.lrs_routes.specs.declared.table.Route.{Route}
 
 -- what the method is for on the route
@@ -27,20 +27,20 @@ pub record IsRouted (path : List ℕ) (method : Method) (version : Option (List 
   pub spoken : has_version route version ≡ true
 
 -- Why a request is not routed, the first of these that holds. Want of memory is free.
-abbrev pub IsRefused : List ℕ → Method → Option (List ℕ) → RouteRefused → Type 0
-IsRefused path method version refused.NoRoute = (route : Route) → ¬ Fits (row_of route).pattern path
-IsRefused path method version (refused.NoMethod allow) =
-    (route : Route) × Fits (row_of route).pattern path × (operation_at route method ≡ None) × (methods_of allow ≡ map (λ own. own.0) (row_of route).methods)
-IsRefused path method version refused.NoVersion =
+abbrev pub IsRouteRefused : List ℕ → Method → Option (List ℕ) → RouteRefused → Type 0
+IsRouteRefused path method version refused.NoRoute = (route : Route) → ¬ Fits (row_of route).pattern path
+IsRouteRefused path method version (refused.NoMethod allow) =
+    (route : Route) × Fits (row_of route).pattern path × (operation_at route method ≡ None) × (allow ≡ allow_of route)
+IsRouteRefused path method version refused.NoVersion =
     (route : Route) × (operation : Operation) × Fits (row_of route).pattern path × (operation_at route method ≡ Some operation) × (has_version route version ≡ false)
-IsRefused path method version refused.Memory = Unit {0}
+IsRouteRefused path method version refused.Memory = Unit {0}
 
 -- what a request asks, or why it asks nothing
 abbrev pub IsAsked : Request → Result Asked RouteRefused → Type 0
 IsAsked request (Ok asked) =
     (route : Route) × (operation : Operation) × IsRouted request.path request.method request.version route operation
     × (asked.caller ≡ caller_of (row_of route).area request.credential) × IsCommand (row_of route).area operation request asked.command
-IsAsked request (Err refused) = IsRefused request.path request.method request.version refused
+IsAsked request (Err refused) = IsRouteRefused request.path request.method request.version refused
 
 -- Two accounts of one request agree: they are one, but where memory was wanting.
 abbrev pub Agree : Result Asked RouteRefused → Result Asked RouteRefused → Type 0

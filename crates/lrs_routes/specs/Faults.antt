@@ -1,9 +1,9 @@
 -- Which rule a refusal of a lower layer means.
-use Rattle.lrs_json.specs.declared.reading.ReadRefused.{ReadRefused}
-use Rattle.lrs_json.specs.declared.reading.ReadRefused.TheVariants as read
+use Rattle.lrs_json_reader.specs.declared.reading.ReadRefused.{ReadRefused}
+use Rattle.lrs_json_reader.specs.declared.reading.ReadRefused.TheVariants as read
 use Rattle.lrs_command.specs.declared.rule.Rule.TheVariants as rule
-use Rattle.xapi_query.specs.declared.refused.QueryRefused.{QueryRefused}
-use Rattle.xapi_query.specs.declared.refused.QueryRefused.TheVariants as query
+use Rattle.xapi_parameters.specs.declared.refused.QueryRefused.{QueryRefused}
+use Rattle.xapi_parameters.specs.declared.refused.QueryRefused.TheVariants as query
 use Rattle.lrs_routes.specs.declared.fault.Fault.{Fault}
 use Rattle.lrs_routes.specs.declared.fault.Fault.TheVariants as fault
 

@@ -6,9 +6,8 @@ use Rattle.lrs_http.specs.declared.request.Method.TheVariants.{Get, Put, Post, D
 use Rattle.lrs_command.specs.declared.command.Area.{Area}
 use Rattle.lrs_command.specs.declared.command.Area.TheVariants as area
 use Rattle.lrs_routes.specs.declared.table.Allow.{Allow}
-use Rattle.lrs_routes.specs.declared.table.Allow.TheVariants as allow
-use Rattle.lrs_routes.specs.declared.table.Operation.{Operation}
-use Rattle.lrs_routes.specs.declared.table.Operation.TheVariants as operation
+use Rattle.lrs_routes.specs.declared.operation.Operation.{Operation}
+use Rattle.lrs_routes.specs.declared.operation.Operation.TheVariants as operation
 use Rattle.lrs_routes.specs.declared.table.Route.{Route}
 use Rattle.lrs_routes.specs.declared.table.Route.TheVariants as route
 
@@ -54,11 +53,13 @@ operation_of [] method = None
 operation_of (first ∷ methods) method =
     if bytes_eq (method_name first.0) (method_name method) then Some first.1 else operation_of methods method
 
--- the methods that a refusal lists
+-- what a refusal at that route allows
+abbrev pub allow_of : Route → Allow
+allow_of route = record { route = route }
+
+-- the methods that a refusal lists: those of its route
 abbrev pub methods_of : Allow → List Method
-methods_of allow.Get = Get ∷ []
-methods_of allow.GetPostPut = Get ∷ Post ∷ Put ∷ []
-methods_of allow.Post = Post ∷ []
+methods_of allow = map (λ own. own.0) (row_of allow.route).methods
 
 -- their names, with a comma and a space between them (RFC 9110, section 10.2.1)
 abbrev pub listed : List Method → List ℕ

@@ -1,22 +1,57 @@
 // The body of a request, as JSON.
-ghost use Rattle.std.specs.Prelude.{◌≡◌, [], ◌∷◌, Some, IfOk, IfErr, MatchOption, codes, map, option_map};
+ghost use Rattle.std.specs.Prelude.{◌≡◌, [], ◌∷◌, IfOk, map, option_map};
 ghost use Rattle.std.specs.List.{list_all};
-ghost use Rattle.lrs_json.specs.Find.{find, find_member};
 ghost use Rattle.lrs_json.specs.View.{elements_of, member_view, members_of, view};
-ghost use Rattle.lrs_names.specs.Members.{has_member, member_text};
-ghost use Rattle.lrs_routes.specs.Forms.{NamesProvider, ProviderBody, Spelled, StatementBody, batch_of, has_just};
-ghost use Rattle.lrs_routes.specs.Parts.{AreStatementsOf, Finds, IsProviderIn, IsTreeOf};
+ghost use Rattle.lrs_names.specs.Members.{are_named_by, has_member, has_only, is_one_of};
+ghost use Rattle.lrs_command.specs.declared.rule.Rule.TheVariants as rule;
+ghost use Rattle.lrs_routes.specs.Forms.{AreStrings, BodyBreaks, StatementBody, first_unlike, has_just};
+ghost use Rattle.lrs_routes.specs.Operations.{AreTextsOf, batch_of, names_of, statement_body, statements_body, strings_body};
+ghost use Rattle.lrs_routes.specs.Parts.{AreStringsOf, Finds, IsInBody, IsTreeOf, OnlySpelled};
 
 use crate::fault::Fault;
 use crate::fields::allows_json;
+use crate::values::BodyValue;
 use lrs_command::Rule;
 use lrs_http::Request;
-use lrs_json::{Items, Member, Memory, Text, Tree, read};
-use lrs_names::{has_member, has_only};
+use lrs_json::{Items, Member, Memory, Text, Tree};
+use lrs_json_reader::read;
+use lrs_names::{has_member, text_under};
 use std::alloc::Global;
 
 /// The body as a statement that isn't looked into.
-pub fn statement_in(alloc: Global, request: &Request) -> Result<Tree, Fault>
+pub(crate) fn statement_in(alloc: Global, request: &Request) -> Result<BodyValue, Fault>
+    ensures { Finds (BodyBreaks statement_body request.now) (IsInBody statement_body request.now.body) result }
+{
+    let body = statement_tree(alloc, request)?;
+    Ok(BodyValue::Statement(body))
+}
+
+/// The body as statements that aren't looked into: an array of them, or one alone.
+pub(crate) fn statements_in(alloc: Global, request: &Request) -> Result<BodyValue, Fault>
+    ensures { Finds (BodyBreaks statements_body request.now) (IsInBody statements_body request.now.body) result }
+{
+    let body = statement_tree(alloc, request)?;
+    let statements = batch_of(alloc, body)?;
+    Ok(BodyValue::Statements(statements))
+}
+
+/// The body as an object of just these members, each a string, and each with the number of the rule that it breaks
+/// where it is none.
+pub(crate) fn strings_in(
+    alloc: Global,
+    request: &Request,
+    members: &[(&str, u8)],
+) -> Result<BodyValue, Fault>
+    ensures { Finds (BodyBreaks (strings_body (map (λ m. (m.0.now, m.1)) members.now)) request.now)
+        (IsInBody (strings_body (map (λ m. (m.0.now, m.1)) members.now)) request.now.body) result }
+{
+    let body = tree(alloc, request.body.as_slice())?;
+    let strings = strings_of(alloc, &body, members);
+    drop(body);
+    strings
+}
+
+fn statement_tree(alloc: Global, request: &Request) -> Result<Tree, Fault>
     ensures { Finds (StatementBody request.now) (IsTreeOf request.now.body) result }
 {
     if allows_json(&request.media) {
@@ -26,13 +61,13 @@ pub fn statement_in(alloc: Global, request: &Request) -> Result<Tree, Fault>
     }
 }
 
-/// The body as statements that aren't looked into: an array of them, or one alone.
-pub fn statements_in(alloc: Global, request: &Request) -> Result<Items<Tree>, Fault>
-    ensures { Finds (StatementBody request.now) (AreStatementsOf request.now.body) result }
+fn tree(alloc: Global, bytes: &[u8]) -> Result<Tree, Fault>
+    ensures { Finds (OnlySpelled bytes.now) (IsTreeOf bytes.now) result }
 {
-    let body = statement_in(alloc, request)?;
-    let statements = batch_of(alloc, body)?;
-    Ok(statements)
+    match read(alloc, bytes) {
+        Ok(tree) => Ok(tree),
+        Err(refused) => Err(Fault::from(refused)),
+    }
 }
 
 fn batch_of(alloc: Global, body: Tree) -> Result<Items<Tree>, Memory>
@@ -52,76 +87,80 @@ fn alone(alloc: Global, statement: Tree) -> Result<Items<Tree>, Memory>
     Ok(statements)
 }
 
-/// The name of the provider that the body asks for.
-pub fn provider_in(alloc: Global, request: &Request) -> Result<Text, Fault>
-    ensures { Finds (ProviderBody request.now) (IsProviderIn request.now.body) result }
+fn strings_of(alloc: Global, tree: &Tree, members: &[(&str, u8)]) -> Result<BodyValue, Fault>
+    ensures { Finds (AreStrings (map (λ m. (m.0.now, m.1)) members.now) (view tree.now))
+        (AreStringsOf (map (λ m. (m.0.now, m.1)) members.now) (view tree.now)) result }
 {
-    let body = tree(alloc, request.body.as_slice())?;
-    provider_of(body)
-}
-
-fn tree(alloc: Global, bytes: &[u8]) -> Result<Tree, Fault>
-    ensures { Finds (λ broken. Spelled bytes.now broken (λ j. broken ≡ None)) (IsTreeOf bytes.now) result }
-{
-    match read(alloc, bytes) {
-        Ok(tree) => Ok(tree),
-        Err(refused) => Err(Fault::from(refused)),
-    }
-}
-
-fn provider_of(body: Tree) -> Result<Text, Fault>
-    ensures { Finds (NamesProvider (view body)) (λ name. member_text (codes "name") (view body) ≡ Some name) result }
-{
-    if !has_just(&body, &["name"]) {
+    if !has_just(tree, members) {
         return Err(Fault::Broken(Rule::B(1)));
     }
-    match take_text(body, "name") {
-        Some(name) => Ok(name),
-        None => Err(Fault::Broken(Rule::B(2))),
-    }
+    let texts = texts_of(alloc, tree, members)?;
+    Ok(BodyValue::Strings(texts))
 }
 
 // Whether the tree is an object that has these members, and no others.
-fn has_just(tree: &Tree, names: &[&str]) -> bool
-    ensures { result ≡ has_just (map (λ name. name.now) names.now) (view tree.now) }
+fn has_just(tree: &Tree, members: &[(&str, u8)]) -> bool
+    ensures { result ≡ has_just (names_of (map (λ m. (m.0.now, m.1)) members.now)) (view tree.now) }
 {
-    has_only(tree, names) && has_all(tree, names)
+    has_only(tree, members) && has_all(tree, members)
 }
 
-fn has_all(tree: &Tree, names: &[&str]) -> bool
-    ensures { result ≡ list_all (λ name. has_member name (view tree.now)) (map (λ name. name.now) names.now) }
+fn has_only(tree: &Tree, members: &[(&str, u8)]) -> bool
+    ensures { result ≡ has_only (names_of (map (λ m. (m.0.now, m.1)) members.now)) (view tree.now) }
 {
-    for name in names {
-        if !has_member(tree, name) {
+    match tree {
+        Tree::Object(own) => are_named_by(own.as_slice(), members),
+        _ => false,
+    }
+}
+
+fn are_named_by(own: &[Member], members: &[(&str, u8)]) -> bool
+    ensures { result ≡ are_named_by (names_of (map (λ m. (m.0.now, m.1)) members.now))
+        (members_of (map member_view own.now)) }
+{
+    for member in own {
+        if !is_named(members, member.name.as_str()) {
             return false;
         }
     }
     true
 }
 
-// The text of the member of that name, where it is a string.
-fn take_text(tree: Tree, name: &str) -> Option<Text>
-    ensures { result ≡ member_text name.now (view tree) }
+fn is_named(members: &[(&str, u8)], text: &str) -> bool
+    ensures { result ≡ is_one_of (names_of (map (λ m. (m.0.now, m.1)) members.now)) text.now }
 {
-    match tree {
-        Tree::Object(members) => match take(members.into_vec(), name)? {
-            Tree::Words(text) => Some(text),
-            _ => None,
-        },
-        _ => None,
-    }
-}
-
-// The value of the first member of that name.
-fn take(members: Vec<Member>, name: &str) -> Option<Tree>
-    ensures { option_map (λ t. view t) result ≡ find_member name.now (members_of (map member_view members.items)) }
-{
-    let mut rest = members;
-    while !rest.is_empty() {
-        let Member { name: own, value } = rest.remove(0);
-        if own.as_str() == name {
-            return Some(value);
+    for member in members {
+        if member.0 == text {
+            return true;
         }
     }
-    None
+    false
+}
+
+fn has_all(tree: &Tree, members: &[(&str, u8)]) -> bool
+    ensures { result ≡ list_all (λ name. has_member name (view tree.now))
+        (names_of (map (λ m. (m.0.now, m.1)) members.now)) }
+{
+    for member in members {
+        if !has_member(tree, member.0) {
+            return false;
+        }
+    }
+    true
+}
+
+// The texts of the members, in their order, up to the first that is no string.
+fn texts_of(alloc: Global, tree: &Tree, members: &[(&str, u8)]) -> Result<Items<Text>, Fault>
+    ensures { Finds (λ broken. broken ≡ option_map (λ number. rule.B number)
+        (first_unlike (map (λ m. (m.0.now, m.1)) members.now) (view tree.now)))
+        (AreTextsOf (map (λ m. (m.0.now, m.1)) members.now) (view tree.now)) result }
+{
+    let mut texts = Items::new(alloc);
+    for member in members {
+        match text_under(tree, member.0) {
+            Some(text) => texts.push(Text::of(alloc, text.as_str())?)?,
+            None => return Err(Fault::Broken(Rule::B(member.1))),
+        }
+    }
+    Ok(texts)
 }

@@ -1,6 +1,7 @@
 use lrs_command::Rule;
-use lrs_json::{Memory, ReadRefused};
-use xapi_query::QueryRefused;
+use lrs_json::Memory;
+use lrs_json_reader::ReadRefused;
+use xapi_parameters::QueryRefused;
 
 /// Why a request means no command.
 #[derive(Clone, Copy, Debug, PartialEq, Eq)]

@@ -7,8 +7,11 @@ mod bodies;
 mod fault;
 mod fields;
 mod forms;
+mod operation;
+mod parameters;
 mod routes;
 mod table;
+mod values;
 
 pub use asked::{Asked, RouteRefused};
 pub use routes::Routes;

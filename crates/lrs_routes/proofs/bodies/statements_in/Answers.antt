@@ -1,5 +1,16 @@
-use Rattle.lrs_routes.proofs.Looks.{batch_found}
+use Rattle.std.proofs.Common.{refl}
+use Rattle.lrs_json.specs.View.{view}
+use Rattle.lrs_routes.proofs.Batches.{lawful_batch}
 use Rattle.lrs_routes.proofs.bodies.statements_in.Goals as goal
 
 pub returns : goal.returns
-returns c = batch_found c.args.request.now c.in_ok-body.body c.in_ok-statements.statements c.in_ok-body.ensures.0 c.in_ok-body.ensures.1 c.in_ok-statements.ensures
+returns c =
+    let body = c.in_ok-body.body in
+    let statements = c.in_ok-statements.statements in
+    let tree = c.in_ok-body.ensures.1 in (
+      c.in_ok-body.ensures.0,
+      record {
+        is = (statements, view body, tree.spelled, c.in_ok-statements.ensures, refl);
+        kind = lawful_batch (view body) statements tree.readable c.in_ok-statements.ensures;
+      },
+    )

@@ -1,10 +1,10 @@
 use Rattle.std.proofs.Common.{◌≡◌, Option, List, ℕ, subst, sym}
 use Rattle.std.specs.Prelude.{MatchResult}
-use Rattle.xapi_query.specs.Pairs.{AreTexts}
+use Rattle.xapi_parameters.specs.Pairs.{AreTexts}
 use Rattle.lrs_command.specs.declared.rule.Rule.TheVariants as rule
 use Rattle.lrs_routes.specs.Forms.{parameters_of}
 use Rattle.lrs_routes.specs.Parts.{IfBroken}
-use Rattle.lrs_routes.proofs.forms.parameters.Goals as goal
+use Rattle.lrs_routes.proofs.parameters.parameters.Goals as goal
 
 pub returns-in-Some : goal.returns-in-Some
 returns-in-Some c =

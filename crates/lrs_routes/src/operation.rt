@@ -1,0 +1,121 @@
+ghost use Rattle.std.specs.Prelude.{◌≡◌, Some};
+ghost use Rattle.lrs_routes.specs.Forms.{BodyBreaks, parameters_of};
+ghost use Rattle.lrs_routes.specs.Operations.{OfBody, OfQuery, command_of, form_of};
+ghost use Rattle.lrs_routes.specs.Parts.{Finds, IsInBody, IsInQuery, IsPlain, OnlyQuery};
+
+use crate::bodies::{statement_in, statements_in, strings_in};
+use crate::fault::Fault;
+use crate::parameters::{id_in, link_in, nothing_in, wanted_in};
+use crate::values::{BodyValue, QueryValue, first};
+use lrs_command::{Command, Read};
+use lrs_http::Request;
+use lrs_json::Text;
+use lrs_record::Write;
+use std::alloc::Global;
+
+/// What a method of a route is for.
+#[derive(Clone, Copy, Debug, PartialEq, Eq)]
+pub(crate) enum Operation {
+    /// Gives the versions of xAPI that are spoken.
+    TellVersions,
+    /// Gives statements.
+    GetStatements,
+    /// Gives the next page of a list of statements.
+    GetMoreStatements,
+    /// Keeps statements together.
+    PostStatements,
+    /// Keeps a statement under an id.
+    PutStatement,
+    /// Makes a provider and its token.
+    MakeProvider,
+}
+
+impl Operation {
+    /// What the parameters give, by the operation's rules on them.
+    pub(crate) fn query_value(
+        self,
+        alloc: Global,
+        query: &Option<Text>,
+    ) -> Result<QueryValue, Fault>
+        ensures { Finds (OnlyQuery (form_of self).query (parameters_of query.now))
+            (IsInQuery (form_of self).query (parameters_of query.now)) result }
+    {
+        match self {
+            Operation::TellVersions => Ok(QueryValue::Nothing),
+            Operation::GetStatements => wanted_in(alloc, query),
+            Operation::GetMoreStatements => link_in(alloc, query),
+            Operation::PutStatement => id_in(alloc, query),
+            Operation::PostStatements | Operation::MakeProvider => nothing_in(alloc, query),
+        }
+    }
+
+    /// What the body gives, by the operation's rules on it.
+    pub(crate) fn body_value(self, alloc: Global, request: &Request) -> Result<BodyValue, Fault>
+        ensures { Finds (BodyBreaks (form_of self).body request.now)
+            (IsInBody (form_of self).body request.now.body) result }
+    {
+        match self {
+            Operation::TellVersions | Operation::GetStatements | Operation::GetMoreStatements => Ok(
+                BodyValue::Nothing,
+            ),
+            Operation::PostStatements => statements_in(alloc, request),
+            Operation::PutStatement => statement_in(alloc, request),
+            Operation::MakeProvider => strings_in(alloc, request, &[("name", 2)]),
+        }
+    }
+
+    /// The command of what the two give.
+    pub(crate) fn command(self, query: QueryValue, body: BodyValue) -> Command
+        requires query { OfQuery (form_of self).query query }
+        requires body { OfBody (form_of self).body body }
+        ensures is { command_of self query body ≡ Some result }
+        ensures plain { IsPlain result }
+    {
+        match self {
+            Operation::TellVersions => {
+                drop(query);
+                drop(body);
+                Command::Read(Read::About)
+            }
+            Operation::GetStatements => {
+                drop(body);
+                match query {
+                    QueryValue::Wanted(wanted) => Command::Read(Read::Statements(wanted)),
+                    _ => unreachable!(),
+                }
+            }
+            Operation::GetMoreStatements => {
+                drop(body);
+                match query {
+                    QueryValue::Link(link) => Command::Read(Read::More(link)),
+                    _ => unreachable!(),
+                }
+            }
+            Operation::PostStatements => {
+                drop(query);
+                match body {
+                    BodyValue::Statements(statements) => Command::Write(Write::Post { statements }),
+                    _ => unreachable!(),
+                }
+            }
+            Operation::PutStatement => match query {
+                QueryValue::Id(id) => match body {
+                    BodyValue::Statement(statement) => Command::Write(Write::Put { id, statement }),
+                    _ => unreachable!(),
+                },
+                _ => unreachable!(),
+            },
+            Operation::MakeProvider => {
+                drop(query);
+                match body {
+                    BodyValue::Strings(strings) => {
+                        let mut texts = strings.into_vec();
+                        let name = first(&mut texts);
+                        Command::Write(Write::Provider { name })
+                    }
+                    _ => unreachable!(),
+                }
+            }
+        }
+    }
+}
