@@ -8,7 +8,7 @@ use Rattle.lrs_replies.specs.declared.answered.Answered.{Answered}
 use Rattle.lrs_replies.specs.declared.reply.Reply.{Reply}
 use Rattle.lrs_replies.specs.declared.reply.Trouble.{Trouble}
 use Rattle.lrs_replies.specs.declared.reply.Trouble.TheVariants.{Memory, Disk}
-use Rattle.lrs_machine.specs.Desk.{Account, HasCause, StandsFor}
+use Rattle.lrs_machine.specs.Desk.{Receipt, HasDiskCause, StandsFor}
 use Rattle.lrs_replies.specs.Replies.{Says}
 use Rattle.lrs_names.specs.declared.draw.Draw.{Draw}
 use Rattle.lrs_record.specs.declared.entry.Caller.{Caller}
@@ -18,7 +18,7 @@ use Rattle.lrs_routes.specs.declared.asked.Asked.{Asked}
 use Rattle.lrs_routes.specs.declared.asked.RouteRefused.{RouteRefused}
 use Rattle.lrs_hall.specs.declared.talk.Finish.{Finish}
 use Rattle.lrs_hall.specs.Acts.{ActsIn, ActsOn, BeginsWith, DeskAndClock, Reach}
-use Rattle.lrs_hall.specs.Conversation.{Worker, Phase, going, over, Serves, Answers, closes_behind, RespondsIn, Converses}
+use Rattle.lrs_hall.specs.Conversation.{Worker, Phase, going, over, ServesAsked, ServesRequest, closes_behind, RespondsIn, Converses}
 use Rattle.lrs_hall.specs.Draws.{draw_at}
 use Rattle.lrs_hall.specs.Responses.{Fixed, IsFraming, framing_response}
 use Rattle.lrs_hall.specs.Serving.{AddsReadings, Counts, clocks, worker_at}
@@ -46,9 +46,9 @@ still told limit h old new P stands bound same holds = (
   λ history begins. subst (λ w. P history (at w h)) (sym same) (holds history),
 )
 
-serves_in : {D : Type 0} (told : D → Option (List ℕ)) (time faults : D → ℕ) (limit : ℕ) (closes : Bool) (asked : Result Asked RouteRefused) (receipt : Account) (text : List ℕ) (old new : Worker (DeskAndClock D)) (h : List Entry)
-    → Serves (ActsOn told time faults) closes asked receipt text old new → StandsFor told old.store.held h → old.store.held.limit ≡ limit
-    → Tells told limit h new (λ history later. Serves (ActsIn limit history) closes asked receipt text (at old h) (at new later))
+serves_in : {D : Type 0} (told : D → Option (List ℕ)) (time faults : D → ℕ) (limit : ℕ) (closes : Bool) (asked : Result Asked RouteRefused) (receipt : Receipt) (text : List ℕ) (old new : Worker (DeskAndClock D)) (h : List Entry)
+    → ServesAsked (ActsOn told time faults) closes asked receipt text old new → StandsFor told old.store.held h → old.store.held.limit ≡ limit
+    → Tells told limit h new (λ history later. ServesAsked (ActsIn limit history) closes asked receipt text (at old h) (at new later))
 serves_in told time faults limit closes (Ok asked) receipt text old new h serves stands bound =
     let act = act_in told time faults asked.caller asked.command (draw_at old.draws) serves.0 receipt old.store new.store h serves.1 stands in (
       act.0,
@@ -63,18 +63,18 @@ serves_in told time faults limit closes (Ok asked) receipt text old new h serves
       ),
     )
 serves_in told time faults limit closes (Err refusal) receipt text old new h serves stands bound =
-    still told limit h old new (λ history w. Serves (ActsIn limit history) closes (Err refusal) receipt text (at old h) w) stands bound serves.1 (λ history. (serves.0, refl))
+    still told limit h old new (λ history w. ServesAsked (ActsIn limit history) closes (Err refusal) receipt text (at old h) w) stands bound serves.1 (λ history. (serves.0, refl))
 
-answers_in : {D : Type 0} (told : D → Option (List ℕ)) (time faults : D → ℕ) (limit : ℕ) (closes : Bool) (heard : Result Request RequestRefused) (receipt : Account) (text : List ℕ) (old new : Worker (DeskAndClock D)) (h : List Entry)
-    → Answers (ActsOn told time faults) closes heard receipt text old new → StandsFor told old.store.held h → old.store.held.limit ≡ limit
-    → Tells told limit h new (λ history later. Answers (ActsIn limit history) closes heard receipt text (at old h) (at new later))
+answers_in : {D : Type 0} (told : D → Option (List ℕ)) (time faults : D → ℕ) (limit : ℕ) (closes : Bool) (heard : Result Request RequestRefused) (receipt : Receipt) (text : List ℕ) (old new : Worker (DeskAndClock D)) (h : List Entry)
+    → ServesRequest (ActsOn told time faults) closes heard receipt text old new → StandsFor told old.store.held h → old.store.held.limit ≡ limit
+    → Tells told limit h new (λ history later. ServesRequest (ActsIn limit history) closes heard receipt text (at old h) (at new later))
 answers_in told time faults limit closes (Ok request) receipt text old new h answers stands bound =
     let served = serves_in told time faults limit closes answers.0 receipt text old new h answers.2 stands bound in
     (served.0, served.1, served.2, served.3, λ history begins. (answers.0, answers.1, served.4 history begins))
 answers_in told time faults limit closes (Err refusal) receipt text old new h answers stands bound =
-    still told limit h old new (λ history w. Answers (ActsIn limit history) closes (Err refusal) receipt text (at old h) w) stands bound answers.1 (λ history. (answers.0, refl))
+    still told limit h old new (λ history w. ServesRequest (ActsIn limit history) closes (Err refusal) receipt text (at old h) w) stands bound answers.1 (λ history. (answers.0, refl))
 
-responds_in : {D : Type 0} (told : D → Option (List ℕ)) (time faults : D → ℕ) (limit : ℕ) (phase : Phase) (receipt : Account) (front : List ℕ) (old new : Worker (DeskAndClock D)) (behind : Phase) (h : List Entry)
+responds_in : {D : Type 0} (told : D → Option (List ℕ)) (time faults : D → ℕ) (limit : ℕ) (phase : Phase) (receipt : Receipt) (front : List ℕ) (old new : Worker (DeskAndClock D)) (behind : Phase) (h : List Entry)
     → RespondsIn (ActsOn told time faults) phase receipt front old new behind → StandsFor told old.store.held h → old.store.held.limit ≡ limit
     → Tells told limit h new (λ history later. RespondsIn (ActsIn limit history) phase receipt front (at old h) (at new later) behind)
 responds_in told time faults limit (going most stream) receipt front old new behind h responds stands bound =
@@ -94,7 +94,7 @@ responds_in told time faults limit (going most stream) receipt front old new beh
     )
 responds_in told time faults limit (over f) receipt front old new behind h responds stands bound = absurd responds
 
-pub converses_in : {D : Type 0} (told : D → Option (List ℕ)) (time faults : D → ℕ) (limit : ℕ) (phase : Phase) (receipts : List Account) (out : List ℕ) (f : Finish) (old new : Worker (DeskAndClock D)) (h : List Entry)
+pub converses_in : {D : Type 0} (told : D → Option (List ℕ)) (time faults : D → ℕ) (limit : ℕ) (phase : Phase) (receipts : List Receipt) (out : List ℕ) (f : Finish) (old new : Worker (DeskAndClock D)) (h : List Entry)
     → Converses (ActsOn told time faults) phase receipts out f old new → StandsFor told old.store.held h → old.store.held.limit ≡ limit
     → Tells told limit h new (λ history later. Converses (ActsIn limit history) phase receipts out f (at old h) (at new later))
 converses_in told time faults limit phase [] out f old new h talks stands bound =
@@ -112,27 +112,27 @@ converses_in told time faults limit phase (receipt ∷ receipts) out f old new h
 
 -- ---- one response: an act, or none
 
-abbrev pub ActsOnce : {D : Type 0} → (D → Option (List ℕ)) → (D → ℕ) → (D → ℕ) → Account → Worker (DeskAndClock D) → Worker (DeskAndClock D) → Type 0
+abbrev pub ActsOnce : {D : Type 0} → (D → Option (List ℕ)) → (D → ℕ) → (D → ℕ) → Receipt → Worker (DeskAndClock D) → Worker (DeskAndClock D) → Type 0
 ActsOnce told time faults receipt old new =
     ((caller : Caller) × (command : Command) × (draw : Draw) × (reply : Reply) × ActsOn told time faults caller command draw reply receipt old.store new.store)
     ⊎ ((receipt.acted ≡ false) × (new ≡ old))
 
-once_served : {D : Type 0} (told : D → Option (List ℕ)) (time faults : D → ℕ) (closes : Bool) (asked : Result Asked RouteRefused) (receipt : Account) (text : List ℕ) (old new : Worker (DeskAndClock D))
-    → Serves (ActsOn told time faults) closes asked receipt text old new → ActsOnce told time faults receipt old new
+once_served : {D : Type 0} (told : D → Option (List ℕ)) (time faults : D → ℕ) (closes : Bool) (asked : Result Asked RouteRefused) (receipt : Receipt) (text : List ℕ) (old new : Worker (DeskAndClock D))
+    → ServesAsked (ActsOn told time faults) closes asked receipt text old new → ActsOnce told time faults receipt old new
 once_served told time faults closes (Ok asked) receipt text old new serves = inl (asked.caller, asked.command, draw_at old.draws, serves.0, serves.1)
-once_served told time faults closes (Err refusal) receipt text old new serves = inr (ap (λ (r : Account). r.acted) serves.0.0, serves.1)
+once_served told time faults closes (Err refusal) receipt text old new serves = inr (ap (λ (r : Receipt). r.acted) serves.0.0, serves.1)
 
-once_framed : {D : Type 0} (told : D → Option (List ℕ)) (time faults : D → ℕ) (f : Option Fixed) (receipt : Account) (text : List ℕ) (old new : Worker (DeskAndClock D))
+once_framed : {D : Type 0} (told : D → Option (List ℕ)) (time faults : D → ℕ) (f : Option Fixed) (receipt : Receipt) (text : List ℕ) (old new : Worker (DeskAndClock D))
     → IsFraming f receipt text → new ≡ old → ActsOnce told time faults receipt old new
 once_framed told time faults None receipt text old new framing same = absurd framing
-once_framed told time faults (Some f) receipt text old new framing same = inr (ap (λ (r : Account). r.acted) framing.0, same)
+once_framed told time faults (Some f) receipt text old new framing same = inr (ap (λ (r : Receipt). r.acted) framing.0, same)
 
-once_answered : {D : Type 0} (told : D → Option (List ℕ)) (time faults : D → ℕ) (closes : Bool) (heard : Result Request RequestRefused) (receipt : Account) (text : List ℕ) (old new : Worker (DeskAndClock D))
-    → Answers (ActsOn told time faults) closes heard receipt text old new → ActsOnce told time faults receipt old new
+once_answered : {D : Type 0} (told : D → Option (List ℕ)) (time faults : D → ℕ) (closes : Bool) (heard : Result Request RequestRefused) (receipt : Receipt) (text : List ℕ) (old new : Worker (DeskAndClock D))
+    → ServesRequest (ActsOn told time faults) closes heard receipt text old new → ActsOnce told time faults receipt old new
 once_answered told time faults closes (Ok request) receipt text old new answers = once_served told time faults closes answers.0 receipt text old new answers.2
 once_answered told time faults closes (Err refusal) receipt text old new answers = once_framed told time faults (framing_response refusal) receipt text old new answers.0 answers.1
 
-once : {D : Type 0} (told : D → Option (List ℕ)) (time faults : D → ℕ) (phase : Phase) (receipt : Account) (front : List ℕ) (old new : Worker (DeskAndClock D)) (behind : Phase)
+once : {D : Type 0} (told : D → Option (List ℕ)) (time faults : D → ℕ) (phase : Phase) (receipt : Receipt) (front : List ℕ) (old new : Worker (DeskAndClock D)) (behind : Phase)
     → RespondsIn (ActsOn told time faults) phase receipt front old new behind → ActsOnce told time faults receipt old new
 once told time faults (going most stream) receipt front old new behind responds =
     once_answered told time faults (closes_behind most responds.heard) responds.heard receipt responds.text old new responds.answered
@@ -158,13 +158,13 @@ reads_join None (Some b) (Some c) js ks first more = absurd first
 reads_join (Some a) None (Some c) js ks first more = absurd more
 reads_join (Some a) (Some b) (Some c) js ks first more = more ∙ ap (λ l. l ++ ks) first ∙ append_assoc a js ks
 
-pub reads_all : {D : Type 0} (told : D → Option (List ℕ)) (time faults : D → ℕ) (phase : Phase) (receipts : List Account) (out : List ℕ) (f : Finish) (old new : Worker (DeskAndClock D))
+pub reads_all : {D : Type 0} (told : D → Option (List ℕ)) (time faults : D → ℕ) (phase : Phase) (receipts : List Receipt) (out : List ℕ) (f : Finish) (old new : Worker (DeskAndClock D))
     → Converses (ActsOn told time faults) phase receipts out f old new → AddsReadings old.store.readings new.store.readings (clocks receipts)
 reads_all told time faults phase [] out f old new talks = subst (λ w. AddsReadings old.store.readings w.store.readings []) (sym talks.2) (reads_none old.store.readings)
 reads_all told time faults phase (receipt ∷ receipts) out f old new talks =
     let more = reads_all told time faults talks.2 receipts talks.1 f talks.3 new talks.6 in
     elim (once told time faults phase receipt talks.0 old talks.3 talks.2 talks.5) [
-      | inl act ↦ subst (λ b. AddsReadings old.store.readings new.store.readings ((if b then receipt.clock ∷ [] else []) ++ clocks receipts)) (sym (ap (λ (r : Account). r.acted) act.4.account))
+      | inl act ↦ subst (λ b. AddsReadings old.store.readings new.store.readings ((if b then receipt.clock ∷ [] else []) ++ clocks receipts)) (sym (ap (λ (r : Receipt). r.acted) act.4.account))
           (reads_one old.store.readings talks.3.store.readings new.store.readings receipt.clock (clocks receipts) act.4.read more)
       | inr none ↦ subst (λ b. AddsReadings old.store.readings new.store.readings ((if b then receipt.clock ∷ [] else []) ++ clocks receipts)) (sym none.0)
           (subst (λ w. AddsReadings w.store.readings new.store.readings (clocks receipts)) none.1 more)
@@ -172,17 +172,17 @@ reads_all told time faults phase (receipt ∷ receipts) out f old new talks =
 
 -- ---- the disk's faults
 
-kept_count : (before now : ℕ) (said : Result Answered Trouble) (reply : Reply) → Says said reply → HasCause before now said → reply.status ≢ 503 → now ≡ before
+kept_count : (before now : ℕ) (said : Result Answered Trouble) (reply : Reply) → Says said reply → HasDiskCause before now said → reply.status ≢ 503 → now ≡ before
 kept_count before now (Ok said) reply says cause well = cause
 kept_count before now (Err Memory) reply says cause well = cause
 kept_count before now (Err Disk) reply says cause well = absurd (well says.0)
 
-later_count : (before now : ℕ) (said : Result Answered Trouble) → HasCause before now said → before ≤ now
+later_count : (before now : ℕ) (said : Result Answered Trouble) → HasDiskCause before now said → before ≤ now
 later_count before now (Ok said) cause = let e : now ≡ before = cause in omega arith
 later_count before now (Err Memory) cause = let e : now ≡ before = cause in omega arith
 later_count before now (Err Disk) cause = cause.0
 
-pub counts_all : {D : Type 0} (told : D → Option (List ℕ)) (time faults : D → ℕ) (phase : Phase) (receipts : List Account) (out : List ℕ) (f : Finish) (old new : Worker (DeskAndClock D))
+pub counts_all : {D : Type 0} (told : D → Option (List ℕ)) (time faults : D → ℕ) (phase : Phase) (receipts : List Receipt) (out : List ℕ) (f : Finish) (old new : Worker (DeskAndClock D))
     → Converses (ActsOn told time faults) phase receipts out f old new → Counts (faults old.store.held.disk) receipts (faults new.store.held.disk)
 counts_all told time faults phase [] out f old new talks = ap (λ (w : Worker (DeskAndClock _)). faults w.store.held.disk) talks.2
 counts_all told time faults phase (receipt ∷ receipts) out f old new talks =
@@ -192,10 +192,10 @@ counts_all told time faults phase (receipt ∷ receipts) out f old new talks =
     let P : Bool → Type 0 = λ b. MatchBool b ((receipt.was ≡ before) × (before ≤ receipt.is) × (receipt.status ≢ 503 → receipt.is ≡ before) × Counts receipt.is receipts now) (Counts before receipts now) in
     elim (once told time faults phase receipt talks.0 old talks.3 talks.2 talks.5) [
       | inl act ↦
-          let is : receipt.is ≡ faults talks.3.store.held.disk = ap (λ (r : Account). r.is) act.4.account in
-          let status : receipt.status ≡ act.3.status = ap (λ (r : Account). r.status) act.4.account in
-          subst P (sym (ap (λ (r : Account). r.acted) act.4.account)) (
-            ap (λ (r : Account). r.was) act.4.account,
+          let is : receipt.is ≡ faults talks.3.store.held.disk = ap (λ (r : Receipt). r.is) act.4.account in
+          let status : receipt.status ≡ act.3.status = ap (λ (r : Receipt). r.status) act.4.account in
+          subst P (sym (ap (λ (r : Receipt). r.acted) act.4.account)) (
+            ap (λ (r : Receipt). r.was) act.4.account,
             subst (λ n. before ≤ n) (sym is) (later_count before (faults talks.3.store.held.disk) act.4.replies.said act.4.replies.cause),
             λ well. is ∙ kept_count before (faults talks.3.store.held.disk) act.4.replies.said act.3 act.4.replies.says act.4.replies.cause (λ e. well (status ∙ e)),
             subst (λ n. Counts n receipts now) (sym is) more,

@@ -8,11 +8,11 @@ use Rattle.lrs_disk.specs.Faults.{Rises}
 use Rattle.lrs_hall.specs.declared.talk.Finish.{Finish}
 use Rattle.lrs_hall.specs.declared.talk.Finish.TheVariants as finish
 use Rattle.lrs_hall.specs.Conversation.{ActOn, Worker}
-use Rattle.lrs_hall.specs.Serving.{AreOver, Brought, EndsServing, IsWhole, IsOver, is_fault, BringsOne}
+use Rattle.lrs_hall.specs.Serving.{AreOver, Brought, EndsServing, IsWholeTalk, IsOver, is_fault, BringsOne}
 use Rattle.lrs_hall.specs.declared.serving.ServeEnd.{ServeEnd}
 use Rattle.lrs_hall.specs.declared.serving.ServeEnd.TheVariants as serve
 use Rattle.lrs_hall.specs.Steps.{HasFinishCause, PassesOne, Served}
-use Rattle.lrs_hall.specs.Talks.{Told}
+use Rattle.lrs_hall.specs.Talks.{Talk}
 
 taken_all : (before now : Option (List ℕ)) (out : List ℕ) → IfSome before (λ bytes. bytes ≡ []) → now ≡ option_map (λ bytes. bytes ++ out) before → IfSome now (λ bytes. bytes ≡ out)
 taken_all None now out none is = subst (λ o. IfSome o (λ bytes. bytes ≡ out)) (sym is) tt
@@ -33,13 +33,13 @@ rose_by before now finish.Cut zero cause = unrisen before now zero cause
 rose_by before now finish.Memory zero cause = unrisen before now zero cause
 
 -- a talk over a link that came new and was given back
-pub is_over : {X : Type 0} (acts : ActOn X) (talk : Told) (old new : Worker X) (left stream brought before now : Option (List ℕ)) (out : List ℕ) (fresh faults : ℕ)
+pub is_over : {X : Type 0} (acts : ActOn X) (talk : Talk) (old new : Worker X) (left stream brought before now : Option (List ℕ)) (out : List ℕ) (fresh faults : ℕ)
     → left ≡ brought → stream ≡ brought → IfSome before (λ bytes. bytes ≡ []) → now ≡ option_map (λ bytes. bytes ++ out) before → fresh ≡ 0 → HasFinishCause fresh faults talk.finish
-    → IsWhole acts left talk out old new → IsOver acts talk (link_returned stream now faults) old new
+    → IsWholeTalk acts left talk out old new → IsOver acts talk (link_returned stream now faults) old new
 is_over acts talk old new left stream brought before now out fresh faults unread kept unwritten sent zero cause talks = record {
   out = out;
   taken = taken_all before now out unwritten sent;
-  talks = subst (λ s. IsWhole acts s talk out old new) (unread ∙ sym kept) talks;
+  talks = subst (λ s. IsWholeTalk acts s talk out old new) (unread ∙ sym kept) talks;
   rose = rose_by fresh faults talk.finish zero cause;
 }
 
@@ -52,9 +52,9 @@ brings_one stream link own (Some (first ∷ rest)) now is brings = (is ∙ bring
 -- ---- one talk behind the other
 
 -- Talks so far, so that what follows makes all of them.
-pub record ServedSoFar {X : Type 0} (acts : ActOn X) (start now : Worker X) (before behind : DoorState) (talks : List Told) : Type 0 where
+pub record ServedSoFar {X : Type 0} (acts : ActOn X) (start now : Worker X) (before behind : DoorState) (talks : List Talk) : Type 0 where
   pub links : List Returned
-  pub over : (more : List Told) (others : List Returned) (end : Worker X) → AreOver acts more others now end → AreOver acts (talks ++ more) (links ++ others) start end
+  pub over : (more : List Talk) (others : List Returned) (end : Worker X) → AreOver acts more others now end → AreOver acts (talks ++ more) (links ++ others) start end
   pub out : behind.out ≡ None
   pub returned : behind.returned ≡ option_map (λ (so_far : List Returned). so_far ++ links) before.returned
   pub streams : (others : List Returned) (last : Option (List (List ℕ))) → Brought behind.streams others last → Brought before.streams (links ++ others) last
@@ -68,7 +68,7 @@ map_two : (before : Option (List Returned)) (a b : List Returned) → option_map
 map_two None a b = refl
 map_two (Some links) a b = ap Some (append_assoc links a b)
 
-pub served_none : {X : Type 0} (acts : ActOn X) (start : Worker X) (before : DoorState) (talks : List Told) → talks ≡ [] → before.out ≡ None → ServedSoFar acts start start before before talks
+pub served_none : {X : Type 0} (acts : ActOn X) (start : Worker X) (before : DoorState) (talks : List Talk) → talks ≡ [] → before.out ≡ None → ServedSoFar acts start start before before talks
 served_none acts start before talks none out = record {
   links = [];
   over = λ more others end is. subst (λ ts. AreOver acts (ts ++ more) others start end) (sym none) is;
@@ -78,7 +78,7 @@ served_none acts start before talks none out = record {
   faults = refl;
 }
 
-pub served_one : {X : Type 0} (acts : ActOn X) (start now new : Worker X) (before behind later : DoorState) (talks : List Told) (talk : Told) (link : Returned) (all : List Told)
+pub served_one : {X : Type 0} (acts : ActOn X) (start now new : Worker X) (before behind later : DoorState) (talks : List Talk) (talk : Talk) (link : Returned) (all : List Talk)
     → ServedSoFar acts start now before behind talks → IsOver acts talk link now new → PassesOne behind later link → all ≡ talks ++ talk ∷ [] → ServedSoFar acts start new before later all
 served_one acts start now new before behind later talks talk link all so over passes is = record {
   links = so.links ++ link ∷ [];
@@ -95,7 +95,7 @@ served_one acts start now new before behind later talks talk link all so over pa
 }
 
 -- serving ends behind the talks so far, where the door and the worker are as they were
-pub served_so : {X : Type 0} (acts : ActOn X) (connections : ℕ) (start now new : Worker X) (before behind later : DoorState) (talks all : List Told) (end : ServeEnd)
+pub served_so : {X : Type 0} (acts : ActOn X) (connections : ℕ) (start now new : Worker X) (before behind later : DoorState) (talks all : List Talk) (end : ServeEnd)
     → ServedSoFar acts start now before behind talks → new ≡ now → later.out ≡ None → later.returned ≡ behind.returned → later.streams ≡ behind.streams
     → all ≡ talks → EndsServing connections (length talks) before later end → Served acts connections start new before later all end
 served_so acts connections start now new before behind later talks all end so same out returned streams is why =

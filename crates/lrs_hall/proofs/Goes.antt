@@ -2,24 +2,24 @@
 use Rattle.std.proofs.Common.{◌≡◌, ◌-◌, ℕ, List, [], ◌∷◌, ◌++◌, Option, Some, None, option_map, subst, sym, ◌∙◌, ap, refl, append_assoc, append-nil}
 use Rattle.lrs_http.specs.Links.{stream_left}
 use Rattle.lrs_http.specs.Stream.{most_requests}
-use Rattle.lrs_machine.specs.Desk.{Account}
+use Rattle.lrs_machine.specs.Desk.{Receipt}
 use Rattle.lrs_hall.specs.declared.exchange.Exchanged.TheVariants.{Next, Last}
 use Rattle.lrs_hall.specs.declared.talk.Finish.{Finish}
 use Rattle.lrs_hall.specs.Conversation.{ActOn, Worker, going, over, Converses, EndsOpen}
-use Rattle.lrs_hall.specs.Serving.{IsWhole}
+use Rattle.lrs_hall.specs.Serving.{IsWholeTalk}
 use Rattle.lrs_hall.specs.Steps.{Exchanges}
-use Rattle.lrs_hall.specs.Talks.{Told}
+use Rattle.lrs_hall.specs.Talks.{Talk}
 
 -- What was said so far, so that what follows makes a whole conversation.
-pub record SoFar {X : Type 0} (acts : ActOn X) (start : Worker X) (stream before : Option (List ℕ)) (most : ℕ) (left : Option (List ℕ)) (receipts : List Account) (taken : Option (List ℕ)) (now : Worker X) : Type 0 where
+pub record SoFar {X : Type 0} (acts : ActOn X) (start : Worker X) (stream before : Option (List ℕ)) (most : ℕ) (left : Option (List ℕ)) (receipts : List Receipt) (taken : Option (List ℕ)) (now : Worker X) : Type 0 where
   pub out : List ℕ
   pub sent : taken ≡ option_map (λ bytes. bytes ++ out) before
-  pub goes : (more : List Account) (rest : List ℕ) (f : Finish) (end : Worker X)
+  pub goes : (more : List Receipt) (rest : List ℕ) (f : Finish) (end : Worker X)
       → Converses acts (going most left) more rest f now end → Converses acts (going most_requests stream) (receipts ++ more) (out ++ rest) f start end
 
 -- a whole conversation, and what the link took of it
-abbrev pub IsHeld : {X : Type 0} → ActOn X → Worker X → Option (List ℕ) → Option (List ℕ) → Told → Option (List ℕ) → Worker X → Type 0
-IsHeld acts start stream before talk taken end = (out : List ℕ) × (taken ≡ option_map (λ bytes. bytes ++ out) before) × IsWhole acts stream talk out start end
+abbrev pub IsHeld : {X : Type 0} → ActOn X → Worker X → Option (List ℕ) → Option (List ℕ) → Talk → Option (List ℕ) → Worker X → Type 0
+IsHeld acts start stream before talk taken end = (out : List ℕ) × (taken ≡ option_map (λ bytes. bytes ++ out) before) × IsWholeTalk acts stream talk out start end
 
 pub map_nothing : (before : Option (List ℕ)) → before ≡ option_map (λ bytes. bytes ++ []) before
 map_nothing None = refl
@@ -40,7 +40,7 @@ so_far_none acts start stream before = record {
   goes = λ more rest f end talks. subst (λ left. Converses acts (going most_requests left) more rest f start end) (nothing_kept stream) talks;
 }
 
-pub so_far_next : {X : Type 0} (acts : ActOn X) (start now new : Worker X) (stream before left after taken took : Option (List ℕ)) (most : ℕ) (receipts : List Account) (receipt : Account)
+pub so_far_next : {X : Type 0} (acts : ActOn X) (start now new : Worker X) (stream before left after taken took : Option (List ℕ)) (most : ℕ) (receipts : List Receipt) (receipt : Receipt)
     → SoFar acts start stream before most left receipts taken now → Exchanges acts most left after taken took now new (Next receipt)
     → SoFar acts start stream before (most - 1) after (receipts ++ receipt ∷ []) took new
 so_far_next acts start now new stream before left after taken took most receipts receipt so turn = record {
@@ -52,7 +52,7 @@ so_far_next acts start now new stream before left after taken took most receipts
       (so.goes (receipt ∷ more) (turn.0 ++ rest) f end (turn.0, rest, going (most - 1) after, new, refl, turn.1, talks)));
 }
 
-pub held_last : {X : Type 0} (acts : ActOn X) (start now new : Worker X) (stream before left after taken took : Option (List ℕ)) (most : ℕ) (receipts : List Account) (receipt : Account) (f : Finish) (talk : Told)
+pub held_last : {X : Type 0} (acts : ActOn X) (start now new : Worker X) (stream before left after taken took : Option (List ℕ)) (most : ℕ) (receipts : List Receipt) (receipt : Receipt) (f : Finish) (talk : Talk)
     → SoFar acts start stream before most left receipts taken now → Exchanges acts most left after taken took now new (Last receipt f)
     → talk.receipts ≡ receipts ++ receipt ∷ [] → talk.finish ≡ f → IsHeld acts start stream before talk took new
 held_last acts start now new stream before left after taken took most receipts receipt f talk so turn told ends = (
@@ -63,7 +63,7 @@ held_last acts start now new stream before left after taken took most receipts r
       (so.goes (receipt ∷ []) (turn.0 ++ []) f new (turn.0, [], over f, new, refl, turn.1, (refl, refl, refl)))),
 )
 
-pub held_silent : {X : Type 0} (acts : ActOn X) (start now new : Worker X) (stream before left taken took : Option (List ℕ)) (most : ℕ) (receipts : List Account) (f : Finish) (talk : Told)
+pub held_silent : {X : Type 0} (acts : ActOn X) (start now new : Worker X) (stream before left taken took : Option (List ℕ)) (most : ℕ) (receipts : List Receipt) (f : Finish) (talk : Talk)
     → SoFar acts start stream before most left receipts taken now → EndsOpen left f → new ≡ now → took ≡ taken
     → talk.receipts ≡ receipts → talk.finish ≡ f → IsHeld acts start stream before talk took new
 held_silent acts start now new stream before left taken took most receipts f talk so ends same_now same told is = (
@@ -74,6 +74,6 @@ held_silent acts start now new stream before left taken took most receipts f tal
       (so.goes [] [] f new (refl, ends, same_now))),
 )
 
-pub so_far_pushed : {X : Type 0} (acts : ActOn X) (start now : Worker X) (stream before left took : Option (List ℕ)) (most : ℕ) (receipts : List Account) (receipt : Account) (all : List Account)
+pub so_far_pushed : {X : Type 0} (acts : ActOn X) (start now : Worker X) (stream before left took : Option (List ℕ)) (most : ℕ) (receipts : List Receipt) (receipt : Receipt) (all : List Receipt)
     → SoFar acts start stream before most left (receipts ++ receipt ∷ []) took now → all ≡ receipts ++ receipt ∷ [] → SoFar acts start stream before most left all took now
 so_far_pushed acts start now stream before left took most receipts receipt all so is = subst (λ rs. SoFar acts start stream before most left rs took now) (sym is) so

@@ -16,7 +16,7 @@ use Rattle.lrs_replies.specs.declared.answered.Answered.{Answered}
 use Rattle.lrs_replies.specs.declared.reply.Reply.{Reply}
 use Rattle.lrs_replies.specs.declared.reply.Trouble.{Trouble}
 use Rattle.lrs_replies.specs.declared.reply.Trouble.TheVariants.{Memory, Disk}
-use Rattle.lrs_machine.specs.Desk.{Account}
+use Rattle.lrs_machine.specs.Desk.{Receipt}
 use Rattle.lrs_history.specs.History.{Answer, answer, with_entry}
 use Rattle.lrs_replies.specs.Replies.{Says, body_bytes}
 use Rattle.lrs_names.specs.declared.draw.Draw.{Draw}
@@ -29,7 +29,7 @@ use Rattle.lrs_routes.specs.declared.asked.RouteRefused.TheVariants as refused
 use Rattle.lrs_hall.specs.declared.talk.Finish.{Finish}
 use Rattle.lrs_hall.specs.declared.talk.Finish.TheVariants as finish
 use Rattle.lrs_hall.specs.Acts.{ActsIn, BeginsWith, Reach, HasAt, TellsEntry, place_where, reach_behind}
-use Rattle.lrs_hall.specs.Conversation.{ActOn, Worker, Phase, going, over, Serves, Answers, closes_behind, phase_behind, Responds, Converses, EndsOpen, Sends}
+use Rattle.lrs_hall.specs.Conversation.{ActOn, Worker, Phase, going, over, ServesAsked, ServesRequest, closes_behind, phase_behind, Responds, Converses, EndsOpen, SendsResponse}
 use Rattle.lrs_hall.specs.Draws.{draw_at, place_behind}
 use Rattle.lrs_hall.specs.Laws.{OneAsked, OneText, IsFrontOf}
 use Rattle.lrs_hall.specs.Responses.{Fixed, IsFixed, IsFraming, IsReplyText, IsThrough, framing_response, media_text, route_response}
@@ -49,11 +49,11 @@ abbrev pub Known : List ℕ → Result Request RequestRefused → Option (List �
 Known stream (Ok q) after = (rest : List ℕ) × IsItem stream (Ok (q, rest)) × (after ≡ Some rest)
 Known stream (Err e) after = IsItem stream (Err e)
 
-pub known : {X : Type 0} (acts : ActOn X) (stream : List ℕ) (heard : Result Request RequestRefused) (after : Option (List ℕ)) (closes : Bool) (r : Account) (text : List ℕ) (old new : Worker X)
-    → GivesNext (Some stream) heard after → Answers acts closes heard r text old new → r.status ≢ 503 → Known stream heard after
+pub known : {X : Type 0} (acts : ActOn X) (stream : List ℕ) (heard : Result Request RequestRefused) (after : Option (List ℕ)) (closes : Bool) (r : Receipt) (text : List ℕ) (old new : Worker X)
+    → GivesNext (Some stream) heard after → ServesRequest acts closes heard r text old new → r.status ≢ 503 → Known stream heard after
 known acts stream (Ok q) after closes r text old new next answers calm = next
 known acts stream (Err request.LinkFault) after closes r text old new next answers calm = absurd answers.0
-known acts stream (Err request.Memory) after closes r text old new next answers calm = absurd (calm (ap (λ (a : Account). a.status) answers.0.0))
+known acts stream (Err request.Memory) after closes r text old new next answers calm = absurd (calm (ap (λ (a : Receipt). a.status) answers.0.0))
 known acts stream (Err e) after closes r text old new next answers calm = next
 
 after_free : (most : ℕ) (e : RequestRefused) (a b : Option (List ℕ)) → phase_behind most (Err e) a ≡ phase_behind most (Err e) b
@@ -111,7 +111,7 @@ Said limit history g caller command clock draw reply new =
     × BeginsWith (with_entry g (answer limit g caller command clock draw).entry) history
     × (new.entries ≡ length (with_entry g (answer limit g caller command clock draw).entry))
 
-pub act_says : (limit : ℕ) (history g : List Entry) (caller : Caller) (command : Command) (draw : Draw) (reply : Reply) (r : Account) (old new : Reach)
+pub act_says : (limit : ℕ) (history g : List Entry) (caller : Caller) (command : Command) (draw : Draw) (reply : Reply) (r : Receipt) (old new : Reach)
     → ActsIn limit history caller command draw reply r old new → BeginsWith g history → old.entries ≡ length g → r.status ≢ 503
     → Said limit history g caller command r.clock draw reply new
 act_says limit history g caller command draw reply r old new act begins at calm =
@@ -148,7 +148,7 @@ one_reply_text one_text p q closes t u same x y =
 -- ---- one response of each
 
 -- both went on alike, to a history with which both begin
-pub record Alike (ha hb : List Entry) (r s : Account) (t u : List ℕ) (new_a new_b : Worker Reach) : Type 0 where
+pub record Alike (ha hb : List Entry) (r s : Receipt) (t u : List ℕ) (new_a new_b : Worker Reach) : Type 0 where
   pub text : t ≡ u
   pub acted : r.acted ≡ s.acted
   pub draws : new_a.draws ≡ new_b.draws
@@ -166,11 +166,11 @@ pub record Together (ha hb g : List Entry) (a b : Worker Reach) : Type 0 where
   pub at_a : a.store.entries ≡ length g
   pub at_b : b.store.entries ≡ length g
 
-fixed_alike : (ha hb g : List Entry) (f : Fixed) (closes : Bool) (r s : Account) (t u : List ℕ) (a b new_a new_b : Worker Reach)
+fixed_alike : (ha hb g : List Entry) (f : Fixed) (closes : Bool) (r s : Receipt) (t u : List ℕ) (a b new_a new_b : Worker Reach)
     → Together ha hb g a b → IsFixed f closes r t → IsFixed f closes s u → new_a ≡ a → new_b ≡ b → Alike ha hb r s t u new_a new_b
 fixed_alike ha hb g f closes r s t u a b new_a new_b so x y same_a same_b = record {
   text = x.1 ∙ sym y.1;
-  acted = ap (λ (z : Account). z.acted) x.0 ∙ sym (ap (λ (z : Account). z.acted) y.0);
+  acted = ap (λ (z : Receipt). z.acted) x.0 ∙ sym (ap (λ (z : Receipt). z.acted) y.0);
   draws = ap (λ (w : Worker Reach). w.draws) same_a ∙ so.draws ∙ sym (ap (λ (w : Worker Reach). w.draws) same_b);
   later = g;
   begins_a = so.begins_a;
@@ -179,13 +179,13 @@ fixed_alike ha hb g f closes r s t u a b new_a new_b so x y same_a same_b = reco
   at_b = ap (λ (w : Worker Reach). w.store.entries) same_b ∙ so.at_b;
 }
 
-framed_alike : (ha hb g : List Entry) (f : Option Fixed) (r s : Account) (t u : List ℕ) (a b new_a new_b : Worker Reach)
+framed_alike : (ha hb g : List Entry) (f : Option Fixed) (r s : Receipt) (t u : List ℕ) (a b new_a new_b : Worker Reach)
     → Together ha hb g a b → IsFraming f r t → IsFraming f s u → new_a ≡ a → new_b ≡ b → Alike ha hb r s t u new_a new_b
 framed_alike ha hb g None r s t u a b new_a new_b so x y same_a same_b = absurd x
 framed_alike ha hb g (Some f) r s t u a b new_a new_b so x y same_a same_b = fixed_alike ha hb g f true r s t u a b new_a new_b so x y same_a same_b
 
-served_alike : OneText → (limit : ℕ) (ha hb g : List Entry) (closes : Bool) (asked : Result Asked RouteRefused) (r s : Account) (t u : List ℕ) (a b new_a new_b : Worker Reach)
-    → Together ha hb g a b → Serves (ActsIn limit ha) closes asked r t a new_a → Serves (ActsIn limit hb) closes asked s u b new_b → r.status ≢ 503 → s.status ≢ 503
+served_alike : OneText → (limit : ℕ) (ha hb g : List Entry) (closes : Bool) (asked : Result Asked RouteRefused) (r s : Receipt) (t u : List ℕ) (a b new_a new_b : Worker Reach)
+    → Together ha hb g a b → ServesAsked (ActsIn limit ha) closes asked r t a new_a → ServesAsked (ActsIn limit hb) closes asked s u b new_b → r.status ≢ 503 → s.status ≢ 503
     → (r.acted ≡ true → s.acted ≡ true → r.clock ≡ s.clock) → Alike ha hb r s t u new_a new_b
 served_alike one_text limit ha hb g closes (Err e) r s t u a b new_a new_b so x y calm quiet clock = fixed_alike ha hb g (route_response e) closes r s t u a b new_a new_b so x.0 y.0 x.1 y.1
 served_alike one_text limit ha hb g closes (Ok asked) r s t u a b new_a new_b so x y calm quiet clock =
@@ -207,16 +207,16 @@ served_alike one_text limit ha hb g closes (Ok asked) r s t u a b new_a new_b so
     }
 
 -- want of memory is answered 503
-memory_calm : (acts : ActOn Reach) (closes : Bool) (asked : Result Asked RouteRefused) (r : Account) (t : List ℕ) (a new_a : Worker Reach) → Serves acts closes asked r t a new_a → r.status ≢ 503 → asked ≡ Err refused.Memory → ⊥
+memory_calm : (acts : ActOn Reach) (closes : Bool) (asked : Result Asked RouteRefused) (r : Receipt) (t : List ℕ) (a new_a : Worker Reach) → ServesAsked acts closes asked r t a new_a → r.status ≢ 503 → asked ≡ Err refused.Memory → ⊥
 memory_calm acts closes asked r t a new_a serves calm is =
-    let wanting : Serves acts closes (Err refused.Memory) r t a new_a = subst (λ z. Serves acts closes z r t a new_a) is serves in
-    calm (ap (λ (z : Account). z.status) wanting.0.0)
+    let wanting : ServesAsked acts closes (Err refused.Memory) r t a new_a = subst (λ z. ServesAsked acts closes z r t a new_a) is serves in
+    calm (ap (λ (z : Receipt). z.status) wanting.0.0)
 
-answered_alike : OneAsked → OneText → (limit : ℕ) (ha hb g : List Entry) (closes : Bool) (heard : Result Request RequestRefused) (r s : Account) (t u : List ℕ) (a b new_a new_b : Worker Reach)
-    → Together ha hb g a b → Answers (ActsIn limit ha) closes heard r t a new_a → Answers (ActsIn limit hb) closes heard s u b new_b → r.status ≢ 503 → s.status ≢ 503
+answered_alike : OneAsked → OneText → (limit : ℕ) (ha hb g : List Entry) (closes : Bool) (heard : Result Request RequestRefused) (r s : Receipt) (t u : List ℕ) (a b new_a new_b : Worker Reach)
+    → Together ha hb g a b → ServesRequest (ActsIn limit ha) closes heard r t a new_a → ServesRequest (ActsIn limit hb) closes heard s u b new_b → r.status ≢ 503 → s.status ≢ 503
     → (r.acted ≡ true → s.acted ≡ true → r.clock ≡ s.clock) → Alike ha hb r s t u new_a new_b
 answered_alike one_asked one_text limit ha hb g closes (Ok q) r s t u a b new_a new_b so x y calm quiet clock = elim (one_asked q x.0 y.0 x.1 y.1) [
-  | inl same ↦ served_alike one_text limit ha hb g closes y.0 r s t u a b new_a new_b so (subst (λ z. Serves (ActsIn limit ha) closes z r t a new_a) same x.2) y.2 calm quiet clock
+  | inl same ↦ served_alike one_text limit ha hb g closes y.0 r s t u a b new_a new_b so (subst (λ z. ServesAsked (ActsIn limit ha) closes z r t a new_a) same x.2) y.2 calm quiet clock
   | inr wanting ↦ elim wanting [
     | inl mine ↦ absurd (memory_calm (ActsIn limit ha) closes x.0 r t a new_a x.2 calm mine)
     | inr other ↦ absurd (memory_calm (ActsIn limit hb) closes y.0 s u b new_b y.2 quiet other)
@@ -241,12 +241,12 @@ known_behind stream most (Ok q) after k = closed_or (q.closes || most == 1) (mos
 known_behind stream most (Err request.Memory) after k = tt
 known_behind stream most (Err e) after k = tt
 
-cut_off : {X : Type 0} (acts : ActOn X) (rs : List Account) (out : List ℕ) (f : Finish) (old new : Worker X) → Converses acts (over finish.LinkFault) rs out f old new → f ≡ finish.LinkFault
+cut_off : {X : Type 0} (acts : ActOn X) (rs : List Receipt) (out : List ℕ) (f : Finish) (old new : Worker X) → Converses acts (over finish.LinkFault) rs out f old new → f ≡ finish.LinkFault
 cut_off acts [] out f old new talks = talks.1
 cut_off acts (r ∷ rs) out f old new talks = absurd talks.5
 
-went_whole : {X : Type 0} (acts : ActOn X) (text front : List ℕ) (due phase : Phase) (rs : List Account) (out : List ℕ) (f : Finish) (old new : Worker X)
-    → Sends text due front phase → Converses acts phase rs out f old new → f ≢ finish.LinkFault → (front ≡ text) × (phase ≡ due)
+went_whole : {X : Type 0} (acts : ActOn X) (text front : List ℕ) (due phase : Phase) (rs : List Receipt) (out : List ℕ) (f : Finish) (old new : Worker X)
+    → SendsResponse text due front phase → Converses acts phase rs out f old new → f ≢ finish.LinkFault → (front ≡ text) × (phase ≡ due)
 went_whole acts text front due phase rs out f old new (inl whole) talks smooth = whole
 went_whole acts text front due phase rs out f old new (inr cut) talks smooth =
     absurd (smooth (cut_off acts rs out f old new (subst (λ p. Converses acts p rs out f old new) cut.1 talks)))
@@ -325,27 +325,27 @@ heard_end stream (Err d) after e k item =
     let same : d ≡ e = cc both in
     ap (λ (z : RequestRefused). Err z) same
 
-end_unanswered : (acts : ActOn Reach) (closes : Bool) (e : RequestRefused) (r : Account) (text : List ℕ) (old new : Worker Reach) → Answers acts closes (Err e) r text old new → framing_response e ≡ None → ⊥
+end_unanswered : (acts : ActOn Reach) (closes : Bool) (e : RequestRefused) (r : Receipt) (text : List ℕ) (old new : Worker Reach) → ServesRequest acts closes (Err e) r text old new → framing_response e ≡ None → ⊥
 end_unanswered acts closes e r text old new answers none = subst (λ f. IsFraming f r text) none answers.0
 
 -- where the stream ends, there is no response
-unanswered : (acts : ActOn Reach) (stream : List ℕ) (most : ℕ) (f : Finish) (r : Account) (front : List ℕ) (old new : Worker Reach) (phase : Phase)
+unanswered : (acts : ActOn Reach) (stream : List ℕ) (most : ℕ) (f : Finish) (r : Receipt) (front : List ℕ) (old new : Worker Reach) (phase : Phase)
     → EndsOpen (Some stream) f → IsCalm f → Responds acts most (Some stream) r front old new phase → r.status ≢ 503 → ⊥
 unanswered acts stream most f r front old new phase ends calm responds quiet =
     let k = known acts stream responds.heard responds.after (closes_behind most responds.heard) r responds.text old new responds.next responds.answered quiet in
     elim (end_item stream f ends calm) [
       | inl a ↦ end_unanswered acts (closes_behind most responds.heard) request.End r responds.text old new
-          (subst (λ h. Answers acts (closes_behind most responds.heard) h r responds.text old new) (heard_end stream responds.heard responds.after request.End k a.0) responds.answered) refl
+          (subst (λ h. ServesRequest acts (closes_behind most responds.heard) h r responds.text old new) (heard_end stream responds.heard responds.after request.End k a.0) responds.answered) refl
       | inr a ↦ end_unanswered acts (closes_behind most responds.heard) request.Cut r responds.text old new
-          (subst (λ h. Answers acts (closes_behind most responds.heard) h r responds.text old new) (heard_end stream responds.heard responds.after request.Cut k a.0) responds.answered) refl
+          (subst (λ h. ServesRequest acts (closes_behind most responds.heard) h r responds.text old new) (heard_end stream responds.heard responds.after request.Cut k a.0) responds.answered) refl
     ]
 
 -- ---- whole talks
 
-abbrev pub AreCalm : List Account → Type 0
-AreCalm receipts = AllByRecursion (λ (receipt : Account). receipt.status ≢ 503) receipts
+abbrev pub AreCalm : List Receipt → Type 0
+AreCalm receipts = AllByRecursion (λ (receipt : Receipt). receipt.status ≢ 503) receipts
 
-pub agree : OneAsked → OneText → (limit : ℕ) (ha hb g : List Entry) (phase : Phase) (xs ys : List Account) (out_x out_y : List ℕ) (f k : Finish) (a b end_a end_b : Worker Reach) (readings : List ℕ)
+pub agree : OneAsked → OneText → (limit : ℕ) (ha hb g : List Entry) (phase : Phase) (xs ys : List Receipt) (out_x out_y : List ℕ) (f k : Finish) (a b end_a end_b : Worker Reach) (readings : List ℕ)
     → Together ha hb g a b → IsKnown phase → IsFrontOf (clocks xs) readings → IsFrontOf (clocks ys) readings
     → Converses (ActsIn limit ha) phase xs out_x f a end_a → Converses (ActsIn limit hb) phase ys out_y k b end_b
     → AreCalm xs → AreCalm ys → IsCalm f → IsCalm k → (out_x ≡ out_y) × (f ≡ k)
@@ -367,7 +367,7 @@ agree one_asked one_text limit ha hb g (going most (Some stream)) (r ∷ rs) (s 
     let same = same_heard stream most p.heard q.heard p.after q.after known_x known_y in
     let clock = clocks_step r.acted s.acted r.clock s.clock (clocks rs) (clocks ss) readings fx fy in
     let alike = answered_alike one_asked one_text limit ha hb g (closes_behind most q.heard) q.heard r s p.text q.text a b x.3 y.3 so
-    (subst (λ h. Answers (ActsIn limit ha) (closes_behind most h) h r p.text a x.3) same.0 p.answered) q.answered cx.0 cy.0 clock.0 in
+    (subst (λ h. ServesRequest (ActsIn limit ha) (closes_behind most h) h r p.text a x.3) same.0 p.answered) q.answered cx.0 cy.0 clock.0 in
     let whole_x = went_whole (ActsIn limit ha) p.text x.0 (phase_behind most p.heard p.after) x.2 rs x.1 f x.3 end_a p.sent x.6 calm.1 in
     let whole_y = went_whole (ActsIn limit hb) q.text y.0 (phase_behind most q.heard q.after) y.2 ss y.1 k y.3 end_b q.sent y.6 quiet.1 in
     let fronts = clock.1 alike.acted in

@@ -1,12 +1,12 @@
 -- What an act of a conversation tells of the one history that the store has in the end.
 use Rattle.std.specs.Prelude.{◌≡◌, ◌⊎◌, ◌≤◌, ◌+◌, ◌-◌, ◌&&◌, ℕ, List, ◌++◌, length, take, slice_get, Bool, true, false, not, Option, Some, None, IsSome, is_some, Result, Ok, Err, if◌then◌else◌}
 use Rattle.lrs_disk.specs.Readings.{AddsReading}
-use Rattle.lrs_journal.specs.Journal.{Held}
+use Rattle.lrs_machine.specs.Desk.{Desk}
 use Rattle.lrs_replies.specs.declared.answered.Answered.{Answered}
 use Rattle.lrs_replies.specs.declared.reply.Reply.{Reply}
 use Rattle.lrs_replies.specs.declared.reply.Trouble.{Trouble}
 use Rattle.lrs_replies.specs.declared.reply.Trouble.TheVariants.{Memory, Disk}
-use Rattle.lrs_machine.specs.Desk.{Account, account_of, Replies, HasCause}
+use Rattle.lrs_machine.specs.Desk.{Receipt, receipt_of, Replies, HasDiskCause}
 use Rattle.lrs_history.specs.History.{Answer, answer}
 use Rattle.lrs_replies.specs.Replies.{Says}
 use Rattle.lrs_names.specs.declared.draw.Draw.{Draw}
@@ -52,14 +52,14 @@ abbrev pub landed_of : Reach → Option ℕ → Bool → Option ℕ
 landed_of old own doubt = if old.doubt && not (doubt && not (is_some own)) then Some (old.entries - 1) else None
 
 -- An act over the history: the answer is that of the entries before its point. So points never fall, and the next act's point is behind its own entry.
-pub record ActsIn (limit : ℕ) (history : List Entry) (caller : Caller) (command : Command) (draw : Draw) (reply : Reply) (receipt : Account) (old new : Reach) : Type 0 where
+pub record ActsIn (limit : ℕ) (history : List Entry) (caller : Caller) (command : Command) (draw : Draw) (reply : Reply) (receipt : Receipt) (old new : Reach) : Type 0 where
   pub acted : receipt.acted ≡ true
   pub status : receipt.status ≡ reply.status
   pub point : receipt.point ≡ old.entries
   pub within : receipt.point ≤ length history
   pub said : Result Answered Trouble
   pub says : Says said reply
-  pub cause : HasCause receipt.was receipt.is said
+  pub cause : HasDiskCause receipt.was receipt.is said
   pub entry : TellsEntry (answer limit (take receipt.point history) caller command receipt.clock draw) history old said receipt.entry new.doubt
   pub landed : receipt.landed ≡ landed_of old receipt.entry new.doubt
   pub reach : new ≡ reach_behind receipt.entry new.doubt old.entries
@@ -68,12 +68,12 @@ pub record ActsIn (limit : ℕ) (history : List Entry) (caller : Caller) (comman
 
 -- what an act changes: the desk, and what its door tells of the clock
 pub record DeskAndClock (D : Type 0) : Type 0 where
-  pub held : Held D
+  pub held : Desk D
   pub readings : Option (List ℕ)
 
 -- An act of the desk, with one reading of the clock.
-pub record ActsOn {D : Type 0} (told : D → Option (List ℕ)) (time faults : D → ℕ) (caller : Caller) (command : Command) (draw : Draw) (reply : Reply) (receipt : Account) (old new : DeskAndClock D) : Type 0 where
-  pub account : receipt ≡ account_of time faults old.held new.held reply.status receipt.clock
+pub record ActsOn {D : Type 0} (told : D → Option (List ℕ)) (time faults : D → ℕ) (caller : Caller) (command : Command) (draw : Draw) (reply : Reply) (receipt : Receipt) (old new : DeskAndClock D) : Type 0 where
+  pub account : receipt ≡ receipt_of time faults old.held new.held reply.status receipt.clock
   pub replies : Replies told faults old.held new.held (λ h. answer old.held.limit h caller command receipt.clock draw) reply
   pub limit : new.held.limit ≡ old.held.limit
   pub read : AddsReading old.readings new.readings receipt.clock

@@ -6,7 +6,7 @@ use Rattle.lrs_http.specs.declared.request.RequestRefused.TheVariants as request
 use Rattle.lrs_http.specs.Links.{GivesNext}
 use Rattle.lrs_http.specs.Stream.{IsItem}
 use Rattle.lrs_replies.specs.declared.reply.Reply.{Reply}
-use Rattle.lrs_machine.specs.Desk.{Account}
+use Rattle.lrs_machine.specs.Desk.{Receipt}
 use Rattle.lrs_names.specs.declared.draw.Draw.{Draw}
 use Rattle.lrs_record.specs.declared.entry.Caller.{Caller}
 use Rattle.lrs_command.specs.declared.command.Command.{Command}
@@ -32,19 +32,19 @@ pub data Phase : Type 0 where
 
 -- What an act on X may be: its caller, command and draw, the reply, the receipt, and X before and behind it.
 abbrev pub ActOn : Type 0 → Type 1
-ActOn X = Caller → Command → Draw → Reply → Account → X → X → Type 0
+ActOn X = Caller → Command → Draw → Reply → Receipt → X → X → Type 0
 
 -- A request that asks for something is answered by one act with the next draw, any other by what its refusal fixes.
-abbrev pub Serves : {X : Type 0} → ActOn X → Bool → Result Asked RouteRefused → Account → List ℕ → Worker X → Worker X → Type 0
-Serves acts closes (Ok asked) receipt text old new =
+abbrev pub ServesAsked : {X : Type 0} → ActOn X → Bool → Result Asked RouteRefused → Receipt → List ℕ → Worker X → Worker X → Type 0
+ServesAsked acts closes (Ok asked) receipt text old new =
     (reply : Reply) × acts asked.caller asked.command (draw_at old.draws) reply receipt old.store new.store
     × (new.draws ≡ place_behind old.draws) × IsReplyText reply closes text
-Serves acts closes (Err refusal) receipt text old new = IsFixed (route_response refusal) closes receipt text × (new ≡ old)
+ServesAsked acts closes (Err refusal) receipt text old new = IsFixed (route_response refusal) closes receipt text × (new ≡ old)
 
 -- what comes of a request, or of what is none
-abbrev pub Answers : {X : Type 0} → ActOn X → Bool → Result Request RequestRefused → Account → List ℕ → Worker X → Worker X → Type 0
-Answers acts closes (Ok request) receipt text old new = (asked : Result Asked RouteRefused) × IsAsked request asked × Serves acts closes asked receipt text old new
-Answers acts closes (Err refusal) receipt text old new = IsFraming (framing_response refusal) receipt text × (new ≡ old)
+abbrev pub ServesRequest : {X : Type 0} → ActOn X → Bool → Result Request RequestRefused → Receipt → List ℕ → Worker X → Worker X → Type 0
+ServesRequest acts closes (Ok request) receipt text old new = (asked : Result Asked RouteRefused) × IsAsked request asked × ServesAsked acts closes asked receipt text old new
+ServesRequest acts closes (Err refusal) receipt text old new = IsFraming (framing_response refusal) receipt text × (new ≡ old)
 
 -- A response ends the connection where no request was read, where the request asks for that, and behind the last request that may come.
 abbrev pub closes_behind : ℕ → Result Request RequestRefused → Bool
@@ -53,26 +53,26 @@ closes_behind most (Err refusal) = true
 
 -- where a conversation stands behind a whole response
 abbrev pub phase_behind : ℕ → Result Request RequestRefused → Option (List ℕ) → Phase
-phase_behind most (Ok request) after = if request.closes || most == 1 then over finish.Closed else going (most - 1) after
+phase_behind most (Ok request) after = if closes_behind most (Ok request) then over finish.Closed else going (most - 1) after
 phase_behind most (Err request.Memory) after = over finish.Memory
 phase_behind most (Err refusal) after = over finish.Closed
 
 -- the response went out whole, or the link failed behind a front of it
-abbrev pub Sends : List ℕ → Phase → List ℕ → Phase → Type 0
-Sends text due front phase =
+abbrev pub SendsResponse : List ℕ → Phase → List ℕ → Phase → Type 0
+SendsResponse text due front phase =
     ((front ≡ text) × (phase ≡ due)) ⊎ (((rest : List ℕ) × (front ++ rest ≡ text)) × (phase ≡ over finish.LinkFault))
 
 -- One response: what was heard before it, its receipt, and what went out of it.
-pub record Responds {X : Type 0} (acts : ActOn X) (most : ℕ) (stream : Option (List ℕ)) (receipt : Account) (front : List ℕ) (old new : Worker X) (phase : Phase) : Type 0 where
+pub record Responds {X : Type 0} (acts : ActOn X) (most : ℕ) (stream : Option (List ℕ)) (receipt : Receipt) (front : List ℕ) (old new : Worker X) (phase : Phase) : Type 0 where
   pub heard : Result Request RequestRefused
   pub after : Option (List ℕ)
   pub next : GivesNext stream heard after
   pub text : List ℕ
-  pub answered : Answers acts (closes_behind most heard) heard receipt text old new
-  pub sent : Sends text (phase_behind most heard after) front phase
+  pub answered : ServesRequest acts (closes_behind most heard) heard receipt text old new
+  pub sent : SendsResponse text (phase_behind most heard after) front phase
 
 -- there is no response behind the end
-abbrev pub RespondsIn : {X : Type 0} → ActOn X → Phase → Account → List ℕ → Worker X → Worker X → Phase → Type 0
+abbrev pub RespondsIn : {X : Type 0} → ActOn X → Phase → Receipt → List ℕ → Worker X → Worker X → Phase → Type 0
 RespondsIn acts (going most stream) receipt front old new phase = Responds acts most stream receipt front old new phase
 RespondsIn acts (over f) receipt front old new phase = ⊥
 
@@ -90,7 +90,7 @@ EndsIn (going most stream) f = EndsOpen stream f
 EndsIn (over g) f = f ≡ g
 
 -- A conversation from a phase on: its receipts, one for each response, all that went out, and its finish.
-abbrev pub Converses : {X : Type 0} → ActOn X → Phase → List Account → List ℕ → Finish → Worker X → Worker X → Type 0
+abbrev pub Converses : {X : Type 0} → ActOn X → Phase → List Receipt → List ℕ → Finish → Worker X → Worker X → Type 0
 Converses acts phase [] out f old new = (out ≡ []) × EndsIn phase f × (new ≡ old)
 Converses {X} acts phase (receipt ∷ receipts) out f old new =
     (front : List ℕ) × (rest : List ℕ) × (behind : Phase) × (mid : Worker X) × (out ≡ front ++ rest)

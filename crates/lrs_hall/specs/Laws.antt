@@ -2,7 +2,7 @@
 use Rattle.std.specs.Prelude.{◌≡◌, ◌≢◌, ℕ, List, ◌++◌, false, Some, Result}
 use Rattle.std.specs.List.{AllByRecursion}
 use Rattle.lrs_http.specs.declared.request.Request.{Request}
-use Rattle.lrs_machine.specs.Desk.{Account}
+use Rattle.lrs_machine.specs.Desk.{Receipt}
 use Rattle.lrs_record.specs.declared.entry.Entry.{Entry}
 use Rattle.lrs_routes.specs.Asked.{Agree, IsAsked}
 use Rattle.lrs_routes.specs.declared.asked.Asked.{Asked}
@@ -11,8 +11,8 @@ use Rattle.lrs_time.specs.Timestamp.{IsMomentText}
 use Rattle.lrs_hall.specs.Acts.{ActsIn, BeginsWith, Reach}
 use Rattle.lrs_hall.specs.Conversation.{Worker}
 use Rattle.lrs_hall.specs.Draws.{Place}
-use Rattle.lrs_hall.specs.Serving.{IsWhole, clocks, worker_at}
-use Rattle.lrs_hall.specs.Talks.{Told}
+use Rattle.lrs_hall.specs.Serving.{IsWholeTalk, clocks, worker_at}
+use Rattle.lrs_hall.specs.Talks.{Talk}
 use Rattle.lrs_hall.specs.declared.talk.Finish.TheVariants as finish
 
 -- a moment has one text
@@ -24,8 +24,8 @@ abbrev pub OneAsked : Type 0
 OneAsked = (request : Request) (a b : Result Asked RouteRefused) → IsAsked request a → IsAsked request b → Agree a b
 
 -- No memory was wanting, and neither the disk nor the link failed.
-pub record IsSmooth (talk : Told) : Type 0 where
-  pub statuses : AllByRecursion (λ (receipt : Account). receipt.status ≢ 503) talk.receipts
+pub record IsSmooth (talk : Talk) : Type 0 where
+  pub statuses : AllByRecursion (λ (receipt : Receipt). receipt.status ≢ 503) talk.receipts
   pub memory : talk.finish ≢ finish.Memory
   pub link : talk.finish ≢ finish.LinkFault
 
@@ -36,8 +36,8 @@ IsFrontOf front readings = (rest : List ℕ) × (front ++ rest ≡ readings)
 -- Two smooth talks over one stream, from one history, with one clock and one draw after the other, send the same bytes and end alike.
 abbrev pub OneStream : Type 0
 OneStream =
-    (limit : ℕ) (h ha hb : List Entry) (stream : List ℕ) (draws : Place) (readings : List ℕ) (a b : Told) (out_a out_b : List ℕ) (end_a end_b : Worker Reach)
+    (limit : ℕ) (h ha hb : List Entry) (stream : List ℕ) (draws : Place) (readings : List ℕ) (a b : Talk) (out_a out_b : List ℕ) (end_a end_b : Worker Reach)
     → BeginsWith h ha → BeginsWith h hb → IsFrontOf (clocks a.receipts) readings → IsFrontOf (clocks b.receipts) readings
-    → IsWhole (ActsIn limit ha) (Some stream) a out_a (worker_at draws h false) end_a
-    → IsWhole (ActsIn limit hb) (Some stream) b out_b (worker_at draws h false) end_b
+    → IsWholeTalk (ActsIn limit ha) (Some stream) a out_a (worker_at draws h false) end_a
+    → IsWholeTalk (ActsIn limit hb) (Some stream) b out_b (worker_at draws h false) end_b
     → IsSmooth a → IsSmooth b → (out_a ≡ out_b) × (a.finish ≡ b.finish)

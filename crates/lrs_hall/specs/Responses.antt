@@ -6,7 +6,7 @@ use Rattle.lrs_http.specs.Response.{response_of}
 use Rattle.lrs_replies.specs.declared.reply.Media.{Media}
 use Rattle.lrs_replies.specs.declared.reply.Media.TheVariants.{Json, Own, Empty}
 use Rattle.lrs_replies.specs.declared.reply.Reply.{Reply}
-use Rattle.lrs_machine.specs.Desk.{Account, plain_account}
+use Rattle.lrs_machine.specs.Desk.{Receipt, plain_receipt}
 use Rattle.lrs_replies.specs.Replies.{body_bytes, error_body}
 use Rattle.lrs_routes.specs.declared.asked.RouteRefused.{RouteRefused}
 use Rattle.lrs_routes.specs.declared.asked.RouteRefused.TheVariants as route
@@ -71,10 +71,10 @@ framing_response request.BodyTooLong = Some (fixed 413 (codes "413"))
 framing_response request.Memory = Some memory_response
 
 -- the text and the receipt of a response without an act
-abbrev pub IsFixed : Fixed → Bool → Account → List ℕ → Type 0
-IsFixed f closes receipt text = (receipt ≡ plain_account f.status) × (text ≡ fixed_text f closes)
+abbrev pub IsFixed : Fixed → Bool → Receipt → List ℕ → Type 0
+IsFixed f closes receipt text = (receipt ≡ plain_receipt f.status) × (text ≡ fixed_text f closes)
 
 -- where no request is read, the response says that the connection ends
-abbrev pub IsFraming : Option Fixed → Account → List ℕ → Type 0
+abbrev pub IsFraming : Option Fixed → Receipt → List ℕ → Type 0
 IsFraming None receipt text = ⊥
 IsFraming (Some f) receipt text = IsFixed f true receipt text

@@ -3,13 +3,13 @@ use Rattle.std.specs.Prelude.{◌≡◌, ◌≢◌, ◌⊎◌, ◌≤◌, ◌<�
 use Rattle.lrs_disk.specs.Door.{DoorState, Returned}
 use Rattle.lrs_disk.specs.Faults.{Rises}
 use Rattle.lrs_http.specs.Stream.{most_requests}
-use Rattle.lrs_journal.specs.Journal.{Held}
-use Rattle.lrs_machine.specs.Desk.{Account, StandsFor, IsOnDisk}
+use Rattle.lrs_machine.specs.Desk.{Desk}
+use Rattle.lrs_machine.specs.Desk.{Receipt, StandsFor, IsOnDisk}
 use Rattle.lrs_record.specs.declared.entry.Entry.{Entry}
 use Rattle.lrs_hall.specs.Acts.{ActsIn, BeginsWith, Reach}
 use Rattle.lrs_hall.specs.Conversation.{ActOn, Worker, going, Converses}
 use Rattle.lrs_hall.specs.Draws.{Place}
-use Rattle.lrs_hall.specs.Talks.{Told}
+use Rattle.lrs_hall.specs.Talks.{Talk}
 use Rattle.lrs_hall.specs.declared.talk.Finish.{Finish}
 use Rattle.lrs_hall.specs.declared.talk.Finish.TheVariants as finish
 use Rattle.lrs_hall.specs.declared.serving.ServeEnd.{ServeEnd}
@@ -18,7 +18,7 @@ use Rattle.lrs_hall.specs.declared.serving.ServeEnd.TheVariants as serve
 -- ---- one conversation
 
 -- the readings of the clock that the acts were given
-abbrev pub clocks : List Account → List ℕ
+abbrev pub clocks : List Receipt → List ℕ
 clocks [] = []
 clocks (receipt ∷ receipts) = (if receipt.acted then receipt.clock ∷ [] else []) ++ clocks receipts
 
@@ -29,7 +29,7 @@ AddsReadings None (Some now) readings = ⊥
 AddsReadings (Some before) (Some now) readings = now ≡ before ++ readings
 
 -- The disk's counts of faults as acts tell them go on from one to the next, and don't fall. One that rose is told by a 503.
-abbrev pub Counts : ℕ → List Account → ℕ → Type 0
+abbrev pub Counts : ℕ → List Receipt → ℕ → Type 0
 Counts before [] now = now ≡ before
 Counts before (receipt ∷ receipts) now =
     MatchBool receipt.acted
@@ -41,19 +41,19 @@ abbrev pub worker_at : Place → List Entry → Bool → Worker Reach
 worker_at draws history doubt = record { draws = draws; store = record { entries = length history; doubt = doubt } }
 
 -- a whole conversation over the stream of a link
-abbrev pub IsWhole : {X : Type 0} → ActOn X → Option (List ℕ) → Told → List ℕ → Worker X → Worker X → Type 0
-IsWhole acts stream talk out old new = Converses acts (going most_requests stream) talk.receipts out talk.finish old new
+abbrev pub IsWholeTalk : {X : Type 0} → ActOn X → Option (List ℕ) → Talk → List ℕ → Worker X → Worker X → Type 0
+IsWholeTalk acts stream talk out old new = Converses acts (going most_requests stream) talk.receipts out talk.finish old new
 
 -- A talk over a desk: what went out, and, over each history that the desk stood for, the one that it stands for now, which begins with that and which all acts told of.
-pub record IsConversation {D : Type 0} (told : D → Option (List ℕ)) (old new : Held D) (draws behind : Place) (stream before now : Option (List ℕ)) (talk : Told) : Type 0 where
+pub record IsConversation {D : Type 0} (told : D → Option (List ℕ)) (old new : Desk D) (draws behind : Place) (stream before now : Option (List ℕ)) (talk : Talk) : Type 0 where
   pub out : List ℕ
   pub sent : now ≡ option_map (λ taken. taken ++ out) before
   pub held : (h : List Entry) → StandsFor told old h
       → (history : List Entry) × BeginsWith h history × StandsFor told new history
-      × IsWhole (ActsIn old.limit history) stream talk out (worker_at draws h old.doubt) (worker_at behind history new.doubt)
+      × IsWholeTalk (ActsIn old.limit history) stream talk out (worker_at draws h old.doubt) (worker_at behind history new.doubt)
 
 -- what a desk stands for is on its disk
-abbrev pub IsDurable : {D : Type 0} → (D → Option (List ℕ)) → (D → List ℕ → Type 0) → Held D → Type 0
+abbrev pub IsDurable : {D : Type 0} → (D → Option (List ℕ)) → (D → List ℕ → Type 0) → Desk D → Type 0
 IsDurable told image desk = (h : List Entry) → StandsFor told desk h → IsOnDisk image desk h
 
 -- ---- the conversations of a door
@@ -64,14 +64,14 @@ is_fault finish.LinkFault = true
 is_fault other = false
 
 -- A link that was given back brought the stream, took what went out, and its count rose exactly where the talk ended for that.
-pub record IsOver {X : Type 0} (acts : ActOn X) (talk : Told) (link : Returned) (old new : Worker X) : Type 0 where
+pub record IsOver {X : Type 0} (acts : ActOn X) (talk : Talk) (link : Returned) (old new : Worker X) : Type 0 where
   pub out : List ℕ
   pub taken : IfSome link.taken (λ taken. taken ≡ out)
-  pub talks : IsWhole acts link.stream talk out old new
+  pub talks : IsWholeTalk acts link.stream talk out old new
   pub rose : link.rose ≡ is_fault talk.finish
 
 -- The talks of a worker, each over its link, one behind the other.
-abbrev pub AreOver : {X : Type 0} → ActOn X → List Told → List Returned → Worker X → Worker X → Type 0
+abbrev pub AreOver : {X : Type 0} → ActOn X → List Talk → List Returned → Worker X → Worker X → Type 0
 AreOver acts [] [] old new = new ≡ old
 AreOver acts [] (link ∷ links) old new = ⊥
 AreOver acts (talk ∷ talks) [] old new = ⊥
@@ -89,7 +89,7 @@ Brought before [] now = now ≡ before
 Brought before (link ∷ links) now = (mid : Option (List (List ℕ))) × BringsOne link.stream before mid × Brought mid links now
 
 -- the receipts of all talks, in their order
-abbrev pub all_receipts : List Told → List Account
+abbrev pub all_receipts : List Talk → List Receipt
 all_receipts [] = []
 all_receipts (talk ∷ talks) = talk.receipts ++ all_receipts talks
 
@@ -107,7 +107,7 @@ EndsServing connections talks old new serve.DoorFault = (talks < connections) ×
 EndsServing connections talks old new serve.Memory = (talks ≤ connections) × (new.faults ≡ old.faults)
 
 -- All talks of a worker over one history: the one that the desk stands for in the end.
-pub record AreConversations {D : Type 0} (told : D → Option (List ℕ)) (old new : Held D) (draws : Place) (links : List Returned) (talks : List Told) : Type 0 where
+pub record AreConversations {D : Type 0} (told : D → Option (List ℕ)) (old new : Desk D) (draws : Place) (links : List Returned) (talks : List Talk) : Type 0 where
   pub held : (h : List Entry) → StandsFor told old h
       → (history : List Entry) × (behind : Place) × BeginsWith h history × StandsFor told new history
       × AreOver (ActsIn old.limit history) talks links (worker_at draws h old.doubt) (worker_at behind history new.doubt)

@@ -5,15 +5,15 @@ use Rattle.lrs_disk.specs.Faults.{Rises}
 use Rattle.lrs_http.specs.declared.request.RequestRefused.{RequestRefused}
 use Rattle.lrs_http.specs.declared.request.RequestRefused.TheVariants as request
 use Rattle.lrs_http.specs.Response.{IsStatus}
-use Rattle.lrs_journal.specs.Journal.{Held}
+use Rattle.lrs_machine.specs.Desk.{Desk}
 use Rattle.lrs_replies.specs.Replies.{error_body}
 use Rattle.lrs_hall.specs.Acts.{DeskAndClock}
 use Rattle.lrs_hall.specs.Conversation.{ActOn, Worker, going, over, Responds, EndsOpen}
-use Rattle.lrs_hall.specs.Conversation.{Sends as SendsIn}
-use Rattle.lrs_machine.specs.Desk.{Account}
+use Rattle.lrs_hall.specs.Conversation.{SendsResponse as SendsIn}
+use Rattle.lrs_machine.specs.Desk.{Receipt}
 use Rattle.lrs_hall.specs.Draws.{Place}
 use Rattle.lrs_hall.specs.Serving.{AreOver, BringsOne, EndsServing, Passes}
-use Rattle.lrs_hall.specs.Talks.{Told}
+use Rattle.lrs_hall.specs.Talks.{Talk}
 use Rattle.lrs_hall.specs.declared.serving.ServeEnd.{ServeEnd}
 use Rattle.lrs_hall.specs.declared.serving.ServeEnd.TheVariants as serve
 use Rattle.lrs_hall.specs.Responses.{Fixed, IsFraming, framing_response}
@@ -24,7 +24,7 @@ use Rattle.lrs_hall.specs.declared.talk.Finish.{Finish}
 use Rattle.lrs_hall.specs.declared.talk.Finish.TheVariants as finish
 
 -- a worker whose acts are those of a desk
-abbrev pub worker : {D : Type 0} → Place → Held D → Option (List ℕ) → Worker (DeskAndClock D)
+abbrev pub worker : {D : Type 0} → Place → Desk D → Option (List ℕ) → Worker (DeskAndClock D)
 worker draws held readings = record { draws = draws; store = record { held = held; readings = readings } }
 
 -- a response with a body may have this status, and allow these methods
@@ -77,18 +77,18 @@ HasExchangeCause before now (Last receipt f) = HasFinishCause before now f
 HasExchangeCause before now (Silent f) = HasFinishCause before now f
 
 -- what a turn was by how its response was sent
-abbrev pub exchanged_of : {T E : Type 0} → Account → Result T E → Bool → Finish → Exchanged
+abbrev pub exchanged_of : {T E : Type 0} → Receipt → Result T E → Bool → Finish → Exchanged
 exchanged_of receipt (Err fault) closes due = Last receipt finish.LinkFault
 exchanged_of receipt (Ok value) true due = Last receipt due
 exchanged_of receipt (Ok value) false due = Next receipt
 
 -- what is no request was answered, whole or in part, or there is no response to it
-abbrev pub Refuses : RequestRefused → Option (List ℕ) → Option (List ℕ) → Exchanged → Type 0
-Refuses refusal before now (Next receipt) = ⊥
-Refuses refusal before now (Last receipt f) =
+abbrev pub RefusesRequest : RequestRefused → Option (List ℕ) → Option (List ℕ) → Exchanged → Type 0
+RefusesRequest refusal before now (Next receipt) = ⊥
+RefusesRequest refusal before now (Last receipt f) =
     (front : List ℕ) × (text : List ℕ) × IsFraming (framing_response refusal) receipt text × SendsIn text (over (finish_behind refusal)) front (over f)
     × (now ≡ option_map (λ taken. taken ++ front) before)
-Refuses refusal before now (Silent f) = (f ≡ finish_behind refusal) × IsNone (framing_response refusal) × (now ≡ before)
+RefusesRequest refusal before now (Silent f) = (f ≡ finish_behind refusal) × IsNone (framing_response refusal) × (now ≡ before)
 
 -- the count of a link on which what is no request was answered
 abbrev pub IsRefusalCause : RequestRefused → ℕ → ℕ → Exchanged → Type 0
@@ -104,7 +104,7 @@ pub record PassesOne (old new : DoorState) (link : Returned) : Type 0 where
   pub faults : new.faults ≡ old.faults
 
 -- Talks over the links of a door, and why no more.
-pub record Served {X : Type 0} (acts : ActOn X) (connections : ℕ) (old new : Worker X) (before behind : DoorState) (talks : List Told) (end : ServeEnd) : Type 0 where
+pub record Served {X : Type 0} (acts : ActOn X) (connections : ℕ) (old new : Worker X) (before behind : DoorState) (talks : List Talk) (end : ServeEnd) : Type 0 where
   pub links : List Returned
   pub over : AreOver acts talks links old new
   pub passes : Passes before behind links

@@ -1,8 +1,8 @@
 -- What is seen of a conversation.
 use Rattle.std.specs.Prelude.{List}
-use Rattle.lrs_machine.specs.Desk.{Account}
+use Rattle.lrs_machine.specs.Desk.{Receipt}
 use Rattle.lrs_hall.specs.declared.talk.Finish.{Finish}
 
-pub record Told : Type 0 where
-  pub receipts : List Account
+pub record Talk : Type 0 where
+  pub receipts : List Receipt
   pub finish : Finish

@@ -1,7 +1,7 @@
 //! Conversations: one connection is served from its first request to its end.
 ghost use Rattle.std.specs.Prelude.{◌≡◌, ◌<◌, ◌++◌, List, ℕ, Some, IsTrue, option_map, vec_len, vec_capacity};
 ghost use Rattle.lrs_hall.specs.Acts.{ActsOn};
-ghost use Rattle.lrs_hall.specs.Serving.{AddsReadings, Counts, IsConversation, IsDurable, IsWhole, clocks};
+ghost use Rattle.lrs_hall.specs.Serving.{AddsReadings, Counts, IsConversation, IsDurable, IsWholeTalk, clocks};
 ghost use Rattle.lrs_hall.specs.Steps.{HasFinishCause, worker};
 
 use crate::exchange::{Exchanged, exchange};
@@ -36,7 +36,7 @@ pub(crate) fn hold<D: Disk, O: Door>(
     draws: &mut Draws,
 ) -> Talk
     ensures talk { (out : List ℕ) × (O.Link.taken link.new ≡ option_map (λ taken. taken ++ out) (O.Link.taken link.old))
-        × IsWhole (ActsOn D.told D.time D.fault_count) (O.Link.left link.old) result out
+        × IsWholeTalk (ActsOn D.told D.time D.fault_count) (O.Link.left link.old) result out
         (worker draws.old desk.old (O.state door.old).readings)
         (worker draws.new desk.new (O.state door.new).readings) }
     ensures durable { IsDurable D.told D.image desk.old → IsDurable D.told D.image desk.new }

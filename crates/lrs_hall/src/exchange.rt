@@ -2,9 +2,9 @@
 ghost use Rattle.std.specs.Prelude.{◌≡◌, List, ℕ, Ok};
 ghost use Rattle.lrs_http.specs.Links.{stream_left, HasWriteCause};
 ghost use Rattle.lrs_hall.specs.Acts.{ActsOn};
-ghost use Rattle.lrs_hall.specs.Conversation.{Answers};
+ghost use Rattle.lrs_hall.specs.Conversation.{ServesRequest};
 ghost use Rattle.lrs_hall.specs.Serving.{IsDurable};
-ghost use Rattle.lrs_hall.specs.Steps.{worker, Wrote, Exchanges, HasExchangeCause, finish_behind, exchanged_of, Refuses, IsRefusalCause};
+ghost use Rattle.lrs_hall.specs.Steps.{worker, Wrote, Exchanges, HasExchangeCause, finish_behind, exchanged_of, RefusesRequest, IsRefusalCause};
 
 use crate::answering::{framing_response, route_response, write_fixed, write_reply};
 use crate::{Draws, Finish};
@@ -25,7 +25,7 @@ pub(crate) enum Exchanged {
     Silent(Finish),
 }
 
-// Answers a request, and says whether the response went out whole.
+// Serves a request, and says whether the response went out whole.
 fn serve<D: Disk, O: Door>(
     alloc: Global,
     desk: &mut Desk<D>,
@@ -36,7 +36,7 @@ fn serve<D: Disk, O: Door>(
     request: Request,
     closes: bool,
 ) -> (Receipt, Result<(), LinkFault>)
-    ensures served { (text : List ℕ) × Answers (ActsOn D.told D.time D.fault_count) closes (Ok request) result.0 text
+    ensures served { (text : List ℕ) × ServesRequest (ActsOn D.told D.time D.fault_count) closes (Ok request) result.0 text
         (worker draws.old desk.old (O.state door.old).readings) (worker draws.new desk.new (O.state door.new).readings)
         × Wrote text result.1 (O.Link.taken link.old) (O.Link.taken link.new) }
     ensures durable { IsDurable D.told D.image desk.old → IsDurable D.told D.image desk.new }
@@ -53,6 +53,7 @@ fn serve<D: Disk, O: Door>(
             let draw = draws.next();
             let (reply, receipt) = desk.act(caller, command, clock, &draw);
             let sent = write_reply(link, &reply, closes);
+            drop(reply);
             (receipt, sent)
         }
         Err(refused) => {
@@ -98,7 +99,7 @@ fn finish_behind(refused: RequestRefused) -> Finish
 
 // Answers what is no request, where it gets a response.
 fn refuse<L: Link>(link: &mut L, refused: RequestRefused) -> Exchanged
-    ensures refused { Refuses refused (L.taken link.old) (L.taken link.new) result }
+    ensures refused { RefusesRequest refused (L.taken link.old) (L.taken link.new) result }
     ensures left_kept { L.left link.new ≡ L.left link.old }
     ensures stream_kept { L.stream link.new ≡ L.stream link.old }
     ensures name_kept { L.name link.new ≡ L.name link.old }

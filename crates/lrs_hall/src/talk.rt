@@ -27,9 +27,9 @@ pub struct Talk {
 }
 
 impl Model for Talk {
-    ghost use Rattle.lrs_hall.specs.Talks.{Told};
+    ghost use Rattle.lrs_hall.specs.Talks.{Talk as SpecTalk};
 
-    ghost Value = { Told };
+    ghost Value = { SpecTalk };
 
     ghost view = { λ t. record { receipts = t.receipts; finish = t.finish } };
 }

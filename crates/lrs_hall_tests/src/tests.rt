@@ -1,8 +1,9 @@
 ghost use Rattle.std.specs.Prelude.{◌≡◌, None, IfOk};
-ghost use Rattle.lrs_disk.specs.MemDoor.{out_of};
+ghost use Rattle.lrs_in_memory.specs.MemDoor.{out_of};
 
-use lrs_disk::{Door, MemDisk, MemDoor, MemLink, Next};
+use lrs_disk::{Door, Next};
 use lrs_hall::{Draws, Finish, ServeEnd, Talk, converse, serve_all};
+use lrs_in_memory::{MemDisk, MemDoor, MemLink};
 use lrs_json::Text;
 use lrs_machine::{Desk, is_base, is_token};
 use lrs_routes::Routes;
@@ -21,8 +22,13 @@ fn founded(alloc: Global) -> Result<Desk<MemDisk>, Fail> {
         return Err(Fail::from("no base"));
     }
     let disk = MemDisk::new(alloc, Vec::new(alloc), Vec::new(alloc), 99, 9_999)?;
-    let founded = Desk::found(alloc, disk, 65_536, &admin, &base, NOW);
-    Ok(founded.ok().ok_or("not founded")?)
+    match Desk::found(alloc, disk, 65_536, &admin, &base, NOW) {
+        Ok(desk) => Ok(desk),
+        Err(refused) => {
+            drop(refused);
+            Err(Fail::from("not founded"))
+        }
+    }
 }
 
 // A door that gives one connection, which brings one request and takes so many bytes.
@@ -36,99 +42,125 @@ fn door_of(alloc: Global, room: usize) -> Result<MemDoor, Fail>
 }
 
 // How a conversation ended, how many responses it had, and what went out.
-#[derive(Drop)]
-struct Held {
-    finish: Finish,
-    responses: usize,
-    taken: Vec<u8>,
-}
-
-fn held_by(alloc: Global, talk: &Talk, link: &MemLink) -> Result<Held, Fail> {
-    Ok(Held {
-        finish: talk.finish(),
-        responses: talk.responses(),
-        taken: link.taken().to_vec(alloc)?,
-    })
+fn held_text(alloc: Global, talk: &Talk, link: &MemLink) -> Result<String, Fail> {
+    let finish = match talk.finish() {
+        Finish::Ended => "ended",
+        Finish::Closed => "closed",
+        Finish::Cut => "cut",
+        Finish::LinkFault => "fault",
+        Finish::Memory => "memory",
+    };
+    let responses = talk.responses();
+    let taken = str::from_utf8(link.taken())?;
+    Ok(format!(in alloc; "{finish} {responses} {taken}")?)
 }
 
 // What came of the one connection of a door, held over a desk.
-fn conversed_over(alloc: Global, desk: &mut Desk<MemDisk>, door: &mut MemDoor) -> Result<Held, Fail>
+fn conversed_over(
+    alloc: Global,
+    desk: &mut Desk<MemDisk>,
+    door: &mut MemDoor,
+    routes: &Routes,
+) -> Result<String, Fail>
     requires { out_of door.old ≡ None }
 {
-    let routes = Routes::new(alloc)?;
-    let mut draws = Draws::new([0; 32], 1);
-    let Next::Joined(mut link) = door.next() else {
-        return Err(Fail::from("no link"));
-    };
-    let talk = converse(alloc, desk, door, &mut link, &routes, &mut draws);
-    held_by(alloc, &talk, &link)
+    match door.next() {
+        Next::Joined(link) => {
+            let mut link = link;
+            let mut draws = Draws::new([0; 32], 1);
+            let talk = converse(alloc, desk, door, &mut link, routes, &mut draws);
+            let held = held_text(alloc, &talk, &link);
+            drop(talk);
+            drop(draws);
+            drop(link);
+            held
+        }
+        Next::Closed | Next::Failed => Err(Fail::from("no link")),
+    }
 }
 
-fn conversed(alloc: Global, room: usize) -> Result<Held, Fail> {
-    let mut door = door_of(alloc, room)?;
-    match founded(alloc) {
-        Ok(mut desk) => {
-            let held = conversed_over(alloc, &mut desk, &mut door);
-            drop(desk);
+fn conversed_of(alloc: Global, desk: &mut Desk<MemDisk>, room: usize) -> Result<String, Fail> {
+    let routes = Routes::new(alloc)?;
+    match door_of(alloc, room) {
+        Ok(mut door) => {
+            let held = conversed_over(alloc, desk, &mut door, &routes);
             drop(door);
+            drop(routes);
             held
         }
         Err(fail) => {
-            drop(door);
+            drop(routes);
             Err(fail)
         }
     }
 }
 
-fn first_of(alloc: Global, door: &MemDoor, talks: &[Talk]) -> Result<Held, Fail> {
-    let talk = talks.first().ok_or("no talk")?;
-    let link = door.returned().first().ok_or("no link")?;
-    held_by(alloc, talk, link)
-}
-
-fn served_over(alloc: Global, desk: Desk<MemDisk>, door: MemDoor) -> (Result<Held, Fail>, ServeEnd)
-    requires { out_of door ≡ None }
-{
-    let (desk, door, talks, end) = serve_all(alloc, desk, door, 1, [0; 32]);
-    let held = first_of(alloc, &door, talks.as_slice());
+fn conversed(alloc: Global, room: usize) -> Result<String, Fail> {
+    let mut desk = founded(alloc)?;
+    let held = conversed_of(alloc, &mut desk, room);
     drop(desk);
-    drop(door);
-    drop(talks);
-    (held, end)
+    held
 }
 
-fn served(alloc: Global) -> Result<(Held, ServeEnd), Fail> {
-    let door = door_of(alloc, 999)?;
-    match founded(alloc) {
-        Ok(desk) => {
-            let (held, end) = served_over(alloc, desk, door);
-            Ok((held?, end))
-        }
-        Err(fail) => {
-            drop(door);
-            Err(fail)
-        }
+// Fails with what was found, where it isn't this.
+fn check(found: String, expected: &str) -> Result<(), Fail> {
+    if found.as_str() == expected {
+        Ok(())
+    } else {
+        Err(Fail::from(found))
+    }
+}
+
+// Fails with what was found, where it doesn't begin with this.
+fn check_front(found: String, expected: &str) -> Result<(), Fail> {
+    if found.as_str().starts_with(expected) {
+        Ok(())
+    } else {
+        Err(Fail::from(found))
     }
 }
 
 // There is room for half of the response.
 #[test]
 fn a_link_that_fails_ends_its_conversation(rt: HostRuntime) -> Result<(), Fail> {
-    let held = conversed(rt.alloc(), 12)?;
-    assert!(rt; held.finish == Finish::LinkFault);
-    assert_eq!(rt; held.responses, 1);
-    assert_eq!(rt; held.taken.as_slice(), b"HTTP/1.1 404".as_slice());
-    Ok(())
+    check(conversed(rt.alloc(), 12)?, "fault 1 HTTP/1.1 404")
+}
+
+// What came of the first connection of a door, where serving ended well.
+fn first_of(alloc: Global, door: &MemDoor, talks: &[Talk], end: ServeEnd) -> Result<String, Fail> {
+    if end != ServeEnd::Done {
+        return Err(Fail::from("not done"));
+    }
+    let talk = talks.first().ok_or("no talk")?;
+    let link = door.returned().first().ok_or("no link")?;
+    held_text(alloc, talk, link)
+}
+
+fn served_over(alloc: Global, desk: Desk<MemDisk>, door: MemDoor) -> Result<String, Fail>
+    requires { out_of door ≡ None }
+{
+    let (desk, door, talks, end) = serve_all(alloc, desk, door, 1, [0; 32]);
+    let held = first_of(alloc, &door, talks.as_slice(), end);
+    drop(talks);
+    drop(door);
+    drop(desk);
+    held
+}
+
+fn served(alloc: Global) -> Result<String, Fail> {
+    let door = door_of(alloc, 999)?;
+    match founded(alloc) {
+        Ok(desk) => served_over(alloc, desk, door),
+        Err(fail) => {
+            drop(door);
+            Err(fail)
+        }
+    }
 }
 
 #[test]
 fn a_connection_is_served(rt: HostRuntime) -> Result<(), Fail> {
-    let (held, end) = served(rt.alloc())?;
-    assert!(rt; end == ServeEnd::Done);
-    assert!(rt; held.finish == Finish::Ended);
-    assert_eq!(rt; held.responses, 1);
-    assert!(rt; held.taken.starts_with(b"HTTP/1.1 404 Not Found\r\n"));
-    Ok(())
+    check_front(served(rt.alloc())?, "ended 1 HTTP/1.1 404 Not Found\r\n")
 }
 
 // The first two are of stream 0, the last is the first one of another. The first block is that of the published vector of
@@ -153,11 +185,13 @@ fn drawn(draws: &mut Draws) -> (u128, u128) {
     (draw.name, draw.secret)
 }
 
+fn are_drawn(first: &mut Draws, other: &mut Draws) -> bool {
+    drawn(first) == DRAWS[0] && drawn(first) == DRAWS[1] && drawn(other) == DRAWS[2]
+}
+
 #[test]
 fn draws_are_the_words_of_a_stream(rt: HostRuntime) {
     let mut first = Draws::new([0; 32], 0);
     let mut other = Draws::new([0; 32], (1 << 32) + 5);
-    assert!(rt; drawn(&mut first) == DRAWS[0]);
-    assert!(rt; drawn(&mut first) == DRAWS[1]);
-    assert!(rt; drawn(&mut other) == DRAWS[2]);
+    assert!(rt; are_drawn(&mut first, &mut other));
 }

@@ -4,7 +4,7 @@ use Rattle.std.proofs.lemmas.List.{take_all, take_min, take-take}
 use Rattle.std.proofs.lemmas.Nat.{from_be_bytes-to_be_bytes_4}
 use Rattle.std.specs.Int.{w32, to_be_bytes, from_be_bytes}
 use Rattle.lrs_journal.specs.Store.{store, header, body, Stands, HasHeader, IsDamaged, IsEnd, IsPayload, payloads_in}
-use Rattle.lrs_journal.specs.Replay.{HasReadTo, IsWhole, IsTorn}
+use Rattle.lrs_journal.specs.Replay.{HasReadTo, IsWholeFrame, IsTorn}
 use Rattle.lrs_journal.specs.Steps.{Reads, IsPlaced, IsSettled, IsSound, IsReplay, IsClosed, IsCutBack}
 use Rattle.lrs_journal.specs.Journal.{settled, frames_of, TellsAlike}
 use Rattle.lrs_journal.proofs.Told.{alike_told, alike_back}
@@ -65,7 +65,7 @@ read_more bytes limit place number ps head into word n m len h same five head_is
     }
 
 -- the gate and the length of a whole frame
-pub whole_ahead : (tail head word : List ℕ) (n len : ℕ) → take n head ≡ take n tail → n ≡ 5 → head ≡ 1 ∷ word → length word ≡ 4 → to_be_bytes w32 len ≡ word → 5 + len ≤ length tail → IsWhole tail len
+pub whole_ahead : (tail head word : List ℕ) (n len : ℕ) → take n head ≡ take n tail → n ≡ 5 → head ≡ 1 ∷ word → length word ≡ 4 → to_be_bytes w32 len ≡ word → 5 + len ≤ length tail → IsWholeFrame tail len
 whole_ahead tail head word n len same five head_is four spelled long = (
   drop 5 tail,
   sym (take-append-drop 5 tail) ∙ ap (λ (l : List ℕ). l ++ drop 5 tail) front,
@@ -77,7 +77,7 @@ whole_ahead tail head word n len same five head_is four spelled long = (
 
 -- a whole frame more was read
 pub read_whole : (bytes : List ℕ) (limit place number : ℕ) (ps : List (List ℕ)) (into : List ℕ) (len : ℕ) → HasReadTo bytes limit place number ps → len < 2 ^ 32
-    → IsWhole (drop place bytes) len → length into ≡ len → into ≡ take len (drop (place + 5) bytes) → HasReadTo bytes limit (place + (5 + len)) (number + 1) (ps ++ into ∷ [])
+    → IsWholeFrame (drop place bytes) len → length into ≡ len → into ≡ take len (drop (place + 5) bytes) → HasReadTo bytes limit (place + (5 + len)) (number + 1) (ps ++ into ∷ [])
 read_whole bytes limit place number ps into len h small whole long is =
     let word : List ℕ = to_be_bytes w32 len in
     read_more bytes limit place number ps (1 ∷ word) into word 5 len len h (sym (ap (λ (l : List ℕ). take 5 l) whole.1)) refl refl (omega arith) refl long small
@@ -152,7 +152,7 @@ replay_kept old new before after limit size place number ended r same within = r
 
 -- one more frame was read
 pub replay_more : (told : Option (List ℕ)) (image : List ℕ → Type 0) (limit size place number : ℕ) (ended : Bool) (into : List ℕ) (len : ℕ) → IsReplay told image limit size place number ended
-    → len < 2 ^ 32 → length into ≡ len → ((b : List ℕ) → told ≡ Some b → IsWhole (drop place b) len) → ((b : List ℕ) → told ≡ Some b → into ≡ take len (drop (place + 5) b))
+    → len < 2 ^ 32 → length into ≡ len → ((b : List ℕ) → told ≡ Some b → IsWholeFrame (drop place b) len) → ((b : List ℕ) → told ≡ Some b → into ≡ take len (drop (place + 5) b))
     → IsReplay told image limit size (place + (5 + len)) (number + 1) false
 replay_more told image limit size place number ended into len r small long whole is = record {
   least = r.least;

@@ -5,7 +5,7 @@ use Rattle.std.proofs.lemmas.List.{same_from_push}
 use Rattle.lrs_disk.specs.Disk.{written}
 use Rattle.lrs_journal.specs.Store.{body, Stands, IsBeforeOrAfter, payloads_in}
 use Rattle.lrs_journal.specs.Steps.{IsBehind, IsAtGate, IsSettled, IsDoubtful, IsSound, end_behind}
-use Rattle.lrs_journal.specs.Journal.{Held, settled, frames_of, need_of, StandsFor, IsHolding, IsJournal, TellsAlike, Stores}
+use Rattle.lrs_journal.specs.Journal.{Journal, settled, frames_of, need_of, StandsFor, IsHolding, IsJournal, TellsAlike, Stores}
 use Rattle.lrs_journal.proofs.Told.{alike_back}
 use Rattle.lrs_journal.proofs.Doubt.{gate_within, doubt_within, behind_free, gate_keeps, gate_opens, staged_doubt, rest_stands, doubt_stands, placed_push}
 use Rattle.lrs_journal.proofs.Reading.{stands_read}
@@ -76,7 +76,7 @@ doubt_read image limit end number ps p b d small left =
 -- ---- what it stands for
 
 -- a journal of these fields
-abbrev pub seen : {D : Type 0} → D → ℕ → ℕ → ℕ → Option ℕ → Held D
+abbrev pub seen : {D : Type 0} → D → ℕ → ℕ → ℕ → Option ℕ → Journal D
 seen disk limit gate number doubt = record { disk = disk; limit = limit; gate = gate; end = end_behind gate doubt; doubt = is_some doubt; number = number }
 
 module _ {D : Type 0} (told : D → Option (List ℕ)) (image : D → List ℕ → Type 0) (reads : (disk : D) (b : List ℕ) → told disk ≡ Some b → image disk b) where
@@ -248,10 +248,10 @@ module _ {D : Type 0} (told : D → Option (List ℕ)) (image : D → List ℕ �
       subst (λ (l : List (List ℕ)). Stands c limit l) (sym whole) (rest_stands limit end tied.0 c tied.1.placed (behind_free limit tied.0 [] end tied.1.placed.behind c now.0 (tied.1.each now.0 now.1) now.2))
 
 -- what has room behind the frames of a journal without doubt has it behind the gate
-pub room_behind : {D : Type 0} (disk : D) (limit gate number : ℕ) (doubt : Option ℕ) (p : List ℕ) (held : Held D) → seen disk limit gate number doubt ≡ held → doubt ≡ None
+pub room_behind : {D : Type 0} (disk : D) (limit gate number : ℕ) (doubt : Option ℕ) (p : List ℕ) (held : Journal D) → seen disk limit gate number doubt ≡ held → doubt ≡ None
     → need_of held p ≤ held.limit → gate + 6 + length p ≤ limit
 room_behind {D} disk limit gate number doubt p held view none fits =
-    omega (arith, fits, ap (λ (h : Held D). h.end) view, ap (λ (h : Held D). h.limit) view, ap (λ (o : Option ℕ). end_behind gate o) none)
+    omega (arith, fits, ap (λ (h : Journal D). h.end) view, ap (λ (h : Journal D). h.limit) view, ap (λ (o : Option ℕ). end_behind gate o) none)
 
 pub no_doubt : (o : Option ℕ) → is_some o ≡ false → o ≡ None
 no_doubt None none = refl
@@ -264,7 +264,7 @@ doubt_before_or_after limit x p c stands =
     ⊎_elim (λ s. inl (subst (λ (l : List (List ℕ)). Stands c limit l) (sym same) s)) (λ s. inr s) stands.3
 
 -- a journal without doubt leaves its frames on its disk
-pub stored : {D : Type 0} (told : D → Option (List ℕ)) (image : D → List ℕ → Type 0) (j : Held D) → IsJournal told image j → j.doubt ≡ false → (x : List (List ℕ)) → frames_of told j ≡ Some x → Stores told j.disk j.limit x
+pub stored : {D : Type 0} (told : D → Option (List ℕ)) (image : D → List ℕ → Type 0) (j : Journal D) → IsJournal told image j → j.doubt ≡ false → (x : List (List ℕ)) → frames_of told j ≡ Some x → Stores told j.disk j.limit x
 stored told image j sound none x is =
     let from = mapped (λ bytes. payloads_in (settled j.doubt j.gate bytes)) (told j.disk) x is in
     (from.0, from.1, subst (λ (b : Bool). StandsFor j.limit b x from.0) none ((sound.holds x is).reads from.0 from.1))

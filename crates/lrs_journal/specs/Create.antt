@@ -1,5 +1,5 @@
 -- When a store is made on a disk.
-use Rattle.std.specs.Prelude.{◌≡◌, ◌≢◌, ◌⊎◌, ◌<◌, ℕ, List, [], ◌∷◌, length, get_or, take, drop, Option}
+use Rattle.std.specs.Prelude.{◌≡◌, ◌≢◌, ◌⊎◌, ◌<◌, ◌+◌, ℕ, List, [], ◌∷◌, length, get_or, take, drop, Option}
 use Rattle.lrs_disk.specs.Disk.{LeavesOnly}
 use Rattle.lrs_journal.specs.Store.{magic, HasHeader, Stands}
 use Rattle.lrs_journal.specs.declared.create.CreateRefused.{CreateRefused}
@@ -18,11 +18,15 @@ abbrev pub IsOpenTo : List ℕ → Type 0
 IsOpenTo bytes = (IsStore bytes → ⊥) × (IsForeign bytes → ⊥)
 
 -- what the bytes are where no store is made on them
-abbrev pub IsRefused : List ℕ → CreateRefused → Type 0
-IsRefused bytes refused.AlreadyStore = IsStore bytes
-IsRefused bytes refused.Foreign = IsForeign bytes
-IsRefused bytes (refused.Full need limit) = IsOpenTo bytes
-IsRefused bytes refused.Failed = Unit {0}
+abbrev pub IsCreateRefused : List ℕ → CreateRefused → Type 0
+IsCreateRefused bytes refused.AlreadyStore = IsStore bytes
+IsCreateRefused bytes refused.Foreign = IsForeign bytes
+IsCreateRefused bytes (refused.Full need limit) = IsOpenTo bytes
+IsCreateRefused bytes refused.Failed = Unit {0}
+
+-- what a store of this one frame needs
+abbrev pub need_of_first : List ℕ → ℕ
+need_of_first first = length first + 23
 
 -- no open header, or the one frame
 abbrev pub IsMade : ℕ → List ℕ → List ℕ → Type 0

@@ -6,7 +6,7 @@ use Rattle.lrs_disk.specs.Faults.{Rises}
 use Rattle.lrs_journal.specs.Store.{store, Stands, payloads_in}
 
 -- A journal over a disk.
-pub record Held (D : Type 0) : Type 0 where
+pub record Journal (D : Type 0) : Type 0 where
   pub disk : D
   -- the bytes that the header allows
   pub limit : ℕ
@@ -24,7 +24,7 @@ abbrev pub settled : Bool → ℕ → List ℕ → List ℕ
 settled doubt gate bytes = if doubt then written bytes gate (1 ∷ []) else bytes
 
 -- the payloads of the frames for which a journal stands, with the doubtful one, where its disk tells what it holds
-abbrev pub frames_of : {D : Type 0} → (D → Option (List ℕ)) → Held D → Option (List (List ℕ))
+abbrev pub frames_of : {D : Type 0} → (D → Option (List ℕ)) → Journal D → Option (List (List ℕ))
 frames_of told journal = option_map (λ bytes. payloads_in (settled journal.doubt journal.gate bytes)) (told journal.disk)
 
 -- the bytes stand for the payloads, or in doubt for all but the last
@@ -33,14 +33,14 @@ StandsFor limit false payloads bytes = Stands bytes limit payloads
 StandsFor limit true payloads bytes = (before : List (List ℕ)) × (last : List ℕ) × (payloads ≡ before ++ last ∷ []) × (Stands bytes limit before ⊎ Stands bytes limit payloads)
 
 -- The journal stands for these payloads as its disk reads, and on each image that a crash now may leave.
-pub record IsHolding {D : Type 0} (told : D → Option (List ℕ)) (image : D → List ℕ → Type 0) (journal : Held D) (payloads : List (List ℕ)) : Type 0 where
+pub record IsHolding {D : Type 0} (told : D → Option (List ℕ)) (image : D → List ℕ → Type 0) (journal : Journal D) (payloads : List (List ℕ)) : Type 0 where
   pub reads : (bytes : List ℕ) → told journal.disk ≡ Some bytes → StandsFor journal.limit journal.doubt payloads bytes
   pub each : (bytes : List ℕ) → image journal.disk bytes → StandsFor journal.limit journal.doubt payloads bytes
   pub place : journal.end ≡ length (store journal.limit payloads)
   pub counts : journal.number ≡ length payloads
 
 -- What is true of every journal.
-pub record IsJournal {D : Type 0} (told : D → Option (List ℕ)) (image : D → List ℕ → Type 0) (journal : Held D) : Type 0 where
+pub record IsJournal {D : Type 0} (told : D → Option (List ℕ)) (image : D → List ℕ → Type 0) (journal : Journal D) : Type 0 where
   pub least : 512 ≤ journal.limit
   pub most : journal.limit ≤ 2 ^ 30
   pub holds : ForSome (frames_of told journal) (IsHolding told image journal)
@@ -67,23 +67,23 @@ pub record HasCount (before now : ℕ) (failed well : Type 0) : Type 0 where
   pub kept : well → now ≡ before
 
 -- what an append of these bytes needs
-abbrev pub need_of : {D : Type 0} → Held D → List ℕ → ℕ
+abbrev pub need_of : {D : Type 0} → Journal D → List ℕ → ℕ
 need_of journal payload = journal.end + 6 + length payload
 
 -- The journal with one frame more.
-pub record IsAppended {D : Type 0} (told : D → Option (List ℕ)) (old new : Held D) (payload : List ℕ) : Type 0 where
+pub record IsAppended {D : Type 0} (told : D → Option (List ℕ)) (old new : Journal D) (payload : List ℕ) : Type 0 where
   pub frames : frames_of told new ≡ option_map (λ payloads. payloads ++ payload ∷ []) (frames_of told old)
   pub number : new.number ≡ old.number + 1
   pub end : new.end ≡ old.end + (5 + length payload)
   pub limit : new.limit ≡ old.limit
 
 -- The same frames.
-pub record IsUnchanged {D : Type 0} (told : D → Option (List ℕ)) (old new : Held D) : Type 0 where
+pub record IsUnchanged {D : Type 0} (told : D → Option (List ℕ)) (old new : Journal D) : Type 0 where
   pub frames : frames_of told new ≡ frames_of told old
   pub number : new.number ≡ old.number
   pub end : new.end ≡ old.end
   pub limit : new.limit ≡ old.limit
 
 -- The frame was added in doubt, or nothing was.
-abbrev pub IsAppendFailed : {D : Type 0} → (D → Option (List ℕ)) → Held D → Held D → List ℕ → Type 0
+abbrev pub IsAppendFailed : {D : Type 0} → (D → Option (List ℕ)) → Journal D → Journal D → List ℕ → Type 0
 IsAppendFailed told old new payload = ((new.doubt ≡ true) × IsAppended told old new payload) ⊎ ((new.doubt ≡ false) × IsUnchanged told old new)

@@ -36,8 +36,8 @@ abbrev pub IsSamePlace : {D : Type 0} → Reading D → Reading D → Type 0
 IsSamePlace old new = (new.place ≡ old.place) × (new.number ≡ old.number)
 
 -- a front of these bytes is an open gate and a whole frame with a payload of this length
-abbrev pub IsWhole : List ℕ → ℕ → Type 0
-IsWhole bytes size = (behind : List ℕ) × (bytes ≡ 1 ∷ to_be_bytes w32 size ++ behind) × (size ≤ length behind)
+abbrev pub IsWholeFrame : List ℕ → ℕ → Type 0
+IsWholeFrame bytes size = (behind : List ℕ) × (bytes ≡ 1 ∷ to_be_bytes w32 size ++ behind) × (size ≤ length behind)
 
 -- an open gate and a byte, and no whole frame
 abbrev pub IsTorn : List ℕ → Type 0
@@ -47,4 +47,4 @@ IsTorn bytes = (behind : List ℕ) × (bytes ≡ 1 ∷ behind) × (0 < length be
 abbrev pub IsAhead : List ℕ → Ahead → Type 0
 IsAhead bytes ahead.End = IsEnd bytes
 IsAhead bytes ahead.Torn = IsTorn bytes
-IsAhead bytes (ahead.Frame size) = IsWhole bytes size
+IsAhead bytes (ahead.Frame size) = IsWholeFrame bytes size

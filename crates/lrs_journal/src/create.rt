@@ -5,7 +5,7 @@ ghost use Rattle.lrs_disk.specs.Disk.{LeavesOnly};
 ghost use Rattle.lrs_disk.specs.Faults.{HasCause};
 ghost use Rattle.lrs_journal.specs.Journal.{frames_of, IsJournal, IsSynced, TellsAlike, HasCount};
 ghost use Rattle.lrs_journal.specs.Steps.{Reads, IsBehind, AtRest, IsBlank, IsShort, IsCutShort, behind_gate};
-ghost use Rattle.lrs_journal.specs.Create.{IsStore, IsForeign, IsOpenTo, IsRefused, IsMade, IsUntouched};
+ghost use Rattle.lrs_journal.specs.Create.{IsStore, IsForeign, IsOpenTo, IsCreateRefused, IsMade, IsUntouched, need_of_first};
 ghost use Rattle.lrs_journal.specs.declared.create.CreateRefused.TheVariants as CreateRefused;
 
 use crate::Journal;
@@ -108,7 +108,7 @@ fn build<D: Disk>(disk: &mut D, size: u64, limit: u64, first: &[u8]) -> Result<(
 fn inspect<D: Disk>(disk: &mut D) -> Result<u64, CreateRefused>
     ensures size { IfOk result (λ size. ForSome (D.told disk.old) (λ bytes. size ≡ length bytes)) }
     ensures free { IsOk result → ForSome (D.told disk.old) IsOpenTo }
-    ensures refused { IfErr result (λ e. ForSome (D.told disk.old) (λ bytes. IsRefused bytes e)) }
+    ensures refused { IfErr result (λ e. ForSome (D.told disk.old) (λ bytes. IsCreateRefused bytes e)) }
     ensures full { (need limit : ℕ) → result ≢ Err (CreateRefused.Full need limit) }
     ensures untouched { IsUntouched D.told D.image D.time D.image_since disk.old disk.new }
     ensures cause { HasCount (D.fault_count disk.old) (D.fault_count disk.new) (IsErrOf result CreateRefused.Failed)
@@ -127,10 +127,10 @@ fn make<D: Disk>(disk: &mut D, limit: u64, first: &[u8]) -> Result<(), CreateRef
     requires first { length first.now < 2 ^ 32 }
     ensures made { IsOk result → (c : List ℕ) → D.image disk.new c → AtRest limit (first.now ∷ []) c }
     ensures free { IsOk result → ForSome (D.told disk.old) IsOpenTo }
-    ensures room { IsOk result → length first.now + 23 ≤ limit }
-    ensures refused { IfErr result (λ e. ForSome (D.told disk.old) (λ bytes. IsRefused bytes e)) }
-    ensures full { (need most : ℕ) → IsErrOf result (CreateRefused.Full need most) → (need ≡ length first.now + 23)
-        × (most ≡ limit) × (limit < need) }
+    ensures room { IsOk result → need_of_first first.now ≤ limit }
+    ensures refused { IfErr result (λ e. ForSome (D.told disk.old) (λ bytes. IsCreateRefused bytes e)) }
+    ensures full { (need most : ℕ) → IsErrOf result (CreateRefused.Full need most)
+        → (need ≡ need_of_first first.now) × (most ≡ limit) × (limit < need) }
     ensures spared { IfErr result (λ e. e ≢ CreateRefused.Failed
         → IsUntouched D.told D.image D.time D.image_since disk.old disk.new) }
     ensures store { ForSome (D.told disk.old) (λ bytes. (IsOpenTo bytes → ⊥)
@@ -163,10 +163,10 @@ impl<D: Disk> Journal<D> {
         ensures fields { IfOk result (λ journal. (journal.doubt ≡ false) × (journal.limit ≡ limit)
             × (journal.end ≡ length first.now + 22) × (journal.number ≡ 1)) }
         ensures sound { IfOk result (IsJournal D.told D.image) }
-        ensures free { IsOk result → (length first.now + 23 ≤ limit) × ForSome (D.told disk) IsOpenTo }
-        ensures refused { IfErr result (λ e. ForSome (D.told disk) (λ bytes. IsRefused bytes e.0)) }
+        ensures free { IsOk result → (need_of_first first.now ≤ limit) × ForSome (D.told disk) IsOpenTo }
+        ensures refused { IfErr result (λ e. ForSome (D.told disk) (λ bytes. IsCreateRefused bytes e.0)) }
         ensures full { IfErr result (λ e. (need most : ℕ) → e.0 ≡ CreateRefused.Full need most
-            → (need ≡ length first.now + 23) × (most ≡ limit) × (limit < need)) }
+            → (need ≡ need_of_first first.now) × (most ≡ limit) × (limit < need)) }
         ensures spared { IfErr result (λ e. e.0 ≢ CreateRefused.Failed
             → IsUntouched D.told D.image D.time D.image_since disk e.1) }
         // Where no store may be made nothing is written, whatever the answer is.

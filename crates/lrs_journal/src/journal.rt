@@ -10,6 +10,9 @@ use crate::steps::{stage, write_gate};
 use lrs_disk::{Disk, Failed};
 use std::marker::Model;
 
+/// The most bytes that a store's file may have.
+pub const MOST_BYTES: u64 = 1_073_741_824;
+
 /// Why a frame wasn't added.
 #[derive(Clone, Copy, Debug, PartialEq, Eq)]
 pub enum AppendRefused {
@@ -64,10 +67,10 @@ pub struct Journal<D: Disk> {
 
 impl<D: Disk> Model for Journal<D> {
     ghost use Rattle.std.specs.Option.{is_some};
-    ghost use Rattle.lrs_journal.specs.Journal.{Held};
+    ghost use Rattle.lrs_journal.specs.Journal.{Journal as SpecJournal};
     ghost use Rattle.lrs_journal.specs.Steps.{IsSound, end_behind};
 
-    ghost Value = { Held D };
+    ghost Value = { SpecJournal D };
 
     ghost view = { λ j. record {
       disk = j.disk;

@@ -11,5 +11,5 @@ mod replay;
 mod steps;
 
 pub use create::CreateRefused;
-pub use journal::{AppendRefused, Full, Journal};
+pub use journal::{AppendRefused, Full, Journal, MOST_BYTES};
 pub use replay::{RecoverRefused, Replay, ReplayRefused};

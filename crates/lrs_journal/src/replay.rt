@@ -12,8 +12,8 @@ ghost use Rattle.lrs_journal.specs.declared.replay.RecoverRefused.TheVariants as
 ghost use Rattle.lrs_journal.specs.declared.replay.Ahead.TheVariants as Ahead;
 ghost use Rattle.lrs_journal.specs.declared.replay.ReplayRefused.TheVariants as ReplayRefused;
 
-use crate::Journal;
 use crate::steps::close_end;
+use crate::{Journal, MOST_BYTES};
 use lrs_disk::{Disk, Failed};
 use std::alloc::AllocError;
 use std::marker::Model;
@@ -91,7 +91,7 @@ fn limit_of(head: &[u8]) -> Option<u64>
             h,
         ] => {
             let limit = number_of([*a, *b, *c, *d, *e, *f, *g, *h]);
-            if limit < 512 || limit > 1_073_741_824 {
+            if limit < 512 || limit > MOST_BYTES {
                 None
             } else {
                 Some(limit)
@@ -157,6 +157,36 @@ fn load<D: Disk>(
     into.resize(size as usize, 0)?;
     let number = disk.read_at(place, into)?;
     Ok(number == size as usize)
+}
+
+// Reads the frame that stands at a place of a disk of so many bytes into a vector, where it is whole.
+fn fetch<D: Disk>(
+    disk: &mut D,
+    place: u64,
+    total: u64,
+    into: &mut Vec<u8>,
+) -> Result<Ahead, ReplayRefused>
+    requires { (b : List ℕ) → Reads D.told disk.old b → total ≡ length b }
+    ensures found { IfOk result (λ ahead. ForSome (D.told disk.old) (λ bytes. IsAhead (drop place bytes) ahead)) }
+    ensures fits { IfOk result (λ ahead. (size : ℕ) → ahead ≡ Ahead.Frame size → place + 5 + size ≤ total) }
+    ensures length { IfOk result (λ ahead. (size : ℕ) → ahead ≡ Ahead.Frame size → length into.new.items ≡ size) }
+    ensures payload { IfOk result (λ ahead. (size : ℕ) → ahead ≡ Ahead.Frame size → ForSome (D.told disk.old)
+        (λ bytes. into.new.items ≡ take size (drop (place + 5) bytes))) }
+    ensures damaged { (k : ℕ) → result ≢ Err (ReplayRefused.Damaged k) }
+    ensures still { D.told disk.new ≡ D.told disk.old }
+    ensures any_moment { LeavesOnly D.time D.image_since disk.old disk.new (D.image disk.old) }
+    ensures cause { HasCount (D.fault_count disk.old) (D.fault_count disk.new) (IsErrOf result ReplayRefused.Failed)
+        (IsOk result) }
+{
+    match look(disk, place, total)? {
+        Ahead::Frame { size } => {
+            if !load(disk, place + 5, size, into)? {
+                return Ok(Ahead::Torn);
+            }
+            Ok(Ahead::Frame { size })
+        }
+        ahead => Ok(ahead),
+    }
 }
 
 /// The frames of a disk, read one by one.
@@ -238,6 +268,13 @@ impl<D: Disk> Replay<D> {
         self.limit
     }
 
+    /// Where the next gate stands: behind the header, or behind the last frame that was read.
+    pub fn place(&self) -> u64
+        ensures { result ≡ self.now.place }
+    {
+        self.place
+    }
+
     /// Gives the disk back as it is. Nothing is written.
     pub fn into_disk(self) -> D
         ensures { result ≡ self.disk }
@@ -274,16 +311,13 @@ impl<D: Disk> Replay<D> {
         ensures cause { HasCount (D.fault_count self.old.disk) (D.fault_count self.new.disk)
             (IsErrOf result ReplayRefused.Failed) (IsOk result) }
     {
-        match look(&mut self.disk, self.place, self.size)? {
+        match fetch(&mut self.disk, self.place, self.size, into)? {
             Ahead::End => {
                 self.ended = true;
                 Ok(false)
             }
             Ahead::Torn => Err(ReplayRefused::Damaged { k: self.number }),
             Ahead::Frame { size } => {
-                if !load(&mut self.disk, self.place + 5, size, into)? {
-                    return Err(ReplayRefused::Damaged { k: self.number });
-                }
                 self.place += 5 + u64::from(size);
                 self.number += 1;
                 self.ended = false;

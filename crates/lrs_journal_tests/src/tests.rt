@@ -1,6 +1,7 @@
 ghost use Rattle.std.specs.Prelude.{◌≡◌, false, true};
 
-use lrs_disk::{Disk, MemDisk, Memory, Pending};
+use lrs_disk::Disk;
+use lrs_in_memory::{MemDisk, Memory, Pending};
 use lrs_journal::{AppendRefused, CreateRefused, Full, Journal, Replay};
 use std::alloc::Global;
 use std::test::Fail;

@@ -1,18 +1,17 @@
 -- What a frame more makes of a replay.
-use Rattle.std.proofs.Common.{◌≡◌, ◌≤◌, ◌+◌, ◌-◌, ◌^◌, ℕ, min, List, [], ◌∷◌, ◌++◌, length, map, drop, refl, sym, ◌∙◌, ap, subst, inl, inr, arith, append_assoc, length-append, Bool, true, false, Err}
+use Rattle.std.proofs.Common.{◌≡◌, ◌+◌, ℕ, List, [], ◌∷◌, ◌++◌, length, map, drop, refl, sym, ◌∙◌, ap, subst, inl, inr, arith, append_assoc, length-append, Bool, true, false, Err}
 use Rattle.std.specs.Prelude.{◌==◌}
 use Rattle.std.proofs.lemmas.List.{length-map, append-nil}
 use Rattle.lrs_fold.specs.Next.{may_come}
-use Rattle.lrs_fold.proofs.Decides.{may_decides, may_capped}
+use Rattle.lrs_fold.proofs.Decides.{may_decides}
 use Rattle.lrs_history.specs.History.{end_place, step, IsLegalFrom, ComesNext}
 use Rattle.lrs_journal.specs.Store.{store, header, frames, body, Stands, IsDamaged}
 use Rattle.lrs_journal.specs.Replay.{Reading, HasReadTo, HasRead, IsSamePlace}
 use Rattle.lrs_journal.specs.declared.replay.ReplayRefused.{ReplayRefused}
 use Rattle.lrs_journal.specs.declared.replay.ReplayRefused.TheVariants as replay
-use Rattle.lrs_journal.proofs.Unique.{store_length}
 use Rattle.lrs_machine.specs.declared.opening.DeskRefused.{DeskRefused}
 use Rattle.lrs_machine.specs.declared.opening.DeskRefused.TheVariants as desk
-use Rattle.lrs_machine.specs.Desk.{BeginsWith, HasLegalFrames, IsRefused}
+use Rattle.lrs_machine.specs.Desk.{BeginsWithFrames, HasLegalFrames, IsDeskRefused}
 use Rattle.lrs_machine.specs.Replays.{refusal_of, IsReplayed, TakesEntry}
 use Rattle.lrs_machine.proofs.Histories.{state_from-more, map-more, legal-more}
 use Rattle.lrs_parts.specs.State.{State, nothing}
@@ -36,7 +35,7 @@ length-store-more limit ps p =
     ap (λ t. length (header limit ++ t)) (frames-more ps p)
     ∙ omega (arith, length-append (header limit) (frames ps ++ (1 ∷ body p)), length-append (frames ps) (1 ∷ body p), length-append (header limit) (frames ps), length-body p)
 
-pub begins_with : (bytes : List ℕ) (limit place number : ℕ) (ps : List (List ℕ)) → HasReadTo bytes limit place number ps → BeginsWith bytes limit ps
+pub begins_with : (bytes : List ℕ) (limit place number : ℕ) (ps : List (List ℕ)) → HasReadTo bytes limit place number ps → BeginsWithFrames bytes limit ps
 begins_with bytes limit place number ps read = (
   record {
     least = read.least;
@@ -79,14 +78,14 @@ taken_more bytes old new st su h k frame e long limit so_far read lawful is may 
 -- a frame that is none of an entry that comes next
 pub taken_illegal : {D : Type 0} (bytes : List ℕ) (old new : Reading D) (st : State) (h : List Entry) (k : ℕ) (frame : List ℕ) → length h ≡ k → new.limit ≡ old.limit
     → IsReplayed bytes old st h → HasRead bytes new (map written_entry h ++ frame ∷ [])
-    → ((e : Entry) → IsLawful e → written_entry e ≡ frame → may_come (k == 0) new.limit new.place st e ≡ false) → IsRefused bytes (desk.IllegalEntry k)
+    → ((e : Entry) → IsLawful e → written_entry e ≡ frame → may_come (k == 0) new.limit new.place st e ≡ false) → IsDeskRefused bytes (desk.IllegalEntry k)
 taken_illegal bytes old new st h k frame long limit so_far read never = (
   old.limit,
   h,
   legal_frames bytes old st h k long so_far,
   inl (record {
     frame = frame;
-    begins = subst (λ l. BeginsWith bytes l (map written_entry h ++ frame ∷ [])) limit (begins_with bytes new.limit new.place new.number (map written_entry h ++ frame ∷ []) read);
+    begins = subst (λ l. BeginsWithFrames bytes l (map written_entry h ++ frame ∷ [])) limit (begins_with bytes new.limit new.place new.number (map written_entry h ++ frame ∷ []) read);
     broken = λ e lawful is next.
         not_both (may_come (k == 0) new.limit new.place st e)
         ((may_decides new.limit new.place st h e k long so_far.folded lawful.values.moment (place_behind bytes new.limit new.place new.number h frame e read is)).1 (subst (λ l. ComesNext l h e) (sym limit) next))
@@ -95,48 +94,29 @@ taken_illegal bytes old new st h k frame long limit so_far read never = (
 )
 
 pub taken_damaged : {D : Type 0} (bytes : List ℕ) (old : Reading D) (st : State) (h : List Entry) (j k : ℕ) → length h ≡ k → IsReplayed bytes old st h → j ≡ old.number
-    → IsDamaged bytes old.limit (map written_entry h) → IsRefused bytes (desk.Damaged j)
+    → IsDamaged bytes old.limit (map written_entry h) → IsDeskRefused bytes (desk.Damaged j)
 taken_damaged bytes old st h j k long so_far is damaged =
     (old.limit, h, legal_frames bytes old st h j (sym (length-map h written_entry) ∙ (sym so_far.frames.counts ∙ sym is)) so_far, damaged)
 
 -- a frame that isn't read
 pub taken_unread : {D : Type 0} (bytes : List ℕ) (old : Reading D) (st : State) (h : List Entry) (k : ℕ) (r : ReplayRefused) → length h ≡ k → IsReplayed bytes old st h
-    → ((j : ℕ) → r ≡ replay.Damaged j → (j ≡ old.number) × IsDamaged bytes old.limit (map written_entry h)) → IsRefused bytes (refusal_of r)
+    → ((j : ℕ) → r ≡ replay.Damaged j → (j ≡ old.number) × IsDamaged bytes old.limit (map written_entry h)) → IsDeskRefused bytes (refusal_of r)
 taken_unread bytes old st h k (replay.Damaged j) long so_far damaged = let d = damaged j refl in taken_damaged bytes old st h j k long so_far d.0 d.1
 taken_unread bytes old st h k replay.Failed long so_far damaged = tt
 taken_unread bytes old st h k replay.Memory long so_far damaged = tt
 
--- the place behind a frame
-pub capped_more : {D : Type 0} (bytes : List ℕ) (old new : Reading D) (h : List Entry) (st : State) (frame : List ℕ) (p q : ℕ) → IsReplayed bytes old st h → HasRead bytes new (map written_entry h ++ frame ∷ [])
-    → new.limit ≡ old.limit → p ≡ min old.place (2 ^ 64 - 1) → q ≡ min (p + (5 + length frame)) (2 ^ 64 - 1) → q ≡ min new.place (2 ^ 64 - 1)
-capped_more bytes old new h st frame p q so_far read limit before is = capped old.place new.place p q (length frame) stands before is
-  where
-    stands : new.place ≡ old.place + (5 + length frame)
-    stands = read.behind ∙ (ap (λ l. length (store l (map written_entry h ++ frame ∷ []))) limit
-        ∙ (length-store-more old.limit (map written_entry h) frame ∙ ap (λ n. n + (5 + length frame)) (sym so_far.frames.behind)))
-
-    capped : (m n p q l : ℕ) → n ≡ m + (5 + l) → p ≡ min m (2 ^ 64 - 1) → q ≡ min (p + (5 + l)) (2 ^ 64 - 1) → q ≡ min n (2 ^ 64 - 1)
-    capped m n p q l a b c = omega (arith, a, b, c)
-
-pub first_place : (bytes : List ℕ) (limit place number : ℕ) → HasReadTo bytes limit place number [] → 17 ≡ min place (2 ^ 64 - 1)
-first_place bytes limit place number read = let at : place ≡ 17 = read.behind ∙ store_length limit [] in rw at refl
-
-pub most_of : {D : Type 0} (bytes : List ℕ) (old new : Reading D) (st : State) (h : List Entry) → IsReplayed bytes old st h → new.limit ≡ old.limit → new.limit ≤ 1073741824
-most_of bytes old new st h so_far limit = subst (λ l. l ≤ 1073741824) (sym limit) so_far.frames.most
-
 -- an entry that isn't taken
 pub taken_refused : {D : Type 0} (bytes : List ℕ) (old new : Reading D) (st su : State) (h : List Entry) (k limit place : ℕ) (frame : List ℕ) (r : DeskRefused) → length h ≡ k → new.limit ≡ old.limit
-    → IsReplayed bytes old st h → HasRead bytes new (map written_entry h ++ frame ∷ []) → limit ≡ new.limit → place ≡ min new.place (2 ^ 64 - 1) → TakesEntry frame k limit place st su (Err r) → IsRefused bytes r
+    → IsReplayed bytes old st h → HasRead bytes new (map written_entry h ++ frame ∷ []) → limit ≡ new.limit → place ≡ new.place → TakesEntry frame k limit place st su (Err r) → IsDeskRefused bytes r
 taken_refused bytes old new st su h k limit place frame (desk.IllegalEntry j) long same so_far read of_limit of_place takes =
-    subst (λ i. IsRefused bytes (desk.IllegalEntry i)) (sym takes.0) (taken_illegal bytes old new st h k frame long same so_far read (λ e lawful is.
-    sym (may_capped (k == 0) new.limit new.place place st e (most_of bytes old new st h so_far same) of_place)
-    ∙ subst (λ l. may_come (k == 0) l place st e ≡ false) of_limit (takes.1 e lawful is)))
+    subst (λ i. IsDeskRefused bytes (desk.IllegalEntry i)) (sym takes.0) (taken_illegal bytes old new st h k frame long same so_far read (λ e lawful is.
+    subst (λ p. may_come (k == 0) new.limit p st e ≡ false) of_place (subst (λ l. may_come (k == 0) l place st e ≡ false) of_limit (takes.1 e lawful is))))
 taken_refused bytes old new st su h k limit place frame desk.Memory long same so_far read of_limit of_place takes = tt
 taken_refused bytes old new st su h k limit place frame desk.Failed long same so_far read of_limit of_place takes = absurd takes
 taken_refused bytes old new st su h k limit place frame desk.NotAStore long same so_far read of_limit of_place takes = absurd takes
 taken_refused bytes old new st su h k limit place frame (desk.Damaged j) long same so_far read of_limit of_place takes = absurd takes
 
 -- a list's end without a frame
-pub ended_empty : {D : Type 0} (bytes : List ℕ) (old : Reading D) (st : State) (h : List Entry) → length h ≡ 0 → IsReplayed bytes old st h → Stands bytes old.limit (map written_entry h) → IsRefused bytes (desk.IllegalEntry 0)
+pub ended_empty : {D : Type 0} (bytes : List ℕ) (old : Reading D) (st : State) (h : List Entry) → length h ≡ 0 → IsReplayed bytes old st h → Stands bytes old.limit (map written_entry h) → IsDeskRefused bytes (desk.IllegalEntry 0)
 ended_empty bytes old st [] long so_far stands = (old.limit, [], legal_frames bytes old st [] 0 long so_far, inr (refl, stands))
 ended_empty bytes old st (x ∷ h) long so_far stands = absurd (omega (arith, long))

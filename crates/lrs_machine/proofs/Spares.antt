@@ -13,7 +13,7 @@ use Rattle.lrs_record.proofs.Told.{written_entry_injective}
 use Rattle.lrs_history.specs.History.{IsLegal, IsLegalFrom, ComesNext}
 use Rattle.lrs_machine.specs.declared.opening.DeskRefused.{DeskRefused}
 use Rattle.lrs_machine.specs.declared.opening.DeskRefused.TheVariants as desk
-use Rattle.lrs_machine.specs.Desk.{IsIllegalBehind, IsRefused, SparesLegal}
+use Rattle.lrs_machine.specs.Desk.{IsIllegalBehind, IsDeskRefused, SparesLegal}
 
 no_end : (q : List ℕ) (qs : List (List ℕ)) (r s : List ℕ) → IsEnd r → r ≡ frames (q ∷ qs) ++ s → ⊥
 no_end q qs r s ends is = subst IsEnd is ends refl
@@ -60,7 +60,7 @@ not_illegal bytes m h l k stands legal so_far bad =
     let next = next_in m l [] [] h k bad.frame more.0 legal.1 so_far more.1 in
     bad.broken next.0 next.1 next.2 (subst (λ z. ComesNext z k next.0) limit next.3)
 
-pub spares : (bytes : List ℕ) (r : DeskRefused) → IsRefused bytes r → SparesLegal bytes r
+pub spares : (bytes : List ℕ) (r : DeskRefused) → IsDeskRefused bytes r → SparesLegal bytes r
 spares bytes desk.NotAStore refused = λ m h is. refused m (stands_header bytes m (map written_entry h) is.0)
 spares bytes (desk.Damaged k) refused = λ m h is. stands_whole bytes m refused.0 (map written_entry h) (map written_entry refused.1) is.0 refused.3
 spares bytes (desk.IllegalEntry k) refused = λ m h is. by_cases m h is.0 is.1 refused.3

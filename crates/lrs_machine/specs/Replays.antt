@@ -1,5 +1,5 @@
 -- What the desk's private functions say of reading a store's frames into the fold.
-use Rattle.std.specs.Prelude.{◌≡◌, ◌<◌, ◌-◌, ◌^◌, min, ◌==◌, ℕ, List, [], ◌∷◌, ◌++◌, length, map, Bool, true, false, Result, Ok, Err}
+use Rattle.std.specs.Prelude.{◌≡◌, ◌<◌, ◌==◌, ℕ, List, [], ◌∷◌, ◌++◌, length, map, Bool, true, false, Result, Ok, Err}
 use Rattle.lrs_journal.specs.Store.{Stands}
 use Rattle.lrs_journal.specs.Replay.{Reading, HasRead}
 use Rattle.lrs_journal.specs.declared.replay.ReplayRefused.{ReplayRefused}
@@ -17,7 +17,7 @@ use Rattle.lrs_machine.specs.declared.opening.FoundRefused.{FoundRefused}
 use Rattle.lrs_machine.specs.declared.opening.FoundRefused.TheVariants as found
 use Rattle.lrs_machine.specs.declared.opening.DeskRefused.{DeskRefused}
 use Rattle.lrs_machine.specs.declared.opening.DeskRefused.TheVariants as desk
-use Rattle.lrs_machine.specs.Desk.{IsRefused}
+use Rattle.lrs_machine.specs.Desk.{IsDeskRefused}
 
 -- what reading a frame into the fold does, where k frames were taken in before
 abbrev pub TakesEntry : List ℕ → ℕ → ℕ → ℕ → State → State → Result Unit DeskRefused → Type 0
@@ -33,15 +33,11 @@ pub record IsReplayed {D : Type 0} (bytes : List ℕ) (replay : Reading D) (st :
   pub legal : IsLegalFrom replay.limit [] h
   pub folded : st ≡ state h
 
--- a place as a u64, which stands still at its last value
-abbrev pub IsCapped : ℕ → ℕ → Type 0
-IsCapped number place = number ≡ min place (2 ^ 64 - 1)
-
 -- one frame more, or the list's end, or a refusal
-abbrev pub Takes : {D : Type 0} → List ℕ → Reading D → ℕ → State → List Entry → Result Bool DeskRefused → Type 0
-Takes bytes new place su h (Ok true) = (e : Entry) × IsReplayed bytes new su (h ++ e ∷ []) × IsCapped place new.place
-Takes bytes new place su h (Ok false) = IsReplayed bytes new su h × Stands bytes new.limit (map written_entry h)
-Takes bytes new place su h (Err refused) = IsRefused bytes refused
+abbrev pub TakesFrame : {D : Type 0} → List ℕ → Reading D → State → List Entry → Result Bool DeskRefused → Type 0
+TakesFrame bytes new su h (Ok true) = (e : Entry) × IsReplayed bytes new su (h ++ e ∷ [])
+TakesFrame bytes new su h (Ok false) = IsReplayed bytes new su h × Stands bytes new.limit (map written_entry h)
+TakesFrame bytes new su h (Err refused) = IsDeskRefused bytes refused
 
 -- the replay has read a legal history to its end
 pub record HasReplayed {D : Type 0} (bytes : List ℕ) (replay : Reading D) (st : State) (h : List Entry) : Type 0 where

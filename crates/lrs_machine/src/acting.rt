@@ -1,9 +1,9 @@
 // An act on the journal and the fold: first a doubt is ended, then the command is answered.
 ghost use Rattle.std.specs.Prelude.{◌≡◌, false};
 ghost use Rattle.lrs_command.specs.Commands.{HasReadTrees};
-ghost use Rattle.lrs_history.specs.History.{verdict};
+ghost use Rattle.lrs_history.specs.History.{outcome};
 ghost use Rattle.lrs_journal.specs.Journal.{IsJournal};
-ghost use Rattle.lrs_machine.specs.Desk.{HasCause, landed_place};
+ghost use Rattle.lrs_machine.specs.Desk.{HasDiskCause, landed_place};
 ghost use Rattle.lrs_machine.specs.Fold.{state_of};
 ghost use Rattle.lrs_machine.specs.Steps.{Acts};
 ghost use Rattle.lrs_record.specs.Entries.{IsLawfulCaller};
@@ -11,7 +11,7 @@ ghost use Rattle.lrs_record.specs.Entries.{IsLawfulCaller};
 use crate::keeping::keep;
 use lrs_command::Command;
 use lrs_disk::Disk;
-use lrs_fold::{Fold, Verdict};
+use lrs_fold::{Fold, Outcome};
 use lrs_journal::Journal;
 use lrs_names::Draw;
 use lrs_record::Caller;
@@ -32,9 +32,9 @@ pub(crate) fn act<D: Disk>(
     requires caller { IsLawfulCaller caller }
     requires command { HasReadTrees command }
     ensures acted { Acts D.told journal.old journal.new (state_of fold.old) (state_of fold.new)
-        (verdict (state_of fold.old) caller command clock draw.now) result.0 }
+        (outcome (state_of fold.old) caller command clock draw.now) result.0 }
     ensures sound { IsJournal D.told D.image journal.new }
-    ensures cause { HasCause (D.fault_count journal.old.disk) (D.fault_count journal.new.disk) result.0 }
+    ensures cause { HasDiskCause (D.fault_count journal.old.disk) (D.fault_count journal.new.disk) result.0 }
     ensures landed { result.1 ≡ landed_place journal.old journal.new }
 {
     match journal.settle() {
@@ -65,13 +65,13 @@ fn answer<D: Disk>(
     requires caller { IsLawfulCaller caller }
     requires command { HasReadTrees command }
     ensures acted { Acts D.told journal.old journal.new (state_of fold.old) (state_of fold.new)
-        (verdict (state_of fold.old) caller command clock draw.now) result }
+        (outcome (state_of fold.old) caller command clock draw.now) result }
     ensures sound { IsJournal D.told D.image journal.new }
-    ensures cause { HasCause (D.fault_count journal.old.disk) (D.fault_count journal.new.disk) result }
+    ensures cause { HasDiskCause (D.fault_count journal.old.disk) (D.fault_count journal.new.disk) result }
 {
-    match fold.verdict(alloc, caller, command, clock, draw) {
-        Ok(Verdict::Told(said)) => Ok(said),
-        Ok(Verdict::Accepted(accepted)) => keep(journal, fold, accepted),
+    match fold.outcome(alloc, caller, command, clock, draw) {
+        Ok(Outcome::Told(said)) => Ok(said),
+        Ok(Outcome::Accepted(accepted)) => keep(journal, fold, accepted),
         Err(refused) => Err(Trouble::from(refused)),
     }
 }

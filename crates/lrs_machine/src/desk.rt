@@ -9,7 +9,7 @@ ghost use Rattle.lrs_json.specs.View.{view};
 ghost use Rattle.lrs_history.specs.History.{answer};
 ghost use Rattle.lrs_replies.specs.Replies.{status_in};
 ghost use Rattle.lrs_fold.specs.Own.{put_of, IsOfPut, IsPut};
-ghost use Rattle.lrs_machine.specs.Desk.{StandsFor, IsOnDisk, Answers, HasCause, account_of, landed_place, LeavesStore, Replies};
+ghost use Rattle.lrs_machine.specs.Desk.{StandsFor, IsOnDisk, Answers, HasDiskCause, receipt_of, landed_place, LeavesStore, Replies};
 
 use crate::Receipt;
 use crate::acting::act;
@@ -33,15 +33,15 @@ pub struct Desk<D: Disk> {
 }
 
 impl<D: Disk> Model for Desk<D> {
-    ghost use Rattle.lrs_journal.specs.Journal.{Held};
+    ghost use Rattle.lrs_machine.specs.Desk.{Desk as SpecDesk};
     ghost use Rattle.lrs_machine.specs.Fold.{state_of};
-    ghost use Rattle.lrs_machine.specs.Steps.{IsTied};
+    ghost use Rattle.lrs_machine.specs.Steps.{IsDeskOf};
 
-    ghost Value = { Held D };
+    ghost Value = { SpecDesk D };
 
     ghost view = { λ d. d.journal };
 
-    ghost invariant = { λ d. IsTied D.told D.image d.journal (state_of d.fold) };
+    ghost invariant = { λ d. IsDeskOf D.told D.image d.journal (state_of d.fold) };
 }
 
 impl<D: Disk> Desk<D> {
@@ -77,7 +77,7 @@ impl<D: Disk> Desk<D> {
         requires command { HasReadTrees command }
         ensures answered { (h : List Entry) → StandsFor D.told self.old h
             → Answers D.told (answer self.old.limit h caller command clock draw.now) h self.old self.new result.0 }
-        ensures cause { HasCause (D.fault_count self.old.disk) (D.fault_count self.new.disk) result.0 }
+        ensures cause { HasDiskCause (D.fault_count self.old.disk) (D.fault_count self.new.disk) result.0 }
         ensures known { IsPut caller command → IfOk result.0 IsOfPut }
         ensures landed { result.1 ≡ landed_place self.old self.new }
         ensures limit { self.new.limit ≡ self.old.limit }
@@ -136,10 +136,10 @@ impl<D: Disk> Desk<D> {
             → Answers D.told (answer self.old.limit h Operator (put_of id statement) clock draw.now) h
             self.old self.new result.0 }
         ensures known { IfOk result.0 IsOfPut }
-        ensures cause { HasCause (D.fault_count self.old.disk) (D.fault_count self.new.disk) result.0 }
+        ensures cause { HasDiskCause (D.fault_count self.old.disk) (D.fault_count self.new.disk) result.0 }
         ensures limit { self.new.limit ≡ self.old.limit }
         ensures durable { (h : List Entry) → StandsFor D.told self.new h → IsOnDisk D.image self.new h }
-        ensures receipt { result.1 ≡ account_of D.time D.fault_count self.old self.new (status_in result.0) clock }
+        ensures receipt { result.1 ≡ receipt_of D.time D.fault_count self.old self.new (status_in result.0) clock }
     {
         let was = self.faults();
         let point = self.length();
@@ -165,7 +165,7 @@ impl<D: Disk> Desk<D> {
             (λ h. answer self.old.limit h caller command clock draw.now) result.0 }
         ensures limit { self.new.limit ≡ self.old.limit }
         ensures durable { (h : List Entry) → StandsFor D.told self.new h → IsOnDisk D.image self.new h }
-        ensures receipt { result.1 ≡ account_of D.time D.fault_count self.old self.new result.0.status clock }
+        ensures receipt { result.1 ≡ receipt_of D.time D.fault_count self.old self.new result.0.status clock }
     {
         let was = self.faults();
         let point = self.length();
@@ -187,9 +187,10 @@ impl<D: Disk> Desk<D> {
     {
         let Desk {
             mut journal,
-            fold: _,
+            fold,
             alloc: _,
         } = self;
+        drop(fold);
         match journal.settle() {
             Ok(_) => Ok(journal.into_disk()),
             Err(failed) => Err((failed, journal.into_disk())),

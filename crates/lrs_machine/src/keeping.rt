@@ -1,10 +1,10 @@
 // Adding an accepted entry to the journal and the fold.
 ghost use Rattle.std.specs.Prelude.{◌≡◌, ◌≤◌, false};
-ghost use Rattle.lrs_fold.specs.Verdicts.{IsVerdict};
-ghost use Rattle.lrs_fold.specs.declared.verdict.Verdict.TheVariants as made;
-ghost use Rattle.lrs_history.specs.History.{Verdict};
+ghost use Rattle.lrs_fold.specs.Outcomes.{IsOutcome};
+ghost use Rattle.lrs_fold.specs.declared.outcome.Outcome.TheVariants as made;
+ghost use Rattle.lrs_history.specs.History.{Outcome};
 ghost use Rattle.lrs_journal.specs.Journal.{need_of, IsJournal};
-ghost use Rattle.lrs_machine.specs.Desk.{HasCause};
+ghost use Rattle.lrs_machine.specs.Desk.{HasDiskCause};
 ghost use Rattle.lrs_machine.specs.Fold.{state_of};
 ghost use Rattle.lrs_machine.specs.Steps.{Acts};
 ghost use Rattle.lrs_parts.specs.Parts.{IsReadyFor};
@@ -23,10 +23,10 @@ pub(crate) fn keep<D: Disk>(
 ) -> Result<Answered, Trouble>
     requires settled { journal.old.doubt ≡ false }
     requires sound { IsJournal D.told D.image journal.old }
-    ensures kept { (v : Verdict) → IsVerdict (state_of fold.old) v (made.Accepted accepted)
+    ensures kept { (v : Outcome) → IsOutcome (state_of fold.old) v (made.Accepted accepted)
         → Acts D.told journal.old journal.new (state_of fold.old) (state_of fold.new) v result }
     ensures sound { IsJournal D.told D.image journal.new }
-    ensures cause { HasCause (D.fault_count journal.old.disk) (D.fault_count journal.new.disk) result }
+    ensures cause { HasDiskCause (D.fault_count journal.old.disk) (D.fault_count journal.new.disk) result }
 {
     if let Err(Full { need, limit }) = journal.room(accepted.frame.as_slice()) {
         drop(accepted);
@@ -52,10 +52,10 @@ fn append<D: Disk>(
     requires sound { IsJournal D.told D.image journal.old }
     requires room { need_of journal.old accepted.frame ≤ journal.old.limit }
     requires ready { IsReadyFor fold.old.parts accepted.effect }
-    ensures kept { (v : Verdict) → IsVerdict (state_of fold.old) v (made.Accepted accepted)
+    ensures kept { (v : Outcome) → IsOutcome (state_of fold.old) v (made.Accepted accepted)
         → Acts D.told journal.old journal.new (state_of fold.old) (state_of fold.new) v result }
     ensures sound { IsJournal D.told D.image journal.new }
-    ensures cause { HasCause (D.fault_count journal.old.disk) (D.fault_count journal.new.disk) result }
+    ensures cause { HasDiskCause (D.fault_count journal.old.disk) (D.fault_count journal.new.disk) result }
 {
     let Accepted {
         frame,

@@ -10,7 +10,7 @@ ghost use Rattle.lrs_parts.specs.State.{nothing};
 ghost use Rattle.lrs_history.specs.History.{state, IsFounding};
 ghost use Rattle.lrs_machine.specs.declared.opening.DeskRefused.TheVariants as DeskRefused;
 ghost use Rattle.lrs_machine.specs.declared.opening.FoundRefused.TheVariants as FoundRefused;
-ghost use Rattle.lrs_machine.specs.Desk.{StandsFor, IsOnDisk, IsStoreOf, LeavesStore, IsRefused, SparesLegal, IsNotFounded};
+ghost use Rattle.lrs_machine.specs.Desk.{StandsFor, IsOnDisk, IsStoreOf, LeavesStore, IsDeskRefused, SparesLegal, IsNotFounded};
 ghost use Rattle.lrs_fold.specs.Own.{founding_entry};
 ghost use Rattle.lrs_machine.specs.Fold.{state_of};
 ghost use Rattle.lrs_machine.specs.Replays.{HasReplayed, founding_refusal, opening_refusal};
@@ -19,7 +19,7 @@ use crate::Desk;
 use crate::replaying::{replay_all, take_in};
 use lrs_disk::Disk;
 use lrs_fold::{Fold, founding_entry, frame_of};
-use lrs_journal::{CreateRefused, Journal, RecoverRefused, Replay};
+use lrs_journal::{CreateRefused, Journal, MOST_BYTES, RecoverRefused, Replay};
 use lrs_json::{Memory, Text};
 use lrs_record::Entry;
 use std::alloc::Global;
@@ -97,7 +97,10 @@ impl<D: Disk> Desk<D> {
                 fold,
                 alloc,
             }),
-            Err((refused, disk)) => Err((founding_refusal(refused), disk)),
+            Err((refused, disk)) => {
+                drop(fold);
+                Err((founding_refusal(refused), disk))
+            }
         }
     }
 
@@ -110,7 +113,7 @@ impl<D: Disk> Desk<D> {
         ensures durable { IfOk result (λ desk. (h : List Entry) → StandsFor D.told desk h → IsOnDisk D.image desk h) }
         ensures settled { IfOk result (λ desk. desk.doubt ≡ false) }
         ensures kept { IfOk result (λ desk. D.fault_count desk.disk ≡ D.fault_count disk) }
-        ensures refused { IfErr result (λ e. ForSome (D.told disk) (λ bytes. IsRefused bytes e.0)) }
+        ensures refused { IfErr result (λ e. ForSome (D.told disk) (λ bytes. IsDeskRefused bytes e.0)) }
         ensures legal { IfErr result (λ e. ForSome (D.told disk) (λ bytes. SparesLegal bytes e.0)) }
         ensures same { IfErr result (λ e. e.0 ≢ DeskRefused.Failed → D.told e.1 ≡ D.told disk) }
         ensures left { IfErr result
@@ -158,7 +161,10 @@ fn finish<D: Disk>(
             fold,
             alloc,
         }),
-        Err((_, disk)) => Err((DeskRefused::Failed, disk)),
+        Err((_, disk)) => {
+            drop(fold);
+            Err((DeskRefused::Failed, disk))
+        }
     }
 }
 
@@ -182,9 +188,6 @@ fn founding_refusal(refused: CreateRefused) -> FoundRefused
     }
 }
 
-// The longest founding entry for which memory is spent. The file of a store is never longer.
-const LONGEST_FRAME: usize = 1 << 30;
-
 // The founding entry, and its text.
 fn founding(
     alloc: Global,
@@ -207,7 +210,7 @@ fn founding(
     }
 }
 
-// A founding entry's text, where it isn't too long.
+// A founding entry's text, where it isn't longer than the file of a store may be.
 fn founding_text(alloc: Global, entry: &Entry) -> Result<Vec<u8>, Memory>
     requires caller { IsLawfulCaller entry.now.caller }
     requires write { IsLawfulWrite entry.now.write }
@@ -216,7 +219,7 @@ fn founding_text(alloc: Global, entry: &Entry) -> Result<Vec<u8>, Memory>
     ensures short { IfOk result (λ text. length text.items ≤ 2 ^ 30) }
 {
     let text = frame_of(alloc, entry)?;
-    if text.len() > LONGEST_FRAME {
+    if text.len() as u64 > MOST_BYTES {
         return Err(Memory);
     }
     Ok(text)

@@ -1,5 +1,5 @@
 ghost use Rattle.std.specs.Prelude.{◌≡◌};
-ghost use Rattle.lrs_machine.specs.Desk.{plain_account};
+ghost use Rattle.lrs_machine.specs.Desk.{plain_receipt};
 
 use std::marker::Model;
 
@@ -19,9 +19,9 @@ pub struct Receipt {
 }
 
 impl Model for Receipt {
-    ghost use Rattle.lrs_machine.specs.Desk.{Account};
+    ghost use Rattle.lrs_machine.specs.Desk.{Receipt as SpecReceipt};
 
-    ghost Value = { Account };
+    ghost Value = { SpecReceipt };
 
     ghost view = { λ r. record {
       acted = r.acted;
@@ -39,7 +39,7 @@ impl Model for Receipt {
 impl Receipt {
     /// The receipt of a response without an act.
     pub fn plain(status: u16) -> Receipt
-        ensures { result ≡ plain_account status }
+        ensures { result ≡ plain_receipt status }
     {
         Receipt {
             acted: false,

@@ -1,14 +1,14 @@
 // Reading a store's frames into the fold.
-ghost use Rattle.std.specs.Prelude.{◌≡◌, ◌≤◌, ◌+◌, ◌-◌, ◌^◌, min, List, [], ℕ, true, false, length, IfOk, IfErr, IsOk, IsErrOf, OnOk};
+ghost use Rattle.std.specs.Prelude.{◌≡◌, List, [], true, false, length, IfOk, IfErr, IsOk, IsErrOf, OnOk};
 ghost use Rattle.std.specs.Option.{ForSome};
-ghost use Rattle.lrs_journal.specs.Journal.{IsSynced, HasCount};
+ghost use Rattle.lrs_journal.specs.Journal.{HasCount};
 ghost use Rattle.lrs_journal.specs.Replay.{HasRead};
 ghost use Rattle.lrs_record.specs.declared.entry.Entry.{Entry};
-ghost use Rattle.lrs_parts.specs.State.{apply};
+ghost use Rattle.lrs_parts.specs.State.{apply, nothing};
 ghost use Rattle.lrs_machine.specs.declared.opening.DeskRefused.TheVariants as refused;
 ghost use Rattle.lrs_machine.specs.Fold.{state_of};
-ghost use Rattle.lrs_machine.specs.Desk.{IsRefused};
-ghost use Rattle.lrs_machine.specs.Replays.{refusal_of, IsCapped, IsReplayed, HasReplayed, Takes, TakesEntry};
+ghost use Rattle.lrs_machine.specs.Desk.{IsDeskRefused};
+ghost use Rattle.lrs_machine.specs.Replays.{refusal_of, IsReplayed, HasReplayed, TakesFrame, TakesEntry};
 
 use crate::DeskRefused;
 use lrs_disk::Disk;
@@ -62,19 +62,17 @@ pub(crate) fn take_in(fold: &mut Fold, effect: Effect) -> Result<(), Memory>
     }
 }
 
-// Takes the next frame in, or answers false at the list's end. So far k frames were taken in, and the next gate stands at
-// that place.
+// Takes the next frame in, or answers false at the list's end. So far k frames were taken in.
 fn take_next<D: Disk>(
     alloc: Global,
     replay: &mut Replay<D>,
     k: u64,
-    place: &mut u64,
     frame: &mut Vec<u8>,
     fold: &mut Fold,
 ) -> Result<bool, DeskRefused>
     ensures taken { ForSome (D.told replay.old.disk) (λ bytes. (h : List Entry) → length h ≡ k
-        → IsReplayed bytes replay.old (state_of fold.old) h → IsCapped place.old replay.old.place
-        → Takes bytes replay.new place.new (state_of fold.new) h result) }
+        → IsReplayed bytes replay.old (state_of fold.old) h
+        → TakesFrame bytes replay.new (state_of fold.new) h result) }
     ensures ended { IfOk result (λ more. more ≡ false → replay.new.ended ≡ true) }
     ensures limit { replay.new.limit ≡ replay.old.limit }
     ensures still { D.told replay.new.disk ≡ D.told replay.old.disk }
@@ -88,19 +86,10 @@ fn take_next<D: Disk>(
     if !more {
         return Ok(false);
     }
-    let behind = place_behind(*place, frame);
-    *place = behind;
-    match take_entry(alloc, frame, k, replay.limit(), behind, fold) {
+    match take_entry(alloc, frame, k, replay.limit(), replay.place(), fold) {
         Ok(()) => Ok(true),
         Err(refused) => Err(refused),
     }
-}
-
-// Where the gate behind a frame stands, or the last u64 where it would stand behind that.
-fn place_behind(place: u64, frame: &[u8]) -> u64
-    ensures { result ≡ min (place + (5 + length frame.now)) (2 ^ 64 - 1) }
-{
-    place.saturating_add(5).saturating_add(frame.len() as u64)
 }
 
 fn refusal_of(unread: ReplayRefused) -> DeskRefused
@@ -113,9 +102,6 @@ fn refusal_of(unread: ReplayRefused) -> DeskRefused
     }
 }
 
-/// Where a store's first frame begins.
-const FIRST_FRAME: u64 = 17;
-
 /// Reads all frames into a fold.
 pub(crate) fn replay_all<D: Disk>(
     alloc: Global,
@@ -126,23 +112,48 @@ pub(crate) fn replay_all<D: Disk>(
         → (h : List Entry) × HasReplayed bytes replay.new (state_of fold) h)) }
     ensures ended { OnOk result (replay.new.ended ≡ true) }
     ensures refused { IfErr result
-        (λ e. ForSome (D.told replay.old.disk) (λ bytes. HasRead bytes replay.old [] → IsRefused bytes e)) }
+        (λ e. ForSome (D.told replay.old.disk) (λ bytes. HasRead bytes replay.old [] → IsDeskRefused bytes e)) }
     ensures limit { replay.new.limit ≡ replay.old.limit }
     ensures still { D.told replay.new.disk ≡ D.told replay.old.disk }
     ensures cause { HasCount (D.fault_count replay.old.disk) (D.fault_count replay.new.disk)
         (IsErrOf result refused.Failed) (IsOk result) }
 {
     let mut fold = Fold::new(alloc);
+    match take_all(alloc, replay, &mut fold) {
+        Ok(()) => Ok(fold),
+        Err(refused) => {
+            drop(fold);
+            Err(refused)
+        }
+    }
+}
+
+// Takes all frames in.
+fn take_all<D: Disk>(
+    alloc: Global,
+    replay: &mut Replay<D>,
+    fold: &mut Fold,
+) -> Result<(), DeskRefused>
+    requires { state_of fold.old ≡ nothing }
+    ensures replayed { OnOk result (ForSome (D.told replay.old.disk) (λ bytes. HasRead bytes replay.old []
+        → (h : List Entry) × HasReplayed bytes replay.new (state_of fold.new) h)) }
+    ensures ended { OnOk result (replay.new.ended ≡ true) }
+    ensures refused { IfErr result
+        (λ e. ForSome (D.told replay.old.disk) (λ bytes. HasRead bytes replay.old [] → IsDeskRefused bytes e)) }
+    ensures limit { replay.new.limit ≡ replay.old.limit }
+    ensures still { D.told replay.new.disk ≡ D.told replay.old.disk }
+    ensures cause { HasCount (D.fault_count replay.old.disk) (D.fault_count replay.new.disk)
+        (IsErrOf result refused.Failed) (IsOk result) }
+{
     let mut frame = Vec::new(alloc);
-    let mut place = FIRST_FRAME;
     for k in 0..u64::MAX {
-        match take_next(alloc, replay, k, &mut place, &mut frame, &mut fold) {
+        match take_next(alloc, replay, k, &mut frame, fold) {
             Ok(true) => {}
             Ok(false) => {
                 if k == 0 {
                     return Err(DeskRefused::IllegalEntry { k });
                 }
-                return Ok(fold);
+                return Ok(());
             }
             Err(refused) => return Err(refused),
         }

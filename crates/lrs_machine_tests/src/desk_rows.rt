@@ -1,66 +1,60 @@
-// What one desk answers in a test, row by row and in short.
+// What one desk answers in a test, as a text of rows.
+//
+// A row says who asks (`admin`, `provider` or `operator`), what, and behind `=>` what is answered: the status, the body,
+// and whether an entry is kept. A line behind `//` is none. What is asked:
+//
+//   provider NAME           a provider of that name
+//   put ID STATEMENT        to keep a statement under an id
+//   later ID STATEMENT      the same a second later
+//   post STATEMENT;..       to keep statements together
+//   last STATEMENT;..       the same, where the last name of all is drawn
+//   times COUNT STATEMENT   to keep a statement together with itself, so often
+//   many FIRST COUNT        to keep so many statements together, from that number on: each refers to the one before. Their
+//                           ids aren't told
+//   get TARGET              what a target names. Of a list is told the last digit of each id's first part, and the link
+//   whole TARGET            the same, and a list is told as it is
 //
 // `Z1` to `Z9` stand for the ids that are written with that digit. A statement is its verb and its object, `v/1 a/1`, or
 // a reference in place of the activity, `v/1 Z2`, or its target, `voided Z2`, with its own id behind where it gives one;
 // or it is a text without spaces.
-ghost use Rattle.std.specs.Prelude.{IfOk};
+ghost use Rattle.std.specs.Prelude.{IfOk, OnOk};
 ghost use Rattle.lrs_json.specs.View.{view};
 ghost use Rattle.lrs_record.specs.Entries.{AreLawfulTrees, IsLawfulCaller, IsLawfulTree};
 ghost use Rattle.lrs_command.specs.Commands.{HasReadTrees};
 
 use lrs_command::{Command, Read};
-use lrs_disk::MemDisk;
-use lrs_json::{Items, Text, Tree, read};
+use lrs_in_memory::MemDisk;
+use lrs_json::{Items, Text, Tree};
+use lrs_json_reader::read;
 use lrs_machine::{Body, Desk, Reply, is_base, is_token};
 use lrs_names::{Draw, Id};
 use lrs_record::{Caller, Write};
 use std::alloc::Global;
 use std::test::Fail;
-use xapi_query::{MoreLink, Wanted, pairs};
+use xapi_parameters::{Pair, pairs, read_link, read_wanted};
 
-/// What is asked.
-#[derive(Clone, Copy)]
-pub(crate) enum Ask<'a> {
-    /// A provider of that name.
-    Provider(&'a str),
-    /// To keep a statement under an id.
-    Put(&'a str, &'a str),
-    /// The same a second later.
-    PutLater(&'a str, &'a str),
-    /// To keep statements together, where this name is drawn.
-    Post(u128, &'a [&'a str]),
-    /// To keep so many statements together, from that number on: each refers to the one before. Their ids aren't told.
-    Many(usize, usize),
-    /// What a target names. Of a list is told the last digit of each id's first part, and the link.
-    Get(&'a str),
-    /// The same, and a list is told as it is.
-    Whole(&'a str),
-}
+const ADMIN: &str = "adminadmin";
 
-/// Who asks, what, and what is answered: the status, the body, and whether an entry is made.
-pub(crate) type Row<'a> = (&'a str, Ask<'a>, &'a str);
-
-pub(crate) const ADMIN: &str = "adminadmin";
-
-/// The token of a provider that is made by the second entry.
-pub(crate) const TOKEN: &str = "00000000000000000000000000000005-1";
-
-/// The name of most draws.
-pub(crate) const NAME: u128 = 80;
+// The token of a provider that is made by the second entry.
+const PROVIDER: &str = "00000000000000000000000000000005-1";
 
 const NOW: u64 = 1_700_000_000_000;
 
 fn founded(alloc: Global) -> Result<Desk<MemDisk>, Fail> {
     let admin = Text::of(alloc, ADMIN)?;
     let base = Text::of(alloc, "http://127.0.0.1:8080/")?;
-    if !is_token(&admin) {
+    founded_by(alloc, &admin, &base)
+}
+
+fn founded_by(alloc: Global, admin: &Text, base: &Text) -> Result<Desk<MemDisk>, Fail> {
+    if !is_token(admin) {
         return Err(Fail::from("no token"));
     }
-    if !is_base(alloc, &base)? {
+    if !is_base(alloc, base)? {
         return Err(Fail::from("no base"));
     }
     let disk = MemDisk::new(alloc, Vec::new(alloc), Vec::new(alloc), 999, 999_999)?;
-    match Desk::found(alloc, disk, 1_048_576, &admin, &base, NOW) {
+    match Desk::found(alloc, disk, 1_048_576, admin, base, NOW) {
         Ok(desk) => Ok(desk),
         Err(refused) => {
             drop(refused);
@@ -69,54 +63,65 @@ fn founded(alloc: Global) -> Result<Desk<MemDisk>, Fail> {
     }
 }
 
-/// The number of the first row that a new desk answers otherwise, and its answer.
-pub(crate) fn first_wrong(
-    alloc: Global,
-    rows: &[Row<'_>],
-) -> Result<Option<(usize, String)>, Fail> {
+/// Fails with the first row that a new desk answers otherwise, and its answer.
+pub(crate) fn check_rows(alloc: Global, rows: &str) -> Result<(), Fail> {
+    let wrong = first_wrong(alloc, rows)?;
+    if wrong.is_empty() {
+        Ok(())
+    } else {
+        Err(Fail::from(wrong))
+    }
+}
+
+// That row, or no text.
+fn first_wrong(alloc: Global, rows: &str) -> Result<String, Fail> {
     let mut desk = founded(alloc)?;
     let wrong = first_wrong_of(alloc, &mut desk, rows);
     drop(desk);
     wrong
 }
 
-fn first_wrong_of(
-    alloc: Global,
-    desk: &mut Desk<MemDisk>,
-    rows: &[Row<'_>],
-) -> Result<Option<(usize, String)>, Fail> {
-    for (i, row) in rows.iter().enumerate() {
-        if let Some(other) = answered_otherwise(alloc, desk, row)? {
-            return Ok(Some((i, other)));
+fn first_wrong_of(alloc: Global, desk: &mut Desk<MemDisk>, rows: &str) -> Result<String, Fail> {
+    for row in rows.lines() {
+        let wrong = wrong_row(alloc, desk, row)?;
+        if !wrong.is_empty() {
+            return Ok(wrong);
         }
     }
-    Ok(None)
+    Ok(String::new(alloc))
 }
 
-fn answered_otherwise(
-    alloc: Global,
-    desk: &mut Desk<MemDisk>,
-    row: &Row<'_>,
-) -> Result<Option<String>, Fail> {
-    let (who, ask, expected) = *row;
-    let found = answered(alloc, desk, who, ask)?;
-    if found.as_str() == expanded(alloc, expected)?.as_str() {
-        Ok(None)
+fn wrong_row(alloc: Global, desk: &mut Desk<MemDisk>, row: &str) -> Result<String, Fail> {
+    if row.is_empty() || row.starts_with("//") {
+        return Ok(String::new(alloc));
+    }
+    let (asked, expected) = row.split_once(" => ").ok_or("no answer")?;
+    let expected = expanded(alloc, expected)?;
+    let found = answered(alloc, desk, asked)?;
+    difference(alloc, asked, found.as_str(), expected.as_str())
+}
+
+// What was asked and found, where something else was expected.
+fn difference(alloc: Global, asked: &str, found: &str, expected: &str) -> Result<String, Fail> {
+    if found == expected {
+        Ok(String::new(alloc))
     } else {
-        Ok(Some(found))
+        Ok(format!(in alloc; "{asked} => {found}")?)
     }
 }
 
-fn answered(
-    alloc: Global,
-    desk: &mut Desk<MemDisk>,
-    who: &str,
-    ask: Ask<'_>,
-) -> Result<String, Fail> {
+// A word, and what stands behind the space after it.
+fn first_word(text: &str) -> (&str, &str) {
+    text.split_once(' ').unwrap_or((text, ""))
+}
+
+fn answered(alloc: Global, desk: &mut Desk<MemDisk>, asked: &str) -> Result<String, Fail> {
+    let (who, ask) = first_word(asked);
+    let (word, behind) = first_word(ask);
     let before = desk.length();
-    let reply = reply_to(alloc, desk, who, ask)?;
+    let reply = reply_to(alloc, desk, who, word, behind)?;
     let kept = if desk.length() > before { " kept" } else { "" };
-    let text = reply_text(alloc, ask, &reply, kept);
+    let text = reply_text(alloc, word, &reply, kept);
     drop(reply);
     text
 }
@@ -125,12 +130,13 @@ fn reply_to(
     alloc: Global,
     desk: &mut Desk<MemDisk>,
     who: &str,
-    ask: Ask<'_>,
+    word: &str,
+    behind: &str,
 ) -> Result<Reply, Fail> {
-    let caller = caller(alloc, who)?;
-    match command(alloc, ask) {
+    let caller = caller(alloc, token_of(who))?;
+    match command(alloc, word, behind) {
         Ok(command) => {
-            let (reply, _receipt) = desk.act(caller, command, clock_at(ask), &draw_at(ask));
+            let (reply, _receipt) = desk.act(caller, command, clock_at(word), &draw_at(word));
             Ok(reply)
         }
         Err(fail) => {
@@ -140,104 +146,189 @@ fn reply_to(
     }
 }
 
-fn reply_text(alloc: Global, ask: Ask<'_>, reply: &Reply, kept: &str) -> Result<String, Fail> {
+fn reply_text(alloc: Global, word: &str, reply: &Reply, kept: &str) -> Result<String, Fail> {
     let Body::Made(body) = &reply.body else {
         return Err(Fail::from("no body"));
     };
     let status = reply.status;
-    let told = told(alloc, ask, body.as_slice())?;
+    let told = told(alloc, word, body.as_slice())?;
     Ok(format!(in alloc; "{status}{told}{kept}")?)
 }
 
-fn clock_at(ask: Ask<'_>) -> u64 {
-    match ask {
-        Ask::PutLater(_, _) => NOW + 1_000,
-        _ => NOW,
-    }
+fn clock_at(word: &str) -> u64 {
+    if word == "later" { NOW + 1_000 } else { NOW }
 }
 
-fn draw_at(ask: Ask<'_>) -> Draw {
-    let name = match ask {
-        Ask::Post(name, _) => name,
-        _ => NAME,
-    };
+fn draw_at(word: &str) -> Draw {
+    let name = if word == "last" { (1 << 122) - 1 } else { 80 };
     Draw { name, secret: 5 }
 }
 
-fn caller(alloc: Global, who: &str) -> Result<Caller, Fail>
+// The token under which somebody asks: none for nobody, `*` for the operator.
+fn token_of(who: &str) -> &str {
+    match who {
+        "admin" => ADMIN,
+        "provider" => PROVIDER,
+        "operator" => "*",
+        _ => "",
+    }
+}
+
+fn caller(alloc: Global, token: &str) -> Result<Caller, Fail>
     ensures { IfOk result IsLawfulCaller }
 {
-    if who == "" {
+    if token == "" {
         Ok(Caller::Nobody)
-    } else if who == "*" {
+    } else if token == "*" {
         Ok(Caller::Operator)
     } else {
-        Ok(Caller::Token(Text::of(alloc, who)?))
+        Ok(Caller::Token(Text::of(alloc, token)?))
     }
 }
 
-fn command(alloc: Global, ask: Ask<'_>) -> Result<Command, Fail>
+fn command(alloc: Global, word: &str, behind: &str) -> Result<Command, Fail>
     ensures { IfOk result HasReadTrees }
 {
-    match ask {
-        Ask::Provider(name) => Ok(Command::Write(Write::Provider {
-            name: Text::of(alloc, name)?,
-        })),
-        Ask::Put(id, statement) | Ask::PutLater(id, statement) => put(alloc, id, statement),
-        Ask::Post(_, statements) => Ok(Command::Write(Write::Post {
-            statements: batch(alloc, statements)?,
-        })),
-        Ask::Many(first, n) => Ok(Command::Write(Write::Post {
-            statements: many(alloc, first, n)?,
-        })),
-        Ask::Get(target) | Ask::Whole(target) => get(alloc, target),
+    match word {
+        "provider" => provider(alloc, behind),
+        "put" | "later" => put(alloc, behind),
+        "post" | "last" => post(alloc, behind),
+        "times" => times(alloc, behind),
+        "many" => many(alloc, behind),
+        "get" | "whole" => get(alloc, behind),
+        _ => Err(Fail::from("no such question")),
     }
 }
 
-fn put(alloc: Global, id: &str, statement: &str) -> Result<Command, Fail>
+fn provider(alloc: Global, name: &str) -> Result<Command, Fail>
     ensures { IfOk result HasReadTrees }
 {
-    let id = expanded(alloc, id)?;
-    Ok(Command::Write(Write::Put {
-        id: Id::read(id.as_bytes()).ok_or("no id")?,
-        statement: tree(alloc, statement)?,
-    }))
+    let name = Text::of(alloc, name)?;
+    Ok(Command::Write(Write::Provider { name }))
+}
+
+fn put(alloc: Global, asked: &str) -> Result<Command, Fail>
+    ensures { IfOk result HasReadTrees }
+{
+    let (id, statement) = first_word(asked);
+    let id = Id::read(expanded(alloc, id)?.as_bytes()).ok_or("no id")?;
+    let statement = tree(alloc, statement)?;
+    Ok(Command::Write(Write::Put { id, statement }))
+}
+
+fn post(alloc: Global, statements: &str) -> Result<Command, Fail>
+    ensures { IfOk result HasReadTrees }
+{
+    let statements = batch(alloc, statements)?;
+    Ok(Command::Write(Write::Post { statements }))
 }
 
 fn get(alloc: Global, target: &str) -> Result<Command, Fail>
     ensures { IfOk result HasReadTrees }
 {
     let target = expanded(alloc, target)?;
-    let (path, query) = target.as_str().split_once('?').ok_or("no query")?;
-    let found = pairs(alloc, &Text::of(alloc, query)?)?;
+    get_whole(alloc, target.as_str())
+}
+
+fn get_whole(alloc: Global, target: &str) -> Result<Command, Fail>
+    ensures { IfOk result HasReadTrees }
+{
+    let (path, query) = target.split_once('?').ok_or("no query")?;
+    let query = Text::of(alloc, query)?;
+    let found = pairs(alloc, &query)?;
     if path == "/xapi/statements/more" {
-        Ok(Command::Read(Read::More(MoreLink::read(alloc, found.as_slice())?)))
+        get_more(alloc, found.as_slice())
     } else {
-        Ok(Command::Read(Read::Statements(Wanted::read(alloc, found.as_slice())?)))
+        get_statements(alloc, found.as_slice())
     }
 }
 
-#[tactic(auto, using(crate::proofs::Trees::lawful_more))]
-fn batch(alloc: Global, statements: &[&str]) -> Result<Items<Tree>, Fail>
+fn get_more(alloc: Global, found: &[Pair]) -> Result<Command, Fail>
+    ensures { IfOk result HasReadTrees }
+{
+    Ok(Command::Read(Read::More(read_link(alloc, found)?)))
+}
+
+fn get_statements(alloc: Global, found: &[Pair]) -> Result<Command, Fail>
+    ensures { IfOk result HasReadTrees }
+{
+    Ok(Command::Read(Read::Statements(read_wanted(alloc, found)?)))
+}
+
+fn batch(alloc: Global, statements: &str) -> Result<Items<Tree>, Fail>
     ensures { IfOk result AreLawfulTrees }
 {
     let mut trees = Items::new(alloc);
-    for statement in statements {
-        trees.push(tree(alloc, statement)?)?;
+    for statement in statements.split(';') {
+        add(alloc, &mut trees, statement)?;
     }
     Ok(trees)
 }
 
+// Adds a statement, where there is one.
 #[tactic(auto, using(crate::proofs::Trees::lawful_more))]
-fn many(alloc: Global, first: usize, n: usize) -> Result<Items<Tree>, Fail>
-    ensures { IfOk result AreLawfulTrees }
+fn add(alloc: Global, trees: &mut Items<Tree>, statement: &str) -> Result<(), Fail>
+    requires { AreLawfulTrees trees.old }
+    ensures { OnOk result (AreLawfulTrees trees.new) }
 {
-    let mut trees = Items::new(alloc);
-    for k in first..first.saturating_add(n) {
-        let short = nth_of_many(alloc, k)?;
-        trees.push(tree(alloc, short.as_str())?)?;
+    if statement.is_empty() {
+        return Ok(());
     }
-    Ok(trees)
+    let tree = tree(alloc, statement)?;
+    trees.push(tree)?;
+    Ok(())
+}
+
+fn number(text: &str) -> Result<usize, Fail> {
+    match text.parse::<usize>() {
+        Ok(number) => Ok(number),
+        Err(_) => Err(Fail::from("no number")),
+    }
+}
+
+fn times(alloc: Global, asked: &str) -> Result<Command, Fail>
+    ensures { IfOk result HasReadTrees }
+{
+    let statements = repeated(alloc, asked)?;
+    post(alloc, statements.as_str())
+}
+
+// So many of a statement.
+fn repeated(alloc: Global, asked: &str) -> Result<String, Fail> {
+    let (count, statement) = first_word(asked);
+    let count = number(count)?;
+    let mut statements = String::new(alloc);
+    for _ in 0..count {
+        statements.push_str(statement)?;
+        statements.push(';')?;
+    }
+    Ok(statements)
+}
+
+fn many(alloc: Global, asked: &str) -> Result<Command, Fail>
+    ensures { IfOk result HasReadTrees }
+{
+    let statements = numbered(alloc, asked)?;
+    post(alloc, statements.as_str())
+}
+
+// So many statements from a number on.
+fn numbered(alloc: Global, asked: &str) -> Result<String, Fail> {
+    let (first, count) = first_word(asked);
+    let first = number(first)?;
+    let end = first.saturating_add(number(count)?);
+    let mut statements = String::new(alloc);
+    for k in first..end {
+        push_nth(alloc, &mut statements, k)?;
+    }
+    Ok(statements)
+}
+
+fn push_nth(alloc: Global, statements: &mut String, k: usize) -> Result<(), Fail> {
+    let statement = nth_of_many(alloc, k)?;
+    statements.push_str(statement.as_str())?;
+    statements.push(';')?;
+    Ok(())
 }
 
 // The statement of that number, which refers to the one before.
@@ -262,50 +353,76 @@ fn statement_text(alloc: Global, short: &str) -> Result<String, Fail> {
     let Some((verb, behind)) = short.split_once(' ') else {
         return expanded(alloc, short);
     };
-    let (object, own) = match behind.split_once(' ') {
-        Some((object, id)) => (object, format!(in alloc; "\"id\":\"{id}\",")?),
-        None => (behind, String::new(alloc)),
-    };
-    let verb = match verb {
-        "voided" => String::from_str(alloc, "adlnet.gov/expapi/verbs/voided")?,
-        verb => String::from_str(alloc, verb)?,
-    };
-    let object = object_text(alloc, object)?;
-    let text = format!(in alloc;
-        "{{{own}\"actor\":{{\"mbox\":\"mailto:a@b\"}},\"verb\":{{\"id\":\"http://{verb}\"}},\"object\":{object}}}"
-    )?;
+    let (object, id) = first_word(behind);
+    let text = written_out(alloc, verb, object, id)?;
     expanded(alloc, text.as_str())
 }
 
-fn object_text(alloc: Global, short: &str) -> Result<String, Fail> {
-    if short.contains('/') {
-        Ok(format!(in alloc; "{{\"id\":\"http://{short}\"}}")?)
+// The statement of this verb, about an activity or a statement, with its own id where it has one.
+fn written_out<'a>(
+    alloc: Global,
+    verb: &'a str,
+    object: &'a str,
+    id: &'a str,
+) -> Result<String, Fail> {
+    let verb = match verb {
+        "voided" => "adlnet.gov/expapi/verbs/voided",
+        other => other,
+    };
+    let kind = if object.contains('/') {
+        r#""id":"http://"#
     } else {
-        Ok(format!(in alloc; "{{\"objectType\":\"StatementRef\",\"id\":\"{short}\"}}")?)
+        r#""objectType":"StatementRef","id":""#
+    };
+    let (before, behind) = if id.is_empty() {
+        ("", "")
+    } else {
+        (r#""id":""#, r#"","#)
+    };
+    let parts = [
+        "{",
+        before,
+        id,
+        behind,
+        r#""actor":{"mbox":"mailto:a@b"},"verb":{"id":"http://"#,
+        verb,
+        r#""},"object":{"#,
+        kind,
+        object,
+        r#""}}"#,
+    ];
+    joined(alloc, &parts)
+}
+
+fn joined(alloc: Global, parts: &[&str]) -> Result<String, Fail> {
+    let mut text = String::new(alloc);
+    for part in parts {
+        text.push_str(part)?;
     }
+    Ok(text)
 }
 
 // The text with its ids in full.
 fn expanded(alloc: Global, text: &str) -> Result<String, Fail> {
     let mut whole = String::from_str(alloc, text)?;
     for digit in ["1", "2", "3", "4", "5", "6", "7", "8", "9"] {
-        let short = format!(in alloc; "Z{digit}")?;
-        let id = id_of(alloc, digit)?;
-        whole = whole.replace(alloc, short.as_str(), id.as_str())?;
+        whole = expanded_by(alloc, whole.as_str(), digit)?;
     }
     Ok(whole)
 }
 
-fn id_of(alloc: Global, digit: &str) -> Result<String, Fail> {
-    let (three, four) = (digit.repeat(alloc, 3)?, digit.repeat(alloc, 4)?);
-    Ok(format!(in alloc; "{four}{four}-{four}-4{three}-8{three}-{four}{four}{four}")?)
+// The text with the id of a digit in full.
+fn expanded_by(alloc: Global, text: &str, digit: &str) -> Result<String, Fail> {
+    let short = "Zz".replace(alloc, "z", digit)?;
+    let id = "zzzzzzzz-zzzz-4zzz-8zzz-zzzzzzzzzzzz".replace(alloc, "z", digit)?;
+    Ok(text.replace(alloc, short.as_str(), id.as_str())?)
 }
 
-fn told(alloc: Global, ask: Ask<'_>, body: &[u8]) -> Result<String, Fail> {
+fn told(alloc: Global, word: &str, body: &[u8]) -> Result<String, Fail> {
     let text = str::from_utf8(body)?;
-    if matches!(ask, Ask::Get(_)) && text.starts_with("{\"statements\":") {
+    if word == "get" && text.starts_with("{\"statements\":") {
         list(alloc, body)
-    } else if text.is_empty() || matches!(ask, Ask::Many(_, _)) {
+    } else if text.is_empty() || word == "many" {
         Ok(String::new(alloc))
     } else {
         Ok(format!(in alloc; " {text}")?)
@@ -323,12 +440,22 @@ fn list_text(alloc: Global, body: &Tree) -> Result<String, Fail> {
     let Some(Tree::List(statements)) = body.get("statements") else {
         return Err(Fail::from("no array"));
     };
+    let more = words(body, "more")?;
+    let digits = digits_of(alloc, statements)?;
+    Ok(format!(in alloc; " [{digits}]{more}")?)
+}
+
+fn digits_of(alloc: Global, statements: &Items<Tree>) -> Result<String, Fail> {
     let mut digits = String::new(alloc);
     for statement in statements.iter() {
-        digits.push(words(statement, "id")?.chars().nth(7).ok_or("no id")?)?;
+        digits.push(digit_of(statement)?)?;
     }
-    let more = words(body, "more")?;
-    Ok(format!(in alloc; " [{digits}]{more}")?)
+    Ok(digits)
+}
+
+// The last digit of the first part of a statement's id.
+fn digit_of(statement: &Tree) -> Result<char, Fail> {
+    Ok(words(statement, "id")?.chars().nth(7).ok_or("no id")?)
 }
 
 fn words<'a>(tree: &'a Tree, name: &str) -> Result<&'a str, Fail> {

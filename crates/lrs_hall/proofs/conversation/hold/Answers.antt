@@ -1,5 +1,5 @@
 use Rattle.std.proofs.Common.{arith, ◌∙◌, refl, ap, List, ◌∷◌, ◌++◌, [], None}
-use Rattle.lrs_machine.specs.Desk.{Account}
+use Rattle.lrs_machine.specs.Desk.{Receipt}
 use Rattle.lrs_disk.specs.Door.{DoorState}
 use Rattle.lrs_hall.specs.Acts.{ActsOn}
 use Rattle.lrs_hall.specs.declared.talk.Finish.TheVariants as finish
@@ -14,7 +14,7 @@ loop-alloc-preserved g c =
       some = omega (arith, turn.3);
       talk = so_far_pushed (ActsOn g.D.Disk.told g.D.Disk.time g.D.Disk.fault_count) _ _ _ _ _ _ _ c.loop-alloc.receipts.items c.in-Next.receipt c.push_reserved.new.self.items
           (so_far_next (ActsOn g.D.Disk.told g.D.Disk.time g.D.Disk.fault_count) _ _ _ _ _ _ _ _ _ _ c.loop-alloc.receipts.items c.in-Next.receipt so.talk turn)
-          (c.push_reserved.ensures.items ∙ ap (λ (rs : List Account). rs ++ c.in-Next.receipt ∷ []) c.has_room.ensures.items);
+          (c.push_reserved.ensures.items ∙ ap (λ (rs : List Receipt). rs ++ c.in-Next.receipt ∷ []) c.has_room.ensures.items);
       durable = λ before. c.in-Next.ensures.durable (so.durable before);
       limit = c.in-Next.ensures.limit ∙ so.limit;
       door = c.in-Next.ensures.door ∙ ap (λ (s : DoorState). record s { readings = (g.O.Door.state c.exchange.new.door).readings }) so.door;
@@ -27,7 +27,7 @@ pub returns-in-Last-clause-talk : goal.returns-in-Last-clause-talk
 returns-in-Last-clause-talk g c =
     held_last (ActsOn g.D.Disk.told g.D.Disk.time g.D.Disk.fault_count) _ _ _ _ _ _ None _ _ _ c.loop-alloc.receipts.items c.in-Last.receipt c.in-Last.finish c.new-in-Last.result
     c.loop-alloc.invariant.talk c.in-Last.ensures.exchanged
-    (c.new-in-Last.ensures.receipts ∙ c.push_reserved-in-Last.ensures.items ∙ ap (λ (rs : List Account). rs ++ c.in-Last.receipt ∷ []) c.has_room.ensures.items) c.new-in-Last.ensures.finish
+    (c.new-in-Last.ensures.receipts ∙ c.push_reserved-in-Last.ensures.items ∙ ap (λ (rs : List Receipt). rs ++ c.in-Last.receipt ∷ []) c.has_room.ensures.items) c.new-in-Last.ensures.finish
 
 pub returns-in-Silent-clause-talk : goal.returns-in-Silent-clause-talk
 returns-in-Silent-clause-talk g c =

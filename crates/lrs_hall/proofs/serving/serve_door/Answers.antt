@@ -1,7 +1,7 @@
 use Rattle.std.proofs.Common.{arith, ◌≡◌, ◌<◌, ◌+◌, ◌∙◌, List, ◌∷◌, ◌++◌, [], length, refl, ap, inl}
 use Rattle.std.proofs.lemmas.List.{length_push}
 use Rattle.lrs_hall.specs.Acts.{ActsOn}
-use Rattle.lrs_hall.specs.Talks.{Told}
+use Rattle.lrs_hall.specs.Talks.{Talk}
 use Rattle.lrs_hall.specs.declared.serving.ServeEnd.TheVariants as serve
 use Rattle.lrs_hall.proofs.Doors.{served_none, served_one, served_so, ends_so}
 use Rattle.lrs_hall.proofs.serving.serve_door.Goals as goal
@@ -20,7 +20,7 @@ pub loop-left-preserved : goal.loop-left-preserved
 loop-left-preserved g c =
     let so = c.loop-left.invariant in
     let turn = c.in-Ok.ensures.talk in
-    let all : c.push_reserved.new.self.items ≡ c.loop-left.talks.items ++ c.in-Ok.talk ∷ [] = c.push_reserved.ensures.items ∙ ap (λ (ts : List Told). ts ++ c.in-Ok.talk ∷ []) c.has_room.ensures.items in
+    let all : c.push_reserved.new.self.items ≡ c.loop-left.talks.items ++ c.in-Ok.talk ∷ [] = c.push_reserved.ensures.items ∙ ap (λ (ts : List Talk). ts ++ c.in-Ok.talk ∷ []) c.has_room.ensures.items in
     let long : length c.push_reserved.new.self.items ≡ length c.loop-left.talks.items + 1 = ap length all ∙ length_push c.loop-left.talks.items c.in-Ok.talk in
     record {
       count = omega (arith, so.count);

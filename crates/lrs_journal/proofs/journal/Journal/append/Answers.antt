@@ -4,7 +4,7 @@ use Rattle.lrs_disk.specs.Disk.{LeavesOnly}
 use Rattle.lrs_disk.proofs.Moments.{started, now_has, weaker_run, then_run}
 use Rattle.lrs_journal.specs.Store.{IsBeforeOrAfter, Stands}
 use Rattle.lrs_journal.specs.Steps.{IsBehind, IsSound}
-use Rattle.lrs_journal.specs.Journal.{Held, frames_of, StandsFor, IsJournal, IsAppended, IsUnchanged}
+use Rattle.lrs_journal.specs.Journal.{Journal, frames_of, StandsFor, IsJournal, IsAppended, IsUnchanged}
 use Rattle.lrs_journal.proofs.Kept.{seen, sound_journal, settled_journal, after_behind, after_staged, gate_there, room_behind, behind_leaves, no_doubt, doubt_before_or_after}
 use Rattle.lrs_journal.proofs.journal.Journal.append.Goals as goal
 
@@ -21,11 +21,11 @@ returns-in_err-room-clause-any_moment g c x is =
     let told = g.D.Disk.told in
     let i = c.self.inside in
     let p = c.args.payload.now in
-    let none : i.doubt ≡ None = no_doubt i.doubt (ap (λ (h : Held _). h.doubt) c.self.view_is ∙ c.requires) in
+    let none : i.doubt ≡ None = no_doubt i.doubt (ap (λ (h : Journal _). h.doubt) c.self.view_is ∙ c.requires) in
     let old = subst (λ (o : Option ℕ). IsSound (told i.disk) (I i.disk) i.limit i.gate i.number o) none c.self.invariant in
     let run : (x : List (List ℕ)) → frames_of told (seen i.disk i.limit i.gate i.number None) ≡ Some x → LeavesOnly T S i.disk i.disk (IsBeforeOrAfter i.limit x p) = λ x is.
     started T S I g.met.D.Disk.counts_now g.met.D.Disk.only_now i.disk (IsBeforeOrAfter i.limit x p) (λ f left. inl (behind_leaves told I g.met.D.Disk.reads_image i.disk i.limit i.gate i.number old x is f (f, left, refl))) in
-    subst (λ (h : Held _). (x : List (List ℕ)) → frames_of told h ≡ Some x → LeavesOnly T S h.disk h.disk (IsBeforeOrAfter h.limit x p)) (ap (λ (o : Option ℕ). seen i.disk i.limit i.gate i.number o) (sym none) ∙ c.self.view_is) run x is
+    subst (λ (h : Journal _). (x : List (List ℕ)) → frames_of told h ≡ Some x → LeavesOnly T S h.disk h.disk (IsBeforeOrAfter h.limit x p)) (ap (λ (o : Option ℕ). seen i.disk i.limit i.gate i.number o) (sym none) ∙ c.self.view_is) run x is
 
 pub returns-in_err-room-clause-any_moment_err : goal.returns-in_err-room-clause-any_moment_err
 returns-in_err-room-clause-any_moment_err g c _ _ x is =
@@ -34,11 +34,11 @@ returns-in_err-room-clause-any_moment_err g c _ _ x is =
     let I = g.D.Disk.image in
     let told = g.D.Disk.told in
     let i = c.self.inside in
-    let none : i.doubt ≡ None = no_doubt i.doubt (ap (λ (h : Held _). h.doubt) c.self.view_is ∙ c.requires) in
+    let none : i.doubt ≡ None = no_doubt i.doubt (ap (λ (h : Journal _). h.doubt) c.self.view_is ∙ c.requires) in
     let old = subst (λ (o : Option ℕ). IsSound (told i.disk) (I i.disk) i.limit i.gate i.number o) none c.self.invariant in
     let run : (x : List (List ℕ)) → frames_of told (seen i.disk i.limit i.gate i.number None) ≡ Some x → LeavesOnly T S i.disk i.disk (λ image. Stands image i.limit x) = λ x is.
     started T S I g.met.D.Disk.counts_now g.met.D.Disk.only_now i.disk (λ image. Stands image i.limit x) (λ f left. behind_leaves told I g.met.D.Disk.reads_image i.disk i.limit i.gate i.number old x is f (f, left, refl)) in
-    subst (λ (h : Held _). (x : List (List ℕ)) → frames_of told h ≡ Some x → LeavesOnly T S h.disk h.disk (λ image. Stands image h.limit x)) (ap (λ (o : Option ℕ). seen i.disk i.limit i.gate i.number o) (sym none) ∙ c.self.view_is) run x is
+    subst (λ (h : Journal _). (x : List (List ℕ)) → frames_of told h ≡ Some x → LeavesOnly T S h.disk h.disk (λ image. Stands image h.limit x)) (ap (λ (o : Option ℕ). seen i.disk i.limit i.gate i.number o) (sym none) ∙ c.self.view_is) run x is
 
 pub stage-requires-clause-gate : goal.stage-requires-clause-gate
 stage-requires-clause-gate g c =
@@ -51,7 +51,7 @@ invariant_of-self g c =
     let d1 = c.stage.new.disk in
     let I = g.D.Disk.image in
     let told = g.D.Disk.told in
-    let none : i.doubt ≡ None = no_doubt i.doubt (ap (λ (h : Held _). h.doubt) c.self.view_is ∙ c.requires) in
+    let none : i.doubt ≡ None = no_doubt i.doubt (ap (λ (h : Journal _). h.doubt) c.self.view_is ∙ c.requires) in
     let old = subst (λ (o : Option ℕ). IsSound (told i.disk) (I i.disk) i.limit i.gate i.number o) none c.self.invariant in
     let now = now_has g.D.Disk.time g.D.Disk.image_since I g.met.D.Disk.counts_now g.met.D.Disk.only_now i.disk d1 (IsBehind (i.gate + 1) (I i.disk)) c.stage.ensures.any_moment in
     subst (λ (o : Option ℕ). IsSound (told d1) (I d1) i.limit i.gate i.number o) (sym none) (after_behind told I g.met.D.Disk.reads_image i.disk d1 i.limit i.gate i.number old c.stage.ensures.tells now).0
@@ -62,12 +62,12 @@ returns-in_err-stage-clause-failed g c _ =
     let d1 = c.stage.new.disk in
     let I = g.D.Disk.image in
     let told = g.D.Disk.told in
-    let none : i.doubt ≡ None = no_doubt i.doubt (ap (λ (h : Held _). h.doubt) c.self.view_is ∙ c.requires) in
+    let none : i.doubt ≡ None = no_doubt i.doubt (ap (λ (h : Journal _). h.doubt) c.self.view_is ∙ c.requires) in
     let old = subst (λ (o : Option ℕ). IsSound (told i.disk) (I i.disk) i.limit i.gate i.number o) none c.self.invariant in
     let now = now_has g.D.Disk.time g.D.Disk.image_since I g.met.D.Disk.counts_now g.met.D.Disk.only_now i.disk d1 (IsBehind (i.gate + 1) (I i.disk)) c.stage.ensures.any_moment in
     let after = after_behind told I g.met.D.Disk.reads_image i.disk d1 i.limit i.gate i.number old c.stage.ensures.tells now in
     let same = subst (λ (o : Option ℕ). IsUnchanged told (seen i.disk i.limit i.gate i.number o) (seen d1 i.limit i.gate i.number o)) (sym none) (record { frames = after.1; number = refl; end = refl; limit = refl }) in
-    inr (ap is_some none, subst (λ (h : Held _). IsUnchanged told h (seen d1 i.limit i.gate i.number i.doubt)) c.self.view_is same)
+    inr (ap is_some none, subst (λ (h : Journal _). IsUnchanged told h (seen d1 i.limit i.gate i.number i.doubt)) c.self.view_is same)
 
 pub returns-in_err-stage-clause-sound : goal.returns-in_err-stage-clause-sound
 returns-in_err-stage-clause-sound g c =
@@ -75,7 +75,7 @@ returns-in_err-stage-clause-sound g c =
     let d1 = c.stage.new.disk in
     let I = g.D.Disk.image in
     let told = g.D.Disk.told in
-    let none : i.doubt ≡ None = no_doubt i.doubt (ap (λ (h : Held _). h.doubt) c.self.view_is ∙ c.requires) in
+    let none : i.doubt ≡ None = no_doubt i.doubt (ap (λ (h : Journal _). h.doubt) c.self.view_is ∙ c.requires) in
     let old = subst (λ (o : Option ℕ). IsSound (told i.disk) (I i.disk) i.limit i.gate i.number o) none c.self.invariant in
     let now = now_has g.D.Disk.time g.D.Disk.image_since I g.met.D.Disk.counts_now g.met.D.Disk.only_now i.disk d1 (IsBehind (i.gate + 1) (I i.disk)) c.stage.ensures.any_moment in
     subst (λ (o : Option ℕ). IsJournal told I (seen d1 i.limit i.gate i.number o)) (sym none)
@@ -90,12 +90,12 @@ returns-in_err-stage-clause-any_moment g c x is =
     let i = c.self.inside in
     let d1 = c.stage.new.disk in
     let p = c.args.payload.now in
-    let none : i.doubt ≡ None = no_doubt i.doubt (ap (λ (h : Held _). h.doubt) c.self.view_is ∙ c.requires) in
+    let none : i.doubt ≡ None = no_doubt i.doubt (ap (λ (h : Journal _). h.doubt) c.self.view_is ∙ c.requires) in
     let old = subst (λ (o : Option ℕ). IsSound (told i.disk) (I i.disk) i.limit i.gate i.number o) none c.self.invariant in
     let run : (x : List (List ℕ)) → frames_of told (seen i.disk i.limit i.gate i.number None) ≡ Some x → LeavesOnly T S i.disk d1 (IsBeforeOrAfter i.limit x p) = λ x is.
     weaker_run T S I g.met.D.Disk.counts_now g.met.D.Disk.only_now i.disk d1 (IsBehind (i.gate + 1) (I i.disk)) (IsBeforeOrAfter i.limit x p) c.stage.ensures.any_moment
     (λ f now. inl (behind_leaves told I g.met.D.Disk.reads_image i.disk i.limit i.gate i.number old x is f now)) in
-    subst (λ (h : Held _). (x : List (List ℕ)) → frames_of told h ≡ Some x → LeavesOnly T S h.disk d1 (IsBeforeOrAfter h.limit x p)) (ap (λ (o : Option ℕ). seen i.disk i.limit i.gate i.number o) (sym none) ∙ c.self.view_is) run x is
+    subst (λ (h : Journal _). (x : List (List ℕ)) → frames_of told h ≡ Some x → LeavesOnly T S h.disk d1 (IsBeforeOrAfter h.limit x p)) (ap (λ (o : Option ℕ). seen i.disk i.limit i.gate i.number o) (sym none) ∙ c.self.view_is) run x is
 
 pub returns-in_err-stage-clause-any_moment_err : goal.returns-in_err-stage-clause-any_moment_err
 returns-in_err-stage-clause-any_moment_err g c _ _ x is =
@@ -105,12 +105,12 @@ returns-in_err-stage-clause-any_moment_err g c _ _ x is =
     let told = g.D.Disk.told in
     let i = c.self.inside in
     let d1 = c.stage.new.disk in
-    let none : i.doubt ≡ None = no_doubt i.doubt (ap (λ (h : Held _). h.doubt) c.self.view_is ∙ c.requires) in
+    let none : i.doubt ≡ None = no_doubt i.doubt (ap (λ (h : Journal _). h.doubt) c.self.view_is ∙ c.requires) in
     let old = subst (λ (o : Option ℕ). IsSound (told i.disk) (I i.disk) i.limit i.gate i.number o) none c.self.invariant in
     let run : (x : List (List ℕ)) → frames_of told (seen i.disk i.limit i.gate i.number None) ≡ Some x → LeavesOnly T S i.disk d1 (λ image. Stands image i.limit x) = λ x is.
     weaker_run T S I g.met.D.Disk.counts_now g.met.D.Disk.only_now i.disk d1 (IsBehind (i.gate + 1) (I i.disk)) (λ image. Stands image i.limit x) c.stage.ensures.any_moment
     (λ f now. behind_leaves told I g.met.D.Disk.reads_image i.disk i.limit i.gate i.number old x is f now) in
-    subst (λ (h : Held _). (x : List (List ℕ)) → frames_of told h ≡ Some x → LeavesOnly T S h.disk d1 (λ image. Stands image h.limit x)) (ap (λ (o : Option ℕ). seen i.disk i.limit i.gate i.number o) (sym none) ∙ c.self.view_is) run x is
+    subst (λ (h : Journal _). (x : List (List ℕ)) → frames_of told h ≡ Some x → LeavesOnly T S h.disk d1 (λ image. Stands image h.limit x)) (ap (λ (o : Option ℕ). seen i.disk i.limit i.gate i.number o) (sym none) ∙ c.self.view_is) run x is
 
 pub invariant_of-self-2 : goal.invariant_of-self-2
 invariant_of-self-2 g c =
@@ -119,7 +119,7 @@ invariant_of-self-2 g c =
     let I = g.D.Disk.image in
     let told = g.D.Disk.told in
     let p = c.args.payload.now in
-    let none : i.doubt ≡ None = no_doubt i.doubt (ap (λ (h : Held _). h.doubt) c.self.view_is ∙ c.requires) in
+    let none : i.doubt ≡ None = no_doubt i.doubt (ap (λ (h : Journal _). h.doubt) c.self.view_is ∙ c.requires) in
     let old = subst (λ (o : Option ℕ). IsSound (told i.disk) (I i.disk) i.limit i.gate i.number o) none c.self.invariant in
     let fits = room_behind i.disk i.limit i.gate i.number i.doubt p _ c.self.view_is none (c.in_ok-room.ensures.fits refl) in
     (after_staged told I g.met.D.Disk.reads_image i.disk d1 i.limit i.gate i.number p old fits c.stage.ensures.tells c.in_ok-stage.ensures.staged).0
@@ -131,13 +131,13 @@ returns-in_err-settle-clause-failed g c _ =
     let I = g.D.Disk.image in
     let told = g.D.Disk.told in
     let p = c.args.payload.now in
-    let none : i.doubt ≡ None = no_doubt i.doubt (ap (λ (h : Held _). h.doubt) c.self.view_is ∙ c.requires) in
+    let none : i.doubt ≡ None = no_doubt i.doubt (ap (λ (h : Journal _). h.doubt) c.self.view_is ∙ c.requires) in
     let old = subst (λ (o : Option ℕ). IsSound (told i.disk) (I i.disk) i.limit i.gate i.number o) none c.self.invariant in
     let fits = room_behind i.disk i.limit i.gate i.number i.doubt p _ c.self.view_is none (c.in_ok-room.ensures.fits refl) in
     let staged = after_staged told I g.met.D.Disk.reads_image i.disk d1 i.limit i.gate i.number p old fits c.stage.ensures.tells c.in_ok-stage.ensures.staged in
     let s = c.settle.ensures.frames in
     let more : IsAppended told (seen i.disk i.limit i.gate i.number None) c.settle.new.self p = record { frames = s.frames ∙ staged.1; number = s.number; end = s.end; limit = s.limit } in
-    inl (c.in_err-settle.ensures.failed refl, subst (λ (h : Held _). IsAppended told h c.settle.new.self p) (ap (λ (o : Option ℕ). seen i.disk i.limit i.gate i.number o) (sym none) ∙ c.self.view_is) more)
+    inl (c.in_err-settle.ensures.failed refl, subst (λ (h : Journal _). IsAppended told h c.settle.new.self p) (ap (λ (o : Option ℕ). seen i.disk i.limit i.gate i.number o) (sym none) ∙ c.self.view_is) more)
 
 pub returns-in_err-settle-clause-any_moment : goal.returns-in_err-settle-clause-any_moment
 returns-in_err-settle-clause-any_moment g c x is =
@@ -149,7 +149,7 @@ returns-in_err-settle-clause-any_moment g c x is =
     let d1 = c.stage.new.disk in
     let d2 = c.settle.new.self.disk in
     let p = c.args.payload.now in
-    let none : i.doubt ≡ None = no_doubt i.doubt (ap (λ (h : Held _). h.doubt) c.self.view_is ∙ c.requires) in
+    let none : i.doubt ≡ None = no_doubt i.doubt (ap (λ (h : Journal _). h.doubt) c.self.view_is ∙ c.requires) in
     let old = subst (λ (o : Option ℕ). IsSound (told i.disk) (I i.disk) i.limit i.gate i.number o) none c.self.invariant in
     let fits = room_behind i.disk i.limit i.gate i.number i.doubt p _ c.self.view_is none (c.in_ok-room.ensures.fits refl) in
     let staged = after_staged told I g.met.D.Disk.reads_image i.disk d1 i.limit i.gate i.number p old fits c.stage.ensures.tells c.in_ok-stage.ensures.staged in
@@ -159,7 +159,7 @@ returns-in_err-settle-clause-any_moment g c x is =
     (λ f now. inl (behind_leaves told I g.met.D.Disk.reads_image i.disk i.limit i.gate i.number old x is f now)))
     (c.settle.ensures.any_moment (x ++ p ∷ []) (staged.1 ∙ ap (λ (o : Option (List (List ℕ))). option_map (λ payloads. payloads ++ p ∷ []) o) is))
     (doubt_before_or_after i.limit x p) in
-    subst (λ (h : Held _). (x : List (List ℕ)) → frames_of told h ≡ Some x → LeavesOnly T S h.disk d2 (IsBeforeOrAfter h.limit x p)) (ap (λ (o : Option ℕ). seen i.disk i.limit i.gate i.number o) (sym none) ∙ c.self.view_is) run x is
+    subst (λ (h : Journal _). (x : List (List ℕ)) → frames_of told h ≡ Some x → LeavesOnly T S h.disk d2 (IsBeforeOrAfter h.limit x p)) (ap (λ (o : Option ℕ). seen i.disk i.limit i.gate i.number o) (sym none) ∙ c.self.view_is) run x is
 
 pub returns-clause-appended : goal.returns-clause-appended
 returns-clause-appended g c =
@@ -168,15 +168,15 @@ returns-clause-appended g c =
     let I = g.D.Disk.image in
     let told = g.D.Disk.told in
     let p = c.args.payload.now in
-    let none : i.doubt ≡ None = no_doubt i.doubt (ap (λ (h : Held _). h.doubt) c.self.view_is ∙ c.requires) in
+    let none : i.doubt ≡ None = no_doubt i.doubt (ap (λ (h : Journal _). h.doubt) c.self.view_is ∙ c.requires) in
     let old = subst (λ (o : Option ℕ). IsSound (told i.disk) (I i.disk) i.limit i.gate i.number o) none c.self.invariant in
     let fits = room_behind i.disk i.limit i.gate i.number i.doubt p _ c.self.view_is none (c.in_ok-room.ensures.fits refl) in
     let staged = after_staged told I g.met.D.Disk.reads_image i.disk d1 i.limit i.gate i.number p old fits c.stage.ensures.tells c.in_ok-stage.ensures.staged in
     let s = c.settle.ensures.frames in
     let more : IsAppended told (seen i.disk i.limit i.gate i.number None) c.settle.new.self p = record { frames = s.frames ∙ staged.1; number = s.number; end = s.end; limit = s.limit } in (
-      ap (λ (h : Held _). h.number) c.self.view_is,
+      ap (λ (h : Journal _). h.number) c.self.view_is,
       (c.in_ok-settle.ensures.some refl).1,
-      subst (λ (h : Held _). IsAppended told h c.settle.new.self p) (ap (λ (o : Option ℕ). seen i.disk i.limit i.gate i.number o) (sym none) ∙ c.self.view_is) more,
+      subst (λ (h : Journal _). IsAppended told h c.settle.new.self p) (ap (λ (o : Option ℕ). seen i.disk i.limit i.gate i.number o) (sym none) ∙ c.self.view_is) more,
     )
 
 pub returns-clause-any_moment : goal.returns-clause-any_moment
@@ -189,7 +189,7 @@ returns-clause-any_moment g c x is =
     let d1 = c.stage.new.disk in
     let d2 = c.settle.new.self.disk in
     let p = c.args.payload.now in
-    let none : i.doubt ≡ None = no_doubt i.doubt (ap (λ (h : Held _). h.doubt) c.self.view_is ∙ c.requires) in
+    let none : i.doubt ≡ None = no_doubt i.doubt (ap (λ (h : Journal _). h.doubt) c.self.view_is ∙ c.requires) in
     let old = subst (λ (o : Option ℕ). IsSound (told i.disk) (I i.disk) i.limit i.gate i.number o) none c.self.invariant in
     let fits = room_behind i.disk i.limit i.gate i.number i.doubt p _ c.self.view_is none (c.in_ok-room.ensures.fits refl) in
     let staged = after_staged told I g.met.D.Disk.reads_image i.disk d1 i.limit i.gate i.number p old fits c.stage.ensures.tells c.in_ok-stage.ensures.staged in
@@ -199,10 +199,10 @@ returns-clause-any_moment g c x is =
     (λ f now. inl (behind_leaves told I g.met.D.Disk.reads_image i.disk i.limit i.gate i.number old x is f now)))
     (c.settle.ensures.any_moment (x ++ p ∷ []) (staged.1 ∙ ap (λ (o : Option (List (List ℕ))). option_map (λ payloads. payloads ++ p ∷ []) o) is))
     (doubt_before_or_after i.limit x p) in
-    subst (λ (h : Held _). (x : List (List ℕ)) → frames_of told h ≡ Some x → LeavesOnly T S h.disk d2 (IsBeforeOrAfter h.limit x p)) (ap (λ (o : Option ℕ). seen i.disk i.limit i.gate i.number o) (sym none) ∙ c.self.view_is) run x is
+    subst (λ (h : Journal _). (x : List (List ℕ)) → frames_of told h ≡ Some x → LeavesOnly T S h.disk d2 (IsBeforeOrAfter h.limit x p)) (ap (λ (o : Option ℕ). seen i.disk i.limit i.gate i.number o) (sym none) ∙ c.self.view_is) run x is
 
 pub returns-clause-number : goal.returns-clause-number
 returns-clause-number g c x is =
     let i = c.self.inside in
     let sound = subst (IsJournal g.D.Disk.told g.D.Disk.image) c.self.view_is (sound_journal g.D.Disk.told g.D.Disk.image g.met.D.Disk.reads_image i.disk i.limit i.gate i.number i.doubt c.self.invariant) in
-    ap (λ (h : Held _). h.number) c.self.view_is ∙ (sound.holds x is).counts
+    ap (λ (h : Journal _). h.number) c.self.view_is ∙ (sound.holds x is).counts

@@ -2,7 +2,7 @@ use Rattle.std.proofs.Common.{◌≡◌, ◌+◌, ◌∙◌, List, ℕ, Option, 
 use Rattle.lrs_disk.specs.Disk.{LeavesOnly}
 use Rattle.lrs_disk.proofs.Moments.{started, now_has, weaker_run}
 use Rattle.lrs_journal.specs.Steps.{IsAtGate, IsSound}
-use Rattle.lrs_journal.specs.Journal.{Held, frames_of, StandsFor, IsJournal, IsUnchanged}
+use Rattle.lrs_journal.specs.Journal.{Journal, frames_of, StandsFor, IsJournal, IsUnchanged}
 use Rattle.lrs_journal.proofs.Kept.{seen, sound_journal, doubt_journal, settled_journal, after_gate, after_opened, gate_there, gate_leaves}
 use Rattle.lrs_journal.proofs.journal.Journal.settle.Goals as goal
 
@@ -40,7 +40,7 @@ returns-in_err-write_gate-clause-frames g c =
     let now = now_has g.D.Disk.time g.D.Disk.image_since g.D.Disk.image g.met.D.Disk.counts_now g.met.D.Disk.only_now i.disk d1 (IsAtGate i.gate (g.D.Disk.image i.disk)) c.write_gate.ensures.any_moment in
     let after = after_gate told g.D.Disk.image g.met.D.Disk.reads_image i.disk d1 i.limit i.gate i.number c.in-Some.size old c.write_gate.ensures.tells now in
     let same = subst (λ (o : Option ℕ). IsUnchanged told (seen i.disk i.limit i.gate i.number o) (seen d1 i.limit i.gate i.number o)) (sym c.in-Some.is) (record { frames = after.1; number = refl; end = refl; limit = refl }) in
-    subst (λ (h : Held _). IsUnchanged told h (seen d1 i.limit i.gate i.number i.doubt)) c.self.view_is same
+    subst (λ (h : Journal _). IsUnchanged told h (seen d1 i.limit i.gate i.number i.doubt)) c.self.view_is same
 
 pub returns-in_err-write_gate-clause-sound : goal.returns-in_err-write_gate-clause-sound
 returns-in_err-write_gate-clause-sound g c =
@@ -64,7 +64,7 @@ returns-in_err-write_gate-clause-any_moment g c =
     let run : (x : List (List ℕ)) → frames_of told (seen i.disk i.limit i.gate i.number (Some c.in-Some.size)) ≡ Some x → LeavesOnly T S i.disk d1 (StandsFor i.limit true x) = λ x is.
     weaker_run T S I g.met.D.Disk.counts_now g.met.D.Disk.only_now i.disk d1 (IsAtGate i.gate (I i.disk)) (StandsFor i.limit true x) c.write_gate.ensures.any_moment
     (gate_leaves told I g.met.D.Disk.reads_image i.disk i.limit i.gate i.number c.in-Some.size old x is) in
-    subst (λ (h : Held _). (x : List (List ℕ)) → frames_of told h ≡ Some x → LeavesOnly T S h.disk d1 (StandsFor h.limit h.doubt x)) (ap (λ (o : Option ℕ). seen i.disk i.limit i.gate i.number o) (sym c.in-Some.is) ∙ c.self.view_is) run
+    subst (λ (h : Journal _). (x : List (List ℕ)) → frames_of told h ≡ Some x → LeavesOnly T S h.disk d1 (StandsFor h.limit h.doubt x)) (ap (λ (o : Option ℕ). seen i.disk i.limit i.gate i.number o) (sym c.in-Some.is) ∙ c.self.view_is) run
 
 pub invariant_of-self-2 : goal.invariant_of-self-2
 invariant_of-self-2 g c =
@@ -81,8 +81,8 @@ returns-clause-frames g c =
     let told = g.D.Disk.told in
     let old = subst (λ (o : Option ℕ). IsSound (told i.disk) (g.D.Disk.image i.disk) i.limit i.gate i.number o) c.in-Some.is c.self.invariant in
     let after = after_opened told g.D.Disk.image g.met.D.Disk.reads_image i.disk d1 i.limit i.gate i.number c.in-Some.size old c.write_gate.ensures.tells c.in_ok-write_gate.ensures.written in
-    let new : Held _ = seen d1 i.limit (i.gate + (5 + c.in-Some.size)) i.number None in
-    subst (λ (h : Held _). IsUnchanged told h new) (ap (λ (o : Option ℕ). seen i.disk i.limit i.gate i.number o) (sym c.in-Some.is) ∙ c.self.view_is) (record { frames = after.1; number = refl; end = refl; limit = refl })
+    let new : Journal _ = seen d1 i.limit (i.gate + (5 + c.in-Some.size)) i.number None in
+    subst (λ (h : Journal _). IsUnchanged told h new) (ap (λ (o : Option ℕ). seen i.disk i.limit i.gate i.number o) (sym c.in-Some.is) ∙ c.self.view_is) (record { frames = after.1; number = refl; end = refl; limit = refl })
 
 pub returns-clause-sound : goal.returns-clause-sound
 returns-clause-sound g c =
@@ -104,4 +104,4 @@ returns-clause-any_moment g c =
     let run : (x : List (List ℕ)) → frames_of told (seen i.disk i.limit i.gate i.number (Some c.in-Some.size)) ≡ Some x → LeavesOnly T S i.disk d1 (StandsFor i.limit true x) = λ x is.
     weaker_run T S I g.met.D.Disk.counts_now g.met.D.Disk.only_now i.disk d1 (IsAtGate i.gate (I i.disk)) (StandsFor i.limit true x) c.write_gate.ensures.any_moment
     (gate_leaves told I g.met.D.Disk.reads_image i.disk i.limit i.gate i.number c.in-Some.size old x is) in
-    subst (λ (h : Held _). (x : List (List ℕ)) → frames_of told h ≡ Some x → LeavesOnly T S h.disk d1 (StandsFor h.limit h.doubt x)) (ap (λ (o : Option ℕ). seen i.disk i.limit i.gate i.number o) (sym c.in-Some.is) ∙ c.self.view_is) run
+    subst (λ (h : Journal _). (x : List (List ℕ)) → frames_of told h ≡ Some x → LeavesOnly T S h.disk d1 (StandsFor h.limit h.doubt x)) (ap (λ (o : Option ℕ). seen i.disk i.limit i.gate i.number o) (sym c.in-Some.is) ∙ c.self.view_is) run

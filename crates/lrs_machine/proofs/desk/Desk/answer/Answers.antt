@@ -1,5 +1,5 @@
 use Rattle.std.proofs.Common.{◌≡◌, subst, sym}
-use Rattle.lrs_history.specs.History.{answer, verdict}
+use Rattle.lrs_history.specs.History.{answer, outcome}
 use Rattle.lrs_machine.specs.Fold.{state_of}
 use Rattle.lrs_machine.specs.Desk.{StandsFor, Answers}
 use Rattle.lrs_machine.proofs.ActLemmas.{act_ties, act_answers}
@@ -23,7 +23,7 @@ returns-clause-known g c = λ put. act_put g.D.Disk.told c.self.inside.journal c
 
 pub returns-clause-limit : goal.returns-clause-limit
 returns-clause-limit g c = subst (λ o. c.act.new.journal.limit ≡ o.limit) c.self.view_is
-    (act_limit g.D.Disk.told c.self.inside.journal c.act.new.journal (state_of c.self.inside.fold) (state_of c.act.new.fold) (verdict (state_of c.self.inside.fold) c.args.caller c.args.command c.args.clock c.args.draw.now) c.act.result.0 c.act.ensures.acted)
+    (act_limit g.D.Disk.told c.self.inside.journal c.act.new.journal (state_of c.self.inside.fold) (state_of c.act.new.fold) (outcome (state_of c.self.inside.fold) c.args.caller c.args.command c.args.clock c.args.draw.now) c.act.result.0 c.act.ensures.acted)
 
 pub returns-clause-durable : goal.returns-clause-durable
 returns-clause-durable g c = λ h stands. on_disk g.D.Disk.told g.D.Disk.image c.act.new.journal h c.act.ensures.sound stands

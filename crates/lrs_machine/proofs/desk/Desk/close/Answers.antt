@@ -15,8 +15,8 @@ returns-in-Ok-clause-closed g c = λ h stands.
     (leaves g.D.Disk.told g.D.Disk.image c.settle.new.self (λ bytes. payloads_in (settled c.settle.new.self.doubt c.settle.new.self.gate bytes)) h false c.settle.ensures.sound refl
     (c.settle.ensures.frames.frames ∙ before.frames) (settled_doubt c.self.inside.journal c.settle.new.self c.settle.result c.in-Ok.field-0 c.in-Ok.is c.settle.ensures.none c.settle.ensures.some))))
 
-pub returns-clause-failed : goal.returns-clause-failed
-returns-clause-failed g c = (
+pub returns-in-Err-clause-failed : goal.returns-in-Err-clause-failed
+returns-in-Err-clause-failed g c = (
   subst (λ o. o.doubt ≡ true) c.self.view_is (unsettled_doubt c.self.inside.journal c.settle.new.self c.settle.result c.in-Err.failed c.in-Err.is c.settle.ensures.none),
   λ h stands.
       let before : StandsFor g.D.Disk.told c.self.inside.journal h = subst (λ o. StandsFor g.D.Disk.told o h) (sym c.self.view_is) stands in
