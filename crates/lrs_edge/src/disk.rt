@@ -1,6 +1,8 @@
-ghost use Rattle.std.specs.Prelude.{◌≡◌, ◌≤◌, ◌+◌, ◌-◌, ◌^◌, None, IfSome, length, min};
+ghost use Rattle.std.specs.Prelude.{◌≡◌, ◌≤◌, ◌+◌, ◌-◌, ◌^◌, None, IfOk, IsErr, length, min};
+ghost use Rattle.lrs_disk.specs.Faults.{HasCause};
 
 use crate::faults::Faults;
+use crate::reports::report;
 use lrs_disk::{Disk, Failed};
 use std::alloc::Global;
 use std::fs::{File, OpenOptions};
@@ -12,22 +14,23 @@ use std::rt::Files;
 // The file of a store holds tokens as they are.
 const OWNER_ALONE: u32 = 0o600;
 
-// The file of a name, or the name while there is none.
+// A name and its file, where there is one.
 #[derive(Drop)]
-pub(crate) enum Content<R> {
-    Held(File),
-    Missing { rt: R, name: String },
+pub(crate) struct Content<R> {
+    rt: R,
+    name: String,
+    file: Option<File>,
 }
 
 /// A file as a disk. A name that has no file reads as an empty one; the file is made when it is first written.
 #[derive(Drop)]
-pub struct FileDisk<R: Files<File = File> + Copy> {
+pub struct FileDisk<R: Files<File = File> + Eprint + Copy> {
     content: Content<R>,
     moment: u64,
     faults: Faults,
 }
 
-impl<R: Files<File = File> + Copy> FileDisk<R> {
+impl<R: Files<File = File> + Eprint + Copy> FileDisk<R> {
     ghost use Rattle.lrs_edge.specs.FileDisk.{moment_of, faults_of};
 
     pub(crate) fn new(content: Content<R>) -> Self
@@ -49,9 +52,19 @@ impl<R: Files<File = File> + Copy> FileDisk<R> {
     {
         self.moment = self.moment.saturating_add(1);
     }
+
+    // The answer of a failed call, which is reported and counted.
+    fn failed<T: Drop>(&mut self, action: &str, error: &io::Error) -> Result<T, Failed>
+        ensures failed { IsErr result }
+        ensures cause { HasCause (faults_of self.old) (faults_of self.new) result }
+        ensures moment { moment_of self.new ≡ moment_of self.old }
+    {
+        report(&self.content.rt, &self.content.name, action, error);
+        self.faults.failed()
+    }
 }
 
-impl<R: Files<File = File> + Copy> Disk for FileDisk<R> {
+impl<R: Files<File = File> + Eprint + Copy> Disk for FileDisk<R> {
     ghost use Rattle.lrs_edge.specs.FileDisk.{moment_of, faults_of};
     ghost use Rattle.lrs_edge.specs.Silent.{tells_none};
 
@@ -77,23 +90,24 @@ impl<R: Files<File = File> + Copy> Disk for FileDisk<R> {
         self.tick();
         match self.content.len() {
             Ok(number) => Ok(number),
-            Err(_) => self.faults.failed(),
+            Err(error) => self.failed("tell its size", &error),
         }
     }
 
     fn read_at(&mut self, place: u64, into: &mut [u8]) -> Result<usize, Failed> {
         self.tick();
         match self.content.read_at(place, into) {
-            Some(number) => Ok(number),
-            None => self.faults.failed(),
+            Ok(number) => Ok(number),
+            Err(error) => self.failed("read", &error),
         }
     }
 
     fn write_at(&mut self, place: u64, bytes: &[u8]) -> Result<(), Failed> {
         self.tick();
+        let action = self.content.write_action();
         match self.content.write_at(place, bytes) {
             Ok(()) => Ok(()),
-            Err(_) => self.faults.failed(),
+            Err(error) => self.failed(action, &error),
         }
     }
 
@@ -101,7 +115,7 @@ impl<R: Files<File = File> + Copy> Disk for FileDisk<R> {
         self.tick();
         match self.content.cut(to) {
             Ok(()) => Ok(()),
-            Err(_) => self.faults.failed(),
+            Err(error) => self.failed("truncate", &error),
         }
     }
 
@@ -109,7 +123,7 @@ impl<R: Files<File = File> + Copy> Disk for FileDisk<R> {
         self.tick();
         match self.content.sync() {
             Ok(()) => Ok(()),
-            Err(_) => self.faults.failed(),
+            Err(error) => self.failed("sync", &error),
         }
     }
 
@@ -123,84 +137,99 @@ impl<R: Files<File = File> + Copy> Disk for FileDisk<R> {
 }
 
 // Reads until there is no room left or the file ends, since one call may give fewer bytes than there are.
-fn read_on(file: &File, place: u64, into: &mut [u8]) -> Option<usize>
-    ensures { IfSome result (λ n. n ≤ length into.old) }
+fn read_on(file: &File, place: u64, into: &mut [u8]) -> io::Result<usize>
+    ensures { IfOk result (λ n. n ≤ length into.old) }
 {
     let mut number = 0;
     for _ in 0..u64::MAX {
         if number == into.len() {
-            return Some(number);
+            return Ok(number);
         }
         match file.read_at(&mut into[number..], place.saturating_add(number as u64)) {
-            Ok(0) => return Some(number),
+            Ok(0) => return Ok(number),
             Ok(more) => number += more,
             Err(error) if error.kind() == ErrorKind::Interrupted => (),
-            Err(_) => return None,
+            Err(error) => return Err(error),
         }
     }
-    None
+    Err(io::Error::from(ErrorKind::Other))
 }
 
-impl<R: Files<File = File> + Copy> Content<R> {
+impl<R: Files<File = File> + Eprint + Copy> Content<R> {
     fn len(&self) -> io::Result<u64> {
-        match self {
-            Content::Held(file) => Ok(file.metadata()?.len()),
-            Content::Missing { .. } => Ok(0),
+        match &self.file {
+            Some(file) => Ok(file.metadata()?.len()),
+            None => Ok(0),
         }
     }
 
-    fn read_at(&self, place: u64, into: &mut [u8]) -> Option<usize>
-        ensures { IfSome result (λ n. n ≤ length into.old) }
+    fn read_at(&self, place: u64, into: &mut [u8]) -> io::Result<usize>
+        ensures { IfOk result (λ n. n ≤ length into.old) }
     {
-        match self {
-            Content::Held(file) => read_on(file, place, into),
-            Content::Missing { .. } => Some(0),
+        match &self.file {
+            Some(file) => read_on(file, place, into),
+            None => Ok(0),
+        }
+    }
+
+    // What the next write does, in a report.
+    fn write_action(&self) -> &'static str {
+        if self.file.is_some() {
+            "write"
+        } else {
+            "create"
         }
     }
 
     // Makes the file first, where there is none.
     fn write_at(&mut self, place: u64, bytes: &[u8]) -> io::Result<()> {
-        let file = match self {
-            Content::Held(file) => return file.write_all_at(bytes, place),
-            Content::Missing { rt, name } => make(rt, name.as_str())?,
-        };
+        if let Some(file) = &self.file {
+            return file.write_all_at(bytes, place);
+        }
+        let file = make(&self.rt, self.name.as_str())?;
         let written = file.write_all_at(bytes, place);
-        *self = Content::Held(file);
+        self.file = Some(file);
         written
     }
 
     fn cut(&self, to: u64) -> io::Result<()> {
-        match self {
-            Content::Held(file) => file.set_len(to),
-            Content::Missing { .. } => Ok(()),
+        match &self.file {
+            Some(file) => file.set_len(to),
+            None => Ok(()),
         }
     }
 
     fn sync(&self) -> io::Result<()> {
-        match self {
-            Content::Held(file) => file.sync_all(),
-            Content::Missing { .. } => Ok(()),
+        match &self.file {
+            Some(file) => file.sync_all(),
+            None => Ok(()),
         }
     }
 }
 
-// Opens the file of a name, where there is one. Two programs on one file would write over each other, so it is locked
-// for as long as its disk is there.
-pub(crate) fn open<R: Files<File = File> + Copy>(
+// A name with its file, where there is one.
+pub(crate) fn open<R: Files<File = File> + Eprint + Copy>(
     alloc: Global,
     rt: R,
     name: &str,
 ) -> io::Result<Content<R>> {
-    match OpenOptions::new().read(true).write(true).open(&rt, name) {
+    let file = find(&rt, name)?;
+    let name = String::from_str(alloc, name)?;
+    Ok(Content { rt, name, file })
+}
+
+// Opens the file of a name, where there is one. Two programs on one file would write over each other, so it is locked
+// for as long as its disk is there.
+fn find<R: Files<File = File>>(rt: &R, name: &str) -> io::Result<Option<File>> {
+    match OpenOptions::new().read(true).write(true).open(rt, name) {
         Ok(file) => {
             file.try_lock()?;
-            sync_folder(&rt, name)?;
-            Ok(Content::Held(file))
+            sync_folder(rt, name)?;
+            Ok(Some(file))
         }
         Err(error) if error.kind() == ErrorKind::NotFound => {
-            sync_folder(&rt, name)?;
-            let name = String::from_str(alloc, name)?;
-            Ok(Content::Missing { rt, name })
+            sync_folder(rt, name)?;
+            Ok(None)
         }
         Err(error) => Err(error),
     }

@@ -4,6 +4,7 @@ use crate::clock::milliseconds;
 use crate::faults::Faults;
 use crate::link::TcpLink;
 use crate::pace::Patience;
+use crate::reports::report;
 use lrs_disk::{Door, Next};
 use std::io::{self, ErrorKind};
 use std::net::{SocketAddr, TcpListener, TcpStream};
@@ -11,7 +12,7 @@ use std::time::Clock;
 
 /// A TCP address on which connections come in. It never closes.
 #[derive(Drop)]
-pub struct TcpDoor<R: Clock + Copy> {
+pub struct TcpDoor<R: Clock + Eprint + Copy> {
     rt: R,
     patience: Patience,
     listener: TcpListener,
@@ -20,7 +21,7 @@ pub struct TcpDoor<R: Clock + Copy> {
     faults: Faults,
 }
 
-impl<R: Clock + Copy> TcpDoor<R> {
+impl<R: Clock + Eprint + Copy> TcpDoor<R> {
     ghost use Rattle.lrs_edge.specs.TcpDoor.{state_of};
 
     pub(crate) fn new(rt: R, patience: Patience, listener: TcpListener) -> Self
@@ -43,18 +44,27 @@ impl<R: Clock + Copy> TcpDoor<R> {
 }
 
 // The next connection. One that its peer broke off before it was taken is passed over.
-fn accept(listener: &TcpListener) -> Option<TcpStream> {
+fn accept(listener: &TcpListener) -> io::Result<TcpStream> {
     for _ in 0..u64::MAX {
         match listener.accept() {
-            Ok((stream, _)) => return Some(stream),
+            Ok((stream, _)) => return Ok(stream),
             Err(error) if error.kind() == ErrorKind::ConnectionAborted => (),
-            Err(_) => return None,
+            Err(error) => return Err(error),
         }
     }
-    None
+    Err(io::Error::from(ErrorKind::Other))
 }
 
-impl<R: Clock + Copy> Door for TcpDoor<R> {
+// Says why no connection could be taken.
+fn report_accept(rt: &impl Eprint, listener: &TcpListener, error: &io::Error) {
+    let action = "accept a connection";
+    match listener.local_addr() {
+        Ok(address) => report(rt, &address, action, error),
+        Err(_) => report(rt, &"the socket", action, error),
+    }
+}
+
+impl<R: Clock + Eprint + Copy> Door for TcpDoor<R> {
     type Link = TcpLink<R>;
 
     ghost use Rattle.lrs_edge.specs.TcpDoor.{state_of};
@@ -63,13 +73,14 @@ impl<R: Clock + Copy> Door for TcpDoor<R> {
 
     fn next(&mut self) -> Next<TcpLink<R>> {
         match accept(&self.listener) {
-            Some(stream) => {
+            Ok(stream) => {
                 let name = self.given;
                 self.given = name.saturating_add(1);
                 self.out = Some(name);
                 Next::Joined(TcpLink::new(self.rt, self.patience, stream, name))
             }
-            None => {
+            Err(error) => {
+                report_accept(&self.rt, &self.listener, &error);
                 self.faults.rise();
                 Next::Failed
             }

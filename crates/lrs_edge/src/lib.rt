@@ -1,7 +1,10 @@
 //! The real outside: files, standard input and output, TCP connections, the system's clock.
 //!
-//! A few lines each. None tells what it holds, since no contract can say what a file, a terminal or a socket gives. Each keeps a
-//! count of its failed calls. That a file is an honest disk is trusted.
+//! A few lines each. None tells what it holds, since no contract can say what a file, a terminal or a socket gives. Each
+//! keeps a count of its failed calls. That a file is an honest disk is trusted.
+//!
+//! The files and addresses say on standard error why a call of theirs failed, each in one line with the name of the file
+//! or the address; the lobby says there where it listens.
 #![tactic(auto)]
 
 mod clock;
@@ -11,6 +14,7 @@ mod faults;
 mod link;
 mod lobby;
 mod pace;
+mod reports;
 mod shelf;
 mod streams;
 

@@ -8,20 +8,26 @@ use crate::clock::milliseconds;
 use crate::door::TcpDoor;
 use crate::faults::Faults;
 use crate::pace::Patience;
+use crate::reports::report;
 use lrs_disk::{Door, DoorsRefused, Lobby};
 use std::alloc::Global;
+use std::io;
 use std::net::{Net, TcpListener, TcpStream};
 use std::time::Clock;
 
 /// The system's clock, and its TCP addresses.
 #[derive(Drop)]
-pub struct TcpLobby<R: Clock + Net<Listener = TcpListener, Stream = TcpStream> + Copy + Send> {
+pub struct TcpLobby<
+    R: Clock + Net<Listener = TcpListener, Stream = TcpStream> + Eprint + Copy + Send,
+> {
     rt: R,
     patience: Patience,
     faults: Faults,
 }
 
-impl<R: Clock + Net<Listener = TcpListener, Stream = TcpStream> + Copy + Send> TcpLobby<R> {
+impl<R: Clock + Net<Listener = TcpListener, Stream = TcpStream> + Eprint + Copy + Send> TcpLobby<
+    R,
+> {
     ghost use Rattle.lrs_edge.specs.TcpLobby.{faults_of};
 
     /// The addresses that this runtime reaches, with the usual times for peers.
@@ -43,8 +49,29 @@ impl<R: Clock + Net<Listener = TcpListener, Stream = TcpStream> + Copy + Send> T
     }
 }
 
+// What a call of the system gave, or nothing where it failed, which is reported.
+fn reported(rt: &impl Eprint, address: &str, made: io::Result<TcpListener>) -> Option<TcpListener> {
+    match made {
+        Ok(listener) => Some(listener),
+        Err(error) => {
+            report(rt, &address, "listen", &error);
+            None
+        }
+    }
+}
+
+// Says where these doors listen.
+fn say_listening<R: Clock + Eprint + Copy>(rt: &R, doors: &[TcpDoor<R>]) {
+    let Some(door) = doors.first() else {
+        return;
+    };
+    if let Ok(address) = door.address() {
+        let _ = eprintln!(rt; "listening on {address}");
+    }
+}
+
 // So many doors of one address, each with a handle of its own on the one socket.
-fn open<R: Clock + Net<Listener = TcpListener, Stream = TcpStream> + Copy>(
+fn open<R: Clock + Net<Listener = TcpListener, Stream = TcpStream> + Eprint + Copy>(
     alloc: Global,
     rt: R,
     patience: Patience,
@@ -57,11 +84,11 @@ fn open<R: Clock + Net<Listener = TcpListener, Stream = TcpStream> + Copy>(
     let Ok(mut doors) = Vec::with_capacity(alloc, count) else {
         return Err(DoorsRefused::Memory);
     };
-    let Ok(listener) = TcpListener::bind(&rt, address) else {
+    let Some(listener) = reported(&rt, address, TcpListener::bind(&rt, address)) else {
         return Err(DoorsRefused::Failed);
     };
     for _ in 0..count {
-        let Ok(listener) = listener.try_clone() else {
+        let Some(listener) = reported(&rt, address, listener.try_clone()) else {
             return Err(DoorsRefused::Failed);
         };
         doors.push_reserved(TcpDoor::new(rt, patience, listener));
@@ -70,14 +97,14 @@ fn open<R: Clock + Net<Listener = TcpListener, Stream = TcpStream> + Copy>(
 }
 
 // Whether one of these doors has failed.
-fn has_failed<R: Clock + Copy>(doors: &[TcpDoor<R>]) -> bool
+fn has_failed<R: Clock + Eprint + Copy>(doors: &[TcpDoor<R>]) -> bool
     ensures { result ≡ list_any (λ door. nat_lt 0 (state_of door).faults) doors.now }
 {
     doors.iter().any(|door| door.faults() > 0)
 }
 
 // Counts a fault where one of these doors has failed.
-fn count_failed<R: Clock + Copy>(faults: &mut Faults, doors: &[TcpDoor<R>])
+fn count_failed<R: Clock + Eprint + Copy>(faults: &mut Faults, doors: &[TcpDoor<R>])
     ensures { CountsFaults faults.old.count faults.new.count (map state_of doors.now) }
 {
     if !has_failed(doors) {
@@ -86,7 +113,7 @@ fn count_failed<R: Clock + Copy>(faults: &mut Faults, doors: &[TcpDoor<R>])
     faults.rise();
 }
 
-impl<R: Clock + Net<Listener = TcpListener, Stream = TcpStream> + Copy + Send> Lobby
+impl<R: Clock + Net<Listener = TcpListener, Stream = TcpStream> + Eprint + Copy + Send> Lobby
     for TcpLobby<R> {
     type Door = TcpDoor<R>;
 
@@ -111,7 +138,10 @@ impl<R: Clock + Net<Listener = TcpListener, Stream = TcpStream> + Copy + Send> L
         count: usize,
     ) -> Result<Vec<TcpDoor<R>>, DoorsRefused> {
         match open(alloc, self.rt, self.patience, address, count) {
-            Ok(doors) => Ok(doors),
+            Ok(doors) => {
+                say_listening(&self.rt, &doors);
+                Ok(doors)
+            }
             Err(DoorsRefused::Memory) => Err(DoorsRefused::Memory),
             Err(DoorsRefused::Failed) => {
                 self.faults.rise();

@@ -2,18 +2,19 @@ ghost use Rattle.std.specs.Prelude.{◌≡◌, None};
 
 use crate::disk::{FileDisk, open};
 use crate::faults::Faults;
+use crate::reports::report;
 use lrs_disk::{Failed, Shelf};
 use std::fs::File;
 use std::rt::Files;
 
 /// The files of the system as a shelf: the name of a disk is the path of its file.
 #[derive(Drop)]
-pub struct FileShelf<R: Files<File = File> + AllocGlobal + Copy> {
+pub struct FileShelf<R: Files<File = File> + AllocGlobal + Eprint + Copy> {
     rt: R,
     faults: Faults,
 }
 
-impl<R: Files<File = File> + AllocGlobal + Copy> FileShelf<R> {
+impl<R: Files<File = File> + AllocGlobal + Eprint + Copy> FileShelf<R> {
     /// The files that this runtime reaches.
     pub fn new(rt: R) -> Self
         ensures { ⟦<FileShelf<R> as Shelf>⟧.fault_count result ≡ 0 }
@@ -25,7 +26,7 @@ impl<R: Files<File = File> + AllocGlobal + Copy> FileShelf<R> {
     }
 }
 
-impl<R: Files<File = File> + AllocGlobal + Copy> Shelf for FileShelf<R> {
+impl<R: Files<File = File> + AllocGlobal + Eprint + Copy> Shelf for FileShelf<R> {
     type Disk = FileDisk<R>;
 
     ghost holds = { λ s name. None };
@@ -44,7 +45,10 @@ impl<R: Files<File = File> + AllocGlobal + Copy> Shelf for FileShelf<R> {
     fn take(&mut self, name: &str) -> Result<FileDisk<R>, Failed> {
         match open(self.rt.alloc(), self.rt, name) {
             Ok(content) => Ok(FileDisk::new(content)),
-            Err(_) => self.faults.failed(),
+            Err(error) => {
+                report(&self.rt, &name, "open", &error);
+                self.faults.failed()
+            }
         }
     }
 
