@@ -1,7 +1,8 @@
 //! Kilnlime's program: its words, the real outside and a seed, handed to `run`.
 #![tactic(auto)]
 
-use lrs_app::{Ending, finish, run};
+use lrs_app::run;
+use lrs_console::{Ending, finish};
 use lrs_edge::{FileShelf, StdSink, StdSource, TcpLobby};
 use lrs_json::Text;
 use std::env::{self, Env};
@@ -12,15 +13,24 @@ use std::random::RandomSource;
 /// The status where the machine's source of random bytes fails.
 const NO_RANDOM_SOURCE: u8 = 21;
 
+/// The status where the words are no command.
+const NO_COMMAND: u8 = 1;
+
+const USAGE: &str = "usage: kilnlime init FILE --admin TOKEN [--base URL] [--limit BYTES]
+       kilnlime intake FILE < STATEMENT
+       kilnlime serve FILE ADDRESS --workers 1 --connections N
+see `bin/kilnlime --help`, or docs/FORMATS.md, section \"Words and statuses\"";
+
 // The words behind the program's name. One that is no UTF-8 makes them no command.
 fn read_words(rt: &(impl Env + AllocGlobal)) -> Result<Vec<Text>, Ending> {
-    let words = match env::args(rt) {
+    let mut words = match env::args(rt) {
         Ok(words) => words,
         Err(error) if error.kind() == ErrorKind::InvalidData => return Err(Ending::Usage),
         Err(_) => return Err(Ending::Memory),
     };
     let mut texts = Vec::new(rt.alloc());
-    for word in words.skip(1) {
+    let _program = words.next();
+    for word in words {
         let Ok(text) = Text::of(rt.alloc(), word.as_str()) else {
             return Err(Ending::Memory);
         };
@@ -31,11 +41,19 @@ fn read_words(rt: &(impl Env + AllocGlobal)) -> Result<Vec<Text>, Ending> {
     Ok(texts)
 }
 
+// The program's end. Where the words are no command, standard error tells what they can be.
+fn exit(rt: &impl Eprint, status: u8) -> ExitCode {
+    if status == NO_COMMAND {
+        let _ = rt.eprintln(USAGE);
+    }
+    ExitCode::from(status)
+}
+
 fn main(rt: HostRuntime) -> ExitCode {
     let mut out = StdSink::new(rt.stdout());
     let words = match read_words(&rt) {
         Ok(words) => words,
-        Err(ending) => return ExitCode::from(finish(&mut out, ending)),
+        Err(ending) => return exit(&rt, finish(&mut out, ending)),
     };
     let mut seed = [0; 32];
     if rt.fill_bytes(&mut seed).is_err() {
@@ -54,5 +72,5 @@ fn main(rt: HostRuntime) -> ExitCode {
         &mut out,
         seed,
     );
-    ExitCode::from(ended.status)
+    exit(&rt, ended.status)
 }

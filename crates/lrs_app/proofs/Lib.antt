@@ -1,9 +1,3 @@
-pub mod Numbers
-pub mod Plain
-pub mod Named
-pub mod Taken
-pub mod Pieces
-pub mod Asked
 pub mod Running
 pub mod NotFounded
 pub mod Opened

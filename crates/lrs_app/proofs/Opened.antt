@@ -3,39 +3,39 @@ use Rattle.std.proofs.Common.{◌≡◌, ◌⊎◌, ℕ, true, false, List, [], 
 use Rattle.std.proofs.lemmas.List.{length_push}
 use Rattle.lrs_names.specs.declared.draw.Draw.{Draw}
 use Rattle.lrs_journal.specs.Store.{Stands}
-use Rattle.lrs_journal.specs.Journal.{Held}
+use Rattle.lrs_machine.specs.Desk.{Desk}
 use Rattle.lrs_json.specs.declared.tree.Tree.{Tree}
 use Rattle.lrs_record.specs.Entries.{written_entry}
 use Rattle.lrs_record.specs.declared.entry.Entry.{Entry}
 use Rattle.lrs_history.specs.History.{Answer, IsLegal, with_entry}
-use Rattle.lrs_machine.specs.Desk.{StandsFor, Answers, HasCause, LeavesStore}
+use Rattle.lrs_machine.specs.Desk.{StandsFor, Answers, HasDiskCause, LeavesStore}
 use Rattle.lrs_replies.specs.declared.answered.Answered.{Answered}
 use Rattle.lrs_replies.specs.declared.answered.Answered.TheVariants as said
 use Rattle.lrs_replies.specs.declared.answered.Refusal.{Refusal}
 use Rattle.lrs_replies.specs.declared.answered.Refusal.TheVariants as refusal
 use Rattle.lrs_replies.specs.declared.reply.Trouble.{Trouble}
 use Rattle.lrs_replies.specs.declared.reply.Trouble.TheVariants as trouble
-use Rattle.lrs_app.specs.Asking.{named, Asks, EndsSaying, EndsRefused, put_answer, entry_asked}
+use Rattle.lrs_console.specs.Asking.{named, IsTakenFor, EndsSaying, EndsRefused, put_answer, entry_asked}
 use Rattle.lrs_app.specs.Run.{Leaves, LeavesDoubt, EndsOpened}
 use Rattle.lrs_app.specs.Service.{Holds}
 use Rattle.lrs_app.specs.Steps.{IsSure, IsLeft, Submits, TakesIn, HasPutCause, ending_of_trouble}
-use Rattle.lrs_app.specs.declared.ending.Ending.{Ending}
-use Rattle.lrs_app.specs.declared.ending.Ending.TheVariants as ending
+use Rattle.lrs_console.specs.declared.ending.Ending.{Ending}
+use Rattle.lrs_console.specs.declared.ending.Ending.TheVariants as ending
 
 -- ---- a put that meets a fault
 
-in_doubt : {D : Type 0} (told : D → Option (List ℕ)) (h : List Entry) (entry : Option Entry) (new : Held D)
+in_doubt : {D : Type 0} (told : D → Option (List ℕ)) (h : List Entry) (entry : Option Entry) (new : Desk D)
     → IsSome entry × (new.doubt ≡ true) × StandsFor told new (with_entry h entry) → IsLeft told h entry new
 in_doubt told h None new left = absurd (let none : IsSome {T = Entry} None = left.0 in cc)
 in_doubt told h (Some e) new left = inr (e, refl, left.2)
 
 -- how a put that meets trouble ends
-pub troubled : {D : Type 0} (told : D → Option (List ℕ)) (id : List ℕ) (a : Answer) (h : List Entry) (old new : Held D) (t : Trouble)
+pub troubled : {D : Type 0} (told : D → Option (List ℕ)) (id : List ℕ) (a : Answer) (h : List Entry) (old new : Desk D) (t : Trouble)
     → Answers told a h old new (Err t) → old.doubt ≡ false → Submits told h id a new (ending_of_trouble t)
 troubled told id a h old new trouble.Memory answers settled = answers
 troubled told id a h old new trouble.Disk answers settled = ⊎_elim (λ kept. inl (kept.0 settled, kept.1)) (in_doubt told h a.entry new) answers
 
-pub trouble_cause : (before now : ℕ) (t : Trouble) → HasCause before now (Err t) → HasPutCause before now (ending_of_trouble t)
+pub trouble_cause : (before now : ℕ) (t : Trouble) → HasDiskCause before now (Err t) → HasPutCause before now (ending_of_trouble t)
 trouble_cause before now trouble.Memory cause = cause
 trouble_cause before now trouble.Disk cause = cause
 
@@ -57,7 +57,7 @@ no_input_fault id (said.Shown text through) e = absurd e
 no_input_fault id (said.Refused r) e = refused_no_input_fault r e
 
 module _ {D : Type 0} (told : D → Option (List ℕ)) (limit : ℕ) (h : List Entry) (clock : ℕ) (draw : Draw) where
-  taken : (id : List ℕ) (t : Tree) (new : Held D) (end : Ending) (input : List ℕ) → Asks input (named id t)
+  taken : (id : List ℕ) (t : Tree) (new : Desk D) (end : Ending) (input : List ℕ) → IsTakenFor input (named id t)
       → Submits told h id (put_answer limit h clock draw id t) new end → TakesIn told limit h input clock draw new end
   taken id t new ending.Memory input asks s = s
   taken id t new ending.DiskFault input asks s = (named id t, asks, s)
@@ -76,7 +76,7 @@ module _ {D : Type 0} (told : D → Option (List ℕ)) (limit : ℕ) (h : List E
   taken id t new (ending.Conflict k) input asks s = (named id t, asks, s.0, s.1)
   taken id t new (ending.Full need most) input asks s = (named id t, asks, s.0, s.1)
 
-  pub takes_in : (id : List ℕ) (t : Tree) (new : Held D) (end : Ending) (left : Option (List ℕ)) → IfSome left (λ input. Asks input (named id t))
+  pub takes_in : (id : List ℕ) (t : Tree) (new : Desk D) (end : Ending) (left : Option (List ℕ)) → IfSome left (λ input. IsTakenFor input (named id t))
       → Submits told h id (put_answer limit h clock draw id t) new end → IfSome left (λ input. TakesIn told limit h input clock draw new end)
   takes_in id t new end None asks s = tt
   takes_in id t new end (Some input) asks s = taken id t new end input asks s
@@ -84,17 +84,17 @@ module _ {D : Type 0} (told : D → Option (List ℕ)) (limit : ℕ) (h : List E
   -- ---- closing
 
   -- what a closed desk leaves of the history that it stood for
-  left_whole : (mid : Held D) (disk : D) (n : ℕ) → mid.limit ≡ limit → n ≡ mid.number
+  left_whole : (mid : Desk D) (disk : D) (n : ℕ) → mid.limit ≡ limit → n ≡ mid.number
       → ((k : List Entry) → StandsFor told mid k → LeavesStore told disk mid.limit false k) → (k : List Entry) → StandsFor told mid k → Leaves limit k (told disk) n
   left_whole mid disk n same count closed k stands =
       (subst (λ (l : ℕ). Holds (told disk) l k) same (closed k stands), subst (λ (l : ℕ). IsLegal l k) same stands.legal, count ∙ stands.counts)
 
-  left_doubt : (mid : Held D) (disk : D) (n : ℕ) (entry : Option Entry) → ((k : List Entry) → StandsFor told mid k → Leaves limit k (told disk) n)
+  left_doubt : (mid : Desk D) (disk : D) (n : ℕ) (entry : Option Entry) → ((k : List Entry) → StandsFor told mid k → Leaves limit k (told disk) n)
       → IsLeft told h entry mid → LeavesDoubt limit h entry (told disk) n
   left_doubt mid disk n entry leaves left = ⊎_elim (λ sure. inl (leaves h sure.1))
       (λ doubt. let whole = leaves (h ++ doubt.0 ∷ []) doubt.2 in inr (doubt.0, doubt.1, whole.1, whole.2 ∙ length_push h doubt.0, inr whole.0)) left
 
-  closed_one : (mid : Held D) (disk : D) (n : ℕ) (end : Ending) (input : List ℕ) → ((k : List Entry) → StandsFor told mid k → Leaves limit k (told disk) n)
+  closed_one : (mid : Desk D) (disk : D) (n : ℕ) (end : Ending) (input : List ℕ) → ((k : List Entry) → StandsFor told mid k → Leaves limit k (told disk) n)
       → TakesIn told limit h input clock draw mid end → EndsOpened limit h input clock draw (told disk) n end
   closed_one mid disk n ending.Memory input leaves s = leaves h s.1
   closed_one mid disk n ending.InputFault input leaves s = leaves h s.1
@@ -113,7 +113,7 @@ module _ {D : Type 0} (told : D → Option (List ℕ)) (limit : ℕ) (h : List E
   closed_one mid disk n (ending.Conflict k) input leaves s = (s.0, s.1, s.2, leaves _ s.3.1)
   closed_one mid disk n (ending.Full need most) input leaves s = (s.0, s.1, s.2, leaves _ s.3.1)
 
-  pub closes : (mid : Held D) (disk : D) (n : ℕ) (end : Ending) (left : Option (List ℕ)) → mid.limit ≡ limit → n ≡ mid.number
+  pub closes : (mid : Desk D) (disk : D) (n : ℕ) (end : Ending) (left : Option (List ℕ)) → mid.limit ≡ limit → n ≡ mid.number
       → ((k : List Entry) → StandsFor told mid k → LeavesStore told disk mid.limit false k)
       → IfSome left (λ input. TakesIn told limit h input clock draw mid end) → IfSome left (λ input. EndsOpened limit h input clock draw (told disk) n end)
   closes mid disk n end None same count closed takes = tt
@@ -143,7 +143,7 @@ doubtful told disk limit h e (bytes, tells, (before, last, split, stands)) =
     let fronts : map written_entry h ≡ before = front_of (map written_entry h) before (written_entry e) last (sym (map_snoc h e) ∙ split) in
     ⊎_elim (λ s. inl (bytes, tells, subst (λ (p : List (List ℕ)). Stands bytes limit p) (sym fronts) s)) (λ s. inr (bytes, tells, s)) stands
 
-module _ {D : Type 0} (told : D → Option (List ℕ)) (limit : ℕ) (h : List Entry) (clock : ℕ) (draw : Draw) (mid : Held D) (disk : D) (n : ℕ)
+module _ {D : Type 0} (told : D → Option (List ℕ)) (limit : ℕ) (h : List Entry) (clock : ℕ) (draw : Draw) (mid : Desk D) (disk : D) (n : ℕ)
     (same : mid.limit ≡ limit) (count : n ≡ mid.number) (doubt : mid.doubt ≡ true) (left : (k : List Entry) → StandsFor told mid k → LeavesStore told disk mid.limit true k) where
   unsure : {X : Type 0} (k : List Entry) → IsSure told mid k → X
   unsure k sure = let settled : mid.doubt ≡ false = sure.0 in cc

@@ -3,24 +3,24 @@ use Rattle.std.specs.Prelude.{◌≡◌, ◌⊎◌, ◌∷◌, [], ℕ, List, Op
 use Rattle.lrs_disk.specs.Door.{DoorState, IsFresh, Returned}
 use Rattle.lrs_disk.specs.declared.lobby.DoorsRefused.{DoorsRefused}
 use Rattle.lrs_disk.specs.declared.lobby.DoorsRefused.TheVariants as refusals
-use Rattle.lrs_journal.specs.Journal.{Held}
+use Rattle.lrs_machine.specs.Desk.{Desk}
 use Rattle.lrs_record.specs.declared.entry.Entry.{Entry}
 use Rattle.lrs_machine.specs.Desk.{StandsFor}
 use Rattle.lrs_hall.specs.Draws.{start_of}
 use Rattle.lrs_hall.specs.Serving.{AddsReadings, AreConversations, EndsServing, Passes, all_receipts, clocks}
-use Rattle.lrs_hall.specs.Talks.{Told}
+use Rattle.lrs_hall.specs.Talks.{Talk}
 use Rattle.lrs_hall.specs.declared.serving.ServeEnd.{ServeEnd}
 use Rattle.lrs_app.specs.Service.{Doors, HasNoDoor, GivesBack, ServesDoor, HoldsServed, ending_of_serving}
 use Rattle.lrs_app.specs.Run.{Leaves, HasLobbyCause}
-use Rattle.lrs_app.specs.declared.ending.Ending.{Ending}
-use Rattle.lrs_app.specs.declared.ending.Ending.TheVariants as ending
+use Rattle.lrs_console.specs.declared.ending.Ending.{Ending}
+use Rattle.lrs_console.specs.declared.ending.Ending.TheVariants as ending
 
 abbrev pub ending_of_refusal : DoorsRefused → Ending
 ending_of_refusal refusals.Failed = ending.LobbyFault
 ending_of_refusal refusals.Memory = ending.Memory
 
 -- what came of serving the one door
-pub record ServesOne {D : Type 0} (told : D → Option (List ℕ)) (old new : Held D) (connections : ℕ) (seed : List ℕ) (doors : List DoorState) (talks : List Told) (why : ServeEnd) : Type 0 where
+pub record ServesOne {D : Type 0} (told : D → Option (List ℕ)) (old new : Desk D) (connections : ℕ) (seed : List ℕ) (doors : List DoorState) (talks : List Talk) (why : ServeEnd) : Type 0 where
   pub opening : DoorState
   pub closing : DoorState
   pub one : doors ≡ closing ∷ []
@@ -32,29 +32,29 @@ pub record ServesOne {D : Type 0} (told : D → Option (List ℕ)) (old new : He
   pub ends : EndsServing connections (length talks) opening closing why
 
 -- a door was had, served, and given back
-pub record ServesHad {D : Type 0} (told : D → Option (List ℕ)) (old new : Held D) (address : List ℕ) (connections : ℕ) (seed : List ℕ) (before after : Doors) (talks : List Told) (end : Ending) : Type 0 where
+pub record ServesHad {D : Type 0} (told : D → Option (List ℕ)) (old new : Desk D) (address : List ℕ) (connections : ℕ) (seed : List ℕ) (before after : Doors) (talks : List Talk) (end : Ending) : Type 0 where
   pub doors : List DoorState
   pub why : ServeEnd
   pub one : ServesOne told old new connections seed doors talks why
   pub back : (door : DoorState) → doors ≡ door ∷ [] → GivesBack address door before after
   pub ended : end ≡ ending_of_serving why talks
 
-abbrev pub ServesDesk : {D : Type 0} → (D → Option (List ℕ)) → Held D → Held D → List ℕ → ℕ → List ℕ → Doors → Doors → List Told → Ending → Type 0
+abbrev pub ServesDesk : {D : Type 0} → (D → Option (List ℕ)) → Desk D → Desk D → List ℕ → ℕ → List ℕ → Doors → Doors → List Talk → Ending → Type 0
 ServesDesk told old new address connections seed before after talks end =
     (HasNoDoor address before after end × (talks ≡ []) × (new ≡ old)) ⊎ ServesHad told old new address connections seed before after talks end
 
 -- no door was had, and the store was closed
-pub record ClosesDoorless {D : Type 0} (told : D → Option (List ℕ)) (desk : Held D) (address : List ℕ) (before after : Doors) (disk : D) (talks : List Told) (n : ℕ) (end : Ending) : Type 0 where
+pub record ClosesDoorless {D : Type 0} (told : D → Option (List ℕ)) (desk : Desk D) (address : List ℕ) (before after : Doors) (disk : D) (talks : List Talk) (n : ℕ) (end : Ending) : Type 0 where
   pub none : HasNoDoor address before after end
   pub left : (h : List Entry) → StandsFor told desk h → Leaves desk.limit h (told disk) n
   pub silent : talks ≡ []
 
 -- a door was served, and the store was closed
-pub record ClosesServed {D : Type 0} (told : D → Option (List ℕ)) (faults : D → ℕ) (desk : Held D) (address : List ℕ) (connections : ℕ) (seed : List ℕ) (before after : Doors) (disk : D) (talks : List Told) (n : ℕ) (end : Ending) : Type 0 where
+pub record ClosesServed {D : Type 0} (told : D → Option (List ℕ)) (faults : D → ℕ) (desk : Desk D) (address : List ℕ) (connections : ℕ) (seed : List ℕ) (before after : Doors) (disk : D) (talks : List Talk) (n : ℕ) (end : Ending) : Type 0 where
   pub links : List Returned
   pub door : ServesDoor address connections before after links talks (faults disk) end
   pub history : (h : List Entry) → StandsFor told desk h → HoldsServed desk.limit h seed links talks (told disk) n end
 
-abbrev pub ServesOpened : {D : Type 0} → (D → Option (List ℕ)) → (D → ℕ) → Held D → List ℕ → ℕ → List ℕ → Doors → Doors → D → List Told → ℕ → Ending → Type 0
+abbrev pub ServesOpened : {D : Type 0} → (D → Option (List ℕ)) → (D → ℕ) → Desk D → List ℕ → ℕ → List ℕ → Doors → Doors → D → List Talk → ℕ → Ending → Type 0
 ServesOpened told faults desk address connections seed before after disk talks n end = HasLobbyCause before after end
     × (ClosesDoorless told desk address before after disk talks n end ⊎ ClosesServed told faults desk address connections seed before after disk talks n end)

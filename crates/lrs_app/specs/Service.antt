@@ -4,19 +4,20 @@ use Rattle.std.specs.List.{AllByRecursion}
 use Rattle.lrs_disk.specs.Door.{DoorState, IsFresh, Returned}
 use Rattle.lrs_disk.specs.Faults.{Rises}
 use Rattle.lrs_disk.specs.Lobby.{DoorsAsked, CountsFaults}
+use Rattle.lrs_disk.specs.declared.lobby.Lobby as lobbies
 use Rattle.lrs_journal.specs.Journal.{StandsFor}
 use Rattle.lrs_record.specs.Entries.{written_entry}
 use Rattle.lrs_record.specs.declared.entry.Entry.{Entry}
 use Rattle.lrs_history.specs.History.{IsLegal}
-use Rattle.lrs_machine.specs.Desk.{Account}
+use Rattle.lrs_machine.specs.Desk.{Receipt}
 use Rattle.lrs_hall.specs.Acts.{ActsIn, BeginsWith}
 use Rattle.lrs_hall.specs.Draws.{Place, start_of}
 use Rattle.lrs_hall.specs.Serving.{AddsReadings, AreOver, Counts, EndsServing, Passes, all_receipts, clocks, worker_at}
-use Rattle.lrs_hall.specs.Talks.{Told}
+use Rattle.lrs_hall.specs.Talks.{Talk}
 use Rattle.lrs_hall.specs.declared.serving.ServeEnd.{ServeEnd}
 use Rattle.lrs_hall.specs.declared.serving.ServeEnd.TheVariants as serve
-use Rattle.lrs_app.specs.declared.ending.Ending.{Ending}
-use Rattle.lrs_app.specs.declared.ending.Ending.TheVariants as ending
+use Rattle.lrs_console.specs.declared.ending.Ending.{Ending}
+use Rattle.lrs_console.specs.declared.ending.Ending.TheVariants as ending
 
 -- ---- the doors
 
@@ -25,6 +26,10 @@ pub record Doors : Type 0 where
   pub asked : Option (List DoorsAsked)
   pub returned : Option (List DoorState)
   pub faults : ℕ
+
+-- what a lobby tells at one moment
+abbrev pub doors : {B E L : Type 0} → lobbies.Ghosts B E L → B → Doors
+doors b lobby = record { asked = b.asked lobby; returned = b.returned lobby; faults = b.fault_count lobby }
 
 -- one door of this address was asked for
 abbrev pub AsksDoor : List ℕ → Doors → Doors → Type 0
@@ -45,26 +50,26 @@ pub record GivesBack (address : List ℕ) (door : DoorState) (before after : Doo
 -- ---- how serving ends
 
 -- the number of responses of all talks; it stands still at the last value of u64
-abbrev pub responses_of : List Told → ℕ
+abbrev pub responses_of : List Talk → ℕ
 responses_of talks = min (length (all_receipts talks)) (2 ^ 64 - 1)
 
-abbrev pub ending_of_serving : ServeEnd → List Told → Ending
+abbrev pub ending_of_serving : ServeEnd → List Talk → Ending
 ending_of_serving serve.Done talks = ending.Served (responses_of talks)
 ending_of_serving serve.DoorFault talks = ending.LobbyFault
 ending_of_serving serve.Memory talks = ending.Memory
 
 -- The disk's count of faults from its taking to its return: what the acts told of it goes on from one to the next, and the closing ends no lower. So a
 -- fault that an act tells is one of this disk's.
-abbrev pub CountsOn : ℕ → List Told → ℕ → Type 0
+abbrev pub CountsOn : ℕ → List Talk → ℕ → Type 0
 CountsOn begins talks now = (last : ℕ) × Counts begins (all_receipts talks) last × (last ≤ now)
 
 -- the count of the disk's faults rose behind what each act told of it
-abbrev pub IsBehind : List Account → ℕ → Type 0
-IsBehind receipts now = AllByRecursion (λ (receipt : Account). receipt.acted ≡ true → Rises receipt.is now) receipts
+abbrev pub IsBehind : List Receipt → ℕ → Type 0
+IsBehind receipts now = AllByRecursion (λ (receipt : Receipt). receipt.acted ≡ true → Rises receipt.is now) receipts
 
 -- A fresh door was had, these links passed through it, each with its talk and each act with a reading of the door's clock, and it was given back.
 -- The disk that fails at the closing goes before what the door and want of memory say.
-pub record ServesDoor (address : List ℕ) (connections : ℕ) (before after : Doors) (links : List Returned) (talks : List Told) (disk_faults : ℕ) (end : Ending) : Type 0 where
+pub record ServesDoor (address : List ℕ) (connections : ℕ) (before after : Doors) (links : List Returned) (talks : List Talk) (disk_faults : ℕ) (end : Ending) : Type 0 where
   pub opening : DoorState
   pub closing : DoorState
   pub fresh : IsFresh opening
@@ -93,7 +98,7 @@ HoldsBehind other doubt told limit h = Holds told limit h
 
 -- The one history in the end, which can have come about and begins with the one at the opening. Over it each response
 -- is the abstract store's reply, and each further entry is that of one act. The disk holds it.
-pub record HoldsServed (limit : ℕ) (opened : List Entry) (seed : List ℕ) (links : List Returned) (talks : List Told) (told : Option (List ℕ)) (n : ℕ) (end : Ending) : Type 0 where
+pub record HoldsServed (limit : ℕ) (opened : List Entry) (seed : List ℕ) (links : List Returned) (talks : List Talk) (told : Option (List ℕ)) (n : ℕ) (end : Ending) : Type 0 where
   pub history : List Entry
   pub legal : IsLegal limit history
   pub begins : BeginsWith opened history

@@ -2,7 +2,7 @@
 use Rattle.std.specs.Prelude.{◌≡◌, ◌⊎◌, ◌≤◌, ℕ, List, [], ◌∷◌, ◌++◌, Option, Some, false}
 use Rattle.lrs_disk.specs.Faults.{Rises}
 use Rattle.lrs_names.specs.declared.draw.Draw.{Draw}
-use Rattle.lrs_journal.specs.Journal.{Held}
+use Rattle.lrs_machine.specs.Desk.{Desk}
 use Rattle.lrs_record.specs.declared.entry.Entry.{Entry}
 use Rattle.lrs_history.specs.History.{Answer, with_entry}
 use Rattle.lrs_machine.specs.Desk.{StandsFor}
@@ -12,20 +12,23 @@ use Rattle.lrs_machine.specs.declared.opening.DeskRefused.{DeskRefused}
 use Rattle.lrs_machine.specs.declared.opening.DeskRefused.TheVariants as desk
 use Rattle.lrs_replies.specs.declared.reply.Trouble.{Trouble}
 use Rattle.lrs_replies.specs.declared.reply.Trouble.TheVariants as trouble
-use Rattle.lrs_app.specs.Asking.{Asked, Asks, EndsSaying, EndsAsking, entry_asked}
-use Rattle.lrs_app.specs.declared.ending.Ending.{Ending}
-use Rattle.lrs_app.specs.declared.ending.Ending.TheVariants as ending
+use Rattle.lrs_command_line.specs.CommandLine.{CommandLine, IsInRange}
+use Rattle.lrs_command_line.specs.Shapes.{Denotes}
+use Rattle.lrs_command_line.specs.declared.words.CommandLine as code
+use Rattle.lrs_console.specs.Asking.{Asked, IsTakenFor, EndsSaying, EndsAsking, entry_asked}
+use Rattle.lrs_console.specs.declared.ending.Ending.{Ending}
+use Rattle.lrs_console.specs.declared.ending.Ending.TheVariants as ending
 
 -- the desk stands for the history, without doubt
-abbrev pub IsSure : {D : Type 0} → (D → Option (List ℕ)) → Held D → List Entry → Type 0
+abbrev pub IsSure : {D : Type 0} → (D → Option (List ℕ)) → Desk D → List Entry → Type 0
 IsSure told desk h = (desk.doubt ≡ false) × StandsFor told desk h
 
 -- the desk stands for the history, or the entry is in doubt
-abbrev pub IsLeft : {D : Type 0} → (D → Option (List ℕ)) → List Entry → Option Entry → Held D → Type 0
+abbrev pub IsLeft : {D : Type 0} → (D → Option (List ℕ)) → List Entry → Option Entry → Desk D → Type 0
 IsLeft told h entry new = IsSure told new h ⊎ ((e : Entry) × (entry ≡ Some e) × StandsFor told new (h ++ e ∷ []))
 
 -- a desk for the history h was asked to put a statement of this id, which the abstract store answers by a
-abbrev pub Submits : {D : Type 0} → (D → Option (List ℕ)) → List Entry → List ℕ → Answer → Held D → Ending → Type 0
+abbrev pub Submits : {D : Type 0} → (D → Option (List ℕ)) → List Entry → List ℕ → Answer → Desk D → Ending → Type 0
 Submits told h id a new ending.Memory = IsSure told new h
 Submits told h id a new ending.DiskFault = IsLeft told h a.entry new
 Submits told h id a new end = EndsSaying id a.said end × IsSure told new (with_entry h a.entry)
@@ -42,12 +45,12 @@ HasPutCause before now ending.DiskFault = (before ≤ now) × Rises before now
 HasPutCause before now other = now ≡ before
 
 -- what comes of an input over a desk of this limit and history
-abbrev pub TakesIn : {D : Type 0} → (D → Option (List ℕ)) → ℕ → List Entry → List ℕ → ℕ → Draw → Held D → Ending → Type 0
+abbrev pub TakesIn : {D : Type 0} → (D → Option (List ℕ)) → ℕ → List Entry → List ℕ → ℕ → Draw → Desk D → Ending → Type 0
 TakesIn told limit h input clock draw new ending.Memory = IsSure told new h
 TakesIn told limit h input clock draw new ending.InputFault = IsSure told new h
-TakesIn told limit h input clock draw new ending.DiskFault = (asked : Asked) × Asks input asked
+TakesIn told limit h input clock draw new ending.DiskFault = (asked : Asked) × IsTakenFor input asked
     × IsLeft told h (entry_asked limit h clock draw asked) new
-TakesIn told limit h input clock draw new other = (asked : Asked) × Asks input asked × EndsAsking limit h clock draw asked other
+TakesIn told limit h input clock draw new other = (asked : Asked) × IsTakenFor input asked × EndsAsking limit h clock draw asked other
     × IsSure told new (with_entry h (entry_asked limit h clock draw asked))
 
 -- each fault has its cause
@@ -72,3 +75,7 @@ ending_of_found found.Foreign = ending.NotAStore
 ending_of_found (found.Full need limit) = ending.Full need limit
 ending_of_found found.Failed = ending.DiskFault
 ending_of_found found.Memory = ending.Memory
+
+-- the words as they were read mean a command whose values are in their ranges
+abbrev pub IsMeant : code.CommandLine → Type 0
+IsMeant read = (c : CommandLine) × IsInRange c × Denotes read c

@@ -2,9 +2,9 @@
 ghost use Rattle.std.specs.Prelude.{◌≡◌, ◌≤◌, ◌^◌, IfSome};
 ghost use Rattle.lrs_parts.specs.Founding.{IsToken, IsBase};
 ghost use Rattle.lrs_app.specs.Steps.{ending_of_found};
-ghost use Rattle.lrs_app.specs.Run.{InitEnds, HasCause};
+ghost use Rattle.lrs_app.specs.Run.{InitEnds, HasEndingCause};
 
-use crate::Ending;
+use lrs_console::Ending;
 use lrs_disk::Disk;
 use lrs_json::Text;
 use lrs_machine::{Desk, FoundRefused};
@@ -37,7 +37,7 @@ pub(crate) fn init_disk<D: Disk>(
     requires base { IsBase base.now }
     ensures ends { IfSome (D.told disk)
         (λ bytes. InitEnds bytes admin.now base.now limit clock (D.told result.1) result.2 result.0) }
-    ensures cause { HasCause (D.fault_count disk) (D.fault_count result.1) 0 0 result.0 }
+    ensures cause { HasEndingCause (D.fault_count disk) (D.fault_count result.1) 0 0 result.0 }
 {
     match Desk::found(alloc, disk, limit, admin, base, clock) {
         // A new store is in no doubt, so there is nothing to be written at its closing.

@@ -5,12 +5,11 @@ ghost use Rattle.lrs_json.specs.View.{view};
 ghost use Rattle.lrs_record.specs.declared.entry.Entry.{Entry};
 ghost use Rattle.lrs_fold.specs.Own.{IsOfPut, MayRefusePut};
 ghost use Rattle.lrs_machine.specs.Desk.{StandsFor};
-ghost use Rattle.lrs_app.specs.Asking.{EndsSaying, EndsRefused, put_answer};
+ghost use Rattle.lrs_console.specs.Asking.{EndsSaying, EndsRefused, put_answer};
 ghost use Rattle.lrs_app.specs.Steps.{Submits, TakesIn, HasPutCause, HasCauses, ending_of, ending_of_trouble};
-ghost use Rattle.lrs_app.specs.Run.{EndsOpened, IntakeEnds, HasCause};
+ghost use Rattle.lrs_app.specs.Run.{EndsOpened, IntakeEnds, HasEndingCause};
 
-use crate::Ending;
-use crate::asking::take_statement;
+use lrs_console::{Ending, take_statement};
 use lrs_disk::{Disk, Source};
 use lrs_json::Tree;
 use lrs_machine::{Answered, Desk, DeskRefused, Refusal, Trouble};
@@ -107,7 +106,7 @@ fn intake_opened<D: Disk, I: Source>(
     ensures ends { (h : List Entry) → StandsFor D.told desk h
         → IfSome (I.left input.old)
         (λ input. EndsOpened desk.limit h input clock draw.now (D.told result.1) result.2 result.0) }
-    ensures cause { HasCause (D.fault_count desk.disk) (D.fault_count result.1) (I.fault_count input.old)
+    ensures cause { HasEndingCause (D.fault_count desk.disk) (D.fault_count result.1) (I.fault_count input.old)
         (I.fault_count input.new) result.0 }
 {
     let mut desk = desk;
@@ -142,7 +141,7 @@ pub(crate) fn intake_disk<D: Disk, I: Source>(
 ) -> (Ending, D, u64)
     ensures ends { IfSome (D.told disk) (λ bytes. IfSome (I.left input.old)
         (λ input. IntakeEnds bytes input clock draw.now (D.told result.1) result.2 result.0)) }
-    ensures cause { HasCause (D.fault_count disk) (D.fault_count result.1) (I.fault_count input.old)
+    ensures cause { HasEndingCause (D.fault_count disk) (D.fault_count result.1) (I.fault_count input.old)
         (I.fault_count input.new) result.0 }
 {
     match Desk::recover(alloc, disk) {

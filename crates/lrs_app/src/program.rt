@@ -1,13 +1,15 @@
 ghost use Rattle.std.specs.Prelude.{◌≡◌, ◌≤◌, ◌^◌, ℕ, [], List, Option, None};
 ghost use Rattle.lrs_parts.specs.Founding.{IsToken, IsBase};
-ghost use Rattle.lrs_app.specs.Run.{Outside, Runs, IntakeRuns, InitRuns, ServeRuns, PrintsLine, seen};
+ghost use Rattle.lrs_command_line.specs.CommandLine.{CommandLine as SpecCommandLine, IsInRange};
+ghost use Rattle.lrs_command_line.specs.Shapes.{Denotes};
+ghost use Rattle.lrs_app.specs.Run.{CommandRuns, Runs, IntakeRuns, InitRuns, ServeRuns, PrintsLine, ended_seen, outside};
+ghost use Rattle.lrs_app.specs.Steps.{IsMeant};
 
-use crate::Ending;
 use crate::init::init_disk;
 use crate::intake::intake_disk;
-use crate::printing::finish;
 use crate::serve::{count_responses, serve_disk};
-use crate::words::{Words, read_words};
+use lrs_command_line::{CommandLine, read_words};
+use lrs_console::{Ending, finish};
 use lrs_disk::{Lobby, Shelf, Sink, Source};
 use lrs_hall::{Draws, Talk};
 use lrs_json::{Items, Memory, Text};
@@ -48,7 +50,7 @@ pub struct Ended<D> {
     pub report: Report,
 }
 
-// A run that uses nothing but the output.
+// A run that uses nothing but the output from here on.
 fn idle<D, O: Sink>(alloc: Global, out: &mut O, ending: Ending) -> Ended<D>
     ensures printed { PrintsLine ending (O.taken out.old) (O.taken out.new) (O.fault_count out.old)
         (O.fault_count out.new) result.status }
@@ -64,6 +66,7 @@ fn idle<D, O: Sink>(alloc: Global, out: &mut O, ending: Ending) -> Ended<D>
     }
 }
 
+// Takes a statement in over the file's disk.
 fn intake<S: Shelf, B: Lobby, I: Source, O: Sink>(
     alloc: Global,
     file: &Text,
@@ -73,42 +76,10 @@ fn intake<S: Shelf, B: Lobby, I: Source, O: Sink>(
     out: &mut O,
     draw: &Draw,
 ) -> Ended<S::Disk>
-    ensures { let before : Outside = record {
-      holds = S.holds shelf.old;
-      begins = S.begins shelf.old;
-      files = S.taken shelf.old;
-      shelf_faults = S.fault_count shelf.old;
-      readings = B.readings lobby.old;
-      lobby = record { asked = B.asked lobby.old; returned = B.returned lobby.old; faults = B.fault_count lobby.old };
-      left = I.left input.old;
-      input_faults = I.fault_count input.old;
-      taken = O.taken out.old;
-      output_faults = O.fault_count out.old;
-    } in
-        let after : Outside = record {
-          holds = S.holds shelf.new;
-          begins = S.begins shelf.new;
-          files = S.taken shelf.new;
-          shelf_faults = S.fault_count shelf.new;
-          readings = B.readings lobby.new;
-          lobby = record {
-            asked = B.asked lobby.new;
-            returned = B.returned lobby.new;
-            faults = B.fault_count lobby.new;
-          };
-          left = I.left input.new;
-          input_faults = I.fault_count input.new;
-          taken = O.taken out.new;
-          output_faults = O.fault_count out.new;
-        } in
-        IntakeRuns file.now draw.now before after
-        (record {
-          status = result.status;
-          disk = seen S.Disk.told S.Disk.fault_count result.disk;
-          length = result.report.length;
-          talks = result.report.talks;
-          responses = result.report.responses;
-        }) }
+    ensures { IntakeRuns file.now draw.now
+        (outside S.Shelf B.Lobby O.Sink shelf.old lobby.old out.old (I.left input.old) (I.fault_count input.old))
+        (outside S.Shelf B.Lobby O.Sink shelf.new lobby.new out.new (I.left input.new) (I.fault_count input.new))
+        (ended_seen S.Disk.told S.Disk.fault_count result) }
 {
     let clock = lobby.now();
     match shelf.take(file.as_str()) {
@@ -120,14 +91,11 @@ fn intake<S: Shelf, B: Lobby, I: Source, O: Sink>(
                 report: silent(alloc, length),
             }
         }
-        Err(_) => Ended {
-            status: finish(out, Ending::DiskFault),
-            disk: None,
-            report: silent(alloc, 0),
-        },
+        Err(_) => idle(alloc, out, Ending::DiskFault),
     }
 }
 
+// Makes a store on the file's disk. Of the input nothing is asked.
 fn init<S: Shelf, B: Lobby, O: Sink>(
     alloc: Global,
     file: &Text,
@@ -141,47 +109,10 @@ fn init<S: Shelf, B: Lobby, O: Sink>(
     requires limit { (512 ≤ limit) × (limit ≤ 2 ^ 30) }
     requires admin { IsToken admin.now }
     requires base { IsBase base.now }
-    ensures { (left : Option (List ℕ)) (count : ℕ) →
-        let before : Outside = record {
-          holds = S.holds shelf.old;
-          begins = S.begins shelf.old;
-          files = S.taken shelf.old;
-          shelf_faults = S.fault_count shelf.old;
-          readings = B.readings lobby.old;
-          lobby = record {
-            asked = B.asked lobby.old;
-            returned = B.returned lobby.old;
-            faults = B.fault_count lobby.old;
-          };
-          left = left;
-          input_faults = count;
-          taken = O.taken out.old;
-          output_faults = O.fault_count out.old;
-        } in
-        let after : Outside = record {
-          holds = S.holds shelf.new;
-          begins = S.begins shelf.new;
-          files = S.taken shelf.new;
-          shelf_faults = S.fault_count shelf.new;
-          readings = B.readings lobby.new;
-          lobby = record {
-            asked = B.asked lobby.new;
-            returned = B.returned lobby.new;
-            faults = B.fault_count lobby.new;
-          };
-          left = left;
-          input_faults = count;
-          taken = O.taken out.new;
-          output_faults = O.fault_count out.new;
-        } in
-        InitRuns file.now admin.now base.now limit before after
-        (record {
-          status = result.status;
-          disk = seen S.Disk.told S.Disk.fault_count result.disk;
-          length = result.report.length;
-          talks = result.report.talks;
-          responses = result.report.responses;
-        }) }
+    ensures { (left : Option (List ℕ)) (count : ℕ) → InitRuns file.now admin.now base.now limit
+        (outside S.Shelf B.Lobby O.Sink shelf.old lobby.old out.old left count)
+        (outside S.Shelf B.Lobby O.Sink shelf.new lobby.new out.new left count)
+        (ended_seen S.Disk.told S.Disk.fault_count result) }
 {
     let clock = lobby.now();
     match shelf.take(file.as_str()) {
@@ -193,14 +124,11 @@ fn init<S: Shelf, B: Lobby, O: Sink>(
                 report: silent(alloc, length),
             }
         }
-        Err(_) => Ended {
-            status: finish(out, Ending::DiskFault),
-            disk: None,
-            report: silent(alloc, 0),
-        },
+        Err(_) => idle(alloc, out, Ending::DiskFault),
     }
 }
 
+// Serves over the file's disk. Of the input nothing is asked.
 fn serve<S: Shelf, B: Lobby, O: Sink>(
     alloc: Global,
     file: &Text,
@@ -211,47 +139,10 @@ fn serve<S: Shelf, B: Lobby, O: Sink>(
     out: &mut O,
     seed: [u8; 32],
 ) -> Ended<S::Disk>
-    ensures { (left : Option (List ℕ)) (count : ℕ) →
-        let before : Outside = record {
-          holds = S.holds shelf.old;
-          begins = S.begins shelf.old;
-          files = S.taken shelf.old;
-          shelf_faults = S.fault_count shelf.old;
-          readings = B.readings lobby.old;
-          lobby = record {
-            asked = B.asked lobby.old;
-            returned = B.returned lobby.old;
-            faults = B.fault_count lobby.old;
-          };
-          left = left;
-          input_faults = count;
-          taken = O.taken out.old;
-          output_faults = O.fault_count out.old;
-        } in
-        let after : Outside = record {
-          holds = S.holds shelf.new;
-          begins = S.begins shelf.new;
-          files = S.taken shelf.new;
-          shelf_faults = S.fault_count shelf.new;
-          readings = B.readings lobby.new;
-          lobby = record {
-            asked = B.asked lobby.new;
-            returned = B.returned lobby.new;
-            faults = B.fault_count lobby.new;
-          };
-          left = left;
-          input_faults = count;
-          taken = O.taken out.new;
-          output_faults = O.fault_count out.new;
-        } in
-        ServeRuns file.now address.now connections seed before after
-        (record {
-          status = result.status;
-          disk = seen S.Disk.told S.Disk.fault_count result.disk;
-          length = result.report.length;
-          talks = result.report.talks;
-          responses = result.report.responses;
-        }) }
+    ensures { (left : Option (List ℕ)) (count : ℕ) → ServeRuns file.now address.now connections seed
+        (outside S.Shelf B.Lobby O.Sink shelf.old lobby.old out.old left count)
+        (outside S.Shelf B.Lobby O.Sink shelf.new lobby.new out.new left count)
+        (ended_seen S.Disk.told S.Disk.fault_count result) }
 {
     match shelf.take(file.as_str()) {
         Ok(disk) => {
@@ -267,20 +158,51 @@ fn serve<S: Shelf, B: Lobby, O: Sink>(
                 },
             }
         }
-        Err(_) => Ended {
-            status: finish(out, Ending::DiskFault),
-            disk: None,
-            report: silent(alloc, 0),
-        },
+        Err(_) => idle(alloc, out, Ending::DiskFault),
+    }
+}
+
+// Does what a command line asks.
+fn obey<S: Shelf, B: Lobby, I: Source, O: Sink>(
+    alloc: Global,
+    command: &CommandLine,
+    shelf: &mut S,
+    lobby: &mut B,
+    input: &mut I,
+    out: &mut O,
+    seed: [u8; 32],
+) -> Ended<S::Disk>
+    requires { IsMeant command.now }
+    ensures { (c : SpecCommandLine) → IsInRange c → Denotes command.now c → CommandRuns c seed
+        (outside S.Shelf B.Lobby O.Sink shelf.old lobby.old out.old (I.left input.old) (I.fault_count input.old))
+        (outside S.Shelf B.Lobby O.Sink shelf.new lobby.new out.new (I.left input.new) (I.fault_count input.new))
+        (ended_seen S.Disk.told S.Disk.fault_count result) }
+{
+    match command {
+        CommandLine::Init {
+            file,
+            admin,
+            base,
+            limit,
+        } => init(alloc, file, admin, base, *limit, shelf, lobby, out),
+        CommandLine::Intake { file } => {
+            let draw = Draws::new(seed, 0).next();
+            intake(alloc, file, shelf, lobby, input, out, &draw)
+        }
+        CommandLine::Serve {
+            file,
+            address,
+            connections,
+        } => serve(alloc, file, address, *connections, shelf, lobby, out, seed),
     }
 }
 
 /// The program: all that it does with its words, over the outside.
 ///
 /// `words` are the arguments behind the program's name. `init FILE --admin TOKEN [--base URL] [--limit BYTES]` makes a
-/// store. `intake FILE` keeps one statement of the input and prints its id. `serve FILE ADDRESS --workers 1 --connections
-/// N` serves N connections over HTTP and prints the number of their responses. Every line is printed to `out`. The one
-/// draw of an intake is the first of stream 0 under the seed; serving has those of stream 1.
+/// store. `intake FILE` keeps one statement of the input and prints its id. `serve FILE ADDRESS --workers 1
+/// --connections N` serves N connections over HTTP and prints the number of their responses. Every line is printed to
+/// `out`. The one draw of an intake is the first of stream 0 under the seed; serving has those of stream 1.
 pub fn run<S: Shelf, B: Lobby, I: Source, O: Sink>(
     alloc: Global,
     words: &[Text],
@@ -290,67 +212,17 @@ pub fn run<S: Shelf, B: Lobby, I: Source, O: Sink>(
     out: &mut O,
     seed: [u8; 32],
 ) -> Ended<S::Disk>
-    ensures { let before : Outside = record {
-      holds = S.holds shelf.old;
-      begins = S.begins shelf.old;
-      files = S.taken shelf.old;
-      shelf_faults = S.fault_count shelf.old;
-      readings = B.readings lobby.old;
-      lobby = record { asked = B.asked lobby.old; returned = B.returned lobby.old; faults = B.fault_count lobby.old };
-      left = I.left input.old;
-      input_faults = I.fault_count input.old;
-      taken = O.taken out.old;
-      output_faults = O.fault_count out.old;
-    } in
-        let after : Outside = record {
-          holds = S.holds shelf.new;
-          begins = S.begins shelf.new;
-          files = S.taken shelf.new;
-          shelf_faults = S.fault_count shelf.new;
-          readings = B.readings lobby.new;
-          lobby = record {
-            asked = B.asked lobby.new;
-            returned = B.returned lobby.new;
-            faults = B.fault_count lobby.new;
-          };
-          left = I.left input.new;
-          input_faults = I.fault_count input.new;
-          taken = O.taken out.new;
-          output_faults = O.fault_count out.new;
-        } in
-        Runs words.now seed before after
-        (record {
-          status = result.status;
-          disk = seen S.Disk.told S.Disk.fault_count result.disk;
-          length = result.report.length;
-          talks = result.report.talks;
-          responses = result.report.responses;
-        }) }
+    ensures { Runs words.now seed
+        (outside S.Shelf B.Lobby O.Sink shelf.old lobby.old out.old (I.left input.old) (I.fault_count input.old))
+        (outside S.Shelf B.Lobby O.Sink shelf.new lobby.new out.new (I.left input.new) (I.fault_count input.new))
+        (ended_seen S.Disk.told S.Disk.fault_count result) }
 {
     match read_words(alloc, words) {
-        Ok(
-            Some(
-                Words::Init {
-                    file,
-                    admin,
-                    base,
-                    limit,
-                },
-            ),
-        ) => init(alloc, &file, &admin, &base, limit, shelf, lobby, out),
-        Ok(Some(Words::Intake { file })) => {
-            let draw = Draws::new(seed, 0).next();
-            intake(alloc, &file, shelf, lobby, input, out, &draw)
+        Ok(Some(command)) => {
+            let ended = obey(alloc, &command, shelf, lobby, input, out, seed);
+            drop(command);
+            ended
         }
-        Ok(
-            Some(
-                Words::Serve {
-                    file,
-                    address,
-                    connections,
-                },
-            ),
-        ) => serve(alloc, &file, &address, connections, shelf, lobby, out, seed),
         Ok(None) => idle(alloc, out, Ending::Usage),
         Err(Memory) => idle(alloc, out, Ending::Memory),
     }

@@ -2,12 +2,12 @@
 ghost use Rattle.std.specs.Prelude.{◌≡◌, All, map, length, false};
 ghost use Rattle.lrs_disk.specs.Door.{IsFresh};
 ghost use Rattle.lrs_hall.specs.Serving.{Counts, all_receipts};
-ghost use Rattle.lrs_app.specs.Service.{CountsOn, responses_of, ending_of_serving};
+ghost use Rattle.lrs_app.specs.Service.{CountsOn, doors, responses_of, ending_of_serving};
 ghost use Rattle.lrs_app.specs.ServeSteps.{ServesOne, ServesDesk, ServesOpened, ending_of_refusal};
-ghost use Rattle.lrs_app.specs.Run.{HasCause, Serves};
+ghost use Rattle.lrs_app.specs.Run.{HasEndingCause, ServesDisk};
 
-use crate::Ending;
 use crate::intake::unopened;
+use lrs_console::Ending;
 use lrs_disk::{Disk, Door, DoorsRefused, Lobby};
 use lrs_hall::{ServeEnd, Talk, serve_all};
 use lrs_json::{Items, Text};
@@ -80,12 +80,8 @@ fn serve_desk<D: Disk, B: Lobby>(
     seed: [u8; 32],
 ) -> (Desk<D>, Items<Talk>, Ending)
     ensures served { ServesDesk D.told desk result.0 address.now connections seed
-        (record { asked = B.asked lobby.old; returned = B.returned lobby.old; faults = B.fault_count lobby.old })
-        (record {
-          asked = B.asked lobby.new;
-          returned = B.returned lobby.new;
-          faults = B.fault_count lobby.new;
-        }) result.1 result.2 }
+        (doors B.Lobby lobby.old)
+        (doors B.Lobby lobby.new) result.1 result.2 }
     ensures counts { Counts (D.fault_count desk.disk) (all_receipts result.1) (D.fault_count result.0.disk) }
     ensures limit { result.0.limit ≡ desk.limit }
     ensures readings { B.readings lobby.new ≡ B.readings lobby.old }
@@ -122,10 +118,10 @@ fn serve_opened<D: Disk, B: Lobby>(
 ) -> Service<D>
     requires { desk.doubt ≡ false }
     ensures served { ServesOpened D.told D.fault_count desk address.now connections seed
-        (record { asked = B.asked lobby.old; returned = B.returned lobby.old; faults = B.fault_count lobby.old })
-        (record { asked = B.asked lobby.new; returned = B.returned lobby.new; faults = B.fault_count lobby.new })
+        (doors B.Lobby lobby.old)
+        (doors B.Lobby lobby.new)
         result.disk result.talks result.length result.ending }
-    ensures cause { HasCause (D.fault_count desk.disk) (D.fault_count result.disk) 0 0 result.ending }
+    ensures cause { HasEndingCause (D.fault_count desk.disk) (D.fault_count result.disk) 0 0 result.ending }
     ensures counts { CountsOn (D.fault_count desk.disk) result.talks (D.fault_count result.disk) }
     ensures readings { B.readings lobby.new ≡ B.readings lobby.old }
 {
@@ -156,14 +152,12 @@ pub(crate) fn serve_disk<D: Disk, B: Lobby>(
     connections: u32,
     seed: [u8; 32],
 ) -> Service<D>
-    ensures served { Serves (D.told disk) address.now connections seed
-        (record { asked = B.asked lobby.old; returned = B.returned lobby.old; faults = B.fault_count lobby.old })
-        (record { asked = B.asked lobby.new; returned = B.returned lobby.new; faults = B.fault_count lobby.new })
-        (record {
-          told = D.told result.disk;
-          faults = D.fault_count result.disk;
-        }) result.talks result.length result.ending }
-    ensures cause { HasCause (D.fault_count disk) (D.fault_count result.disk) 0 0 result.ending }
+    ensures served { ServesDisk (D.told disk) address.now connections seed
+        (doors B.Lobby lobby.old)
+        (doors B.Lobby lobby.new)
+        (record { told = D.told result.disk; faults = D.fault_count result.disk }) result.talks result.length
+        result.ending }
+    ensures cause { HasEndingCause (D.fault_count disk) (D.fault_count result.disk) 0 0 result.ending }
     ensures counts { CountsOn (D.fault_count disk) result.talks (D.fault_count result.disk) }
     ensures readings { B.readings lobby.new ≡ B.readings lobby.old }
 {

@@ -1,8 +1,8 @@
 //! `init` and `intake` over real files.
 use crate::outside::{STATEMENT, texts};
 use lrs_app::run;
-use lrs_disk::MemSink;
 use lrs_edge::{FileShelf, StdSource, TcpLobby};
+use lrs_in_memory::MemSink;
 use std::alloc::Global;
 use std::test::Fail;
 use std::{env, fs};

@@ -1,11 +1,11 @@
 //! Runs over the outside in memory.
 ghost use Rattle.std.specs.Prelude.{IfOk};
-ghost use Rattle.lrs_disk.specs.MemDoor.{IsUntouched};
-ghost use Rattle.lrs_disk.specs.MemLink.{IsUnused};
+ghost use Rattle.lrs_in_memory.specs.MemDoor.{IsUntouched};
+ghost use Rattle.lrs_in_memory.specs.MemLink.{IsUnused};
 
 use lrs_app::{Ended, run};
-use lrs_disk::{MemDisk, MemDoor, MemLink, MemLobby, MemShelf, MemSink, MemSource};
 use lrs_hall::{Finish, Talk};
+use lrs_in_memory::{MemDisk, MemDoor, MemLink, MemLobby, MemShelf, MemSink, MemSource};
 use lrs_json::Text;
 use std::alloc::Global;
 use std::test::Fail;

@@ -1,6 +1,6 @@
 //! What lines of words are read as.
 use crate::outside::{Around, run_over, texts};
-use lrs_app::{Words, read_words};
+use lrs_command_line::{CommandLine, read_words};
 use std::alloc::Global;
 use std::test::Fail;
 
@@ -177,11 +177,11 @@ const NO_COMMANDS: [&[&str]; 40] = [
 ];
 
 // A command as a line that tells its values.
-fn told(alloc: Global, read: &Option<Words>) -> Result<String, Fail> {
+fn told(alloc: Global, read: &Option<CommandLine>) -> Result<String, Fail> {
     Ok(match read {
         None => format!(in alloc; "usage")?,
         Some(
-            Words::Init {
+            CommandLine::Init {
                 file,
                 admin,
                 base,
@@ -191,12 +191,12 @@ fn told(alloc: Global, read: &Option<Words>) -> Result<String, Fail> {
             let (file, admin, base) = (file.as_str(), admin.as_str(), base.as_str());
             format!(in alloc; "init {file} {admin} {base} {limit}")?
         }
-        Some(Words::Intake { file }) => {
+        Some(CommandLine::Intake { file }) => {
             let file = file.as_str();
             format!(in alloc; "intake {file}")?
         }
         Some(
-            Words::Serve {
+            CommandLine::Serve {
                 file,
                 address,
                 connections,

@@ -1,5 +1,5 @@
 use Rattle.std.proofs.Common.{refl}
-use Rattle.lrs_app.specs.declared.ending.Ending.TheVariants as ending
+use Rattle.lrs_console.specs.declared.ending.Ending.TheVariants as ending
 use Rattle.lrs_app.proofs.Running.{intake_leaves, same_doors, takes_file}
 use Rattle.lrs_app.proofs.program.intake.Goals as goal
 
@@ -19,13 +19,13 @@ returns-in-Ok g c = rw c.silent.ensures.length (
 )
 
 pub returns-in-Err : goal.returns-in-Err
-returns-in-Err g c = rw c.silent-in-Err.ensures.length (
+returns-in-Err g c = rw c.idle.ensures.disk (
   c.now-clock.result,
   ending.DiskFault,
   c.now-clock.ensures.read,
   takes_file (g.S.Shelf.taken c.args.shelf.now) (g.S.Shelf.taken c.take.new.self) c.as_str.ensures.lent c.in-Err.ensures.taken,
   same_doors c.now-clock.ensures.asked_kept c.now-clock.ensures.returned_kept c.now-clock.ensures.same,
-  (c.silent-in-Err.ensures.talks, c.silent-in-Err.ensures.responses),
-  (refl, c.in-Err.ensures.cause.failed refl, record { left = refl; faults = refl }, refl),
-  c.finish-in-Err.ensures,
+  (c.idle.ensures.talks, c.idle.ensures.responses),
+  (refl, c.in-Err.ensures.cause.failed refl, record { left = refl; faults = refl }, c.idle.ensures.length),
+  c.idle.ensures.printed,
 )

@@ -1,4 +1,5 @@
-use Rattle.std.proofs.Common.{ap, ◌∙◌}
+use Rattle.lrs_console.specs.declared.ending.Ending.TheVariants as ending
+use Rattle.std.proofs.Common.{ap, refl, sym, ◌∙◌}
 use Rattle.lrs_app.specs.Service.{responses_of}
 use Rattle.lrs_app.proofs.Running.{takes_file}
 use Rattle.lrs_app.proofs.Serving.{serve_leaves}
@@ -15,4 +16,14 @@ returns-in-Ok g c left count = (
       c.as_str.ensures.lent c.in-Ok.ensures.told c.in-Ok.ensures.begins c.serve_disk-service.ensures.served c.serve_disk-service.ensures.cause
       c.serve_disk-service.ensures.counts,
   c.finish.ensures,
+)
+
+pub returns-in-Err : goal.returns-in-Err
+returns-in-Err g c left count = rw c.idle.ensures.disk (
+  ending.DiskFault,
+  refl,
+  takes_file (g.S.Shelf.taken c.args.shelf.now) (g.S.Shelf.taken c.take.new.self) c.as_str.ensures.lent c.in-Err.ensures.taken,
+  c.idle.ensures.responses ∙ sym (ap responses_of c.idle.ensures.talks),
+  (refl, c.in-Err.ensures.cause.failed refl, refl, c.idle.ensures.talks, c.idle.ensures.length),
+  c.idle.ensures.printed,
 )

@@ -1,9 +1,0 @@
-use Rattle.std.proofs.Common.{◌≡◌, length}
-use Rattle.lrs_app.specs.Shapes.{value_behind}
-use Rattle.lrs_app.proofs.words.plain.value_behind.Given as goal
-
-abbrev pub invariant-loop-left : goal.invariant-loop-left
-invariant-loop-left l = value_behind l.name l.left ≡ value_behind l.name l.line
-
-abbrev pub decreases-loop-left : goal.decreases-loop-left
-decreases-loop-left l = length l.left

@@ -1,6 +1,0 @@
-use Rattle.std.proofs.Common.{◌≡◌, ◌++◌, map, drop}
-use Rattle.lrs_app.specs.Words.{whole_line}
-use Rattle.lrs_app.proofs.words.taken.texts_of.Given as goal
-
-abbrev pub invariant-loop-word : goal.invariant-loop-word
-invariant-loop-word l = map (λ t. t.now) l.texts.items ++ drop l.word-index l.words ≡ whole_line l.words

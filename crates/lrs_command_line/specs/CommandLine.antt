@@ -1,0 +1,190 @@
+-- The words of the command line: `init FILE --admin TOKEN [--base URL] [--limit BYTES]`, `intake FILE` and
+-- `serve FILE ADDRESS --workers W --connections N`, each option with its value at any place behind the command's name.
+use Rattle.std.specs.Prelude.{◌≡◌, ◌<◌, ◌≤◌, ◌⊎◌, ◌==◌, ⊤, not, ℕ, Bool, true, false, List, [], ◌∷◌, length, Option, Some, None, IfSome, if◌then◌else◌, unwrap_or, codes}
+use Rattle.std.specs.Option.{option_map_or}
+use Rattle.std.specs.Char.{is_ascii_digit}
+use Rattle.std.specs.List.{list_all}
+use Rattle.std.specs.Str.{bytes_eq}
+use Rattle.std.specs.Str.Parse.{digits_value}
+use Rattle.clap.specs.Walk.{Row, Rule, Text, first_of}
+use Rattle.clap.specs.Simple.{App, new_app, new_rule, with_rule, with_subcommand, subcommand_of}
+use Rattle.clap.specs.Faults.{fault_of}
+use Rattle.lrs_json.specs.Names.{is_among}
+use Rattle.lrs_parts.specs.Founding.{IsToken, IsBase}
+
+-- ---- plain lines
+
+-- a part of a line: a word that stands alone, or an option's name with the value behind it
+pub data Part : Type 0 where
+  word : List ℕ → Part
+  option : List ℕ → List ℕ → Part
+
+-- the words of a line of these parts
+abbrev pub line_of : List Part → List (List ℕ)
+line_of [] = []
+line_of (word w ∷ parts) = w ∷ line_of parts
+line_of (option name value ∷ parts) = name ∷ value ∷ line_of parts
+
+-- the words that stand alone, in their order
+abbrev pub words_of : List Part → List (List ℕ)
+words_of [] = []
+words_of (word w ∷ parts) = w ∷ words_of parts
+words_of (option name value ∷ parts) = words_of parts
+
+-- the value of an option
+abbrev pub value_of : List ℕ → List Part → Option (List ℕ)
+value_of name [] = None
+value_of name (word w ∷ parts) = value_of name parts
+value_of name (option other value ∷ parts) = if bytes_eq other name then Some value else value_of name parts
+
+-- the word isn't empty, and doesn't begin with `-` as the name of an option does
+abbrev pub is_name : List ℕ → Bool
+is_name [] = false
+is_name (b ∷ rest) = not (b == 45)
+
+-- No word is empty and none begins with `-` but these options. Each of those stands at most once, and the next word is its value.
+abbrev pub ArePlain : List (List ℕ) → List Part → Type 0
+ArePlain options [] = ⊤
+ArePlain options (word w ∷ parts) = (is_name w ≡ true) × ArePlain options parts
+ArePlain options (option name value ∷ parts) =
+    (is_among name options ≡ true) × (is_among name (line_of parts) ≡ false) × (is_name value ≡ true) × ArePlain options parts
+
+abbrev pub options_of_command : List ℕ → List (List ℕ)
+options_of_command name =
+    if bytes_eq name (codes "init") then codes "--admin" ∷ codes "--base" ∷ codes "--limit" ∷ []
+    else (if bytes_eq name (codes "serve") then codes "--workers" ∷ codes "--connections" ∷ [] else [])
+
+-- the options of the command that the first word names
+abbrev pub options_of : List (List ℕ) → List (List ℕ)
+options_of [] = []
+options_of (name ∷ words) = options_of_command name
+
+-- the words are a plain line of these parts
+pub record IsLineOf (parts : List Part) (words : List (List ℕ)) : Type 0 where
+  pub line : words ≡ line_of parts
+  pub plain : ArePlain (options_of words) parts
+
+abbrev pub IsPlain : List (List ℕ) → Type 0
+IsPlain words = (parts : List Part) × IsLineOf parts words
+
+-- ---- what a command's words are
+
+-- what the words of `init` name
+pub record InitWords : Type 0 where
+  pub file : List ℕ
+  pub admin : List ℕ
+  pub base : Option (List ℕ)
+  pub limit : Option (List ℕ)
+
+-- what the words of `serve` name
+pub record ServeWords : Type 0 where
+  pub file : List ℕ
+  pub address : List ℕ
+  pub workers : List ℕ
+  pub connections : List ℕ
+
+-- a command, as its words name it
+pub data CommandLine : Type 0 where
+  init : InitWords → CommandLine
+  intake : List ℕ → CommandLine
+  serve : ServeWords → CommandLine
+
+-- The parts of a plain line are this command's: its words and the options that it requires all stand there, and no word too many.
+abbrev pub Says : List Part → CommandLine → Type 0
+Says parts (init w) = (words_of parts ≡ codes "init" ∷ w.file ∷ []) × (value_of (codes "--admin") parts ≡ Some w.admin)
+    × (value_of (codes "--base") parts ≡ w.base) × (value_of (codes "--limit") parts ≡ w.limit)
+Says parts (intake file) = words_of parts ≡ codes "intake" ∷ file ∷ []
+Says parts (serve w) = (words_of parts ≡ codes "serve" ∷ w.file ∷ w.address ∷ [])
+    × (value_of (codes "--workers") parts ≡ Some w.workers) × (value_of (codes "--connections") parts ≡ Some w.connections)
+
+-- ---- other lines, as clap takes them
+
+abbrev pub required : Text → Rule
+required name = record (new_rule name) { required = true }
+
+abbrev pub optional : Text → Rule
+optional name = record (new_rule name) { long = Some name }
+
+abbrev pub needed : Text → Rule
+needed name = record (required name) { long = Some name }
+
+abbrev pub init_app : App
+init_app = with_rule (with_rule (with_rule (with_rule (new_app (codes "init")) (required (codes "file"))) (needed (codes "admin"))) (optional (codes "base"))) (optional (codes "limit"))
+
+abbrev pub intake_app : App
+intake_app = with_rule (new_app (codes "intake")) (required (codes "file"))
+
+abbrev pub serve_app : App
+serve_app = with_rule (with_rule (with_rule (with_rule (new_app (codes "serve")) (required (codes "file"))) (required (codes "address"))) (needed (codes "workers"))) (needed (codes "connections"))
+
+abbrev pub program : App
+program = with_subcommand (with_subcommand (with_subcommand (new_app (codes "kilnlime")) init_app.top) intake_app.top) serve_app.top
+
+-- the words with the program's name before them
+abbrev pub whole_line : List Text → List Text
+whole_line words = codes "kilnlime" ∷ words
+
+-- what was given to a subcommand is this command's
+abbrev pub Gives : Option (Text × List Row) → CommandLine → Type 0
+Gives None c = ⊥
+Gives (Some found) (init w) = (found.0 ≡ codes "init") × (first_of (codes "file") found.1 ≡ Some w.file) × (first_of (codes "admin") found.1 ≡ Some w.admin)
+    × (first_of (codes "base") found.1 ≡ w.base) × (first_of (codes "limit") found.1 ≡ w.limit)
+Gives (Some found) (intake file) = (found.0 ≡ codes "intake") × (first_of (codes "file") found.1 ≡ Some file)
+Gives (Some found) (serve w) = (found.0 ≡ codes "serve") × (first_of (codes "file") found.1 ≡ Some w.file) × (first_of (codes "address") found.1 ≡ Some w.address)
+    × (first_of (codes "workers") found.1 ≡ Some w.workers) × (first_of (codes "connections") found.1 ≡ Some w.connections)
+
+-- clap refuses the words for no cause, and gives the command
+pub record IsTaken (words : List (List ℕ)) (c : CommandLine) : Type 0 where
+  pub whole : fault_of program (whole_line words) ≡ []
+  pub gives : Gives (subcommand_of program (whole_line words)) c
+
+-- ---- values
+
+-- a number as words spell it: 1 to 20 digits and nothing else
+pub record IsNumber (word : List ℕ) : Type 0 where
+  pub some : 0 < length word
+  pub few : length word ≤ 20
+  pub digits : list_all is_ascii_digit word ≡ true
+
+-- a number of this range
+pub record IsNumberIn (from to : ℕ) (word : List ℕ) : Type 0 where
+  pub number : IsNumber word
+  pub least : from ≤ digits_value 10 word
+  pub most : digits_value 10 word ≤ to
+
+-- a number of bytes that a store may have
+abbrev pub IsLimit : List ℕ → Type 0
+IsLimit = IsNumberIn 512 1073741824
+
+-- the base address of the store, and its limit, where the words leave them out
+abbrev pub base_of : InitWords → List ℕ
+base_of w = unwrap_or w.base (codes "http://127.0.0.1:8080/")
+
+abbrev pub limit_of : InitWords → ℕ
+limit_of w = option_map_or (digits_value 10) w.limit 268435456
+
+pub record IsInitInRange (w : InitWords) : Type 0 where
+  pub admin : IsToken w.admin
+  pub base : IsBase (base_of w)
+  pub limit : IfSome w.limit IsLimit
+
+-- one worker serves
+pub record IsServeInRange (w : ServeWords) : Type 0 where
+  pub workers : IsNumberIn 1 1 w.workers
+  pub connections : IsNumberIn 1 10000 w.connections
+
+abbrev pub connections_of : ServeWords → ℕ
+connections_of w = digits_value 10 w.connections
+
+abbrev pub IsInRange : CommandLine → Type 0
+IsInRange (init w) = IsInitInRange w
+IsInRange (intake file) = ⊤
+IsInRange (serve w) = IsServeInRange w
+
+-- a plain line is a command's by its parts, and any other line as clap takes it
+abbrev pub IsNamed : List (List ℕ) → CommandLine → Type 0
+IsNamed words c = ((parts : List Part) × IsLineOf parts words × Says parts c) ⊎ ((IsPlain words → ⊥) × IsTaken words c)
+
+-- the words are this command's, and each value is in its range
+abbrev pub IsCommandLine : List (List ℕ) → CommandLine → Type 0
+IsCommandLine words c = IsNamed words c × IsInRange c

@@ -1,0 +1,116 @@
+-- The program's words as the code has them, and how it takes a line apart.
+use Rattle.std.specs.Prelude.{◌≡◌, ◌&&◌, not, ℕ, Bool, true, false, List, [], ◌∷◌, Option, Some, None, if◌then◌else◌, codes, slice_get, option_and_then, MatchOption}
+use Rattle.std.specs.Option.{option_copied}
+use Rattle.std.specs.Str.{bytes_eq}
+use Rattle.clap.specs.Walk.{Row, Text, first_of}
+use Rattle.clap.specs.Simple.{App, app_of, subcommand_of}
+use Rattle.clap.specs.declared.builder.command.Command.{Command as ClapCommand}
+use Rattle.clap.specs.declared.builder.command.Command.TheViews.{out-Command as fields_of}
+use Rattle.clap.specs.Faults.{fault_of}
+use Rattle.lrs_json.specs.Names.{is_among}
+use Rattle.lrs_command_line.specs.CommandLine.{CommandLine, init, intake, serve, IsInRange, base_of, limit_of, connections_of, is_name, options_of, program, whole_line}
+use Rattle.lrs_command_line.specs.declared.words.Shape.{Shape}
+use Rattle.lrs_command_line.specs.declared.words.Shape.TheVariants as shape
+use Rattle.lrs_command_line.specs.declared.words.CommandLine as code
+use Rattle.lrs_command_line.specs.declared.words.CommandLine.TheVariants as words
+
+abbrev pub command_of : Shape → CommandLine
+command_of (shape.Init file admin base limit) =
+    init (record { file = file.now; admin = admin.now; base = option_copied base; limit = option_copied limit })
+command_of (shape.Intake file) = intake file.now
+command_of (shape.Serve file address workers connections) =
+    serve (record { file = file.now; address = address.now; workers = workers.now; connections = connections.now })
+
+-- the words as they were read mean this command
+abbrev pub Denotes : code.CommandLine → CommandLine → Type 0
+Denotes (words.Init file admin base limit) (init w) = (file ≡ w.file) × (admin ≡ w.admin) × (base ≡ base_of w) × (limit ≡ limit_of w)
+Denotes (words.Intake file) (intake name) = file ≡ name
+Denotes (words.Serve file address connections) (serve w) = (file ≡ w.file) × (address ≡ w.address) × (connections ≡ connections_of w)
+Denotes other command = ⊥
+
+-- the words were read as this command, or refused for a value out of its range, where they name it
+abbrev pub IsReadAs : Option CommandLine → Option code.CommandLine → Type 0
+IsReadAs None found = found ≡ None
+IsReadAs (Some c) found = MatchOption found (IsInRange c → ⊥) (λ words. IsInRange c × Denotes words c)
+
+-- ---- plain lines
+
+-- the word is an option, and stands once
+abbrev pub is_option : List (List ℕ) → List ℕ → List (List ℕ) → Bool
+is_option options word behind = is_among word options && not (is_among word behind)
+
+-- the words are plain from the beginning of a part on, or from behind an option's name
+abbrev pub is_plain : List (List ℕ) → Bool → List (List ℕ) → Bool
+is_plain options behind_option [] = not behind_option
+is_plain options true (value ∷ words) = is_name value && is_plain options false words
+is_plain options false (word ∷ words) =
+    if is_name word then is_plain options false words else (is_option options word words && is_plain options true words)
+
+-- the words that stand alone
+abbrev pub alone : Bool → List (List ℕ) → List (List ℕ)
+alone behind_option [] = []
+alone true (value ∷ words) = alone false words
+alone false (word ∷ words) = if is_name word then word ∷ alone false words else alone true words
+
+-- the word behind this one
+abbrev pub value_behind : List ℕ → List (List ℕ) → Option (List ℕ)
+value_behind name [] = None
+value_behind name (word ∷ words) = if bytes_eq word name then slice_get words 0 else value_behind name words
+
+-- ---- commands of what was found
+
+abbrev pub init_with : Option (List ℕ) → Option (List ℕ) → Option (List ℕ) → Option (List ℕ) → Option CommandLine
+init_with (Some file) (Some admin) base limit = Some (init (record { file = file; admin = admin; base = base; limit = limit }))
+init_with file admin base limit = None
+
+abbrev pub intake_with : Option (List ℕ) → Option CommandLine
+intake_with (Some file) = Some (intake file)
+intake_with None = None
+
+abbrev pub serve_with : Option (List ℕ) → Option (List ℕ) → Option (List ℕ) → Option (List ℕ) → Option CommandLine
+serve_with (Some file) (Some address) (Some workers) (Some connections) =
+    Some (serve (record { file = file; address = address; workers = workers; connections = connections }))
+serve_with file address workers connections = None
+
+abbrev pub said_by : List (List ℕ) → (List ℕ → Option (List ℕ)) → Option CommandLine
+said_by (name ∷ file ∷ []) value =
+    if bytes_eq name (codes "init") then init_with (Some file) (value (codes "--admin")) (value (codes "--base")) (value (codes "--limit"))
+    else (if bytes_eq name (codes "intake") then Some (intake file) else None)
+said_by (name ∷ file ∷ address ∷ []) value =
+    if bytes_eq name (codes "serve") then serve_with (Some file) (Some address) (value (codes "--workers")) (value (codes "--connections")) else None
+said_by words value = None
+
+-- ---- what clap takes
+
+-- clap's command is this one, and none of its arguments is global
+abbrev pub IsOf : App → ClapCommand → Type 0
+IsOf a c = (app_of c ≡ a) × ((fields_of c).has_globals ≡ false)
+
+abbrev pub init_in : List Row → Option CommandLine
+init_in rows = init_with (first_of (codes "file") rows) (first_of (codes "admin") rows) (first_of (codes "base") rows) (first_of (codes "limit") rows)
+
+abbrev pub intake_in : List Row → Option CommandLine
+intake_in rows = intake_with (first_of (codes "file") rows)
+
+abbrev pub serve_in : List Row → Option CommandLine
+serve_in rows = serve_with (first_of (codes "file") rows) (first_of (codes "address") rows) (first_of (codes "workers") rows) (first_of (codes "connections") rows)
+
+abbrev pub command_in : Text × List Row → Option CommandLine
+command_in found =
+    if bytes_eq found.0 (codes "init") then init_in found.1
+    else (if bytes_eq found.0 (codes "intake") then intake_in found.1
+    else (if bytes_eq found.0 (codes "serve") then serve_in found.1 else None))
+
+abbrev pub is_nonempty : {X : Type 0} → List X → Bool
+is_nonempty [] = false
+is_nonempty (x ∷ xs) = true
+
+abbrev pub is_faulty : List Text → Bool
+is_faulty line = is_nonempty (fault_of program line)
+
+abbrev pub taken : List (List ℕ) → Option CommandLine
+taken words = if is_faulty (whole_line words) then None else option_and_then command_in (subcommand_of program (whole_line words))
+
+-- the command that the words name
+abbrev pub named : List (List ℕ) → Option CommandLine
+named words = if is_plain (options_of words) false words then said_by (alone false words) (λ name. value_behind name words) else taken words

@@ -1,0 +1,256 @@
+ghost use Rattle.std.specs.Prelude.{◌≡◌, IsTrue, ◌↔◌, IfOk, IfSome, MatchOption, List, ℕ, codes, option_map, unwrap_or};
+ghost use Rattle.std.specs.Char.{is_ascii_digit};
+ghost use Rattle.std.specs.List.{list_all};
+ghost use Rattle.std.specs.Option.{SomeIff, option_copied, option_map_or};
+ghost use Rattle.std.specs.Str.Parse.{digits_value};
+ghost use Rattle.lrs_parts.specs.Founding.{IsToken, IsBase};
+ghost use Rattle.lrs_command_line.specs.CommandLine.{CommandLine as SpecCommandLine, init, serve, InitWords, ServeWords, IsCommandLine, IsInRange, IsInitInRange, IsServeInRange, IsNumber, IsNumberIn, IsLimit};
+ghost use Rattle.lrs_command_line.specs.Shapes.{IsReadAs, Denotes, command_of, named};
+
+mod plain;
+mod taken;
+
+use crate::words::plain::{is_plain, read_plain};
+use crate::words::taken::read_taken;
+use lrs_json::{Memory, Text};
+use lrs_parts::{is_base, is_token};
+use std::alloc::Global;
+
+/// The base address of a store whose words name none.
+const DEFAULT_BASE: &str = "http://127.0.0.1:8080/";
+
+/// The limit of a store whose words name none, in bytes.
+const DEFAULT_LIMIT: u64 = 268_435_456;
+
+/// The limits that a store may have, in bytes.
+const LEAST_LIMIT: u64 = 512;
+
+const MOST_LIMIT: u64 = 1_073_741_824;
+
+/// How many workers may serve.
+const MOST_WORKERS: u64 = 1;
+
+/// How many connections a worker may be asked to serve.
+const MOST_CONNECTIONS: u64 = 10_000;
+
+/// A command of the program with what its words name.
+#[derive(Drop)]
+pub enum CommandLine {
+    Init {
+        file: Text,
+        admin: Text,
+        base: Text,
+        limit: u64,
+    },
+    Intake {
+        file: Text,
+    },
+    Serve {
+        file: Text,
+        address: Text,
+        connections: u32,
+    },
+}
+
+// A command as its words name it, before a value is looked at.
+#[derive(Clone, Copy)]
+enum Shape<'a> {
+    Init {
+        file: &'a str,
+        admin: &'a str,
+        base: Option<&'a str>,
+        limit: Option<&'a str>,
+    },
+    Intake {
+        file: &'a str,
+    },
+    Serve {
+        file: &'a str,
+        address: &'a str,
+        workers: &'a str,
+        connections: &'a str,
+    },
+}
+
+fn are_digits(word: &str) -> bool
+    ensures { result ≡ list_all is_ascii_digit word.now }
+{
+    word.bytes().all(|digit| digit.is_ascii_digit())
+}
+
+fn is_number(word: &str) -> bool
+    ensures { IsTrue result ↔ IsNumber word.now }
+{
+    !word.is_empty() && word.len() <= 20 && are_digits(word)
+}
+
+// The number that a word spells, where it is of the range.
+fn read_number(word: &str, least: u64, most: u64) -> Option<u64>
+    ensures { SomeIff result (IsNumberIn least most word.now) (digits_value 10 word.now) }
+{
+    if !is_number(word) {
+        return None;
+    }
+    match word.parse::<u64>() {
+        Ok(number) if (least..=most).contains(&number) => Some(number),
+        _ => None,
+    }
+}
+
+fn read_limit(limit: Option<&str>) -> Option<u64>
+    ensures { MatchOption result (IfSome (option_copied limit.entry) IsLimit → ⊥)
+        (λ n. IfSome (option_copied limit.entry) IsLimit
+        × (n ≡ option_map_or (digits_value 10) (option_copied limit.entry) 268435456)) }
+{
+    match limit {
+        Some(word) => read_number(word, LEAST_LIMIT, MOST_LIMIT),
+        None => Some(DEFAULT_LIMIT),
+    }
+}
+
+fn read_token(alloc: Global, word: &str) -> Result<Option<Text>, Memory>
+    ensures { IfOk result (λ found. MatchOption found (IsToken word.now → ⊥)
+        (λ token. IsToken word.now × (token ≡ word.now))) }
+{
+    let token = Text::of(alloc, word)?;
+    if !is_token(&token) {
+        return Ok(None);
+    }
+    Ok(Some(token))
+}
+
+fn base_or_default(alloc: Global, base: Option<&str>) -> Result<Text, Memory>
+    ensures { IfOk result (λ text. text ≡ unwrap_or (option_copied base.entry) (codes "http://127.0.0.1:8080/")) }
+{
+    match base {
+        Some(base) => Text::of(alloc, base),
+        None => Text::of(alloc, DEFAULT_BASE),
+    }
+}
+
+fn read_base(alloc: Global, base: Option<&str>) -> Result<Option<Text>, Memory>
+    ensures { IfOk result (λ found. let text : List ℕ = unwrap_or (option_copied base.entry)
+        (codes "http://127.0.0.1:8080/") in
+        MatchOption found (IsBase text → ⊥) (λ read. IsBase text × (read ≡ text))) }
+{
+    let text = base_or_default(alloc, base)?;
+    if !is_base(alloc, &text)? {
+        return Ok(None);
+    }
+    Ok(Some(text))
+}
+
+// The words of `init`, with its values tested.
+fn test_init(
+    alloc: Global,
+    file: &str,
+    admin: &str,
+    base: Option<&str>,
+    limit: Option<&str>,
+) -> Result<Option<CommandLine>, Memory>
+    ensures { IfOk result (λ found. let w : InitWords = record {
+      file = file.now;
+      admin = admin.now;
+      base = option_copied base.entry;
+      limit = option_copied limit.entry;
+    } in
+        MatchOption found (IsInitInRange w → ⊥) (λ words. IsInitInRange w × Denotes words (init w))) }
+{
+    let Some(limit) = read_limit(limit) else {
+        return Ok(None);
+    };
+    let Some(admin) = read_token(alloc, admin)? else {
+        return Ok(None);
+    };
+    let Some(base) = read_base(alloc, base)? else {
+        return Ok(None);
+    };
+    Ok(Some(CommandLine::Init {
+        file: Text::of(alloc, file)?,
+        admin,
+        base,
+        limit,
+    }))
+}
+
+// The words of `serve`, with its values tested.
+fn test_serve(
+    alloc: Global,
+    file: &str,
+    address: &str,
+    workers: &str,
+    connections: &str,
+) -> Result<Option<CommandLine>, Memory>
+    ensures { IfOk result (λ found. let w : ServeWords = record {
+      file = file.now;
+      address = address.now;
+      workers = workers.now;
+      connections = connections.now;
+    } in
+        MatchOption found (IsServeInRange w → ⊥) (λ words. IsServeInRange w × Denotes words (serve w))) }
+{
+    let workers = read_number(workers, 1, MOST_WORKERS);
+    match read_number(connections, 1, MOST_CONNECTIONS) {
+        Some(connections) if workers.is_some() => Ok(Some(CommandLine::Serve {
+            file: Text::of(alloc, file)?,
+            address: Text::of(alloc, address)?,
+            connections: connections as u32,
+        })),
+        _ => Ok(None),
+    }
+}
+
+// The words of a command, with its values tested.
+fn test_values(alloc: Global, shape: Shape<'_>) -> Result<Option<CommandLine>, Memory>
+    ensures { IfOk result (λ found. MatchOption found (IsInRange (command_of shape.entry) → ⊥)
+        (λ words. IsInRange (command_of shape.entry) × Denotes words (command_of shape.entry))) }
+{
+    match shape {
+        Shape::Init {
+            file,
+            admin,
+            base,
+            limit,
+        } => test_init(alloc, file, admin, base, limit),
+        Shape::Intake { file } => Ok(Some(CommandLine::Intake {
+            file: Text::of(alloc, file)?,
+        })),
+        Shape::Serve {
+            file,
+            address,
+            workers,
+            connections,
+        } => test_serve(alloc, file, address, workers, connections),
+    }
+}
+
+// The same, where the words name a command.
+fn test_named(alloc: Global, shape: Option<Shape<'_>>) -> Result<Option<CommandLine>, Memory>
+    ensures { IfOk result (IsReadAs (option_map command_of shape.entry)) }
+{
+    match shape {
+        Some(shape) => test_values(alloc, shape),
+        None => Ok(None),
+    }
+}
+
+fn read_named(alloc: Global, words: &[Text]) -> Result<Option<CommandLine>, Memory>
+    ensures { IfOk result (IsReadAs (named words.now)) }
+{
+    if is_plain(words) {
+        test_named(alloc, read_plain(words))
+    } else {
+        read_taken(alloc, words)
+    }
+}
+
+/// Reads the words behind the program's name: a command of the program, or none (a usage fault).
+///
+/// A command's options stand in any order and at any place behind its name, `--name VALUE` or `--name=VALUE`, and each
+/// once. A `--` ends them, so that a FILE behind it may begin with `-`.
+pub fn read_words(alloc: Global, words: &[Text]) -> Result<Option<CommandLine>, Memory>
+    ensures { IfOk result (λ found. MatchOption found ((c : SpecCommandLine) → IsCommandLine words.now c → ⊥)
+        (λ read. (c : SpecCommandLine) × IsCommandLine words.now c × Denotes read c)) }
+{
+    read_named(alloc, words)
+}

@@ -1,0 +1,4 @@
+pub mod Endings
+pub mod Printing
+pub mod Reading
+pub mod Asking
