@@ -31,7 +31,7 @@ fn serve(alloc: Global, stored: &[u8], streams: &[&str]) -> Result<Ran, Fail> {
 }
 
 // What one connection brings, and what it is sent.
-const ANSWERS: [(&str, &str); 5] = [
+const ANSWERS: [(&str, &str); 7] = [
     (
         "GET /xapi/about HTTP/1.1\r\n\r\n",
         "HTTP/1.1 200 OK\r\nContent-Type: application/json\r\nContent-Length: 21\r\nX-Experience-API-Version: 1.0.3\r\n\r\n{\"version\":[\"1.0.3\"]}",
@@ -51,6 +51,14 @@ const ANSWERS: [(&str, &str); 5] = [
     (
         "GET /xapi/statements?statementId=11111111-1111-4111-8111-111111111111 HTTP/1.1\r\nX-Experience-API-Version: 1.0.3\r\n\r\n",
         "HTTP/1.1 401 Unauthorized\r\nContent-Type: application/json\r\nContent-Length: 14\r\nX-Experience-API-Version: 1.0.3\r\nWWW-Authenticate: Basic realm=\"lrs\"\r\n\r\n{\"error\":\"A1\"}",
+    ),
+    (
+        "POST /xapi/statements HTTP/1.1\r\nX-Experience-API-Version: 1.0.3\r\nContent-Length: 2\r\n\r\n[1",
+        "HTTP/1.1 401 Unauthorized\r\nContent-Type: application/json\r\nContent-Length: 14\r\nX-Experience-API-Version: 1.0.3\r\nWWW-Authenticate: Basic realm=\"lrs\"\r\n\r\n{\"error\":\"A1\"}",
+    ),
+    (
+        "POST /xapi/statements HTTP/1.1\r\nX-Experience-API-Version: 1.0.3\r\nAuthorization: Basic adminadmin\r\nContent-Length: 2\r\n\r\n[1",
+        "HTTP/1.1 400 Bad Request\r\nContent-Type: application/json\r\nContent-Length: 14\r\nX-Experience-API-Version: 1.0.3\r\n\r\n{\"error\":\"J2\"}",
     ),
 ];
 

@@ -16,13 +16,15 @@ use Rattle.lrs_command.specs.declared.command.Command.{Command}
 use Rattle.lrs_record.specs.declared.entry.Entry.{Entry}
 use Rattle.lrs_routes.specs.declared.asked.Asked.{Asked}
 use Rattle.lrs_routes.specs.declared.asked.RouteRefused.{RouteRefused}
+use Rattle.lrs_routes.specs.declared.asked.Routed.{Routed}
 use Rattle.lrs_hall.specs.declared.talk.Finish.{Finish}
 use Rattle.lrs_hall.specs.Acts.{ActsIn, ActsOn, BeginsWith, DeskAndClock, Reach}
-use Rattle.lrs_hall.specs.Conversation.{Worker, Phase, going, over, ServesAsked, ServesRequest, closes_behind, RespondsIn, Converses}
+use Rattle.lrs_hall.specs.Conversation.{Worker, Phase, going, over, ServesAsked, ServesRequest, closes_behind, with_command, RespondsIn, Converses}
 use Rattle.lrs_hall.specs.Draws.{draw_at}
 use Rattle.lrs_hall.specs.Responses.{Fixed, IsFraming, framing_response}
 use Rattle.lrs_hall.specs.Serving.{AddsReadings, Counts, clocks, worker_at}
 use Rattle.lrs_hall.proofs.Translating.{act_in, begins_self, begins_more}
+use Rattle.lrs_hall.proofs.Unread.{any_command, one_standing}
 
 -- a worker over a desk, at a history that the desk stands for
 abbrev pub at : {D : Type 0} → Worker (DeskAndClock D) → List Entry → Worker Reach
@@ -68,9 +70,26 @@ serves_in told time faults limit closes (Err refusal) receipt text old new h ser
 answers_in : {D : Type 0} (told : D → Option (List ℕ)) (time faults : D → ℕ) (limit : ℕ) (closes : Bool) (heard : Result Request RequestRefused) (receipt : Receipt) (text : List ℕ) (old new : Worker (DeskAndClock D)) (h : List Entry)
     → ServesRequest (ActsOn told time faults) closes heard receipt text old new → StandsFor told old.store.held h → old.store.held.limit ≡ limit
     → Tells told limit h new (λ history later. ServesRequest (ActsIn limit history) closes heard receipt text (at old h) (at new later))
-answers_in told time faults limit closes (Ok request) receipt text old new h answers stands bound =
+answers_in told time faults limit closes (Ok request) receipt text old new h (inl answers) stands bound =
     let served = serves_in told time faults limit closes answers.0 receipt text old new h answers.2 stands bound in
-    (served.0, served.1, served.2, served.3, λ history begins. (answers.0, answers.1, served.4 history begins))
+    (served.0, served.1, served.2, served.3, λ history begins. inl (answers.0, answers.1, served.4 history begins))
+answers_in told time faults limit closes (Ok request) receipt text old new h (inr unread) stands bound =
+    let routed : Routed = unread.0 in
+    let served = serves_in told time faults limit closes (Ok (with_command routed (any_command routed))) receipt text old new h (unread.2 (any_command routed) refl) stands bound in (
+      served.0,
+      served.1,
+      served.2,
+      served.3,
+      λ history begins. inr (
+        routed,
+        unread.1,
+        λ c of.
+            let other = serves_in told time faults limit closes (Ok (with_command routed c)) receipt text old new h (unread.2 c of) stands bound in
+            let same : other.0 ≡ served.0 = one_standing told new.store.held other.0 served.0 other.2 served.2 in
+            subst (λ later. ServesAsked (ActsIn limit history) closes (Ok (with_command routed c)) receipt text (at old h) (at new later)) same
+            (other.4 history (subst (λ later. BeginsWith later history) (sym same) begins)),
+      ),
+    )
 answers_in told time faults limit closes (Err refusal) receipt text old new h answers stands bound =
     still told limit h old new (λ history w. ServesRequest (ActsIn limit history) closes (Err refusal) receipt text (at old h) w) stands bound answers.1 (λ history. (answers.0, refl))
 
@@ -129,7 +148,9 @@ once_framed told time faults (Some f) receipt text old new framing same = inr (a
 
 once_answered : {D : Type 0} (told : D → Option (List ℕ)) (time faults : D → ℕ) (closes : Bool) (heard : Result Request RequestRefused) (receipt : Receipt) (text : List ℕ) (old new : Worker (DeskAndClock D))
     → ServesRequest (ActsOn told time faults) closes heard receipt text old new → ActsOnce told time faults receipt old new
-once_answered told time faults closes (Ok request) receipt text old new answers = once_served told time faults closes answers.0 receipt text old new answers.2
+once_answered told time faults closes (Ok request) receipt text old new (inl answers) = once_served told time faults closes answers.0 receipt text old new answers.2
+once_answered told time faults closes (Ok request) receipt text old new (inr unread) =
+    once_served told time faults closes (Ok (with_command unread.0 (any_command unread.0))) receipt text old new (unread.2 (any_command unread.0) refl)
 once_answered told time faults closes (Err refusal) receipt text old new answers = once_framed told time faults (framing_response refusal) receipt text old new answers.0 answers.1
 
 once : {D : Type 0} (told : D → Option (List ℕ)) (time faults : D → ℕ) (phase : Phase) (receipt : Receipt) (front : List ℕ) (old new : Worker (DeskAndClock D)) (behind : Phase)

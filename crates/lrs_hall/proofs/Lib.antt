@@ -1,6 +1,8 @@
 pub mod Writing
 pub mod ActLemmas
+pub mod Unread
 pub mod Refusing
+pub mod Exchanging
 pub mod Goes
 pub mod Translating
 pub mod Conversing

@@ -26,14 +26,17 @@ use Rattle.lrs_record.specs.declared.entry.Entry.{Entry}
 use Rattle.lrs_routes.specs.declared.asked.Asked.{Asked}
 use Rattle.lrs_routes.specs.declared.asked.RouteRefused.{RouteRefused}
 use Rattle.lrs_routes.specs.declared.asked.RouteRefused.TheVariants as refused
+use Rattle.lrs_routes.specs.declared.asked.Routed.{Routed}
+use Rattle.lrs_routes.proofs.Alone.{one_routed, routed_refused}
 use Rattle.lrs_hall.specs.declared.talk.Finish.{Finish}
 use Rattle.lrs_hall.specs.declared.talk.Finish.TheVariants as finish
 use Rattle.lrs_hall.specs.Acts.{ActsIn, BeginsWith, Reach, HasAt, TellsEntry, place_where, reach_behind}
-use Rattle.lrs_hall.specs.Conversation.{ActOn, Worker, Phase, going, over, ServesAsked, ServesRequest, closes_behind, phase_behind, Responds, Converses, EndsOpen, SendsResponse}
+use Rattle.lrs_hall.specs.Conversation.{ActOn, AnswersTo, AnswersUnread, Worker, Phase, going, over, ServesAsked, ServesRequest, with_command, closes_behind, phase_behind, Responds, Converses, EndsOpen, SendsResponse}
 use Rattle.lrs_hall.specs.Draws.{draw_at, place_behind}
 use Rattle.lrs_hall.specs.Laws.{OneAsked, OneText, IsFrontOf}
 use Rattle.lrs_hall.specs.Responses.{Fixed, IsFixed, IsFraming, IsReplyText, IsThrough, framing_response, media_text, route_response}
 use Rattle.lrs_hall.specs.Serving.{clocks}
+use Rattle.lrs_hall.proofs.Unread.{any_command, as_asked}
 
 front_is : (h history : List Entry) → BeginsWith h history → take (length h) history ≡ h
 front_is h history begins = ap (take (length h)) (sym begins.1) ∙ take-append_seam h begins.0
@@ -212,16 +215,45 @@ memory_calm acts closes asked r t a new_a serves calm is =
     let wanting : ServesAsked acts closes (Err refused.Memory) r t a new_a = subst (λ z. ServesAsked acts closes z r t a new_a) is serves in
     calm (ap (λ (z : Receipt). z.status) wanting.0.0)
 
-answered_alike : OneAsked → OneText → (limit : ℕ) (ha hb g : List Entry) (closes : Bool) (heard : Result Request RequestRefused) (r s : Receipt) (t u : List ℕ) (a b new_a new_b : Worker Reach)
-    → Together ha hb g a b → ServesRequest (ActsIn limit ha) closes heard r t a new_a → ServesRequest (ActsIn limit hb) closes heard s u b new_b → r.status ≢ 503 → s.status ≢ 503
+asked_alike : OneAsked → OneText → (limit : ℕ) (ha hb g : List Entry) (closes : Bool) (q : Request) (r s : Receipt) (t u : List ℕ) (a b new_a new_b : Worker Reach)
+    → Together ha hb g a b → AnswersTo (ActsIn limit ha) closes q r t a new_a → AnswersTo (ActsIn limit hb) closes q s u b new_b → r.status ≢ 503 → s.status ≢ 503
     → (r.acted ≡ true → s.acted ≡ true → r.clock ≡ s.clock) → Alike ha hb r s t u new_a new_b
-answered_alike one_asked one_text limit ha hb g closes (Ok q) r s t u a b new_a new_b so x y calm quiet clock = elim (one_asked q x.0 y.0 x.1 y.1) [
+asked_alike one_asked one_text limit ha hb g closes q r s t u a b new_a new_b so x y calm quiet clock = elim (one_asked q x.0 y.0 x.1 y.1) [
   | inl same ↦ served_alike one_text limit ha hb g closes y.0 r s t u a b new_a new_b so (subst (λ z. ServesAsked (ActsIn limit ha) closes z r t a new_a) same x.2) y.2 calm quiet clock
   | inr wanting ↦ elim wanting [
     | inl mine ↦ absurd (memory_calm (ActsIn limit ha) closes x.0 r t a new_a x.2 calm mine)
     | inr other ↦ absurd (memory_calm (ActsIn limit hb) closes y.0 s u b new_b y.2 quiet other)
   ]
 ]
+
+-- what one worker reads and answers, another answers unread as that
+read_by_other : (own acts : ActOn Reach) (closes : Bool) (q : Request) (r s : Receipt) (t u : List ℕ) (a b new_a new_b : Worker Reach)
+    → AnswersTo own closes q r t a new_a → r.status ≢ 503 → AnswersUnread acts closes q s u b new_b → AnswersTo acts closes q s u b new_b
+read_by_other own acts closes q r s t u a b new_a new_b (Ok asked, is, serves) calm unread = as_asked acts closes q asked s u b new_b is (inr unread)
+read_by_other own acts closes q r s t u a b new_a new_b (Err e, is, serves) calm unread =
+    absurd (memory_calm own closes (Err e) r t a new_a serves calm (ap (λ (x : RouteRefused). Err x) (routed_refused q unread.0 e unread.1 is)))
+
+unread_alike : OneText → (limit : ℕ) (ha hb g : List Entry) (closes : Bool) (q : Request) (r s : Receipt) (t u : List ℕ) (a b new_a new_b : Worker Reach)
+    → Together ha hb g a b → AnswersUnread (ActsIn limit ha) closes q r t a new_a → AnswersUnread (ActsIn limit hb) closes q s u b new_b → r.status ≢ 503 → s.status ≢ 503
+    → (r.acted ≡ true → s.acted ≡ true → r.clock ≡ s.clock) → Alike ha hb r s t u new_a new_b
+unread_alike one_text limit ha hb g closes q r s t u a b new_a new_b so x y calm quiet clock =
+    let same : x.0 ≡ y.0 = one_routed q x.0 y.0 x.1 y.1 in
+    let mine = subst (λ (routed : Routed). ServesAsked (ActsIn limit ha) closes (Ok (with_command routed (any_command routed))) r t a new_a) same (x.2 (any_command x.0) refl) in
+    served_alike one_text limit ha hb g closes (Ok (with_command y.0 (any_command y.0))) r s t u a b new_a new_b so mine (y.2 (any_command y.0) refl) calm quiet clock
+
+answered_alike : OneAsked → OneText → (limit : ℕ) (ha hb g : List Entry) (closes : Bool) (heard : Result Request RequestRefused) (r s : Receipt) (t u : List ℕ) (a b new_a new_b : Worker Reach)
+    → Together ha hb g a b → ServesRequest (ActsIn limit ha) closes heard r t a new_a → ServesRequest (ActsIn limit hb) closes heard s u b new_b → r.status ≢ 503 → s.status ≢ 503
+    → (r.acted ≡ true → s.acted ≡ true → r.clock ≡ s.clock) → Alike ha hb r s t u new_a new_b
+answered_alike one_asked one_text limit ha hb g closes (Ok q) r s t u a b new_a new_b so (inl x) (inl y) calm quiet clock =
+    asked_alike one_asked one_text limit ha hb g closes q r s t u a b new_a new_b so x y calm quiet clock
+answered_alike one_asked one_text limit ha hb g closes (Ok q) r s t u a b new_a new_b so (inl x) (inr y) calm quiet clock =
+    let theirs = read_by_other (ActsIn limit ha) (ActsIn limit hb) closes q r s t u a b new_a new_b x calm y in
+    asked_alike one_asked one_text limit ha hb g closes q r s t u a b new_a new_b so x theirs calm quiet clock
+answered_alike one_asked one_text limit ha hb g closes (Ok q) r s t u a b new_a new_b so (inr x) (inl y) calm quiet clock =
+    let mine = read_by_other (ActsIn limit hb) (ActsIn limit ha) closes q s r u t b a new_b new_a y quiet x in
+    asked_alike one_asked one_text limit ha hb g closes q r s t u a b new_a new_b so mine y calm quiet clock
+answered_alike one_asked one_text limit ha hb g closes (Ok q) r s t u a b new_a new_b so (inr x) (inr y) calm quiet clock =
+    unread_alike one_text limit ha hb g closes q r s t u a b new_a new_b so x y calm quiet clock
 answered_alike one_asked one_text limit ha hb g closes (Err e) r s t u a b new_a new_b so x y calm quiet clock = framed_alike ha hb g (framing_response e) r s t u a b new_a new_b so x.0 y.0 x.1 y.1
 
 -- ---- the phases

@@ -7,12 +7,14 @@ use Rattle.lrs_http.specs.Links.{GivesNext}
 use Rattle.lrs_http.specs.Stream.{IsItem}
 use Rattle.lrs_replies.specs.declared.reply.Reply.{Reply}
 use Rattle.lrs_machine.specs.Desk.{Receipt}
+use Rattle.lrs_history.specs.Refusals.{command_area}
 use Rattle.lrs_names.specs.declared.draw.Draw.{Draw}
 use Rattle.lrs_record.specs.declared.entry.Caller.{Caller}
 use Rattle.lrs_command.specs.declared.command.Command.{Command}
 use Rattle.lrs_routes.specs.declared.asked.Asked.{Asked}
 use Rattle.lrs_routes.specs.declared.asked.RouteRefused.{RouteRefused}
-use Rattle.lrs_routes.specs.Asked.{IsAsked}
+use Rattle.lrs_routes.specs.declared.asked.Routed.{Routed}
+use Rattle.lrs_routes.specs.Asked.{IsAsked, IsRoutedAs}
 use Rattle.lrs_hall.specs.Draws.{Place, draw_at, place_behind}
 use Rattle.lrs_hall.specs.Responses.{IsReplyText, IsFixed, IsFraming, route_response, framing_response}
 use Rattle.lrs_hall.specs.declared.talk.Finish.{Finish}
@@ -41,9 +43,22 @@ ServesAsked acts closes (Ok asked) receipt text old new =
     × (new.draws ≡ place_behind old.draws) × IsReplyText reply closes text
 ServesAsked acts closes (Err refusal) receipt text old new = IsFixed (route_response refusal) closes receipt text × (new ≡ old)
 
+-- A request is answered as what it asks.
+abbrev pub AnswersTo : {X : Type 0} → ActOn X → Bool → Request → Receipt → List ℕ → Worker X → Worker X → Type 0
+AnswersTo acts closes request receipt text old new = (asked : Result Asked RouteRefused) × IsAsked request asked × ServesAsked acts closes asked receipt text old new
+
+abbrev pub with_command : Routed → Command → Asked
+with_command routed command = record { caller = routed.caller; command = command }
+
+-- A request is answered as each command of its route's area would be, from its caller: neither its parameters nor its body decide.
+abbrev pub AnswersUnread : {X : Type 0} → ActOn X → Bool → Request → Receipt → List ℕ → Worker X → Worker X → Type 0
+AnswersUnread acts closes request receipt text old new =
+    (routed : Routed) × IsRoutedAs request routed
+    × ((command : Command) → command_area command ≡ routed.area → ServesAsked acts closes (Ok (with_command routed command)) receipt text old new)
+
 -- what comes of a request, or of what is none
 abbrev pub ServesRequest : {X : Type 0} → ActOn X → Bool → Result Request RequestRefused → Receipt → List ℕ → Worker X → Worker X → Type 0
-ServesRequest acts closes (Ok request) receipt text old new = (asked : Result Asked RouteRefused) × IsAsked request asked × ServesAsked acts closes asked receipt text old new
+ServesRequest acts closes (Ok request) receipt text old new = AnswersTo acts closes request receipt text old new ⊎ AnswersUnread acts closes request receipt text old new
 ServesRequest acts closes (Err refusal) receipt text old new = IsFraming (framing_response refusal) receipt text × (new ≡ old)
 
 -- A response ends the connection where no request was read, where the request asks for that, and behind the last request that may come.

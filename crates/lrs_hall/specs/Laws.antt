@@ -1,5 +1,5 @@
 -- One stream is answered in one way, however the links cut it.
-use Rattle.std.specs.Prelude.{◌≡◌, ◌≢◌, ℕ, List, ◌++◌, false, Some, Result}
+use Rattle.std.specs.Prelude.{◌≡◌, ◌≢◌, ℕ, List, ◌++◌, Bool, false, Some, Result, Ok}
 use Rattle.std.specs.List.{AllByRecursion}
 use Rattle.lrs_http.specs.declared.request.Request.{Request}
 use Rattle.lrs_machine.specs.Desk.{Receipt}
@@ -9,11 +9,18 @@ use Rattle.lrs_routes.specs.declared.asked.Asked.{Asked}
 use Rattle.lrs_routes.specs.declared.asked.RouteRefused.{RouteRefused}
 use Rattle.lrs_time.specs.Timestamp.{IsMomentText}
 use Rattle.lrs_hall.specs.Acts.{ActsIn, BeginsWith, Reach}
-use Rattle.lrs_hall.specs.Conversation.{Worker}
+use Rattle.lrs_hall.specs.Conversation.{AnswersTo, ServesRequest, Worker}
 use Rattle.lrs_hall.specs.Draws.{Place}
 use Rattle.lrs_hall.specs.Serving.{IsWholeTalk, clocks, worker_at}
 use Rattle.lrs_hall.specs.Talks.{Talk}
 use Rattle.lrs_hall.specs.declared.talk.Finish.TheVariants as finish
+
+-- Where a request asks something, it is answered as that, whether or not it is read behind its head.
+abbrev pub AnswersAsAsked : Type 0
+AnswersAsAsked =
+    (limit : ℕ) (history : List Entry) (closes : Bool) (request : Request) (asked : Asked) (receipt : Receipt) (text : List ℕ) (old new : Worker Reach)
+    → IsAsked request (Ok asked) → ServesRequest (ActsIn limit history) closes (Ok request) receipt text old new
+    → AnswersTo (ActsIn limit history) closes request receipt text old new
 
 -- a moment has one text
 abbrev pub OneText : Type 0

@@ -1,11 +1,17 @@
 -- What the private parts of a conversation say.
-use Rattle.std.specs.Prelude.{◌≡◌, ◌≢◌, ◌≤◌, ◌-◌, ℕ, List, [], ◌∷◌, ◌++◌, length, Bool, true, false, Option, Some, None, IsNone, option_map, Result, Ok, Err}
+use Rattle.std.specs.Prelude.{◌≡◌, ◌≢◌, ◌⊎◌, ◌≤◌, ◌-◌, ℕ, List, [], ◌∷◌, ◌++◌, length, Bool, true, false, Option, Some, None, IsNone, option_map, Result, Ok, Err}
 use Rattle.lrs_disk.specs.Door.{DoorState, Returned}
 use Rattle.lrs_disk.specs.Faults.{Rises}
+use Rattle.lrs_command.specs.declared.command.Command.{Command}
+use Rattle.lrs_history.specs.Refusals.{command_area}
+use Rattle.lrs_http.specs.declared.request.Request.{Request}
 use Rattle.lrs_http.specs.declared.request.RequestRefused.{RequestRefused}
 use Rattle.lrs_http.specs.declared.request.RequestRefused.TheVariants as request
 use Rattle.lrs_http.specs.Response.{IsStatus}
-use Rattle.lrs_machine.specs.Desk.{Desk}
+use Rattle.lrs_machine.specs.Desk.{Desk, StandsFor, lets_in}
+use Rattle.lrs_record.specs.declared.entry.Entry.{Entry}
+use Rattle.lrs_routes.specs.Asked.{IsCommandOf}
+use Rattle.lrs_routes.specs.declared.asked.Routed.{Routed}
 use Rattle.lrs_replies.specs.Replies.{error_body}
 use Rattle.lrs_hall.specs.Acts.{DeskAndClock}
 use Rattle.lrs_hall.specs.Conversation.{ActOn, Worker, going, over, Responds, EndsOpen}
@@ -49,6 +55,14 @@ abbrev pub Wrote : {T E : Type 0} → List ℕ → Result T E → Option (List �
 Wrote text (Ok value) before now = now ≡ option_map (λ taken. taken ++ text) before
 Wrote text (Err fault) before now =
     (front : List ℕ) × ((rest : List ℕ) × (front ++ rest ≡ text)) × (now ≡ option_map (λ taken. taken ++ front) before)
+
+-- no history for which the desk stands lets the caller into the area
+abbrev pub IsShutOut : {D : Type 0} → (D → Option (List ℕ)) → Desk D → Routed → Type 0
+IsShutOut told desk routed = (h : List Entry) → StandsFor told desk h → lets_in h routed.caller routed.area ≡ false
+
+-- the request's command, or any of its route's area where the caller isn't let in there
+abbrev pub IsCommandFor : {D : Type 0} → (D → Option (List ℕ)) → Desk D → Request → Routed → Command → Type 0
+IsCommandFor told desk request routed command = IsCommandOf request routed command ⊎ ((command_area command ≡ routed.area) × IsShutOut told desk routed)
 
 -- how a conversation ends behind a response to what is no request, or without one
 abbrev pub finish_behind : RequestRefused → Finish

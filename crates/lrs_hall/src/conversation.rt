@@ -69,7 +69,8 @@ pub(crate) fn hold<D: Disk, O: Door>(
 
 /// Serves one connection, that of the link which is out of the door: at most 1,000 requests, one behind the other.
 /// Each request is read whole, asked of the routes, answered by the desk with one reading of the door's clock and one
-/// draw, and its response is written before the next one is read.
+/// draw, and its response is written before the next one is read. Where its caller isn't let in, its parameters and its
+/// body aren't looked at.
 ///
 /// A response says that the connection ends where its request asks for that, where no request could be read, and at
 /// the last request. Memory for a receipt is taken before its request is read, so no response goes without one.

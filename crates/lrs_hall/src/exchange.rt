@@ -1,17 +1,23 @@
 //! One request of a conversation, and its response.
-ghost use Rattle.std.specs.Prelude.{◌≡◌, List, ℕ, Ok};
+ghost use Rattle.std.specs.Prelude.{◌≡◌, List, ℕ, Ok, IfOk};
+ghost use Rattle.lrs_command.specs.Commands.{HasReadTrees};
 ghost use Rattle.lrs_http.specs.Links.{stream_left, HasWriteCause};
+ghost use Rattle.lrs_record.specs.Entries.{IsLawfulCaller};
+ghost use Rattle.lrs_routes.specs.Asked.{IsRoutedAs};
 ghost use Rattle.lrs_hall.specs.Acts.{ActsOn};
-ghost use Rattle.lrs_hall.specs.Conversation.{ServesRequest};
+ghost use Rattle.lrs_hall.specs.Conversation.{ServesRequest, closes_behind};
+ghost use Rattle.lrs_hall.specs.Responses.{IsFixed, route_response};
 ghost use Rattle.lrs_hall.specs.Serving.{IsDurable};
-ghost use Rattle.lrs_hall.specs.Steps.{worker, Wrote, Exchanges, HasExchangeCause, finish_behind, exchanged_of, RefusesRequest, IsRefusalCause};
+ghost use Rattle.lrs_hall.specs.Steps.{worker, Wrote, Exchanges, HasExchangeCause, finish_behind, exchanged_of, RefusesRequest, IsCommandFor, IsRefusalCause};
 
 use crate::answering::{framing_response, route_response, write_fixed, write_reply};
 use crate::{Draws, Finish};
+use lrs_command::{Command, Rule};
 use lrs_disk::{Disk, Door, Link};
 use lrs_http::{LinkFault, Request, RequestRefused, read_request};
+use lrs_json::Memory;
 use lrs_machine::{Desk, Receipt};
-use lrs_routes::{Asked, Routes};
+use lrs_routes::{RouteRefused, Routed, Routes};
 use std::alloc::Global;
 
 /// What came of one turn of a conversation.
@@ -25,18 +31,61 @@ pub(crate) enum Exchanged {
     Silent(Finish),
 }
 
-// Serves a request, and says whether the response went out whole.
-fn serve<D: Disk, O: Door>(
+// The command of a request. Where its caller isn't let in each command is answered alike, so that neither the parameters
+// nor the body need be read.
+fn command_for<D: Disk>(
+    alloc: Global,
+    desk: &Desk<D>,
+    routed: &Routed,
+    request: &Request,
+) -> Result<Command, Memory>
+    ensures is { IfOk result (IsCommandFor D.told desk.now request.now routed.now) }
+    ensures trees { IfOk result HasReadTrees }
+{
+    if desk.lets_in(&routed.caller, routed.area) {
+        routed.command(alloc, request)
+    } else {
+        Ok(Command::Refused {
+            area: routed.area,
+            status: 400,
+            rule: Rule::B(1),
+        })
+    }
+}
+
+// Answers a request without an act.
+fn answer_fixed<L: Link>(
+    link: &mut L,
+    refused: RouteRefused,
+    closes: bool,
+) -> (Receipt, Result<(), LinkFault>)
+    ensures fixed { (text : List ℕ) × IsFixed (route_response refused) closes result.0 text
+        × Wrote text result.1 (L.taken link.old) (L.taken link.new) }
+    ensures left_kept { L.left link.new ≡ L.left link.old }
+    ensures stream_kept { L.stream link.new ≡ L.stream link.old }
+    ensures name_kept { L.name link.new ≡ L.name link.old }
+    ensures cause { HasWriteCause (L.fault_count link.old) (L.fault_count link.new) result.1 }
+{
+    let response = route_response(refused);
+    let sent = write_fixed(link, &response, closes);
+    (Receipt::plain(response.status), sent)
+}
+
+// Answers a request that has a route.
+fn serve_routed<D: Disk, O: Door>(
     alloc: Global,
     desk: &mut Desk<D>,
     door: &mut O,
     link: &mut O::Link,
-    routes: &Routes,
     draws: &mut Draws,
-    request: Request,
+    routed: Routed,
+    request: &Request,
     closes: bool,
 ) -> (Receipt, Result<(), LinkFault>)
-    ensures served { (text : List ℕ) × ServesRequest (ActsOn D.told D.time D.fault_count) closes (Ok request) result.0 text
+    requires routed { IsRoutedAs request.now routed }
+    requires lawful { IsLawfulCaller routed.caller }
+    ensures served { (text : List ℕ) × ServesRequest (ActsOn D.told D.time D.fault_count) closes (Ok request.now)
+        result.0 text
         (worker draws.old desk.old (O.state door.old).readings) (worker draws.new desk.new (O.state door.new).readings)
         × Wrote text result.1 (O.Link.taken link.old) (O.Link.taken link.new) }
     ensures durable { IsDurable D.told D.image desk.old → IsDurable D.told D.image desk.new }
@@ -47,19 +96,54 @@ fn serve<D: Disk, O: Door>(
     ensures name_kept { O.Link.name link.new ≡ O.Link.name link.old }
     ensures cause { HasWriteCause (O.Link.fault_count link.old) (O.Link.fault_count link.new) result.1 }
 {
-    match routes.command_of(alloc, request) {
-        Ok(Asked { caller, command }) => {
+    match command_for(alloc, desk, &routed, request) {
+        Ok(command) => {
             let clock = door.now();
             let draw = draws.next();
-            let (reply, receipt) = desk.act(caller, command, clock, &draw);
+            let (reply, receipt) = desk.act(routed.caller, command, clock, &draw);
             let sent = write_reply(link, &reply, closes);
             drop(reply);
             (receipt, sent)
         }
+        Err(Memory) => {
+            drop(routed);
+            answer_fixed(link, RouteRefused::Memory, closes)
+        }
+    }
+}
+
+// Answers a request, and says whether the response went out whole.
+fn serve<D: Disk, O: Door>(
+    alloc: Global,
+    desk: &mut Desk<D>,
+    door: &mut O,
+    link: &mut O::Link,
+    routes: &Routes,
+    draws: &mut Draws,
+    request: Request,
+    closes: bool,
+) -> (Receipt, Result<(), LinkFault>)
+    ensures served { (text : List ℕ) × ServesRequest (ActsOn D.told D.time D.fault_count) closes (Ok request)
+        result.0 text
+        (worker draws.old desk.old (O.state door.old).readings) (worker draws.new desk.new (O.state door.new).readings)
+        × Wrote text result.1 (O.Link.taken link.old) (O.Link.taken link.new) }
+    ensures durable { IsDurable D.told D.image desk.old → IsDurable D.told D.image desk.new }
+    ensures limit { desk.new.limit ≡ desk.old.limit }
+    ensures door { O.state door.new ≡ record (O.state door.old) { readings = (O.state door.new).readings } }
+    ensures left_kept { O.Link.left link.new ≡ O.Link.left link.old }
+    ensures stream_kept { O.Link.stream link.new ≡ O.Link.stream link.old }
+    ensures name_kept { O.Link.name link.new ≡ O.Link.name link.old }
+    ensures cause { HasWriteCause (O.Link.fault_count link.old) (O.Link.fault_count link.new) result.1 }
+{
+    match routes.routed(alloc, &request) {
+        Ok(routed) => {
+            let served = serve_routed(alloc, desk, door, link, draws, routed, &request, closes);
+            drop(request);
+            served
+        }
         Err(refused) => {
-            let response = route_response(refused);
-            let sent = write_fixed(link, &response, closes);
-            (Receipt::plain(response.status), sent)
+            drop(request);
+            answer_fixed(link, refused, closes)
         }
     }
 }
@@ -115,6 +199,13 @@ fn refuse<L: Link>(link: &mut L, refused: RequestRefused) -> Exchanged
     }
 }
 
+// Whether the connection ends behind the response to a request.
+fn closes_behind(most: u16, request: &Request) -> bool
+    ensures { result ≡ closes_behind most (Ok request.now) }
+{
+    request.closes || most == 1
+}
+
 /// Reads one request and answers it, or ends the conversation. `most` is how many requests may still come.
 pub(crate) fn exchange<D: Disk, O: Door>(
     alloc: Global,
@@ -140,7 +231,7 @@ pub(crate) fn exchange<D: Disk, O: Door>(
 {
     match read_request(alloc, link, kept) {
         Ok(request) => {
-            let closes = request.closes || most == 1;
+            let closes = closes_behind(most, &request);
             let (receipt, sent) = serve(alloc, desk, door, link, routes, draws, request, closes);
             answered(receipt, sent, closes, Finish::Closed)
         }

@@ -11,6 +11,6 @@ mod talk;
 
 pub use conversation::converse;
 pub use draws::Draws;
-pub use laws::law_of_one_stream;
+pub use laws::{law_of_one_stream, law_of_unread_requests};
 pub use serving::{ServeEnd, serve_all};
 pub use talk::{Finish, Talk};

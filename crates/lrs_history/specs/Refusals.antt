@@ -7,6 +7,8 @@ use Rattle.std.specs.Option.{option_or}
 use Rattle.std.specs.Str.{bytes_eq}
 use Rattle.lrs_command.specs.declared.command.Area.{Area}
 use Rattle.lrs_command.specs.declared.command.Area.TheVariants.{Free, Store, Desk}
+use Rattle.lrs_command.specs.declared.command.Command.{Command}
+use Rattle.lrs_command.specs.declared.command.Command.TheVariants as command
 use Rattle.lrs_command.specs.declared.command.Read.{Read}
 use Rattle.lrs_command.specs.declared.command.Read.TheVariants.{Statements, More, About}
 use Rattle.lrs_command.specs.declared.rule.Rule.{Rule}
@@ -48,6 +50,11 @@ abbrev pub read_area : Read → Area
 read_area (Statements wanted) = Store
 read_area (More link) = Store
 read_area About = Free
+
+abbrev pub command_area : Command → Area
+command_area (command.Write write) = area_of write
+command_area (command.Read read) = read_area read
+command_area (command.Refused area status rule) = area
 
 -- Why a caller isn't let in: no caller of the history (A1), or another than an admin at the desk (A2).
 abbrev pub barred : Area → Who → Option Refusal

@@ -3,12 +3,13 @@
 use Rattle.std.specs.Prelude.{◌≡◌, ◌≢◌, ◌<◌, ◌≤◌, ◌+◌, ◌^◌, ◌==◌, ℕ, List, [], ◌∷◌, ◌++◌, length, map, take, Option, Some, None, MatchOption, true, false, IsTrue}
 use Rattle.std.specs.List.{AllByRecursion, IsDistinct}
 use Rattle.lrs_command.specs.declared.command.Area.TheVariants.{Store}
+use Rattle.lrs_command.specs.declared.command.Command.{Command}
 use Rattle.lrs_command.specs.declared.command.Command.TheVariants.{Read, Write}
 use Rattle.lrs_command.specs.declared.command.Read.TheVariants as read
 use Rattle.lrs_command.specs.declared.who.Who.{Who}
 use Rattle.lrs_history.specs.Effects.{Occasion, occasion, supply_in}
 use Rattle.lrs_history.specs.History.{Answer, answer, next_entry, only, refused, state, with_entry, IsLegal}
-use Rattle.lrs_history.specs.Refusals.{barred, refused_in, refused_batch, refused_form}
+use Rattle.lrs_history.specs.Refusals.{barred, command_area, refused_in, refused_batch, refused_form}
 use Rattle.lrs_history.specs.Whose.{authority_of, sight_of, who_is}
 use Rattle.lrs_json.specs.View.{view}
 use Rattle.lrs_json.specs.declared.tree.Tree.{Tree}
@@ -86,6 +87,12 @@ IsSmall h trees = (used_in (state h)).count + length trees < 2 ^ 122
 -- whoever is let in has an authority, under which its statements are kept
 abbrev pub CallersHaveAuthority : Type 0
 CallersHaveAuthority = (h : List Entry) (caller : Caller) → IsLetIn h caller → (authority : Authority) × (authority_of (state h) (who_in h caller) ≡ Some authority)
+
+-- Who isn't let into an area is told so, whatever it asks there.
+abbrev pub StrangersAreToldAlike : Type 0
+StrangersAreToldAlike =
+    (limit : ℕ) (h : List Entry) (caller : Caller) (c : Command) (clock : ℕ) (draw : Draw) (refusal : Refusal) → barred (command_area c) (who_in h caller) ≡ Some refusal
+    → answer limit h caller c clock draw ≡ only (refused refusal)
 
 -- ---- an id
 

@@ -1,10 +1,11 @@
-ghost use Rattle.lrs_laws.specs.Laws.{BatchConflictsAreTold, BatchesAreWhole, CallersHaveAuthority, ConflictsAreTold, FirstPagesAreTold, LinksGoOn, LinksStay, LinksWhereMoreComes, MadeIdsAreNew, NamesForGood, NamesOne, PagesEnd, PagesGiveTheList, PositionsComeOnce, PutsAreHeld, RepeatedBatchesAreTaken, RepeatsAreTaken, StaysVoided};
+ghost use Rattle.lrs_laws.specs.Laws.{BatchConflictsAreTold, BatchesAreWhole, CallersHaveAuthority, ConflictsAreTold, FirstPagesAreTold, LinksGoOn, LinksStay, LinksWhereMoreComes, MadeIdsAreNew, NamesForGood, NamesOne, PagesEnd, PagesGiveTheList, PositionsComeOnce, PutsAreHeld, RepeatedBatchesAreTaken, RepeatsAreTaken, StaysVoided, StrangersAreToldAlike};
 
-/// Over every history whoever is let in has an authority. An id names one statement, for good, and what is voided stays so.
-/// A repeat makes no entry, and another statement under the id is told it, alone and in a batch. Made ids are new, what isn't
-/// refused is held, and a batch is kept whole.
+/// Over every history whoever is let in has an authority, and who isn't is told the same whatever it asks. An id names one
+/// statement, for good, and what is voided stays so. A repeat makes no entry, and another statement under the id is told it,
+/// alone and in a batch. Made ids are new, what isn't refused is held, and a batch is kept whole.
 pub fn law_of_names()
     ensures authority { CallersHaveAuthority }
+    ensures strangers { StrangersAreToldAlike }
     ensures one { NamesOne }
     ensures good { NamesForGood }
     ensures voided { StaysVoided }

@@ -1,5 +1,5 @@
 -- What the desk's calls promise. A desk is seen as its journal.
-use Rattle.std.specs.Prelude.{◌≡◌, ◌⊎◌, ◌<◌, ◌≤◌, ◌+◌, ◌-◌, ℕ, List, [], ◌∷◌, ◌++◌, length, map, Option, Some, None, IsSome, Bool, true, false, ◌&&◌, not, if◌then◌else◌, nat_lt, Result, Ok, Err}
+use Rattle.std.specs.Prelude.{◌≡◌, ◌⊎◌, ◌<◌, ◌≤◌, ◌+◌, ◌-◌, ℕ, List, [], ◌∷◌, ◌++◌, length, map, Option, Some, None, IsSome, Bool, true, false, ◌&&◌, not, if◌then◌else◌, is_none, nat_lt, Result, Ok, Err}
 use Rattle.lrs_disk.specs.Faults.{Rises}
 use Rattle.std.specs.List.{AllByRecursion}
 use Rattle.lrs_journal.specs.Store.{store, HasHeader, IsPayload, Stands, IsDamaged}
@@ -12,7 +12,11 @@ use Rattle.lrs_replies.specs.declared.reply.Reply.{Reply}
 use Rattle.lrs_replies.specs.declared.reply.Trouble.{Trouble}
 use Rattle.lrs_replies.specs.declared.reply.Trouble.TheVariants.{Memory, Disk}
 use Rattle.lrs_replies.specs.Replies.{Says}
-use Rattle.lrs_history.specs.History.{Answer, with_entry, ComesNext, IsLegal, IsLegalFrom}
+use Rattle.lrs_command.specs.declared.command.Area.{Area}
+use Rattle.lrs_history.specs.History.{Answer, state, with_entry, ComesNext, IsLegal, IsLegalFrom}
+use Rattle.lrs_history.specs.Refusals.{barred}
+use Rattle.lrs_history.specs.Whose.{who_is}
+use Rattle.lrs_record.specs.declared.entry.Caller.{Caller}
 use Rattle.lrs_machine.specs.declared.opening.DeskRefused.{DeskRefused}
 use Rattle.lrs_machine.specs.declared.opening.DeskRefused.TheVariants as desk
 use Rattle.lrs_machine.specs.declared.opening.FoundRefused.{FoundRefused}
@@ -33,6 +37,11 @@ pub record StandsFor {D : Type 0} (told : D → Option (List ℕ)) (desk : Desk 
 -- Each image that a crash now may leave stands for the history, or in doubt for it without its last entry.
 abbrev pub IsOnDisk : {D : Type 0} → (D → List ℕ → Type 0) → Desk D → List Entry → Type 0
 IsOnDisk image desk h = (bytes : List ℕ) → image desk.disk bytes → JournalStandsFor desk.limit desk.doubt (map written_entry h) bytes
+
+-- ---- who is let in
+
+abbrev pub lets_in : List Entry → Caller → Area → Bool
+lets_in h caller area = is_none (barred area (who_is (state h) caller))
 
 -- ---- acts
 

@@ -9,13 +9,14 @@ ghost use Rattle.lrs_json.specs.View.{view};
 ghost use Rattle.lrs_history.specs.History.{answer};
 ghost use Rattle.lrs_replies.specs.Replies.{status_in};
 ghost use Rattle.lrs_fold.specs.Own.{put_of, IsOfPut, IsPut};
-ghost use Rattle.lrs_machine.specs.Desk.{StandsFor, IsOnDisk, Answers, HasDiskCause, receipt_of, landed_place, LeavesStore, Replies};
+ghost use Rattle.lrs_machine.specs.Desk.{StandsFor, IsOnDisk, Answers, HasDiskCause, receipt_of, landed_place, lets_in, LeavesStore, Replies};
 
 use crate::Receipt;
 use crate::acting::act;
-use lrs_command::Command;
+use lrs_command::{Area, Command};
 use lrs_disk::{Disk, Failed};
 use lrs_fold::{Fold, put_of};
+use lrs_history::barred;
 use lrs_journal::Journal;
 use lrs_json::Tree;
 use lrs_names::{Draw, Id};
@@ -64,6 +65,13 @@ impl<D: Disk> Desk<D> {
         ensures { result ≡ D.fault_count self.now.disk }
     {
         self.journal.faults()
+    }
+
+    /// Whether a caller is let into an area. Whoever isn't is refused, whatever it asks there.
+    pub fn lets_in(&self, caller: &Caller, area: Area) -> bool
+        ensures { (h : List Entry) → StandsFor D.told self.now h → result ≡ lets_in h caller.now area }
+    {
+        barred(area, self.fold.who(caller)).is_none()
     }
 
     fn answer(

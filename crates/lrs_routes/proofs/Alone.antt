@@ -1,8 +1,8 @@
 -- A request has one account, but where memory was wanting.
-use Rattle.std.proofs.Common.{◌≡◌, true, false, Option, Some, None, Result, Ok, Err, refl, sym, ap, ◌∙◌, subst, inl, inr, IsErrAnd}
+use Rattle.std.proofs.Common.{◌≡◌, true, false, Option, Some, None, Result, Ok, Err, refl, sym, ap, ◌∙◌, subst, inl, inr, IsErrAnd, MatchResult}
 use Rattle.lrs_http.specs.declared.request.Request.{Request}
 use Rattle.lrs_command.specs.declared.command.Command.{Command}
-use Rattle.lrs_routes.specs.Asked.{Agree, IsAsked, IsRouteRefused, IsRouted, has_version, operation_at}
+use Rattle.lrs_routes.specs.Asked.{Agree, IsAsked, IsCommandOf, IsRouteRefused, IsRouted, IsRoutedAs, has_version, operation_at}
 use Rattle.lrs_routes.specs.Fields.{caller_of}
 use Rattle.lrs_routes.specs.Forms.{IsCommand}
 use Rattle.lrs_routes.specs.Paths.{Fits}
@@ -10,6 +10,7 @@ use Rattle.lrs_routes.specs.Table.{allow_of, row_of}
 use Rattle.lrs_routes.specs.declared.asked.Asked.{Asked}
 use Rattle.lrs_routes.specs.declared.asked.RouteRefused.{RouteRefused}
 use Rattle.lrs_routes.specs.declared.asked.RouteRefused.TheVariants as refused
+use Rattle.lrs_routes.specs.declared.asked.Routed.{Routed}
 use Rattle.lrs_routes.specs.declared.table.Allow.{Allow}
 use Rattle.lrs_routes.specs.declared.operation.Operation.{Operation}
 use Rattle.lrs_routes.specs.declared.table.Route.{Route}
@@ -92,3 +93,39 @@ module _ (request : Request) where
   pub asked_handed : (e : RouteRefused) (r : Account) → IsErrAnd r (λ own. own ≡ e) → IsRouteRefused request.path request.method request.version e → IsAsked request r
   asked_handed e (Ok asked) is h = absurd is
   asked_handed e (Err own) is h = subst (λ (x : RouteRefused). IsRouteRefused request.path request.method request.version x) (sym is) h
+
+  -- ---- before the parameters and the body are looked at
+
+  -- a request is routed in one way
+  pub one_routed : (a b : Routed) → IsRoutedAs request a → IsRoutedAs request b → a ≡ b
+  one_routed a b h k =
+      let same : h.route ≡ k.route = one_route request.path h.route k.route h.is.fits k.is.fits in
+      let caller : a.caller ≡ b.caller = h.caller ∙ ap (λ (r : Route). caller_of (row_of r).area request.credential) same ∙ sym k.caller in
+      let area : a.area ≡ b.area = h.area ∙ ap (λ (r : Route). (row_of r).area) same ∙ sym k.area in
+      let at : operation_at h.route request.method ≡ Some b.operation = at_route (λ (r : Route). operation_at r request.method ≡ Some b.operation) h.route k.route h.is.fits k.is.fits k.is.is in
+      let operation : a.operation ≡ b.operation = some_same a.operation b.operation (sym h.is.is ∙ at) in
+      λ i. record { caller = caller i; area = area i; operation = operation i }
+
+  -- with its command it is asked
+  pub routed_asks : (routed : Routed) (command : Command) → IsRoutedAs request routed → IsCommandOf request routed command → IsAsked request (Ok (record { caller = routed.caller; command = command }))
+  routed_asks routed command h is = (h.route, routed.operation, h.is, h.caller, subst (λ area. IsCommand area routed.operation request command) h.area is)
+
+  -- and what is asked is its command
+  pub asked_routed : (asked : Asked) (routed : Routed) → IsAsked request (Ok asked) → IsRoutedAs request routed → (asked.caller ≡ routed.caller) × IsCommandOf request routed asked.command
+  asked_routed asked routed o h =
+      let own : Routed = record { caller = asked.caller; area = (row_of o.0).area; operation = o.1 } in
+      let same : own ≡ routed = one_routed own routed (record { route = o.0; is = o.2; area = refl; caller = o.3 }) h in
+      (ap (λ (r : Routed). r.caller) same, subst (λ (r : Routed). IsCommandOf request r asked.command) same o.4)
+
+  -- it asks for nothing only for want of memory
+  pub routed_refused : (routed : Routed) (e : RouteRefused) → IsRoutedAs request routed → IsAsked request (Err e) → e ≡ refused.Memory
+  routed_refused routed refused.NoRoute h o = absurd (o h.route h.is.fits)
+  routed_refused routed (refused.NoMethod allow) h o = absurd (method_missing o.0 h.route routed.operation o.1 h.is.fits o.2 h.is.is)
+  routed_refused routed refused.NoVersion h o = absurd (version_missing o.0 h.route o.2 h.is.fits o.4 h.is.spoken)
+  routed_refused routed refused.Memory h o = refl
+
+  -- a refusal that is handed on tells why there is no route
+  pub routed_handed : (e : RouteRefused) (r : Result Routed RouteRefused) → IsErrAnd r (λ own. own ≡ e) → IsRouteRefused request.path request.method request.version e
+      → MatchResult r (λ routed. IsRoutedAs request routed) (λ refused. IsRouteRefused request.path request.method request.version refused)
+  routed_handed e (Ok routed) is h = absurd is
+  routed_handed e (Err own) is h = subst (λ (x : RouteRefused). IsRouteRefused request.path request.method request.version x) (sym is) h

@@ -9,4 +9,5 @@ pub mod OneWanted
 pub mod Strings
 pub mod Looks
 pub mod Alone
+pub mod Areas
 pub mod OneAsked

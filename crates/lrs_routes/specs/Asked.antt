@@ -1,5 +1,6 @@
 -- What a request asks: a caller and a command, or why there is no route to one.
 use Rattle.std.specs.Prelude.{◌≡◌, ◌⊎◌, ◌||◌, ℕ, List, Bool, true, false, not, Option, Some, None, Result, Ok, Err}
+use Rattle.lrs_command.specs.declared.command.Command.{Command}
 use Rattle.lrs_http.specs.declared.request.Method.{Method}
 use Rattle.lrs_http.specs.declared.request.Request.{Request}
 use Rattle.lrs_routes.specs.Fields.{caller_of, speaks}
@@ -9,6 +10,7 @@ use Rattle.lrs_routes.specs.Table.{allow_of, operation_of, row_of}
 use Rattle.lrs_routes.specs.declared.asked.Asked.{Asked}
 use Rattle.lrs_routes.specs.declared.asked.RouteRefused.{RouteRefused}
 use Rattle.lrs_routes.specs.declared.asked.RouteRefused.TheVariants as refused
+use Rattle.lrs_routes.specs.declared.asked.Routed.{Routed}
 use Rattle.lrs_routes.specs.declared.operation.Operation.{Operation}
 use Rattle.lrs_routes.specs.declared.table.Route.{Route}
 
@@ -34,6 +36,17 @@ IsRouteRefused path method version (refused.NoMethod allow) =
 IsRouteRefused path method version refused.NoVersion =
     (route : Route) × (operation : Operation) × Fits (row_of route).pattern path × (operation_at route method ≡ Some operation) × (has_version route version ≡ false)
 IsRouteRefused path method version refused.Memory = Unit {0}
+
+-- what is known of a routed request before its parameters and its body are looked at: who asks, whom its route answers, and what its method is for there
+pub record IsRoutedAs (request : Request) (routed : Routed) : Type 0 where
+  pub route : Route
+  pub is : IsRouted request.path request.method request.version route routed.operation
+  pub area : routed.area ≡ (row_of route).area
+  pub caller : routed.caller ≡ caller_of (row_of route).area request.credential
+
+-- the command of a request that is routed so
+abbrev pub IsCommandOf : Request → Routed → Command → Type 0
+IsCommandOf request routed command = IsCommand routed.area routed.operation request command
 
 -- what a request asks, or why it asks nothing
 abbrev pub IsAsked : Request → Result Asked RouteRefused → Type 0

@@ -1,7 +1,18 @@
 use crate::Allow;
-use lrs_command::Command;
+use crate::operation::Operation;
+use lrs_command::{Area, Command};
 use lrs_json::Memory;
 use lrs_record::Caller;
+
+/// A request that has a route, before its parameters and its body are looked at.
+#[derive(Drop)]
+pub struct Routed {
+    /// Who asks.
+    pub caller: Caller,
+    /// Whom the route answers.
+    pub area: Area,
+    pub(crate) operation: Operation,
+}
 
 /// What a request asks: who asks, and what for.
 #[derive(Drop)]

@@ -13,6 +13,6 @@ mod routes;
 mod table;
 mod values;
 
-pub use asked::{Asked, RouteRefused};
+pub use asked::{Asked, RouteRefused, Routed};
 pub use routes::Routes;
 pub use table::Allow;

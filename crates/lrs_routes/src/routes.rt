@@ -1,7 +1,7 @@
 ghost use Rattle.std.specs.Prelude.{◌≡◌, ◌≢◌, ◌⊎◌, IfOk, Err, Result, MatchOption, MatchResult, map};
 ghost use Rattle.lrs_command.specs.Commands.{HasReadTrees};
 ghost use Rattle.lrs_record.specs.Entries.{IsLawfulCaller};
-ghost use Rattle.lrs_routes.specs.Asked.{Agree, IsAsked, IsRouteRefused, IsRouted};
+ghost use Rattle.lrs_routes.specs.Asked.{Agree, IsAsked, IsCommandOf, IsRouteRefused, IsRouted, IsRoutedAs};
 ghost use Rattle.lrs_routes.specs.Parts.{HasFormRule};
 ghost use Rattle.lrs_routes.specs.Paths.{Fits};
 ghost use Rattle.lrs_routes.specs.Table.{patterns, row_of};
@@ -13,7 +13,8 @@ use crate::fields::{caller_of, speaks};
 use crate::forms::command;
 use crate::operation::Operation;
 use crate::table::Route;
-use crate::{Asked, RouteRefused};
+use crate::{Asked, RouteRefused, Routed};
+use lrs_command::Command;
 use lrs_http::{Method, Request};
 use lrs_json::{Memory, Text};
 use matchit::{InsertError, Router};
@@ -57,14 +58,33 @@ impl Routes {
         ensures trees { IfOk result (λ asked. HasReadTrees asked.command) }
         ensures rules { IfOk result (λ asked. HasFormRule asked.command) }
     {
+        let routed = self.routed(alloc, request)?;
+        let command = routed.command(alloc, request)?;
+        Ok(Asked {
+            caller: routed.caller,
+            command,
+        })
+    }
+
+    /// Where a request goes and who asks, looked at in the order of `command_of`, or why it asks for nothing. Its
+    /// parameters and its body aren't looked at.
+    pub fn routed(&self, alloc: Global, request: &Request) -> Result<Routed, RouteRefused>
+        ensures routed { MatchResult result (λ routed. IsRoutedAs request.now routed)
+            (λ refused. IsRouteRefused request.now.path request.now.method request.now.version refused) }
+        ensures lawful { IfOk result (λ routed. IsLawfulCaller routed.caller) }
+    {
         let (route, operation) = self.operation_of(
             request.path.as_str(),
             request.method,
             &request.version,
         )?;
-        let caller = caller_of(alloc, route.area(), &request.credential)?;
-        let command = command(alloc, route.area(), operation, request)?;
-        Ok(Asked { caller, command })
+        let area = route.area();
+        let caller = caller_of(alloc, area, &request.credential)?;
+        Ok(Routed {
+            caller,
+            area,
+            operation,
+        })
     }
 
     // What the request's method is for on its route.
@@ -101,6 +121,17 @@ impl Routes {
             Ok(found) => Some(copied(found.value)),
             Err(_) => None,
         }
+    }
+}
+
+impl Routed {
+    /// The command of the request. A form that is refused is a command, too.
+    pub fn command(&self, alloc: Global, request: &Request) -> Result<Command, Memory>
+        ensures is { IfOk result (IsCommandOf request.now self.now) }
+        ensures trees { IfOk result HasReadTrees }
+        ensures rules { IfOk result HasFormRule }
+    {
+        command(alloc, self.area, self.operation, request)
     }
 }
 

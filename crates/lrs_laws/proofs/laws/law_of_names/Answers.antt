@@ -1,4 +1,5 @@
 use Rattle.xapi_equal.proofs.Laws.{same_is_sameness}
+use Rattle.lrs_history.proofs.Strangers.{told_barred}
 use Rattle.lrs_laws.proofs.Again.{batch_conflicts_are_told, conflicts_are_told, repeated_batches_are_taken, repeats_are_taken}
 use Rattle.lrs_laws.proofs.Keepers.{names_for_good, names_one, stays_voided}
 use Rattle.lrs_laws.proofs.NewIds.{made_ids_are_new}
@@ -7,6 +8,9 @@ use Rattle.lrs_laws.proofs.laws.law_of_names.Goals as goal
 
 pub returns-clause-authority : goal.returns-clause-authority
 returns-clause-authority c = callers_have_authority
+
+pub returns-clause-strangers : goal.returns-clause-strangers
+returns-clause-strangers c = told_barred
 
 pub returns-clause-one : goal.returns-clause-one
 returns-clause-one c = names_one
