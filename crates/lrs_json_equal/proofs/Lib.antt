@@ -1,1 +1,2 @@
 mod SameValues
+mod Places

@@ -26,11 +26,11 @@ and_right false b e = absurd (true≢false (sym e))
 both : (a b : Bool) → a ≡ true → b ≡ true → (a && b) ≡ true
 both a b e f = rw (e, f) refl
 
-or_left : (a b : Bool) → (a || b) ≡ false → a ≡ false
+pub or_left : (a b : Bool) → (a || b) ≡ false → a ≡ false
 or_left true b e = e
 or_left false b e = refl
 
-or_right : (a b : Bool) → (a || b) ≡ false → b ≡ false
+pub or_right : (a b : Bool) → (a || b) ≡ false → b ≡ false
 or_right true b e = absurd (true≢false e)
 or_right false b e = e
 
@@ -46,7 +46,7 @@ boolean-refl : (b : Bool) → same (boolean b) (boolean b) ≡ true
 boolean-refl true = refl
 boolean-refl false = refl
 
-text-refl : (s : List ℕ) → bytes_eq s s ≡ true
+pub text-refl : (s : List ℕ) → bytes_eq s s ≡ true
 text-refl s = nat_list_eq_equiv.refl s
 
 -- ---- what has the same value is of the same kind
@@ -85,10 +85,10 @@ is_element j js (element k ks) e = (k, ks, refl)
 
 -- ---- looking up
 
-found_at : (k : List ℕ) (t : Bool) (j : Json) (rest : Option Json) → t ≡ true → (if t then Some j else rest) ≡ Some j
+pub found_at : (k : List ℕ) (t : Bool) (j : Json) (rest : Option Json) → t ≡ true → (if t then Some j else rest) ≡ Some j
 found_at k t j rest e = ap (λ b. if b then Some j else rest) e
 
-passed : (t : Bool) (j : Json) (rest : Option Json) → t ≡ false → (if t then Some j else rest) ≡ rest
+pub passed : (t : Bool) (j : Json) (rest : Option Json) → t ≡ false → (if t then Some j else rest) ≡ rest
 passed t j rest e = ap (λ b. if b then Some j else rest) e
 
 some_same : (i j : Json) → Some i ≡ Some j → i ≡ j

@@ -2,5 +2,7 @@
 #![tactic(auto)]
 
 mod equivalence;
+mod partners;
 
 pub use equivalence::same_value;
+pub use partners::Partners;

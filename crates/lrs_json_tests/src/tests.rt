@@ -305,6 +305,35 @@ fn values_are_the_same_in_any_order_and_spelling(rt: HostRuntime) {
     assert_eq!(rt; wrong_pair(rt.alloc()), None);
 }
 
+// The text of an object of so many members, forwards or backwards.
+fn text_of_members(alloc: Global, count: u32, backwards: bool) -> Result<String, Memory> {
+    let mut text = String::new(alloc);
+    let mut mark = '{';
+    for at in 0..count {
+        let name = if backwards {
+            count.saturating_sub(at)
+        } else {
+            at.saturating_add(1)
+        };
+        let member = format!(in alloc; "{mark}\"{name}\":{name}")?;
+        text.push_str(member.as_str())?;
+        mark = ',';
+    }
+    text.push('}')?;
+    Ok(text)
+}
+
+fn are_same_backwards(alloc: Global, count: u32) -> Result<bool, ReadRefused> {
+    let there = text_of_members(alloc, count, false)?;
+    let back = text_of_members(alloc, count, true)?;
+    are_same_values(alloc, there.as_str(), back.as_str())
+}
+
+#[test]
+fn many_members_are_the_same_backwards(rt: HostRuntime) {
+    assert_eq!(rt; are_same_backwards(rt.alloc(), 29_000), Ok(true));
+}
+
 // Whether a list of one text, made from a vector of it, has it under the name `a` of the tree alone.
 fn is_found(alloc: Global, tree: &Tree) -> Result<bool, Memory> {
     let mut items = Items::new(alloc);

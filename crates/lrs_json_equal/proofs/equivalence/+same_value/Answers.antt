@@ -9,7 +9,7 @@ use Rattle.lrs_json_equal.proofs.equivalence.+same_value.Goals as goal
 pub has_same_value-is_same_value-requires : goal.has_same_value-is_same_value-requires
 has_same_value-is_same_value-requires t c =
     let seen : (member_view c.args.member.now).1 ≡ view c.args.member.now.value = search (rules, the_lemmas) in
-    let found = Fits-found (members_of (map member_view c.args.members.now)) _ _ _ c.requires.members_fit.1 (sym c.in-Some.ensures) in
+    let found = Fits-found (members_of (map member_view c.args.members.now)) _ _ _ c.requires.members_fit.1 (sym (c.in-Some.ensures.first _ c.requires.members_fit.1)) in
     (search (rules, the_lemmas), (subst Fits seen c.requires.member_fits, found))
 
 pub have_same_values-returns-then-a-b : goal.have_same_values-returns-then-a-b

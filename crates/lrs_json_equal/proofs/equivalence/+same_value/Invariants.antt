@@ -12,8 +12,14 @@ invariant-have_same_values-loop-x l =
     (same_elements (elements_of (map view l.a)) (elements_of (map view l.b)) ≡ same_elements (elements_of (map view xs)) (elements_of (map view ys)))
     × FitElements (elements_of (map view xs)) × FitElements (elements_of (map view ys)) × (length xs ≡ length ys)
 
-abbrev pub invariant-members_have_same_values-loop-member : goal.invariant-members_have_same_values-loop-member
-invariant-members_have_same_values-loop-member l =
+abbrev pub invariant-few_have_same_values-loop-member : goal.invariant-few_have_same_values-loop-member
+invariant-few_have_same_values-loop-member l =
+    let ns = members_of (map member_view l.b) in
+    (same_members (members_of (map member_view l.a)) ns ≡ same_members (members_of (map member_view (drop l.member-index l.a))) ns)
+    × ((names : List (List ℕ)) × FitMembers names (members_of (map member_view (drop l.member-index l.a))))
+
+abbrev pub invariant-many_have_same_values-loop-member : goal.invariant-many_have_same_values-loop-member
+invariant-many_have_same_values-loop-member l =
     let ns = members_of (map member_view l.b) in
     (same_members (members_of (map member_view l.a)) ns ≡ same_members (members_of (map member_view (drop l.member-index l.a))) ns)
     × ((names : List (List ℕ)) × FitMembers names (members_of (map member_view (drop l.member-index l.a))))
