@@ -1,5 +1,5 @@
-//! The numbers of JSON: their grammar (RFC 8259, section 6), which of them are in range, which are
-//! whole, and their exact values; and the number that a run of digits writes.
+//! The numbers of JSON: their grammar (RFC 8259, section 6), which of them are in range, which are whole, and their
+//! exact values. Also the value of a run of digits.
 #![tactic(auto)]
 
 mod decimal;

@@ -1,5 +1,5 @@
 -- Ids that are given, and ids that are made.
-use Rattle.std.proofs.Common.{◌≡◌, ℕ, zero, suc, length, ◌%◌, ◌+◌, ◌-◌, ◌^◌, ◌<◌, List, [], ◌∷◌, drop, Bool, true, false, not, ◌&&◌, ◌||◌, cond, Some, None, refl, sym, ap, ◌∙◌, arith}
+use Rattle.std.proofs.Common.{◌≡◌, ℕ, zero, suc, length, ◌%◌, ◌+◌, ◌-◌, ◌<◌, List, [], ◌∷◌, drop, Bool, true, false, not, ◌&&◌, ◌||◌, cond, Some, None, refl, sym, ap, ◌∙◌, arith}
 use Rattle.std.specs.Prelude.{find, unwrap_or}
 use Rattle.std.specs.List.{list_any, list_all}
 use Rattle.std.specs.Str.{bytes_eq}
@@ -9,9 +9,10 @@ use Rattle.std.proofs.lemmas.Cmp.{nat_list_eq_equiv}
 use Rattle.std.proofs.lemmas.Map.Text.{is_eq-slice_cmp}
 use Rattle.lrs_names.specs.Members.{is_one_of}
 use Rattle.lrs_names.specs.Ids.{id_of_word}
-use Rattle.lrs_names.proofs.FreshLemmas.{has_id}
+use Rattle.lrs_ids.proofs.FreshLemmas.{has_id}
+use Rattle.lrs_names.specs.declared.id.TheConstants.{WORDS}
 use Rattle.lrs_ids.specs.Ids.{Used, are_distinct, free_word, is_free, made_id, rest_of, supply_of, words_from}
-use Rattle.lrs_ids.specs.Making.{GiveSame, HoldSame}
+use Rattle.lrs_ids.specs.IdSupply.{GiveSame, HoldSame}
 
 -- ---- ids that are given
 
@@ -123,14 +124,14 @@ so_far-begin test most word = let all : (word + most) - word ≡ most = omega ar
 
 -- ---- ids that are free
 
-pub free-used : (used : Used) (taken : List (List ℕ)) (word : ℕ) (id : List ℕ) → id ≡ id_of_word word → used.is_used id ≡ true → false ≡ is_free used taken word
-free-used used taken word id made is = sym (ap (λ b. not (b || is_one_of taken (id_of_word word))) (ap (λ i. used.is_used i) (sym made) ∙ is))
+pub free-used : (used : Used) (gone : List (List ℕ)) (word : ℕ) (id : List ℕ) → id ≡ id_of_word word → used.is_used id ≡ true → false ≡ is_free used gone word
+free-used used gone word id made is = sym (ap (λ b. not (b || is_one_of gone (id_of_word word))) (ap (λ i. used.is_used i) (sym made) ∙ is))
 
-pub free-other : (used : Used) (taken : List (List ℕ)) (word : ℕ) (id : List ℕ) (there : Bool) → id ≡ id_of_word word → used.is_used id ≡ false → there ≡ is_one_of taken id
-    → not there ≡ is_free used taken word
-free-other used taken word id there made none is =
-    ap (λ b. not b) (is ∙ ap (λ i. is_one_of taken i) made)
-    ∙ sym (ap (λ b. not (b || is_one_of taken (id_of_word word))) (ap (λ i. used.is_used i) (sym made) ∙ none))
+pub free-other : (used : Used) (gone : List (List ℕ)) (word : ℕ) (id : List ℕ) (there : Bool) → id ≡ id_of_word word → used.is_used id ≡ false → there ≡ is_one_of gone id
+    → not there ≡ is_free used gone word
+free-other used gone word id there made none is =
+    ap (λ b. not b) (is ∙ ap (λ i. is_one_of gone i) made)
+    ∙ sym (ap (λ b. not (b || is_one_of gone (id_of_word word))) (ap (λ i. used.is_used i) (sym made) ∙ none))
 
 -- ---- one by one
 
@@ -147,24 +148,24 @@ free_word-same used ids others most word same =
 pub made_id-same : (used : Used) (ids others : List (List ℕ)) (most word : ℕ) → HoldSame ids others → (k : ℕ) → made_id used ids most word k ≡ made_id used others most word k
 made_id-same used ids others most word same zero = ap (λ w. id_of_word w) (free_word-same used ids others most word same)
 made_id-same used ids others most word same (suc k) =
-    ap (λ w. made_id used (id_of_word w ∷ ids) (most + 1) ((w + 1) % 2 ^ 122) k) (free_word-same used ids others most word same)
-    ∙ made_id-same used (id_of_word (free_word used others most word) ∷ ids) (id_of_word (free_word used others most word) ∷ others) (most + 1) ((free_word used others most word + 1) % 2 ^ 122)
+    ap (λ w. made_id used (id_of_word w ∷ ids) (most + 1) ((w + 1) % WORDS) k) (free_word-same used ids others most word same)
+    ∙ made_id-same used (id_of_word (free_word used others most word) ∷ ids) (id_of_word (free_word used others most word) ∷ others) (most + 1) ((free_word used others most word + 1) % WORDS)
     (λ id. ap (λ b. bytes_eq (id_of_word (free_word used others most word)) id || b) (same id)) k
 
 -- one id was made, and is used from then on
-pub made_id-rest : (used : Used) (old new : List (List ℕ)) (most word made next : ℕ) (id : List ℕ) → made ≡ free_word used old most word → id ≡ id_of_word made → next ≡ (made + 1) % 2 ^ 122 → HoldSame new (id ∷ old)
+pub made_id-rest : (used : Used) (old new : List (List ℕ)) (most word made next : ℕ) (id : List ℕ) → made ≡ free_word used old most word → id ≡ id_of_word made → next ≡ (made + 1) % WORDS → HoldSame new (id ∷ old)
     → GiveSame (made_id used new (most + 1) next) (rest_of (made_id used old most word))
 made_id-rest used old new most word made next id is named follows added = record {
   same = λ k.
       ap (λ w. made_id used new (most + 1) w k) follows
-      ∙ (made_id-same used new (id ∷ old) (most + 1) ((made + 1) % 2 ^ 122) added k
-      ∙ (ap (λ i. made_id used (i ∷ old) (most + 1) ((made + 1) % 2 ^ 122) k) named
-      ∙ ap (λ w. made_id used (id_of_word w ∷ old) (most + 1) ((w + 1) % 2 ^ 122) k) is));
+      ∙ (made_id-same used new (id ∷ old) (most + 1) ((made + 1) % WORDS) added k
+      ∙ (ap (λ i. made_id used (i ∷ old) (most + 1) ((made + 1) % WORDS) k) named
+      ∙ ap (λ w. made_id used (id_of_word w ∷ old) (most + 1) ((w + 1) % WORDS) k) is));
 }
 
 -- where the ids begin
-pub made_id-begin : (used : Used) (taken given : List (List ℕ)) (most name : ℕ) → HoldSame taken given → most ≡ used.count + length given
-    → GiveSame (made_id used taken most (name % 2 ^ 122)) (supply_of used given name)
-made_id-begin used taken given most name same is = record {
-  same = λ k. made_id-same used taken given most (name % 2 ^ 122) same k ∙ ap (λ n. made_id used given n (name % 2 ^ 122) k) is;
+pub made_id-begin : (used : Used) (gone given : List (List ℕ)) (most name : ℕ) → HoldSame gone given → most ≡ used.count + length given
+    → GiveSame (made_id used gone most (name % WORDS)) (supply_of used given name)
+made_id-begin used gone given most name same is = record {
+  same = λ k. made_id-same used gone given most (name % WORDS) same k ∙ ap (λ n. made_id used given n (name % WORDS) k) is;
 }

@@ -1,7 +1,8 @@
 -- Which ids are used, and which ones an entry makes.
-use Rattle.std.specs.Prelude.{◌≡◌, ℕ, zero, suc, ◌+◌, ◌%◌, ◌^◌, ◌||◌, ◌&&◌, Bool, true, not, List, [], ◌∷◌, find, length, unwrap_or}
+use Rattle.std.specs.Prelude.{◌≡◌, ℕ, zero, suc, ◌+◌, ◌%◌, ◌||◌, ◌&&◌, Bool, true, not, List, [], ◌∷◌, find, length, unwrap_or}
 use Rattle.lrs_names.specs.Ids.{id_of_word}
 use Rattle.lrs_names.specs.Members.{is_one_of}
+use Rattle.lrs_names.specs.declared.id.TheConstants.{WORDS}
 
 abbrev pub are_distinct : List (List ℕ) → Bool
 are_distinct [] = true
@@ -56,9 +57,9 @@ rest_of supply k = supply (suc k)
 abbrev pub made_id : Used → List (List ℕ) → ℕ → ℕ → Supply
 made_id used ids most word zero = id_of_word (free_word used ids most word)
 made_id used ids most word (suc k) =
-    let free = free_word used ids most word in made_id used (id_of_word free ∷ ids) (most + 1) ((free + 1) % 2 ^ 122) k
+    let free = free_word used ids most word in made_id used (id_of_word free ∷ ids) (most + 1) ((free + 1) % WORDS) k
 
 -- What an entry makes that is drawn with this name and brings these ids itself: none is used, and none is one of these. The
 -- first begins at the name.
 abbrev pub supply_of : Used → List (List ℕ) → ℕ → Supply
-supply_of used given name = made_id used given (used.count + length given) (name % 2 ^ 122)
+supply_of used given name = made_id used given (used.count + length given) (name % WORDS)

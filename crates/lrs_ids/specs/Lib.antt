@@ -1,3 +1,4 @@
 pub mod Choices
 pub mod Ids
-pub mod Making
+pub mod IdSupply
+pub mod Fresh

@@ -1,18 +1,15 @@
 // The ids that are made one after another.
-ghost use Rattle.std.specs.Prelude.{◌≡◌, ◌<◌, ◌≤◌, ◌+◌, ◌^◌, ◌∷◌, IfOk, OnOk, not};
+ghost use Rattle.std.specs.Prelude.{◌≡◌, ◌<◌, ◌≤◌, ◌+◌, ◌∷◌, IfOk, OnOk, not};
 ghost use Rattle.lrs_names.specs.Members.{is_one_of};
 ghost use Rattle.lrs_ids.specs.Ids.{are_distinct, free_word, is_free, made_id, rest_of};
-ghost use Rattle.lrs_ids.specs.Making.{GiveSame, HoldSame};
+ghost use Rattle.lrs_ids.specs.IdSupply.{GiveSame, HoldSame};
 
 use crate::UsedIds;
 use lrs_json::Memory;
-use lrs_names::Id;
+use lrs_names::{Id, WORDS};
 use std::alloc::Global;
 use std::collections::BTreeSet;
 use std::marker::Model;
-
-/// The words of which ids are made, and above which they begin anew.
-const WORDS: u128 = 1 << 122;
 
 /// More ids than any memory holds.
 const MOST: u128 = 1 << 101;
@@ -21,26 +18,26 @@ const MOST: u128 = 1 << 101;
 #[derive(Drop)]
 pub struct IdSupply {
     // The ids that were given or made.
-    taken: BTreeSet<Id>,
+    gone: BTreeSet<Id>,
     // The next id is that of one of the next so many words, or of the one behind them.
     most: u128,
     word: u128,
 }
 
 impl Model for IdSupply {
-    ghost use Rattle.lrs_ids.specs.Making.{IsMaking, Making};
+    ghost use Rattle.lrs_ids.specs.IdSupply.{IsIdSupply, IdSupply as SpecSupply};
 
-    ghost Value = { Making };
+    ghost Value = { SpecSupply };
 
-    ghost view = { λ s. record { taken = s.taken.keys; most = s.most; word = s.word } };
+    ghost view = { λ s. record { gone = s.gone.keys; most = s.most; word = s.word } };
 
-    ghost invariant = { λ s. IsMaking s.most s.word };
+    ghost invariant = { λ s. IsIdSupply s.most s.word };
 }
 
 impl IdSupply {
     ghost use Rattle.std.specs.Prelude.{◌≡◌, IfOk, OnOk};
     ghost use Rattle.lrs_ids.specs.Ids.{rest_of, supply_of};
-    ghost use Rattle.lrs_ids.specs.Making.{GiveSame, left_of};
+    ghost use Rattle.lrs_ids.specs.IdSupply.{GiveSame, left_of};
 
     /// What an entry makes that is drawn with this name and brings these ids itself.
     pub fn new<U: UsedIds>(
@@ -52,9 +49,9 @@ impl IdSupply {
         ensures { IfOk result (λ supply.
             GiveSame (left_of (U.used used.now) supply) (supply_of (U.used used.now) given.now name)) }
     {
-        let taken = set_of(alloc, given)?;
+        let gone = set_of(alloc, given)?;
         Ok(IdSupply {
-            taken,
+            gone,
             most: used.count() + given.len() as u128,
             word: name % WORDS,
         })
@@ -69,7 +66,7 @@ impl IdSupply {
         if self.most >= MOST {
             return Err(Memory);
         }
-        make_id(used, &mut self.taken, &mut self.most, &mut self.word)
+        make_id(used, &mut self.gone, &mut self.most, &mut self.word)
     }
 }
 
@@ -104,51 +101,51 @@ fn set_of(alloc: Global, given: &[Id]) -> Result<BTreeSet<Id>, Memory>
     Ok(ids)
 }
 
-// Makes an id. It is taken from then on, and the next begins at the word behind.
+// Makes an id. It is gone from then on, and the next begins at the word behind.
 fn make_id<U: UsedIds>(
     used: &U,
-    taken: &mut BTreeSet<Id>,
+    gone: &mut BTreeSet<Id>,
     most: &mut u128,
     word: &mut u128,
 ) -> Result<Id, Memory>
-    requires most { most.old < 2 ^ 101 }
-    requires word { word.old < 2 ^ 122 }
-    ensures id { IfOk result (λ id. id ≡ made_id (U.used used.now) taken.old.keys most.old word.old 0) }
-    ensures left { OnOk result (GiveSame (made_id (U.used used.now) taken.new.keys most.new word.new)
-        (rest_of (made_id (U.used used.now) taken.old.keys most.old word.old))) }
+    requires most { most.old < MOST }
+    requires word { word.old < WORDS }
+    ensures id { IfOk result (λ id. id ≡ made_id (U.used used.now) gone.old.keys most.old word.old 0) }
+    ensures left { OnOk result (GiveSame (made_id (U.used used.now) gone.new.keys most.new word.new)
+        (rest_of (made_id (U.used used.now) gone.old.keys most.old word.old))) }
     ensures most { most.new ≤ most.old + 1 }
-    ensures word { word.new < 2 ^ 122 }
+    ensures word { word.new < WORDS }
 {
-    let made = free_word(used, taken, *most, *word);
+    let made = free_word(used, gone, *most, *word);
     let id = Id::of_word(made);
-    let _new = add_id(taken, id)?;
+    let _new = add_id(gone, id)?;
     *most += 1;
     *word = (made + 1) % WORDS;
     Ok(id)
 }
 
 // Of the words from that one on the first whose id is free.
-fn free_word<U: UsedIds>(used: &U, taken: &BTreeSet<Id>, most: u128, word: u128) -> u128
-    requires most { most < 2 ^ 102 }
-    requires word { word < 2 ^ 122 }
-    ensures free { result ≡ free_word (U.used used.now) taken.now.keys most word }
+fn free_word<U: UsedIds>(used: &U, gone: &BTreeSet<Id>, most: u128, word: u128) -> u128
+    requires most { most ≤ MOST }
+    requires word { word < WORDS }
+    ensures free { result ≡ free_word (U.used used.now) gone.now.keys most word }
     ensures near { result ≤ word + most }
 {
     for free in word..word + most {
-        if is_free(used, taken, free) {
+        if is_free(used, gone, free) {
             return free;
         }
     }
     word + most
 }
 
-fn is_free<U: UsedIds>(used: &U, taken: &BTreeSet<Id>, word: u128) -> bool
-    ensures { result ≡ is_free (U.used used.now) taken.now.keys word }
+fn is_free<U: UsedIds>(used: &U, gone: &BTreeSet<Id>, word: u128) -> bool
+    ensures { result ≡ is_free (U.used used.now) gone.now.keys word }
 {
     let id = Id::of_word(word);
     if used.is_used(&id) {
         false
     } else {
-        !taken.contains(&id)
+        !gone.contains(&id)
     }
 }

@@ -1,4 +1,6 @@
 pub mod Extending
+pub mod Pieces
 pub mod Escaping
 pub mod Views
 pub mod Back
+pub mod Sets

@@ -1,9 +1,11 @@
-//! JSON as every layer above stands on it: trees, and their written form.
+//! JSON trees, their written form and how deep they may nest; also the texts, lists and out-of-memory error that the
+//! layers above share.
 #![tactic(auto)]
 
 pub mod appending;
 mod copying;
 mod items;
+mod limits;
 mod memory;
 mod same;
 mod text;
@@ -11,6 +13,7 @@ mod tree;
 mod writing;
 
 pub use items::Items;
+pub use limits::DEPTH;
 pub use lrs_decimal::Decimal;
 pub use memory::Memory;
 pub use text::{Text, utf8_text};

@@ -1,4 +1,4 @@
-//! When two JSON values are the same: but for the order of members and the spelling of equal decimals.
+//! When two JSON values are the same: the order of members doesn't count, nor does the spelling of equal decimals.
 #![tactic(auto)]
 
 mod equivalence;

@@ -3,7 +3,7 @@ use Rattle.std.proofs.Common.{◌≡◌, ◌≤◌, ◌↔◌, ◌-◌, ◌+◌,
 use Rattle.lrs_json.specs.Json.{Json}
 use Rattle.lrs_json.specs.View.{view}
 use Rattle.lrs_json_reader.specs.Placed.{Placed, plain}
-use Rattle.lrs_json_reader.specs.Faults.{earlier, earliest, repeated_names, out_of_range_numbers}
+use Rattle.lrs_json_reader.specs.Flaws.{earlier, earliest, repeated_names, out_of_range_numbers}
 use Rattle.lrs_json_reader.specs.Grammar.{IsText}
 use Rattle.lrs_json.specs.Depth.{depth}
 use Rattle.lrs_json_reader.specs.Brackets.{reaches}

@@ -7,8 +7,8 @@ use Rattle.lrs_json_reader.specs.Placed.{Placed, array, plain, plain_elements, E
 use Rattle.lrs_json_reader.specs.Grammar.{Value, Listed}
 use Rattle.lrs_json_reader.specs.Steps.{GoesOn}
 use Rattle.lrs_json_reader.specs.Reading.{noted, Misses, ReadsValue, has_some}
-use Rattle.lrs_json_reader.specs.declared.cursor.Fault.{Fault}
-use Rattle.lrs_json_reader.specs.declared.cursor.Fault.TheVariants.{Memory}
+use Rattle.lrs_json_reader.specs.declared.cursor.Stop.{Stop}
+use Rattle.lrs_json_reader.specs.declared.cursor.Stop.TheVariants.{Memory}
 use Rattle.lrs_json_reader.specs.declared.reader.Reader.{Reader}
 use Rattle.lrs_json.specs.declared.tree.Tree.{Tree, List as Many}
 use Rattle.lrs_json_reader.proofs.StepLemmas.{Spaces-length}
@@ -59,7 +59,7 @@ end_comes later no_elements here s rest go l = (refl, (go.all_end rest l).1)
 end_comes later (element p left) here s rest go l = absurd (true≢false (sym (go.all_more l.0 l.1 l.3 l.4 (Value-Opens p l.1 l.2 l.5)).0))
 
 -- and where it finds neither
-none_comes : (later : Bool) (more : Elements) (here s rest : List ℕ) (y : Fault) → GoesOn later 93 here (Err y) s → Listed later more here rest → y ≡ Memory
+none_comes : (later : Bool) (more : Elements) (here s rest : List ℕ) (y : Stop) → GoesOn later 93 here (Err y) s → Listed later more here rest → y ≡ Memory
 none_comes later no_elements here s rest y go l = go.all_end rest l
 none_comes later (element p left) here s rest y go l = go.all_more l.0 l.1 l.3 l.4 (Value-Opens p l.1 l.2 l.5)
 
@@ -91,13 +91,13 @@ list_at x start rest0 rest e v =
     let o = only_array x (starts_at x start rest0 rest 91 e v) in
     (o.0, o.1, subst (λ z. Value z start rest) o.1 v)
 
-pub list_goes_fault : (ts : List Tree) (start here : Reader) (s rest0 : List ℕ) (y : Fault) → start.cursor ≡ 91 ∷ rest0 → ListSoFar ts start here → GoesOn (has_some ts) 93 here.cursor (Err y) s → Misses Value start y
+pub list_goes_fault : (ts : List Tree) (start here : Reader) (s rest0 : List ℕ) (y : Stop) → start.cursor ≡ 91 ∷ rest0 → ListSoFar ts start here → GoesOn (has_some ts) 93 here.cursor (Err y) s → Misses Value start y
 list_goes_fault ts start here s rest0 y e so go = λ x rest v ends.
     let l = list_at x start.cursor rest0 rest e v in
     let m = so.complete l.0 rest l.2 in
     none_comes (has_some ts) m.0 here.cursor s rest y go m.2
 
-pub list_item_fault : (ts : List Tree) (start here mid : Reader) (rest0 : List ℕ) (y : Fault) → start.cursor ≡ 91 ∷ rest0 → ListSoFar ts start here → GoesOn (has_some ts) 93 here.cursor (Ok true) mid.cursor → Misses Value mid y
+pub list_item_fault : (ts : List Tree) (start here mid : Reader) (rest0 : List ℕ) (y : Stop) → start.cursor ≡ 91 ∷ rest0 → ListSoFar ts start here → GoesOn (has_some ts) 93 here.cursor (Ok true) mid.cursor → Misses Value mid y
     → Misses Value start y
 list_item_fault ts start here mid rest0 y e so go misses = λ x rest v ends.
     let l = list_at x start.cursor rest0 rest e v in

@@ -1,51 +1,20 @@
 -- The loop over the names of an object, which looks for repeated ones.
-use Rattle.std.proofs.Common.{◌≡◌, ℕ, List, [], ◌∷◌, ◌++◌, length, map, ◌⊎◌, inl, inr, arith, Bool, true, false, not, cond, ◌||◌, Option, Some, if◌then◌else◌, refl, sym, ap, ◌∙◌, subst}
-use Rattle.std.specs.BTreeSet.{BTreeSet, contains_by, UpdatesBy}
-use Rattle.std.specs.Str.{bytes_eq}
+use Rattle.std.proofs.Common.{◌≡◌, ℕ, List, [], ◌∷◌, ◌++◌, length, map, ◌⊎◌, inl, inr, arith, true, false, not, Option, Some, if◌then◌else◌, refl, sym, ap, ◌∙◌, subst}
+use Rattle.std.specs.BTreeSet.{UpdatesBy}
 use Rattle.std.specs.Cmp.Lexicographic.{slice_cmp}
 use Rattle.std.specs.Ordering.{nat_cmp}
-use Rattle.std.proofs.lemmas.Cmp.{nat_list_eq_equiv}
-use Rattle.std.proofs.lemmas.Map.Text.{is_eq-slice_cmp}
 use denote.Ref.{Bor}
 use Rattle.lrs_json.specs.Names.{is_among}
-use Rattle.lrs_json_reader.specs.Faults.{earlier, earliest}
+use Rattle.lrs_json.proofs.Sets.{Names, has_more, has_name, not_false, not_true}
+use Rattle.lrs_json_reader.specs.Flaws.{earlier, earliest}
 use Rattle.lrs_json_reader.specs.Reading.{repeated_among}
 use Rattle.lrs_json_reader.proofs.Noting.{earlier-assoc}
-
-abbrev pub Names : Type 0
-Names = BTreeSet (Bor (List ℕ))
-
--- the set has the name
-abbrev has_name : List ℕ → Names → Bool
-has_name k names = contains_by (λ n. slice_cmp nat_cmp k n.now) names
 
 -- Of the names so far the set has each, and what is found, with what is left, is what there is to find.
 pub record NamesSoFar (names : Names) (found : Option ℕ) (ks : List (List ℕ)) (lefts : List ℕ) (all_ks : List (List ℕ)) (all_lefts : List ℕ) : Type 0 where
   pub so_far : List (List ℕ)
   pub has : (k : List ℕ) → has_name k names ≡ is_among k so_far
   pub finds : earlier found (earliest (repeated_among so_far ks lefts)) ≡ earliest (repeated_among [] all_ks all_lefts)
-
-cond_or : (b c : Bool) → cond b true c ≡ (b || c)
-cond_or true c = refl
-cond_or false c = refl
-
-not_false : (b : Bool) → false ≡ not b → b ≡ true
-not_false true e = refl
-not_false false e = e
-
-not_true : (b : Bool) → true ≡ not b → b ≡ false
-not_true true e = e
-not_true false e = refl
-
-key : List ℕ → Bor (List ℕ)
-key k = record { ref_ptr = (0, 0); now = k }
-
--- a set that took a name has it and those before
-has_more : (k : Bor (List ℕ)) (old new : Names) (so_far : List (List ℕ)) → UpdatesBy (λ x y. slice_cmp nat_cmp x.now y.now) (λ n. slice_cmp nat_cmp k.now n.now) old new true
-    → ((q : List ℕ) → has_name q old ≡ is_among q so_far) → (q : List ℕ) → has_name q new ≡ is_among q (k.now ∷ so_far)
-unfolding key
-has_more k old new so_far updates has q =
-    updates.0 (key q) ∙ ap (λ b. cond b true (has_name q old)) (is_eq-slice_cmp k.now q ∙ nat_list_eq_equiv.symm k.now q) ∙ cond_or (bytes_eq q k.now) (has_name q old) ∙ ap (λ b. bytes_eq q k.now || b) (has q)
 
 name_again_at : (k : Bor (List ℕ)) (left : ℕ) (names new : Names) (found : Option ℕ) (ks : List (List ℕ)) (lefts : List ℕ) (all_ks : List (List ℕ)) (all_lefts : List ℕ) → NamesSoFar names found (k.now ∷ ks) (left ∷ lefts) all_ks all_lefts
     → UpdatesBy (λ x y. slice_cmp nat_cmp x.now y.now) (λ n. slice_cmp nat_cmp k.now n.now) names new true → has_name k.now names ≡ true → NamesSoFar new (earlier found (Some left)) ks lefts all_ks all_lefts

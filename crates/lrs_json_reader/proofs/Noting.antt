@@ -1,8 +1,8 @@
--- The faults in a list of values, noted one by one.
+-- The flaws in a list of values, noted one by one.
 use Rattle.std.proofs.Common.{◌≡◌, ℕ, max, List, [], ◌∷◌, ◌++◌, map, Option, Some, None, if◌then◌else◌, refl, sym, ap, ◌∙◌, arith}
 use Rattle.lrs_json_reader.specs.Placed.{Placed, array, object, Elements, no_elements, element, Members, no_members, member}
 use Rattle.lrs_json.specs.Names.{is_among}
-use Rattle.lrs_json_reader.specs.Faults.{earlier, earliest, repeated_names, repeated_in_elements, repeated_in_members, out_of_range_numbers, out_of_range_in_elements, out_of_range_in_members}
+use Rattle.lrs_json_reader.specs.Flaws.{earlier, earliest, repeated_names, repeated_in_elements, repeated_in_members, out_of_range_numbers, out_of_range_in_elements, out_of_range_in_members}
 use Rattle.lrs_json_reader.specs.Reading.{noted, Entry, noted_entry, repeated_among}
 use Rattle.lrs_json_reader.specs.declared.reader.Places.{Places}
 

@@ -5,12 +5,12 @@ use Rattle.lrs_decimal.proofs.Runs.{behind}
 use Rattle.lrs_json.specs.Json as Json
 use Rattle.lrs_json.specs.View.{view, member_view, members_of}
 use Rattle.lrs_json_reader.specs.Placed.{Placed, object, plain, plain_members, Members, no_members, member}
-use Rattle.lrs_json_reader.specs.Faults.{earlier, earliest}
+use Rattle.lrs_json_reader.specs.Flaws.{earlier, earliest}
 use Rattle.lrs_json_reader.specs.Grammar.{is_space, Spaces, Quoted, Value, Paired}
 use Rattle.lrs_json_reader.specs.Steps.{GoesOn}
 use Rattle.lrs_json_reader.specs.Reading.{noted, Entry, plain_entry, noted_entry, Pair, Misses, ReadsValue, ReadsMember, repeated_among, has_some}
-use Rattle.lrs_json_reader.specs.declared.cursor.Fault.{Fault}
-use Rattle.lrs_json_reader.specs.declared.cursor.Fault.TheVariants.{Memory}
+use Rattle.lrs_json_reader.specs.declared.cursor.Stop.{Stop}
+use Rattle.lrs_json_reader.specs.declared.cursor.Stop.TheVariants.{Memory}
 use Rattle.lrs_json_reader.specs.declared.reader.Places.{Places}
 use Rattle.lrs_json_reader.specs.declared.reader.Reader.{Reader}
 use Rattle.lrs_json.specs.declared.tree.Tree.{Tree, Object as Many}
@@ -58,7 +58,7 @@ end_comes : (later : Bool) (more : Members) (here s rest : List ℕ) → GoesOn 
 end_comes later no_members here s rest go l = (refl, (go.all_end rest l).1)
 end_comes later (member left k p more) here s rest go l = absurd (true≢false (sym (go.all_more l.0 l.1 l.6 l.7 (Quoted-Opens k l.1 l.2 l.8)).0))
 
-none_comes : (later : Bool) (more : Members) (here s rest : List ℕ) (y : Fault) → GoesOn later 125 here (Err y) s → Paired later more here rest → y ≡ Memory
+none_comes : (later : Bool) (more : Members) (here s rest : List ℕ) (y : Stop) → GoesOn later 125 here (Err y) s → Paired later more here rest → y ≡ Memory
 none_comes later no_members here s rest y go l = go.all_end rest l
 none_comes later (member left k p more) here s rest y go l = go.all_more l.0 l.1 l.6 l.7 (Quoted-Opens k l.1 l.2 l.8)
 
@@ -92,14 +92,14 @@ object_at x start rest0 rest e v =
     let o = only_object x (starts_at x start rest0 rest 123 e v) in
     (o.0, o.1, subst (λ z. Value z start rest) o.1 v)
 
-pub object_goes_fault : (ts : List Member) (lefts : List ℕ) (start here : Reader) (s rest0 : List ℕ) (y : Fault) → start.cursor ≡ 123 ∷ rest0 → ObjectSoFar ts lefts start here → GoesOn (has_some ts) 125 here.cursor (Err y) s
+pub object_goes_fault : (ts : List Member) (lefts : List ℕ) (start here : Reader) (s rest0 : List ℕ) (y : Stop) → start.cursor ≡ 123 ∷ rest0 → ObjectSoFar ts lefts start here → GoesOn (has_some ts) 125 here.cursor (Err y) s
     → Misses Value start y
 object_goes_fault ts lefts start here s rest0 y e so go = λ x rest v ends.
     let l = object_at x start.cursor rest0 rest e v in
     let m = so.complete l.0 rest l.2 in
     none_comes (has_some ts) m.0 here.cursor s rest y go m.2
 
-pub object_member_fault : (ts : List Member) (lefts : List ℕ) (start here mid : Reader) (rest0 : List ℕ) (y : Fault) → start.cursor ≡ 123 ∷ rest0 → ObjectSoFar ts lefts start here
+pub object_member_fault : (ts : List Member) (lefts : List ℕ) (start here mid : Reader) (rest0 : List ℕ) (y : Stop) → start.cursor ≡ 123 ∷ rest0 → ObjectSoFar ts lefts start here
     → GoesOn (has_some ts) 125 here.cursor (Ok true) mid.cursor → Misses Pair mid y → Misses Value start y
 object_member_fault ts lefts start here mid rest0 y e so go misses = λ x rest v ends.
     let l = object_at x start.cursor rest0 rest e v in

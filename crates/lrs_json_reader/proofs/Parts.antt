@@ -7,11 +7,11 @@ use Rattle.lrs_decimal.specs.Numbers.{Each, IsNumber}
 use Rattle.lrs_decimal.proofs.NumberLemmas.{is_numeric, IsNumber-numeric}
 use Rattle.lrs_decimal.proofs.Runs.{drop_front, take_front}
 use Rattle.lrs_json_reader.specs.Steps.{Finds}
-use Rattle.lrs_json_reader.specs.declared.cursor.Fault.{Fault}
-use Rattle.lrs_json_reader.specs.declared.cursor.Fault.TheVariants.{Memory}
+use Rattle.lrs_json_reader.specs.declared.cursor.Stop.{Stop}
+use Rattle.lrs_json_reader.specs.declared.cursor.Stop.TheVariants.{Memory}
 
 -- what is Ok with P, and is found with Q, is found with what both imply
-pub Finds-from : {T : Type 0} (r : Result T Fault) (P Q R : T → Type 0) → IfOk r P → Finds r Q → ((x : T) → P x → Q x → R x) → Finds r R
+pub Finds-from : {T : Type 0} (r : Result T Stop) (P Q R : T → Type 0) → IfOk r P → Finds r Q → ((x : T) → P x → Q x → R x) → Finds r R
 Finds-from (Ok x) P Q R p q f = f x p q
 Finds-from (Err e) P Q R p q f = q
 
@@ -42,6 +42,6 @@ pub number_all_at : (bs : List ℕ) (n : ℕ) (s rest : List ℕ) → bs ≡ s +
 number_all_at bs n s rest is e = let len : n ≡ length s = some_same n (length s) e in rw (len, is) (take_front s rest, drop_front s rest)
 
 -- what a `?` hands on is want of memory
-pub err_finds : {T : Type 0} {Q : Fault → Type 0} (r : Result T Fault) (P : T → Type 0) → IsErrAnd r Q → ((y : Fault) → Q y → y ≡ Memory) → Finds r P
+pub err_finds : {T : Type 0} {Q : Stop → Type 0} (r : Result T Stop) (P : T → Type 0) → IsErrAnd r Q → ((y : Stop) → Q y → y ≡ Memory) → Finds r P
 err_finds (Ok x) P h f = absurd h
 err_finds (Err y) P h f = f y h

@@ -6,7 +6,8 @@ use Rattle.lrs_decimal.specs.Numbers.{Each, is_digit}
 use Rattle.lrs_decimal.proofs.NumberLemmas.{is_numeric, IsNumber-numeric}
 use Rattle.lrs_json_reader.specs.Placed.{Placed, null, boolean, number, string, array, object, Elements, no_elements, element, Members, no_members, member, plain, plain_elements, plain_members}
 use Rattle.lrs_json_reader.specs.Grammar.{is_space, Spaces, Comma, Chars, Quoted, Value, Listed, Paired, IsText}
-use Rattle.lrs_json_reader.specs.Strings.{◌>>=◌, piece_at, next_at, digit_at, unit_at, byte_at, low_at, unicode_at, escape_at, letter_of, hex_value_of, is_high, is_low}
+use Rattle.lrs_decimal.specs.Fronts.{◌>>=◌}
+use Rattle.lrs_json_reader.specs.Strings.{piece_at, next_at, digit_at, unit_at, byte_at, low_at, unicode_at, escape_at, letter_of, hex_value_of, is_high, is_low}
 use Rattle.lrs_json_reader.specs.declared.strings.Piece.{Piece}
 use Rattle.lrs_json_reader.specs.declared.strings.Piece.TheVariants.{Byte, Char}
 use Rattle.lrs_json_reader.specs.Refusals.{is_too_deep}

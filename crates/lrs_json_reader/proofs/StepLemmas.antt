@@ -4,8 +4,8 @@ use Rattle.lrs_json_reader.specs.Grammar.{is_space, Spaces, Comma}
 use Rattle.lrs_decimal.specs.Numbers.{Stops}
 use Rattle.lrs_json_reader.specs.Steps.{Opens, GoesOn, Closes}
 use Rattle.lrs_json_reader.specs.Reading.{has_some}
-use Rattle.lrs_json_reader.specs.declared.cursor.Fault.{Fault}
-use Rattle.lrs_json_reader.specs.declared.cursor.Fault.TheVariants.{Memory}
+use Rattle.lrs_json_reader.specs.declared.cursor.Stop.{Stop}
+use Rattle.lrs_json_reader.specs.declared.cursor.Stop.TheVariants.{Memory}
 use Rattle.lrs_decimal.proofs.Runs.{behind}
 use Rattle.lrs_json_reader.proofs.Spaces.{Spaces-behind, behind-Spaces}
 
@@ -70,8 +70,8 @@ at_comma later close old s t new k lt es none et en =
       no_longer = let l = Spaces-length old (44 ∷ t) comma in let m = behind-length t in rw en (omega (arith, l, m));
     }
 
-pub at_fault : (later : Bool) (close : ℕ) (old s new : List ℕ) {Q : Fault → Type 0} (r : Result Bool Fault) → Closes close → later ≡ true → s ≡ behind is_space old → ((rest : List ℕ) → s ≡ close ∷ rest → ⊥)
-    → IsErrAnd r Q → ((y : Fault) (rest : List ℕ) → Q y → s ≡ 44 ∷ rest → y ≡ Memory) → GoesOn later close old r new
+pub at_fault : (later : Bool) (close : ℕ) (old s new : List ℕ) {Q : Stop → Type 0} (r : Result Bool Stop) → Closes close → later ≡ true → s ≡ behind is_space old → ((rest : List ℕ) → s ≡ close ∷ rest → ⊥)
+    → IsErrAnd r Q → ((y : Stop) (rest : List ℕ) → Q y → s ≡ 44 ∷ rest → y ≡ Memory) → GoesOn later close old r new
 at_fault later close old s new (Ok x) k lt es none q f = absurd q
 at_fault later close old s new (Err y) k lt es none q f =
     record {
@@ -91,7 +91,7 @@ some_or_none false [] e = absurd (true≢false (sym (e.1 refl)))
 some_or_none false (x ∷ xs) e = refl
 
 -- the cursor was asked with whether something stands before
-pub goes_later : {X : Type 0} {b : Bool} {xs : List X} {close : ℕ} {old new : List ℕ} {r : Result Bool Fault} → (IsTrue b ↔ (xs ≡ [])) → GoesOn (not b) close old r new → GoesOn (has_some xs) close old r new
+pub goes_later : {X : Type 0} {b : Bool} {xs : List X} {close : ℕ} {old new : List ℕ} {r : Result Bool Stop} → (IsTrue b ↔ (xs ≡ [])) → GoesOn (not b) close old r new → GoesOn (has_some xs) close old r new
 goes_later {b = b} {xs = xs} {close = close} {old = old} {new = new} {r = r} e go = subst (λ z. GoesOn z close old r new) (some_or_none b xs e) go
 
 pub goes_at : {a later b : Bool} {close : ℕ} {old new : List ℕ} → a ≡ b → GoesOn later close old (Ok a) new → GoesOn later close old (Ok b) new

@@ -3,12 +3,12 @@ use Rattle.std.proofs.Common.{◌≡◌, ℕ, List, [], Result, Ok, Err, IsErrAn
 use Rattle.lrs_decimal.specs.Numbers.{Ends}
 use Rattle.lrs_decimal.proofs.Runs.{behind}
 use Rattle.lrs_json_reader.specs.Placed.{Placed}
-use Rattle.lrs_json_reader.specs.Faults.{earliest, repeated_names, out_of_range_numbers}
+use Rattle.lrs_json_reader.specs.Flaws.{earliest, repeated_names, out_of_range_numbers}
 use Rattle.lrs_json_reader.specs.Grammar.{is_space, Spaces, Value, IsText}
 use Rattle.lrs_json_reader.specs.Reading.{noted, no_places, Misses, ReadsValue, ReadsText, IsRead}
 use Rattle.lrs_json_reader.specs.declared.reader.Places.{Places}
-use Rattle.lrs_json_reader.specs.declared.cursor.Fault.{Fault}
-use Rattle.lrs_json_reader.specs.declared.cursor.Fault.TheVariants.{Memory}
+use Rattle.lrs_json_reader.specs.declared.cursor.Stop.{Stop}
+use Rattle.lrs_json_reader.specs.declared.cursor.Stop.TheVariants.{Memory}
 use Rattle.lrs_json_reader.specs.declared.reader.Reader.{Reader}
 use Rattle.lrs_json.specs.declared.tree.Tree.{Tree}
 use Rattle.lrs_json_reader.proofs.Spaces.{Spaces-behind, behind-Spaces}
@@ -40,11 +40,11 @@ text_done bytes last tree start new e none found el empty =
       only = λ p t. let w = whole_at bytes start.cursor p e t in (found.only p t.1 w.0 w.1).0;
     }
 
-pub text_err : {Q : Fault → Type 0} (bytes : List ℕ) (r : Result (Tree × Places) Fault) → IsErrAnd r Q → ((y : Fault) → Q y → (p : Placed) → IsText p bytes → y ≡ Memory) → ReadsText bytes r
+pub text_err : {Q : Stop → Type 0} (bytes : List ℕ) (r : Result (Tree × Places) Stop) → IsErrAnd r Q → ((y : Stop) → Q y → (p : Placed) → IsText p bytes → y ≡ Memory) → ReadsText bytes r
 text_err bytes (Ok t) q f = absurd q
 text_err bytes (Err y) q f = f y q
 
-pub text_missing : (bytes : List ℕ) (start : Reader) (y : Fault) → start.cursor ≡ behind is_space bytes → Misses Value start y → (p : Placed) → IsText p bytes → y ≡ Memory
+pub text_missing : (bytes : List ℕ) (start : Reader) (y : Stop) → start.cursor ≡ behind is_space bytes → Misses Value start y → (p : Placed) → IsText p bytes → y ≡ Memory
 text_missing bytes start y e misses p t = let w = whole_at bytes start.cursor p e t in misses p t.1 w.0 w.1
 
 pub text_longer : (bytes last : List ℕ) (tree : Tree) (start new : Reader) → start.cursor ≡ behind is_space bytes → ReadsValue start (Ok tree) new → last ≡ behind is_space new.cursor → (last ≡ [] → ⊥) → (p : Placed) → IsText p bytes → ⊥

@@ -9,7 +9,7 @@ use Rattle.lrs_json.specs.Json.{Json, null, boolean, number, string, array, obje
 use Rattle.lrs_json_reader.specs.Placed as Placed
 use Rattle.lrs_json_reader.specs.Placed.{plain, plain_elements, plain_members}
 use Rattle.lrs_json.specs.Names.{is_among}
-use Rattle.lrs_json_reader.specs.Faults.{repeated_names, repeated_in_elements, repeated_in_members, out_of_range_numbers, out_of_range_in_elements, out_of_range_in_members}
+use Rattle.lrs_json_reader.specs.Flaws.{repeated_names, repeated_in_elements, repeated_in_members, out_of_range_numbers, out_of_range_in_elements, out_of_range_in_members}
 use Rattle.lrs_json_reader.specs.Grammar.{Spaces, Comma, Chars, Quoted, Value, Listed, Paired, IsText}
 use Rattle.lrs_json.specs.Written.{escaped, quoted, comma_if, written, elements_text, members_text}
 use Rattle.lrs_json.specs.Fits.{Fits, FitElements, FitMembers, IsReadable}

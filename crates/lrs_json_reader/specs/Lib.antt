@@ -2,7 +2,7 @@ pub mod Strings
 pub mod Placed
 pub mod Grammar
 pub mod Brackets
-pub mod Faults
+pub mod Flaws
 pub mod Refusals
 pub mod Steps
 pub mod Reading

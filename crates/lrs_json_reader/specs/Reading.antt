@@ -7,9 +7,9 @@ use Rattle.lrs_json.specs.View.{view, member_view}
 use Rattle.lrs_json_reader.specs.Placed.{Placed, number, plain}
 use Rattle.lrs_json_reader.specs.Grammar.{Spaces, Value, Quoted, IsText}
 use Rattle.lrs_json.specs.Names.{is_among}
-use Rattle.lrs_json_reader.specs.Faults.{earlier, earliest, repeated_names, out_of_range_numbers}
-use Rattle.lrs_json_reader.specs.declared.cursor.Fault.{Fault}
-use Rattle.lrs_json_reader.specs.declared.cursor.Fault.TheVariants.{Memory}
+use Rattle.lrs_json_reader.specs.Flaws.{earlier, earliest, repeated_names, out_of_range_numbers}
+use Rattle.lrs_json_reader.specs.declared.cursor.Stop.{Stop}
+use Rattle.lrs_json_reader.specs.declared.cursor.Stop.TheVariants.{Memory}
 use Rattle.lrs_json_reader.specs.declared.reader.Places.{Places}
 use Rattle.lrs_json_reader.specs.declared.reader.Reader.{Reader}
 use Rattle.lrs_json_reader.specs.declared.reading.ReadRefused.{ReadRefused}
@@ -37,7 +37,7 @@ noted_entry places m = noted places m.value
 abbrev pub Pair : Entry → List ℕ → List ℕ → Type 0
 Pair m bytes rest = (c d e : List ℕ) × Quoted m.name bytes c × Spaces c (58 ∷ d) × Spaces d e × Value m.value e rest × (m.left ≡ length bytes)
 
--- The reader went from old to new over what t is, and has noted the faults in it; nothing else stands there.
+-- The reader went from old to new over what t is, and has noted the flaws in it; nothing else stands there.
 pub record Found {T X Y : Type 0} (Is : X → List ℕ → List ℕ → Type 0) (shown : X → Y) (seen : T → Y) (note : Places → X → Places) (old : Reader) (t : T) (new : Reader) : Type 0 where
   pub it : X
   pub here : Is it old.cursor new.cursor
@@ -47,29 +47,29 @@ pub record Found {T X Y : Type 0} (Is : X → List ℕ → List ℕ → Type 0) 
   pub only : (x : X) (rest : List ℕ) → Is x old.cursor rest → Ends rest → (x ≡ it) × (new.cursor ≡ rest)
 
 -- Where something stands, only memory was wanting.
-abbrev pub Misses : {X : Type 0} → (X → List ℕ → List ℕ → Type 0) → Reader → Fault → Type 0
+abbrev pub Misses : {X : Type 0} → (X → List ℕ → List ℕ → Type 0) → Reader → Stop → Type 0
 Misses {X} Is old e = (x : X) (rest : List ℕ) → Is x old.cursor rest → Ends rest → e ≡ Memory
 
-abbrev pub Reads : {T X Y : Type 0} → (X → List ℕ → List ℕ → Type 0) → (X → Y) → (T → Y) → (Places → X → Places) → Reader → Result T Fault → Reader → Type 0
+abbrev pub Reads : {T X Y : Type 0} → (X → List ℕ → List ℕ → Type 0) → (X → Y) → (T → Y) → (Places → X → Places) → Reader → Result T Stop → Reader → Type 0
 Reads Is shown seen note old r new = MatchResult r (λ t. Found Is shown seen note old t new) (λ e. Misses Is old e)
 
 -- the same of a literal word, of a string and of a number
-abbrev pub ReadsWord : List ℕ → Tree → Reader → Result Tree Fault → Reader → Type 0
+abbrev pub ReadsWord : List ℕ → Tree → Reader → Result Tree Stop → Reader → Type 0
 ReadsWord word tree old r new = Reads {X = Unit {0}} (λ _ bytes rest. bytes ≡ word ++ rest) (λ _. view tree) view (λ places _. places) old r new
 
-abbrev pub ReadsString : Reader → Result Tree Fault → Reader → Type 0
+abbrev pub ReadsString : Reader → Result Tree Stop → Reader → Type 0
 ReadsString old r new = Reads Quoted string view (λ places _. places) old r new
 
 abbrev pub NumberAt : ℕ × List ℕ → List ℕ → List ℕ → Type 0
 NumberAt n bytes rest = Value (number n.0 n.1) bytes rest
 
-abbrev pub ReadsNumber : Reader → Result Tree Fault → Reader → Type 0
+abbrev pub ReadsNumber : Reader → Result Tree Stop → Reader → Type 0
 ReadsNumber old r new = Reads NumberAt (λ n. Json.number n.1) view (λ places n. noted places (number n.0 n.1)) old r new
 
-abbrev pub ReadsValue : Reader → Result Tree Fault → Reader → Type 0
+abbrev pub ReadsValue : Reader → Result Tree Stop → Reader → Type 0
 ReadsValue old r new = Reads Value plain view noted old r new
 
-abbrev pub ReadsMember : Reader → Result Member Fault → Reader → Type 0
+abbrev pub ReadsMember : Reader → Result Member Stop → Reader → Type 0
 ReadsMember old r new = Reads Pair plain_entry member_view noted_entry old r new
 
 abbrev pub has_some : {X : Type 0} → List X → Bool
@@ -85,7 +85,7 @@ repeated_among names (k ∷ ks) (left ∷ places) = (if is_among k names then le
 abbrev pub no_places : Places
 no_places = record { repeated = None; out_of_range = None }
 
--- The bytes are a text of the tree, and of no other, with these faults.
+-- The bytes are a text of the tree, and of no other, with these flaws.
 pub record IsRead (bytes : List ℕ) (tree : Tree) (places : Places) : Type 0 where
   pub placed : Placed
   pub spelled : IsText placed bytes
@@ -93,10 +93,10 @@ pub record IsRead (bytes : List ℕ) (tree : Tree) (places : Places) : Type 0 wh
   pub notes : places ≡ record { repeated = earliest (repeated_names placed); out_of_range = earliest (out_of_range_numbers placed) }
   pub only : (p : Placed) → IsText p bytes → p ≡ placed
 
-abbrev pub ReadsText : List ℕ → Result (Tree × Places) Fault → Type 0
+abbrev pub ReadsText : List ℕ → Result (Tree × Places) Stop → Type 0
 ReadsText bytes r = MatchResult r (λ t. IsRead bytes t.0 t.1) (λ e. (p : Placed) → IsText p bytes → e ≡ Memory)
 
--- the answer where these faults were noted
+-- the answer where these flaws were noted
 abbrev pub Judged : Tree → Option ℕ → Option ℕ → ℕ → Result Tree ReadRefused → Type 0
 Judged tree (Some left) out length r = r ≡ Err (Repeated (length - left))
 Judged tree None (Some left) length r = r ≡ Err (NumberRange (length - left))

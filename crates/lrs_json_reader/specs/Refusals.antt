@@ -5,7 +5,7 @@ use Rattle.lrs_json_reader.specs.Placed.{Placed, plain}
 use Rattle.lrs_json_reader.specs.Grammar.{IsText}
 use Rattle.lrs_json.specs.Depth.{depth}
 use Rattle.lrs_json_reader.specs.Brackets.{reaches}
-use Rattle.lrs_json_reader.specs.Faults.{earliest, repeated_names, out_of_range_numbers}
+use Rattle.lrs_json_reader.specs.Flaws.{earliest, repeated_names, out_of_range_numbers}
 use Rattle.lrs_json_reader.specs.declared.depth.Mode.TheVariants.{Outside}
 use Rattle.lrs_json_reader.specs.declared.reading.ReadRefused.{ReadRefused}
 use Rattle.lrs_json_reader.specs.declared.reading.ReadRefused.TheVariants.{Memory}

@@ -6,11 +6,11 @@ use Rattle.std.specs.List.{flat_map}
 use Rattle.lrs_decimal.specs.Numbers.{Each}
 use Rattle.lrs_json_reader.specs.Strings.{piece_text}
 use Rattle.lrs_json_reader.specs.declared.strings.Piece.{Piece}
-use Rattle.lrs_json_reader.specs.declared.cursor.Fault.{Fault}
-use Rattle.lrs_json_reader.specs.declared.cursor.Fault.TheVariants.{Memory}
+use Rattle.lrs_json_reader.specs.declared.cursor.Stop.{Stop}
+use Rattle.lrs_json_reader.specs.declared.cursor.Stop.TheVariants.{Memory}
 
 -- it is Ok with P, or memory ran out
-abbrev pub Finds : {T : Type 0} → Result T Fault → (T → Type 0) → Type 0
+abbrev pub Finds : {T : Type 0} → Result T Stop → (T → Type 0) → Type 0
 Finds r P = MatchResult r P (λ e. e ≡ Memory)
 
 -- neither white space nor the byte comes first
@@ -19,7 +19,7 @@ Opens close [] = ⊥
 Opens close (b ∷ bs) = (is_space b ≡ false) × (b ≢ close)
 
 -- The cursor went from old to new. It stands behind a comma, where one is wanted, and white space, or behind the closing bracket.
-pub record GoesOn (later : Bool) (close : ℕ) (old : List ℕ) (r : Result Bool Fault) (new : List ℕ) : Type 0 where
+pub record GoesOn (later : Bool) (close : ℕ) (old : List ℕ) (r : Result Bool Stop) (new : List ℕ) : Type 0 where
   pub goes : IfOk r (λ more. more ≡ true → (a : List ℕ) × Comma later old a × Spaces a new)
   pub ends : IfOk r (λ more. more ≡ false → Spaces old (close ∷ new))
   pub all_more : (a b : List ℕ) → Comma later old a → Spaces a b → Opens close b → Finds r (λ more. (more ≡ true) × (new ≡ b))

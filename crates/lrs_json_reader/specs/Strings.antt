@@ -1,20 +1,13 @@
 -- What stands in a string: bytes that stand for themselves, and escapes.
-use Rattle.std.specs.Prelude.{ℕ, ◌+◌, ◌-◌, ◌*◌, ◌==◌, ◌&&◌, ◌||◌, nat_lt, nat_le, List, [], ◌∷◌, Bool, Option, Some, None, option_and_then, if◌then◌else◌, encode_utf8}
+use Rattle.std.specs.Prelude.{ℕ, ◌+◌, ◌-◌, ◌*◌, ◌==◌, ◌&&◌, ◌||◌, nat_lt, nat_le, List, [], ◌∷◌, Bool, Option, Some, None, if◌then◌else◌, encode_utf8}
+use Rattle.lrs_decimal.specs.Fronts.{◌>>=◌, Front}
 use Rattle.lrs_json_reader.specs.declared.strings.Piece.{Piece}
 use Rattle.lrs_json_reader.specs.declared.strings.Piece.TheVariants.{Byte, Char}
-
-infixl 10 ◌>>=◌
-abbrev pub ◌>>=◌ : {A B : Type 0} → Option A → (A → Option B) → Option B
-o >>= f = option_and_then f o
 
 -- the value of a hexadecimal digit
 unfoldable pub hex_value_of : ℕ → Option ℕ
 hex_value_of b =
     if nat_le 48 b && nat_le b 57 then Some (b - 48) else (if nat_le 97 b && nat_le b 102 then Some (b - 87) else (if nat_le 65 b && nat_le b 70 then Some (b - 55) else None))
-
--- Each of these is a value at the front of the bytes, and the bytes behind it.
-abbrev pub Front : Type 0 → Type 0
-Front A = List ℕ → Option (A × List ℕ)
 
 unfoldable pub next_at : Front ℕ
 next_at [] = None

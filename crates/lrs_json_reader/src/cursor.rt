@@ -17,41 +17,41 @@ use std::str;
 
 /// What stops the reading of a value.
 #[derive(Clone, Copy, Debug, PartialEq)]
-pub enum Fault {
+pub enum Stop {
     Memory,
     Bad,
 }
 
-impl From<Memory> for Fault {
+impl From<Memory> for Stop {
     ghost use Rattle.std.specs.Prelude.{◌≡◌};
-    ghost use Rattle.lrs_json_reader.specs.declared.cursor.Fault.TheVariants as Faults;
+    ghost use Rattle.lrs_json_reader.specs.declared.cursor.Stop.TheVariants as stop;
 
-    ghost from_gives = { λ _ e. e ≡ Faults.Memory };
+    ghost from_gives = { λ _ e. e ≡ stop.Memory };
 
-    fn from(_: Memory) -> Fault {
-        Fault::Memory
+    fn from(_: Memory) -> Stop {
+        Stop::Memory
     }
 }
 
-impl<T: Drop> From<AllocFailed<T>> for Fault {
+impl<T: Drop> From<AllocFailed<T>> for Stop {
     ghost use Rattle.std.specs.Prelude.{◌≡◌};
-    ghost use Rattle.lrs_json_reader.specs.declared.cursor.Fault.TheVariants as Faults;
+    ghost use Rattle.lrs_json_reader.specs.declared.cursor.Stop.TheVariants as stop;
 
-    ghost from_gives = { λ _ e. e ≡ Faults.Memory };
+    ghost from_gives = { λ _ e. e ≡ stop.Memory };
 
-    fn from(_: AllocFailed<T>) -> Fault {
-        Fault::Memory
+    fn from(_: AllocFailed<T>) -> Stop {
+        Stop::Memory
     }
 }
 
-impl From<AllocError> for Fault {
+impl From<AllocError> for Stop {
     ghost use Rattle.std.specs.Prelude.{◌≡◌};
-    ghost use Rattle.lrs_json_reader.specs.declared.cursor.Fault.TheVariants as Faults;
+    ghost use Rattle.lrs_json_reader.specs.declared.cursor.Stop.TheVariants as stop;
 
-    ghost from_gives = { λ _ e. e ≡ Faults.Memory };
+    ghost from_gives = { λ _ e. e ≡ stop.Memory };
 
-    fn from(_: AllocError) -> Fault {
-        Fault::Memory
+    fn from(_: AllocError) -> Stop {
+        Stop::Memory
     }
 }
 
@@ -127,19 +127,19 @@ impl Cursor<'_> {
         comes
     }
 
-    pub fn word(&mut self, word: &[u8]) -> Result<(), Fault>
+    pub fn word(&mut self, word: &[u8]) -> Result<(), Stop>
         ensures found { OnOk result (self.old ≡ word.now ++ self.new) }
         ensures all { (rest : List ℕ) → self.old ≡ word.now ++ rest → Finds result (λ _. self.new ≡ rest) }
     {
         if self.take(word) {
             Ok(())
         } else {
-            Err(Fault::Bad)
+            Err(Stop::Bad)
         }
     }
 
     /// Steps to the next item, or over the closing bracket.
-    pub fn goes_on(&mut self, later: bool, close: u8) -> Result<bool, Fault>
+    pub fn goes_on(&mut self, later: bool, close: u8) -> Result<bool, Stop>
         requires { Closes close }
         ensures { GoesOn later close self.old result self.new }
     {
@@ -157,14 +157,14 @@ impl Cursor<'_> {
 
 impl Cursor<'_> {
     // The next n bytes as a text.
-    fn text(&mut self, n: usize) -> Result<Text, Fault>
+    fn text(&mut self, n: usize) -> Result<Text, Stop>
         requires { n ≤ length self.old }
         ensures found { IfOk result (λ t. (t ≡ take n self.old) × (self.new ≡ drop n self.old) × IsUtf8 t) }
         ensures all { IsUtf8 (take n self.old) → Finds result (λ t. IsUtf8 t) }
     {
         let left = self.left;
         let Ok(text) = str::from_utf8(&left[..n]) else {
-            return Err(Fault::Bad);
+            return Err(Stop::Bad);
         };
         let text = Text::of(self.alloc, text)?;
         self.advance(n);
@@ -178,18 +178,18 @@ impl Cursor<'_> {
         number_len(self.left)
     }
 
-    pub fn number(&mut self) -> Result<Text, Fault>
+    pub fn number(&mut self) -> Result<Text, Stop>
         ensures found { IfOk result (λ t. (self.old ≡ t ++ self.new) × IsNumber t) }
         ensures all { (s rest : List ℕ) → self.old ≡ s ++ rest → IsNumber s → Ends rest
             → Finds result (λ t. (t ≡ s) × (self.new ≡ rest)) }
     {
         let Some(n) = self.number_len() else {
-            return Err(Fault::Bad);
+            return Err(Stop::Bad);
         };
         self.text(n)
     }
 
-    pub fn quoted(&mut self) -> Result<Text, Fault>
+    pub fn quoted(&mut self) -> Result<Text, Stop>
         ensures found { IfOk result (λ t. Quoted t self.old self.new) }
         ensures all { (text rest : List ℕ) → Quoted text self.old rest
             → Finds result (λ t. (t ≡ text) × (self.new ≡ rest)) }
@@ -215,7 +215,7 @@ impl Cursor<'_> {
     }
 
     // Such bytes, and the closing quote: most strings are read so, and copied once.
-    fn plain(&mut self, n: usize) -> Result<Text, Fault>
+    fn plain(&mut self, n: usize) -> Result<Text, Stop>
         requires { IsPlain n self.old }
         ensures found { IfOk result (λ t. Within t self.old self.new) }
         ensures all { (text rest : List ℕ) → Within text self.old rest
@@ -228,7 +228,7 @@ impl Cursor<'_> {
     }
 
     // Bytes and escapes, and the closing quote.
-    fn pieces(&mut self) -> Result<Text, Fault>
+    fn pieces(&mut self) -> Result<Text, Stop>
         ensures found { IfOk result (λ t. Within t self.old self.new) }
         ensures all { (text rest : List ℕ) → Within text self.old rest
             → Finds result (λ t. (t ≡ text) × (self.new ≡ rest)) }
@@ -239,13 +239,13 @@ impl Cursor<'_> {
             self.piece(&mut bytes)?;
         }
         let Ok(text) = str::from_utf8(&bytes) else {
-            return Err(Fault::Bad);
+            return Err(Stop::Bad);
         };
         Ok(Text::of(self.alloc, text)?)
     }
 
     // Appends what the next byte or escape stands for.
-    fn piece(&mut self, into: &mut Vec<u8>) -> Result<(), Fault>
+    fn piece(&mut self, into: &mut Vec<u8>) -> Result<(), Stop>
         ensures found { OnOk result ((p : SpecPiece) × (piece_at self.old ≡ Some (p, self.new))
             × (into.new.items ≡ into.old.items ++ piece_text p)) }
         ensures all { (p : SpecPiece) (rest : List ℕ) → piece_at self.old ≡ Some (p, rest)
@@ -253,7 +253,7 @@ impl Cursor<'_> {
         ensures shorter { OnOk result (length self.new < length self.old) }
     {
         let Some((piece, rest)) = next_piece(self.left) else {
-            return Err(Fault::Bad);
+            return Err(Stop::Bad);
         };
         self.left = rest;
         match piece {

@@ -1,4 +1,4 @@
-//! The reader of RFC 8259's grammar: from bytes to a tree, or why they are refused.
+//! The reader of JSON's grammar (RFC 8259): bytes give a tree, or the reason why they are refused.
 #![tactic(auto)]
 
 mod cursor;

@@ -1,10 +1,10 @@
 ghost use Rattle.std.specs.Prelude.{◌≡◌, ◌≢◌, ◌<◌, ℕ, List, [], ◌∷◌, OnOk, IfOk, map, Some, length};
 ghost use Rattle.lrs_json.specs.View.{member_view};
-ghost use Rattle.lrs_json_reader.specs.Faults.{earlier, earliest};
+ghost use Rattle.lrs_json_reader.specs.Flaws.{earlier, earliest};
 ghost use Rattle.lrs_json_reader.specs.Placed.{number};
 ghost use Rattle.lrs_json_reader.specs.Reading.{no_places, noted, ReadsWord, ReadsString, ReadsNumber, ReadsValue, ReadsMember, repeated_among};
 
-use crate::cursor::{Cursor, Fault};
+use crate::cursor::{Cursor, Stop};
 use lrs_decimal::is_in_range;
 use lrs_json::{Items, Member, Memory, Text, Tree};
 use std::alloc::Global;
@@ -27,7 +27,7 @@ fn earlier(known: Option<usize>, left: usize) -> Option<usize>
     }
 }
 
-/// Reads a value, and notes the faults in it that are no fault of the grammar.
+/// Reads a value, and notes the flaws in it that are none of the grammar.
 #[derive(Drop)]
 pub struct Reader<'a> {
     pub cursor: Cursor<'a>,
@@ -49,7 +49,7 @@ impl<'a> Reader<'a> {
 }
 
 impl Reader<'_> {
-    fn literal(&mut self, word: &[u8], tree: Tree) -> Result<Tree, Fault>
+    fn literal(&mut self, word: &[u8], tree: Tree) -> Result<Tree, Stop>
         requires { 0 < length word.now }
         ensures { ReadsWord word.now tree self.old result self.new }
     {
@@ -57,13 +57,13 @@ impl Reader<'_> {
         Ok(tree)
     }
 
-    fn string(&mut self) -> Result<Tree, Fault>
+    fn string(&mut self) -> Result<Tree, Stop>
         ensures { ReadsString self.old result self.new }
     {
         Ok(Tree::Words(self.cursor.quoted()?))
     }
 
-    fn number(&mut self) -> Result<Tree, Fault>
+    fn number(&mut self) -> Result<Tree, Stop>
         ensures { ReadsNumber self.old result self.new }
     {
         let left = self.cursor.len();
@@ -82,13 +82,13 @@ impl Reader<'_> {
     }
 
     // A value that holds no others.
-    fn leaf(&mut self) -> Result<Tree, Fault>
+    fn leaf(&mut self) -> Result<Tree, Stop>
         requires no_list { (rest : List ℕ) → self.old.cursor ≢ 91 ∷ rest }
         requires no_object { (rest : List ℕ) → self.old.cursor ≢ 123 ∷ rest }
         ensures { ReadsValue self.old result self.new }
     {
         let Some(first) = self.cursor.first() else {
-            return Err(Fault::Bad);
+            return Err(Stop::Bad);
         };
         match first {
             b'n' => self.literal(b"null", Tree::Null),
@@ -102,7 +102,7 @@ impl Reader<'_> {
 
 impl Reader<'_> {
     #[cycle(reader)]
-    pub fn value(&mut self) -> Result<Tree, Fault>
+    pub fn value(&mut self) -> Result<Tree, Stop>
         ensures { ReadsValue self.old result self.new }
     {
         match self.cursor.first() {
@@ -113,7 +113,7 @@ impl Reader<'_> {
     }
 
     #[cycle(reader)]
-    fn list(&mut self) -> Result<Tree, Fault>
+    fn list(&mut self) -> Result<Tree, Stop>
         requires { (rest : List ℕ) × (self.old.cursor ≡ 91 ∷ rest) }
         ensures { ReadsValue self.old result self.new }
     {
@@ -126,7 +126,7 @@ impl Reader<'_> {
     }
 
     #[cycle(reader)]
-    fn object(&mut self) -> Result<Tree, Fault>
+    fn object(&mut self) -> Result<Tree, Stop>
         requires { (rest : List ℕ) × (self.old.cursor ≡ 123 ∷ rest) }
         ensures { ReadsValue self.old result self.new }
     {
@@ -142,7 +142,7 @@ impl Reader<'_> {
     }
 
     #[cycle(reader)]
-    fn member(&mut self) -> Result<Member, Fault>
+    fn member(&mut self) -> Result<Member, Stop>
         ensures { ReadsMember self.old result self.new }
     {
         let name = self.cursor.quoted()?;

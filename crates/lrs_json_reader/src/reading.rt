@@ -7,10 +7,10 @@ ghost use Rattle.lrs_json.specs.declared.tree.Tree.{Tree as SpecTree};
 ghost use Rattle.lrs_json_reader.specs.Refusals.{is_too_deep, Spells, IsBad, RepeatedAt, OutOfRangeAt, Gives, Refuses};
 ghost use Rattle.lrs_json_reader.specs.Reading.{ReadsText, Judges};
 
-use crate::cursor::{Cursor, Fault};
+use crate::cursor::{Cursor, Stop};
 use crate::depth::reaches;
 use crate::reader::{Places, Reader};
-use lrs_json::{Memory, Tree};
+use lrs_json::{DEPTH, Memory, Tree};
 use std::alloc::Global;
 
 /// Why a text is refused, in the order in which the causes are looked for.
@@ -40,22 +40,22 @@ impl From<Memory> for ReadRefused {
     }
 }
 
-/// The tree that the bytes spell, nested at most 64 deep.
+/// The tree that the bytes spell, nested at most `DEPTH` deep.
 pub fn read(alloc: Global, bytes: &[u8]) -> Result<Tree, ReadRefused>
-    ensures too_deep { (result ≡ Err ReadRefused.TooDeep) ↔ IsTrue (is_too_deep 64 bytes.now) }
-    ensures bad { Refuses result ReadRefused.Bad (IsBad 64 bytes.now) }
-    ensures repeated { (place : ℕ) → Refuses result (ReadRefused.Repeated place) (RepeatedAt 64 bytes.now place) }
+    ensures too_deep { (result ≡ Err ReadRefused.TooDeep) ↔ IsTrue (is_too_deep DEPTH bytes.now) }
+    ensures bad { Refuses result ReadRefused.Bad (IsBad DEPTH bytes.now) }
+    ensures repeated { (place : ℕ) → Refuses result (ReadRefused.Repeated place) (RepeatedAt DEPTH bytes.now place) }
     ensures number_range { (place : ℕ) →
-        Refuses result (ReadRefused.NumberRange place) (OutOfRangeAt 64 bytes.now place) }
-    ensures found { IfOk result (λ t. Spells 64 bytes.now (view t)) }
-    ensures all { (j : Json) → Spells 64 bytes.now j → Gives result (λ t. view t ≡ j) }
+        Refuses result (ReadRefused.NumberRange place) (OutOfRangeAt DEPTH bytes.now place) }
+    ensures found { IfOk result (λ t. Spells DEPTH bytes.now (view t)) }
+    ensures all { (j : Json) → Spells DEPTH bytes.now j → Gives result (λ t. view t ≡ j) }
 
     // A tree that is given can be read again, and what is written from it is read as the same tree.
-    ensures readable { IfOk result (λ t. IsReadable 64 (view t)) }
-    ensures again { (t : SpecTree) → IsReadable 64 (view t) → bytes.now ≡ written (view t) →
+    ensures readable { IfOk result (λ t. IsReadable DEPTH (view t)) }
+    ensures again { (t : SpecTree) → IsReadable DEPTH (view t) → bytes.now ≡ written (view t) →
         Gives result (λ u. u ≡ t) }
 {
-    read_to(alloc, bytes, 64)
+    read_to(alloc, bytes, DEPTH)
 }
 
 /// The tree that the bytes spell, nested at most `depth` deep.
@@ -79,13 +79,13 @@ pub fn read_to(alloc: Global, bytes: &[u8], depth: u32) -> Result<Tree, ReadRefu
     }
     match read_text(alloc, bytes) {
         Ok((tree, places)) => judge(tree, places, bytes.len()),
-        Err(Fault::Memory) => Err(ReadRefused::Memory),
-        Err(Fault::Bad) => Err(ReadRefused::Bad),
+        Err(Stop::Memory) => Err(ReadRefused::Memory),
+        Err(Stop::Bad) => Err(ReadRefused::Bad),
     }
 }
 
 // The value of the whole text, and the places of what is wrong with it.
-fn read_text(alloc: Global, bytes: &[u8]) -> Result<(Tree, Places), Fault>
+fn read_text(alloc: Global, bytes: &[u8]) -> Result<(Tree, Places), Stop>
     ensures { ReadsText bytes.now result }
 {
     let mut reader = Reader::new(alloc, bytes);
@@ -95,7 +95,7 @@ fn read_text(alloc: Global, bytes: &[u8]) -> Result<(Tree, Places), Fault>
     if reader.cursor.is_empty() {
         Ok((tree, reader.places))
     } else {
-        Err(Fault::Bad)
+        Err(Stop::Bad)
     }
 }
 

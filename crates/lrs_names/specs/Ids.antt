@@ -3,6 +3,7 @@ use Rattle.std.specs.Prelude.{ℕ, ◌≡◌, ◌+◌, ◌*◌, ◌/◌, ◌%◌
 use Rattle.std.specs.List.{All}
 use Rattle.std.specs.Int.{to_be_bytes, w128}
 use Rattle.uuid.specs.Text.{hyphenated_text, lower, parsed_hyphenated}
+use Rattle.lrs_names.specs.declared.id.TheConstants.{WORDS}
 
 -- sixteen bytes
 abbrev pub IsId : List ℕ → Type 0
@@ -16,10 +17,10 @@ id_of text = parsed_hyphenated text
 abbrev pub id_text : List ℕ → List ℕ
 id_text id = hyphenated_text lower id
 
--- the bits of the id of a word below 2 ^ 122: its first 48 bits, 0100, the next 12, 10, the last 62
+-- the bits of the id of a word below `WORDS`: its first 48 bits, 0100, the next 12, 10, the last 62
 abbrev pub bits_of : ℕ → ℕ
 bits_of word = (word / 2 ^ 74) * 2 ^ 80 + 4 * 2 ^ 76 + (word / 2 ^ 62 % 2 ^ 12) * 2 ^ 64 + 2 * 2 ^ 62 + word % 2 ^ 62
 
--- the id of a word, whose bits above the lowest 122 do not count
+-- the id of a word, which counts modulo `WORDS`
 abbrev pub id_of_word : ℕ → List ℕ
-id_of_word word = to_be_bytes w128 (bits_of (word % 2 ^ 122))
+id_of_word word = to_be_bytes w128 (bits_of (word % WORDS))

@@ -1,8 +1,11 @@
-ghost use Rattle.std.specs.Prelude.{◌≡◌, ◌<◌, ◌^◌, IfSome, IsUtf8, Some, ℕ, length};
+ghost use Rattle.std.specs.Prelude.{◌≡◌, ◌<◌, IfSome, IsUtf8, Some, ℕ, length};
 ghost use Rattle.lrs_names.specs.Ids.{IsId, id_of, id_of_word, id_text};
 
 use std::marker::Model;
 use uuid::Uuid;
+
+/// The number of words of which ids are made: 122 bits of an id are its own.
+pub const WORDS: u128 = 1 << 122;
 
 /// An id of a statement, a registration or a session, seen as its sixteen bytes. Its order is that of its bytes,
 /// which is that of its text.
@@ -63,9 +66,9 @@ impl Id {
     pub fn of_word(word: u128) -> Id
         ensures made { result ≡ id_of_word word }
         ensures whole { IsId result }
-        ensures distinct { (other : ℕ) → other < 2 ^ 122 → word < 2 ^ 122 → id_of_word other ≡ result → other ≡ word }
+        ensures distinct { (other : ℕ) → other < WORDS → word < WORDS → id_of_word other ≡ result → other ≡ word }
     {
-        let word = word % (1 << 122);
+        let word = word % WORDS;
         let bits = (word / (1 << 74)) * (1 << 80)
             + 4 * (1 << 76)
             + (word / (1 << 62) % (1 << 12)) * (1 << 64)

@@ -1,9 +1,8 @@
+use lrs_agents::{Agent, Group, Ifi, NameRefused, broken_agent_or_group};
+use lrs_ids::fresh_id;
 use lrs_json::{Items, Memory, Text, Tree};
 use lrs_json_reader::{ReadRefused, read};
-use lrs_names::{
-    Agent, Group, Id, Ifi, Iri, LangTag, NameRefused, broken_agent_or_group, fresh_id,
-    is_language_map, is_one_of,
-};
+use lrs_names::{Id, Iri, LangTag, is_language_map, is_one_of};
 use std::alloc::Global;
 use std::collections::BTreeSet;
 

@@ -1,4 +1,4 @@
-//! Lists that are found by key, with room made ahead: what is taken in then takes no memory.
+//! Lists found by key. Room is made ahead, so taking an item in needs no memory.
 #![tactic(auto)]
 
 mod change;

@@ -1,7 +1,12 @@
--- The text of a moment as a function: the dates are counted on from 1970-01-01.
-use Rattle.std.specs.Prelude.{ℕ, zero, suc, ◌+◌, ◌/◌, ◌%◌, ◌==◌, nat_lt, Bool, not, List, pos, if◌then◌else◌}
+-- The range of moments, and the text of one as a function: the dates are counted on from 1970-01-01.
+use Rattle.std.specs.Prelude.{ℕ, zero, suc, ◌+◌, ◌/◌, ◌%◌, ◌==◌, nat_lt, min, Bool, not, List, pos, if◌then◌else◌}
 use Rattle.jiff_core.specs.Calendar.{days_in_month}
 use Rattle.lrs_time.specs.Timestamp.{stamp_text, utc_stamp}
+use Rattle.lrs_time.specs.declared.moments.TheConstants.{LATEST}
+
+-- the moment, or the last one where that is later
+abbrev pub clamped : ℕ → ℕ
+clamped ms = min ms LATEST
 
 pub record Day : Type 0 where
   pub year : ℕ

@@ -1,10 +1,11 @@
 -- How the readers of this crate go through a text. Each of these is a value at the front of the
 -- text and what stands behind it; what the texts are stands in `Timestamp` and `Duration`.
-use Rattle.std.specs.Prelude.{ℕ, ◌+◌, ◌-◌, ◌*◌, ◌<◌, ◌==◌, ◌&&◌, ◌||◌, ◌++◌, not, unwrap_or, slice_index_or, nat_lt, nat_le, Bool, true, false, List, [], ◌∷◌, take, drop, Option, Some, None, option_and_then, Result, Ok, Err, if◌then◌else◌, ℤ, pos}
+use Rattle.std.specs.Prelude.{ℕ, ◌+◌, ◌-◌, ◌*◌, ◌<◌, ◌==◌, ◌&&◌, ◌||◌, ◌++◌, not, unwrap_or, slice_index_or, nat_lt, nat_le, Bool, true, false, List, [], ◌∷◌, take, drop, Option, Some, None, Result, Ok, Err, if◌then◌else◌, ℤ, pos}
 use Rattle.std.specs.List.{prefix_len}
 use Rattle.std.specs.Str.Parse.{digits_value}
 use Rattle.std.specs.Char.{is_ascii_digit}
 use Rattle.jiff_core.specs.Calendar.{days_from_civil, days_in_month}
+use Rattle.lrs_decimal.specs.Fronts.{◌>>=◌, Front}
 use Rattle.lrs_time.specs.Digits.{cut_fraction}
 use Rattle.lrs_time.specs.Timestamp.{seconds_ahead, nanoseconds}
 use Rattle.lrs_time.specs.Duration.{is_decimal_sign, date_units, clock_units, Span}
@@ -14,13 +15,6 @@ use Rattle.lrs_time.specs.declared.timestamps.Offset.{Offset}
 use Rattle.lrs_time.specs.declared.timestamps.Parts.{Parts}
 use Rattle.lrs_time.specs.declared.timestamps.TimeRefused.{TimeRefused}
 use Rattle.lrs_time.specs.declared.timestamps.TimeRefused.TheVariants.{Shape, NoSuchDay, NegativeZero}
-
-infixl 10 ◌>>=◌
-abbrev pub ◌>>=◌ : {A B : Type 0} → Option A → (A → Option B) → Option B
-o >>= f = option_and_then f o
-
-abbrev pub Front : Type 0 → Type 0
-Front A = List ℕ → Option (A × List ℕ)
 
 -- the digits at the front, at least one and at most so many
 unfoldable pub numeral_at : ℕ → Front (List ℕ)

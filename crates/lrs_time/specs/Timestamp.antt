@@ -144,12 +144,16 @@ abbrev pub IsTimestampOf : List ℕ → ℤ → Type 0
 IsTimestampOf text instant =
     (s : Stamp) × Spells text s × HasDay s × (¬ (IsNegativeZero s.zone)) × (instant_of s ≡ instant)
 
+-- the instant of a moment
+abbrev pub instant_of_moment : ℕ → ℤ
+instant_of_moment moment = pos (moment * 1_000_000)
+
 -- The text is the moment's: YYYY-MM-DDTHH:MM:SS.mmmZ, of the instant that many milliseconds after
 -- 1970-01-01T00:00:00Z.
 abbrev pub IsMomentText : ℕ → List ℕ → Type 0
 IsMomentText moment text =
     (s : Stamp) × Spells text s × HasDay s × (length s.fraction ≡ 3) × (s.zone ≡ utc)
-    × (instant_of s ≡ pos (moment * 1_000_000))
+    × (instant_of s ≡ instant_of_moment moment)
 
 -- what the places of such a text spell
 abbrev pub utc_stamp : (year month day hour minute second millisecond : ℕ) → Stamp

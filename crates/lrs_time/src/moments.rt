@@ -1,7 +1,7 @@
-ghost use Rattle.std.specs.Prelude.{◌≡◌, ◌*◌, ◌<◌, ◌≤◌, ◌≤ℤ◌, min, pos, unsigned_abs, IsUtf8};
+ghost use Rattle.std.specs.Prelude.{◌≡◌, ◌<◌, ◌≤◌, ◌≤ℤ◌, pos, unsigned_abs, IsUtf8};
 ghost use Rattle.jiff_core.specs.Date.{epoch_day};
-ghost use Rattle.lrs_time.specs.Moments.{moment_text};
-ghost use Rattle.lrs_time.specs.Timestamp.{stamp_text, utc_stamp, IsMomentText, IsTimestampOf};
+ghost use Rattle.lrs_time.specs.Moments.{clamped, moment_text};
+ghost use Rattle.lrs_time.specs.Timestamp.{instant_of_moment, stamp_text, utc_stamp, IsMomentText, IsTimestampOf};
 ghost use Rattle.lrs_time.specs.Reading.{timestamp_at};
 
 use crate::Instant;
@@ -18,41 +18,42 @@ pub struct Moment {
 
 impl Model for Moment {
     ghost use Rattle.std.specs.Prelude.{ℕ, ◌≤◌};
+    ghost use Rattle.lrs_time.specs.declared.moments.TheConstants.{LATEST};
 
     ghost Value = { ℕ };
 
     ghost view = { λ m. m.milliseconds };
 
-    ghost invariant = { λ m. m.milliseconds ≤ 253_402_300_799_999 };
+    ghost invariant = { λ m. m.milliseconds ≤ LATEST };
 
     ghost inverse = { λ n. record { milliseconds = n } };
 }
 
 /// The number of the last moment, 9999-12-31T23:59:59.999Z.
-const LAST: u64 = 253_402_300_799_999;
+pub const LATEST: u64 = 253_402_300_799_999;
 
 impl Moment {
     /// The moment that many milliseconds after 1970-01-01T00:00:00Z, or the last moment where that
     /// is later.
     pub fn clamp(ms: u64) -> Moment
-        ensures { result ≡ min ms 253_402_300_799_999 }
+        ensures { result ≡ clamped ms }
     {
         Moment {
-            milliseconds: ms.min(LAST),
+            milliseconds: ms.min(LATEST),
         }
     }
 
     /// The milliseconds since 1970-01-01T00:00:00Z.
     pub fn milliseconds(self) -> u64
         ensures value { result ≡ self }
-        ensures bound { result ≤ 253_402_300_799_999 }
+        ensures bound { result ≤ LATEST }
     {
         self.milliseconds
     }
 
     /// The same point of time as an instant.
     pub fn instant(self) -> Instant
-        ensures { result ≡ pos (self * 1_000_000) }
+        ensures { result ≡ instant_of_moment self }
     {
         Instant::from_nanoseconds(self.milliseconds as i128 * 1_000_000)
     }
@@ -97,8 +98,8 @@ fn utc_text(date: &Date, time: &Time, millisecond: u16) -> [u8; 24]
 /// 4.5) that `read_timestamp` reads as the same point of time.
 pub fn moment_text(moment: Moment) -> [u8; 24]
     ensures text { IsMomentText moment result }
-    ensures instant { IsTimestampOf result (pos (moment * 1_000_000)) }
-    ensures reads_back { timestamp_at result ≡ Ok (pos (moment * 1_000_000)) }
+    ensures instant { IsTimestampOf result (instant_of_moment moment) }
+    ensures reads_back { timestamp_at result ≡ Ok (instant_of_moment moment) }
     ensures utf8 { IsUtf8 result }
 
     // The same as a function of the moment.

@@ -1,6 +1,6 @@
 -- The set's own look-up is by its order.
 use Rattle.std.proofs.Common.{not, ap, ◌∙◌}
-use Rattle.lrs_names.proofs.FreshLemmas.{has_id}
+use Rattle.lrs_ids.proofs.FreshLemmas.{has_id}
 use Rattle.lrs_ids.proofs.MadeIds.{set-added}
 use Rattle.lrs_ids.proofs.supply.add_id.Goals as goal
 

@@ -1,5 +1,5 @@
 use Rattle.std.proofs.Common.{◌≡◌, Err, sym, ◌∙◌}
-use Rattle.lrs_json_reader.specs.declared.cursor.Fault.TheVariants as Faults
+use Rattle.lrs_json_reader.specs.declared.cursor.Stop.TheVariants as stop
 use Rattle.lrs_json_reader.specs.declared.reading.ReadRefused.TheVariants as Refused
 use Rattle.lrs_json_reader.proofs.Judgement.{scan_told, too_deep, no_text, text_read, given_readable, given_again}
 use Rattle.lrs_json_reader.proofs.reading.read_to.Goals as goal
@@ -30,6 +30,6 @@ pub returns-in-Err-Bad : goal.returns-in-Err-Bad
 returns-in-Err-Bad c =
     let bytes = c.args.bytes.now in
     let shallow = scan_told c.args.depth bytes _ _ c.reaches.ensures c.if-reaches.false in
-    let bad : Faults.Bad ≡ Faults.Memory → ⊥ = λ e. cc e in
+    let bad : stop.Bad ≡ stop.Memory → ⊥ = λ e. cc e in
     let a = no_text c.args.depth bytes shallow (λ p t. bad (sym c.in-Err-Bad.field-0-is ∙ c.in-Err-Bad.ensures p t)) in
     record { too_deep = a.too_deep; bad = a.bad; repeated = a.repeated; number_range = a.number_range; found = a.found; all = a.all; readable = tt; again = given_again c.args.depth bytes (Err Refused.Bad) a.all }

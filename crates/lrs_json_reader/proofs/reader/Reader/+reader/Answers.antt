@@ -2,7 +2,7 @@ use Rattle.std.proofs.Common.{ℕ, List, [], map, Option, Ok, false, refl, sym, 
 use Rattle.lrs_json.specs.View.{view, member_view}
 use Rattle.lrs_json_reader.specs.Placed.{plain}
 use Rattle.lrs_json_reader.specs.Grammar.{Value}
-use Rattle.lrs_json_reader.specs.Faults.{earlier, earliest}
+use Rattle.lrs_json_reader.specs.Flaws.{earlier, earliest}
 use Rattle.lrs_json_reader.specs.Steps.{GoesOn}
 use Rattle.lrs_json.specs.declared.tree.Member.{Member}
 use Rattle.lrs_json_reader.specs.Reading.{has_some, repeated_among, noted, noted_entry, plain_entry, Pair}

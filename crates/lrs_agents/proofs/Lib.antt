@@ -1,0 +1,2 @@
+pub mod AtSigns
+pub mod AgentLemmas

@@ -1,0 +1,3 @@
+pub mod Agents
+pub mod Identifiers
+pub mod Readings

@@ -1,5 +1,0 @@
-use Rattle.lrs_names.proofs.FreshLemmas.{AllUsed}
-use Rattle.lrs_names.proofs.fresh.fresh_id.Given as goal
-
-abbrev pub invariant-loop-step : goal.invariant-loop-step
-invariant-loop-step l = AllUsed l.used.keys l.word l.step

@@ -1,5 +1,0 @@
-use Rattle.lrs_names.proofs.AgentLemmas.{AgentsSoFar}
-use Rattle.lrs_names.proofs.groups.agents_of.Given as goal
-
-abbrev pub invariant-loop-item : goal.invariant-loop-item
-invariant-loop-item l = AgentsSoFar l.items l.item-index l.agents

@@ -1,0 +1,48 @@
+-- The names of rules, and what it is to break a rule on JSON.
+use Rattle.std.specs.Prelude.{◌≡◌, ◌⊎◌, ℕ, List, ◌∷◌, IsTrue, Option, Some, None}
+use Rattle.std.specs.Fmt.{decimal}
+use Rattle.lrs_json_reader.specs.declared.reading.ReadRefused.{ReadRefused}
+use Rattle.lrs_json_reader.specs.declared.reading.ReadRefused.TheVariants as read
+use Rattle.lrs_json_reader.specs.Refusals.{IsBad, OutOfRangeAt, RepeatedAt, is_too_deep}
+use Rattle.lrs_rules.specs.declared.rule.Rule.{Rule}
+use Rattle.lrs_rules.specs.declared.rule.Rule.TheVariants.{A, B, C, F, J, P, S}
+use Rattle.lrs_json.specs.declared.limits.TheConstants.{DEPTH}
+
+-- the letter of its family, A, B, C, F, J, P or S, by its code in ASCII
+abbrev pub letter_of : Rule → ℕ
+letter_of (A n) = 65
+letter_of (B n) = 66
+letter_of (C n) = 67
+letter_of (F n) = 70
+letter_of (J n) = 74
+letter_of (P n) = 80
+letter_of (S n) = 83
+
+abbrev pub number_of : Rule → ℕ
+number_of (A n) = n
+number_of (B n) = n
+number_of (C n) = n
+number_of (F n) = n
+number_of (J n) = n
+number_of (P n) = n
+number_of (S n) = n
+
+-- its letter and its number, such as S4
+abbrev pub rule_text : Rule → List ℕ
+rule_text rule = letter_of rule ∷ decimal (number_of rule)
+
+-- The rules on JSON, in their order: the depth, the grammar, repeated names, the range of numbers.
+abbrev pub BreaksJson : List ℕ → Rule → Type 0
+BreaksJson bytes r =
+    ((r ≡ J 1) × IsTrue (is_too_deep DEPTH bytes))
+    ⊎ (((r ≡ J 2) × IsBad DEPTH bytes)
+    ⊎ (((r ≡ J 3) × ((place : ℕ) × RepeatedAt DEPTH bytes place))
+    ⊎ ((r ≡ J 4) × ((place : ℕ) × OutOfRangeAt DEPTH bytes place))))
+
+-- the rule that a refusal means; none is for want of memory
+abbrev pub json_rule : ReadRefused → Option Rule
+json_rule read.TooDeep = Some (J 1)
+json_rule read.Bad = Some (J 2)
+json_rule (read.Repeated place) = Some (J 3)
+json_rule (read.NumberRange place) = Some (J 4)
+json_rule read.Memory = None
