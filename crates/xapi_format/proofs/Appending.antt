@@ -68,3 +68,10 @@ account_pieces n a b x y s m1 m2 m3 e1 e2 e3 =
 -- three pieces
 pub three_pieces : (a b c s m1 m2 m3 : List ℕ) → m1 ≡ s ++ a → m2 ≡ m1 ++ b → m3 ≡ m2 ++ c → m3 ≡ s ++ (a ++ (b ++ c))
 three_pieces a b c s m1 m2 m3 e1 e2 e3 = behind s m1 m3 a (b ++ c) e1 (behind m1 m2 m3 b c e2 e3)
+
+-- one member more of an object, of which others are left
+pub member_more : (name : List ℕ) (j : Json) (ms : Members) (later : Bool) (before after whole : List ℕ) → after ≡ before ++ member_text later name j → before ++ members_text later (member name j ms) ≡ whole → after ++ members_text true ms ≡ whole
+member_more name j ms later before after whole more all =
+    ap (λ t. t ++ members_text true ms) more
+    ∙ (append_assoc before (member_text later name j) (members_text true ms)
+    ∙ (ap (λ t. before ++ t) (sym (first_member later name j ms)) ∙ all))

@@ -1,4 +1,3 @@
-pub mod Following
 pub mod Appending
-pub mod Itemwise
-pub mod Callers
+pub mod Authorities
+pub mod Left

@@ -7,8 +7,8 @@ use Rattle.xapi_format.specs.declared.authority.Authority.{Authority}
 use Rattle.xapi_format.specs.declared.authority.Authority.TheVariants.{Admin, Provider}
 
 -- the callers' accounts have this home page
-abbrev pub callers_page : List ℕ
-callers_page = codes "https://lrs.invalid/callers"
+abbrev pub home_page : List ℕ
+home_page = codes "https://lrs.invalid/callers"
 
 abbrev pub authority_name : Authority → List ℕ
 authority_name Admin = codes "admin"
@@ -22,12 +22,12 @@ account_name (Provider number name) = codes "provider:" ++ decimal number
 -- {"homePage":"https://lrs.invalid/callers","name":A}
 abbrev pub account_json : List ℕ → Json
 account_json account =
-    object (members_of ((codes "homePage", string callers_page) ∷ (codes "name", string account) ∷ []))
+    object (members_of ((codes "homePage", string home_page) ∷ (codes "name", string account) ∷ []))
 
 -- {"objectType":"Agent","name":N,"account":{..}}
-abbrev pub caller_agent : List ℕ → List ℕ → Json
-caller_agent name account =
+abbrev pub authority_agent : List ℕ → List ℕ → Json
+authority_agent name account =
     object (members_of ((codes "objectType", string (codes "Agent")) ∷ (codes "name", string name) ∷ (codes "account", account_json account) ∷ []))
 
 abbrev pub authority_json : Authority → Json
-authority_json authority = caller_agent (authority_name authority) (account_name authority)
+authority_json authority = authority_agent (authority_name authority) (account_name authority)

@@ -1,14 +1,13 @@
 -- The completed form of a statement: as it was received, with what the store adds (xAPI 1.0.3, part two, section 2.4).
-use Rattle.std.specs.Prelude.{◌≡◌, ℕ, List, [], ◌∷◌, unwrap_or, map, codes, if◌then◌else◌}
+use Rattle.std.specs.Prelude.{ℕ, List, [], ◌∷◌, unwrap_or, codes, if◌then◌else◌}
 use Rattle.std.specs.Str.{bytes_eq}
 use Rattle.lrs_json.specs.Json.{Json, null, boolean, number, string, array, object, no_elements, element, Members, no_members, member}
 use Rattle.lrs_json.specs.Find.{find}
-use Rattle.lrs_json.specs.View.{member_view, members_of}
-use Rattle.lrs_json.specs.declared.tree.Member.{Member}
+use Rattle.lrs_json.specs.View.{members_of}
 use Rattle.lrs_names.specs.Ids.{id_text}
 use Rattle.lrs_names.specs.Members.{is_one_of}
-use Rattle.xapi_format.specs.Memberwise.{with_each_member}
-use Rattle.xapi_format.specs.Nested.{is_nested}
+use Rattle.xapi_values.specs.Memberwise.{with_each_member}
+use Rattle.xapi_values.specs.Nested.{is_nested}
 
 -- ---- context activities (section 2.4.6.2)
 
@@ -54,15 +53,6 @@ abbrev pub kept_before : Members → Members → Members
 kept_before no_members behind = behind
 kept_before (member name j ms) behind =
     if is_one_of added_names name then kept_before ms behind else member name (plural_member name j) (kept_before ms behind)
-
-abbrev pub followed_by : Members → Members → Members
-followed_by no_members behind = behind
-followed_by (member name j ms) behind = member name j (followed_by ms behind)
-
--- one member more, behind those that stood there
-abbrev pub HasOneMore : List Member → List ℕ → Json → List Member → Type 0
-HasOneMore old name j new =
-    (behind : Members) → followed_by (members_of (map member_view new)) behind ≡ followed_by (members_of (map member_view old)) (member name j behind)
 
 -- the member of that name as it was given, else this text
 abbrev pub given_or : List ℕ → Json → List ℕ → Json

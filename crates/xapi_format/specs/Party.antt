@@ -4,9 +4,9 @@ use Rattle.std.specs.Option.{option_map_or}
 use Rattle.std.specs.Str.{bytes_eq}
 use Rattle.lrs_json.specs.Json.{Json, Elements, no_elements, element}
 use Rattle.lrs_names.specs.Members.{has_member_that, items_of}
-use Rattle.lrs_names.specs.Identifiers.{identifier_of}
-use Rattle.lrs_names.specs.declared.identifiers.Ifi.{Ifi}
-use Rattle.lrs_names.specs.declared.identifiers.Ifi.TheVariants.{Mbox, MboxSha1, OpenId, Account}
+use Rattle.lrs_agents.specs.Identifiers.{identifier_of}
+use Rattle.lrs_agents.specs.declared.identifiers.Ifi.{Ifi}
+use Rattle.lrs_agents.specs.declared.identifiers.Ifi.TheVariants.{Mbox, MboxSha1, OpenId, Account}
 
 -- the same kind, with the same texts
 abbrev pub same_ifi : Ifi → Ifi → Bool

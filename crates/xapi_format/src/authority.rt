@@ -2,8 +2,8 @@ ghost use Rattle.std.specs.Prelude.{◌≡◌};
 ghost use Rattle.std.specs.Str.{bytes_eq};
 
 use itoa::Buffer;
+use lrs_agents::Ifi;
 use lrs_json::Text;
-use lrs_names::Ifi;
 
 /// Under whose authority a statement stands.
 #[derive(Drop)]

@@ -3,7 +3,8 @@ ghost use Rattle.std.specs.Prelude.{◌≡◌, ◌∷◌, ◌++◌, [], IfOk, On
 ghost use Rattle.lrs_json.specs.Json.{Members, no_members, member, object, string};
 ghost use Rattle.lrs_json.specs.View.{view, member_view, members_of};
 ghost use Rattle.xapi_format.specs.Authorities.{account_json, account_name, authority_json};
-ghost use Rattle.xapi_format.specs.Completed.{HasOneMore, added, added_behind_id, completed, followed_by, given_or, kept_before};
+ghost use Rattle.xapi_format.specs.Completed.{added, added_behind_id, completed, given_or, kept_before};
+ghost use Rattle.xapi_values.specs.Following.{HasOneMore, followed_by};
 ghost use Rattle.lrs_time.specs.Moments.{moment_text};
 
 use crate::Authority;
@@ -13,6 +14,7 @@ use lrs_json::{Items, Member, Memory, Text, Tree, utf8_text};
 use lrs_names::Id;
 use lrs_time::{Moment, moment_text};
 use std::alloc::Global;
+use xapi_values::whole;
 
 /// The completed form of a statement as a tree of its own: what was received, and behind it what the store adds.
 #[tactic(auto, unfolding(crate::specs::Completed::completed))]
@@ -34,25 +36,12 @@ pub fn completed(
     Ok(whole(built))
 }
 
-/// The object of these members.
-pub fn whole(built: Items<Member>) -> Tree
-    ensures { view result ≡ object (followed_by (members_of (map member_view built)) no_members) }
-{
-    Tree::Object(built)
-}
-
 /// One member more.
 pub fn push(name: &str, value: Tree, built: &mut Items<Member>) -> Result<(), Memory>
     ensures { OnOk result (HasOneMore built.old name.now (view value) built.new) }
 {
-    push_last(name, value, built)
-}
-
-fn push_last(name: &str, value: Tree, built: &mut Items<Member>) -> Result<(), Memory>
-    ensures { OnOk result (map member_view built.new ≡ map member_view built.old ++ (name.now, view value) ∷ []) }
-{
     let name = Text::of(built.allocator(), name)?;
-    built.push(Member { name, value })
+    xapi_values::push(name, value, built)
 }
 
 // The members that are kept.

@@ -1,19 +1,15 @@
-//! The forms in which the store gives a statement (xAPI 1.0.3, part two, section 2.4; part three, section 2.1.3): completed
-//! by what the store adds, as a tree and as a text, and with ids alone.
+//! The form in which the store gives a whole statement (xAPI 1.0.3, part two, section 2.4; part three, section 2.1.3):
+//! completed by what the store adds, as a tree and as a text.
 #![tactic(auto)]
 
 mod authority;
 mod building;
 mod format;
-mod nested;
 mod plural;
-mod reducing;
 mod showing;
 
 pub use authority::Authority;
 pub use building::completed;
 pub use format::Format;
 pub use lrs_json::Memory;
-pub use nested::is_nested;
-pub use reducing::reduced;
 pub use showing::put_completed;

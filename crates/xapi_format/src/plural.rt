@@ -5,14 +5,15 @@ ghost use Rattle.lrs_json.specs.Json.{Json, object};
 ghost use Rattle.lrs_json.specs.Texts.{member_text};
 ghost use Rattle.lrs_json.specs.View.{view, member_view, members_of};
 ghost use Rattle.lrs_json.specs.Written.{Extends, written};
-ghost use Rattle.xapi_format.specs.Completed.{HasOneMore, in_array, plural_activities_member, plural_context_member, plural_member, plural_nested_member, plural_object};
-ghost use Rattle.xapi_format.specs.Memberwise.{each_member, with_each_member};
+ghost use Rattle.xapi_format.specs.Completed.{in_array, plural_activities_member, plural_context_member, plural_member, plural_nested_member, plural_object};
+ghost use Rattle.xapi_values.specs.Following.{HasOneMore};
+ghost use Rattle.xapi_values.specs.Memberwise.{each_member, with_each_member};
 
-use crate::building::{push, whole};
-use crate::is_nested;
+use crate::building::push;
 use lrs_json::appending::{put, put_name, put_tree};
 use lrs_json::{Items, Member, Memory, Tree};
 use std::alloc::Global;
+use xapi_values::{is_nested, whole};
 
 /// What becomes of the value of a member, by its name.
 pub trait Plural {

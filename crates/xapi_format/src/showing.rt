@@ -5,7 +5,7 @@ ghost use Rattle.lrs_json.specs.Texts.{member_text};
 ghost use Rattle.lrs_json.specs.View.{view, member_view, members_of};
 ghost use Rattle.lrs_json.specs.Written.{Extends, members_text, written};
 ghost use Rattle.std.specs.Fmt.{decimal};
-ghost use Rattle.xapi_format.specs.Authorities.{account_json, account_name, authority_json, authority_name, callers_page};
+ghost use Rattle.xapi_format.specs.Authorities.{account_json, account_name, authority_json, authority_name, home_page};
 ghost use Rattle.xapi_format.specs.Completed.{added, added_behind_id, added_last, added_names, completed, given_or, kept_before};
 ghost use Rattle.lrs_time.specs.Moments.{moment_text};
 ghost use Rattle.lrs_names.specs.Members.{is_one_of};
@@ -198,7 +198,7 @@ fn put_account(authority: &Authority, into: &mut Vec<u8>) -> Result<(), Memory>
 #[tactic(auto, using(lrs_json::proofs::Extending::extends_trans))]
 fn put_account_members(authority: &Authority, into: &mut Vec<u8>) -> Result<(), Memory>
     ensures ok { OnOk result (into.new.items ≡ into.old.items
-        ++ (member_text false (codes "homePage") (string callers_page)
+        ++ (member_text false (codes "homePage") (string home_page)
         ++ (member_text true (codes "name") (string (account_name authority.now)) ++ codes "}}"))) }
     ensures kept { Extends into.old.items into.new.items }
 {

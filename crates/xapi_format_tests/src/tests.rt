@@ -1,10 +1,13 @@
+use lrs_agents::Ifi;
 use lrs_json::{Text, Tree, write};
 use lrs_json_reader::read;
-use lrs_names::{Id, Ifi};
+use lrs_names::Id;
 use lrs_time::Moment;
 use std::alloc::Global;
 use std::test::Fail;
-use xapi_format::{Authority, completed, is_nested, put_completed, reduced};
+use xapi_format::{Authority, completed, put_completed};
+use xapi_reduced::reduced;
+use xapi_values::is_nested;
 
 // The first statement, its completed form under the admin's authority, one of a provider with a time and a version of
 // its own, and one whose context activities stand alone, also in a SubStatement.

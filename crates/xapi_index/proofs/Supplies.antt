@@ -6,11 +6,11 @@ use Rattle.lrs_json.specs.View.{view}
 use Rattle.lrs_json.specs.declared.tree.Tree.{Tree}
 use Rattle.lrs_names.specs.Members.{is_one_of}
 use Rattle.lrs_ids.specs.Ids.{Supply, IsCounted, those}
-use Rattle.lrs_ids.specs.Making.{GiveSame}
+use Rattle.lrs_ids.specs.IdSupply.{GiveSame}
 use Rattle.xapi_statement.specs.Stored.{StoredStatement}
 use Rattle.xapi_statement.specs.Statement.{own_id}
 use Rattle.xapi_index.specs.Statements.{held_under, ids_of, is_held}
-use Rattle.xapi_index.specs.Batches.{id_for, named, ids_of_named, supply_after, supply_behind}
+use Rattle.xapi_index.specs.Batches.{id_for, with_ids, ids_under, supply_after, supply_behind}
 
 pub used_held : (held : List StoredStatement) (id : List ℕ) → is_held id held ≡ is_one_of (ids_of held) id
 used_held [] id = refl
@@ -24,19 +24,19 @@ used_held (s ∷ held) id = by_test (bytes_eq s.id id) (used_held held id)
 pub held_counted : (held : List StoredStatement) → IsCounted (those (ids_of held))
 held_counted held = record { ids = ids_of held; same = λ id. refl; count = refl }
 
-pub names_same : (supply other : Supply) (ts : List Tree) → GiveSame supply other → ids_of_named (named supply ts) ≡ ids_of_named (named other ts)
-names_same supply other ts same = ap (λ s. ids_of_named (named s ts)) (λ i k. same.same k i)
+pub names_same : (supply other : Supply) (ts : List Tree) → GiveSame supply other → ids_under (with_ids supply ts) ≡ ids_under (with_ids other ts)
+names_same supply other ts same = ap (λ s. ids_under (with_ids s ts)) (λ i k. same.same k i)
 
 -- one more of them is named
 pub names_more : (old new : Supply) (ts : List Tree) (i : ℕ) (t : Tree) (id : List ℕ) (ids next all : List (List ℕ)) → drop i ts ≡ t ∷ drop (i + 1) ts
-    → id ≡ id_for (old 0) (own_id (view t)) → GiveSame new (supply_behind old (own_id (view t))) → next ≡ ids ++ id ∷ [] → ids ++ ids_of_named (named old (drop i ts)) ≡ all
-    → next ++ ids_of_named (named new (drop (i + 1) ts)) ≡ all
+    → id ≡ id_for (old 0) (own_id (view t)) → GiveSame new (supply_behind old (own_id (view t))) → next ≡ ids ++ id ∷ [] → ids ++ ids_under (with_ids old (drop i ts)) ≡ all
+    → next ++ ids_under (with_ids new (drop (i + 1) ts)) ≡ all
 names_more old new ts i t id ids next all at is left pushed before =
-    ap (λ xs. xs ++ ids_of_named (named new (drop (i + 1) ts))) pushed
-    ∙ (append_assoc ids (id ∷ []) (ids_of_named (named new (drop (i + 1) ts)))
+    ap (λ xs. xs ++ ids_under (with_ids new (drop (i + 1) ts))) pushed
+    ∙ (append_assoc ids (id ∷ []) (ids_under (with_ids new (drop (i + 1) ts)))
     ∙ (ap (λ rest. ids ++ id ∷ rest) (names_same new (supply_behind old (own_id (view t))) (drop (i + 1) ts) left)
-    ∙ (ap (λ k. ids ++ k ∷ ids_of_named (named (supply_behind old (own_id (view t))) (drop (i + 1) ts))) is
-    ∙ (sym (ap (λ xs. ids ++ ids_of_named (named old xs)) at) ∙ before))))
+    ∙ (ap (λ k. ids ++ k ∷ ids_under (with_ids (supply_behind old (own_id (view t))) (drop (i + 1) ts))) is
+    ∙ (sym (ap (λ xs. ids ++ ids_under (with_ids old xs)) at) ∙ before))))
 
 -- ---- what is left behind them
 

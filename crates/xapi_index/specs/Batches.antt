@@ -8,7 +8,7 @@ use Rattle.xapi_statement.specs.Statement.{own_id}
 use Rattle.lrs_ids.specs.Ids.{Supply, rest_of}
 
 -- a statement, and the id under which it goes
-pub record Named : Type 0 where
+pub record WithId : Type 0 where
   pub id : List ℕ
   pub tree : Tree
 
@@ -32,22 +32,22 @@ supply_behind supply None = rest_of supply
 supply_behind supply (Some own) = supply
 
 -- Each goes under the id that it gives itself, else under the next one that is made.
-abbrev pub named : Supply → List Tree → List Named
-named supply [] = []
-named supply (t ∷ ts) = record { id = id_for (supply 0) (own_id (view t)); tree = t } ∷ named (supply_behind supply (own_id (view t))) ts
+abbrev pub with_ids : Supply → List Tree → List WithId
+with_ids supply [] = []
+with_ids supply (t ∷ ts) = record { id = id_for (supply 0) (own_id (view t)); tree = t } ∷ with_ids (supply_behind supply (own_id (view t))) ts
 
 -- what is left behind all of them
 abbrev pub supply_after : Supply → List Tree → Supply
 supply_after supply [] = supply
 supply_after supply (t ∷ ts) = supply_after (supply_behind supply (own_id (view t))) ts
 
-abbrev pub ids_of_named : List Named → List (List ℕ)
-ids_of_named named = map (λ (s : Named). s.id) named
+abbrev pub ids_under : List WithId → List (List ℕ)
+ids_under ns = map (λ (n : WithId). n.id) ns
 
-abbrev pub held_of : ℕ → Authority → Named → StoredStatement
+abbrev pub held_of : ℕ → Authority → WithId → StoredStatement
 held_of moment by s = record { received = s.tree; id = s.id; stored = moment; authority = by }
 
 -- the statements as they are kept, where their caller has an authority
-abbrev pub kept_by : ℕ → Option Authority → List Named → List StoredStatement
-kept_by moment None named = []
-kept_by moment (Some by) named = map (held_of moment by) named
+abbrev pub kept_by : ℕ → Option Authority → List WithId → List StoredStatement
+kept_by moment None ns = []
+kept_by moment (Some by) ns = map (held_of moment by) ns

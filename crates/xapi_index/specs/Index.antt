@@ -16,11 +16,11 @@ pub record Indexed : Type 0 where
   pub targets : List (List ℕ × Option ℕ)
   pub spare : ℕ
 
--- each id has the place of its statement
+-- each id has the position of its statement
 abbrev pub FindsIds : List (List ℕ × Option ℕ) → List StoredStatement → Type 0
 FindsIds ids held = (k : List ℕ) → place_of (slice_cmp nat_cmp) ids k ≡ position (λ s. bytes_eq s.id k) held
 
--- each id has the place of the first statement that voids it
+-- each id has the position of the first statement that voids it
 abbrev pub FindsTargets : List (List ℕ × Option ℕ) → List StoredStatement → Type 0
 FindsTargets targets held = (k : List ℕ) → place_of (slice_cmp nat_cmp) targets k ≡ position (voids k) held
 
@@ -28,10 +28,10 @@ pub record IsIndex (ids targets : List (List ℕ × Option ℕ)) (held : List St
   pub found : FindsIds ids held
   pub voided : FindsTargets targets held
 
--- the target, if any, has that place where it has none
+-- the target, if any, has that position where it has none
 abbrev pub FillsTarget : Option (List ℕ) → ℕ → List (List ℕ × Option ℕ) → List (List ℕ × Option ℕ) → Type 0
-FillsTarget target place old new =
-    (k : List ℕ) → place_of (slice_cmp nat_cmp) new k ≡ option_or (place_of (slice_cmp nat_cmp) old k) (if is_that_id k target then Some place else None)
+FillsTarget target position old new =
+    (k : List ℕ) → place_of (slice_cmp nat_cmp) new k ≡ option_or (place_of (slice_cmp nat_cmp) old k) (if is_that_id k target then Some position else None)
 
 -- ---- room
 
@@ -46,6 +46,6 @@ pub record HasPlaces (ids targets : List (List ℕ × Option ℕ)) (s : StoredSt
   pub target : HasPlaceFor targets (voided_by s)
 
 -- there is room for these statements
-pub record IsReadyFor (index : Indexed) (statements : List StoredStatement) : Type 0 where
+pub record IsIndexReadyFor (index : Indexed) (statements : List StoredStatement) : Type 0 where
   pub places : AllByRecursion (HasPlaces index.ids index.targets) statements
   pub spare : length statements ≤ index.spare

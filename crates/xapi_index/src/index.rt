@@ -9,7 +9,7 @@ ghost use Rattle.lrs_register.specs.Places.{KeepsPlaces, SamePlaces};
 ghost use Rattle.xapi_statement.specs.Stored.{StoredStatement as SpecStatement};
 ghost use Rattle.xapi_index.specs.Statements.{add, add_each, held_under, is_held, is_target, is_voided, voided_by, voids};
 ghost use Rattle.xapi_index.specs.Statements.{position_referred, referred_at};
-ghost use Rattle.xapi_index.specs.Index.{FillsTarget, FindsIds, FindsTargets, HasPlaceFor, HasPlaces, IsReadyFor};
+ghost use Rattle.xapi_index.specs.Index.{FillsTarget, FindsIds, FindsTargets, HasPlaceFor, HasPlaces, IsIndexReadyFor};
 
 use lrs_ids::UsedIds;
 use lrs_json::Memory;
@@ -167,7 +167,7 @@ impl Index {
     /// Makes room for these statements.
     pub fn ready(&mut self, statements: &[StoredStatement]) -> Result<(), Memory>
         ensures held { self.new.held ≡ self.old.held }
-        ensures ready { OnOk result (IsReadyFor self.new statements.now) }
+        ensures ready { OnOk result (IsIndexReadyFor self.new statements.now) }
     {
         self.held.reserve(statements.len())?;
         make_places(&mut self.ids, &mut self.targets, statements)
@@ -175,7 +175,7 @@ impl Index {
 
     /// Takes statements in for which there is room, each but for one whose id is held. It takes no memory.
     pub fn install(&mut self, statements: Vec<StoredStatement>)
-        requires { IsReadyFor self.old statements.items }
+        requires { IsIndexReadyFor self.old statements.items }
         ensures { self.new.held ≡ add_each self.old.held statements.items }
     {
         install_each(&mut self.ids, &mut self.targets, &mut self.held, statements);
@@ -274,14 +274,14 @@ fn install_one(
     }
 }
 
-// Fills the place of what a statement at that place voids, where no earlier one voids it.
-fn fill_target(targets: &mut Places<Id>, target: Option<Id>, place: usize)
+// Fills the place of what a statement at that position voids, where no earlier one voids it.
+fn fill_target(targets: &mut Places<Id>, target: Option<Id>, position: usize)
     requires { HasPlaceFor targets.old target }
-    ensures filled { FillsTarget target place targets.old targets.new }
+    ensures filled { FillsTarget target position targets.old targets.new }
     ensures kept { KeepsPlaces (slice_cmp nat_cmp) targets.old targets.new }
 {
     if let Some(target) = target {
-        targets.fill(&target, place);
+        targets.fill(&target, position);
     }
 }
 

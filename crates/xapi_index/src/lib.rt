@@ -1,5 +1,5 @@
-//! The statements that a store holds, as a list: which one an id names, which are voided, to which one another refers, and
-//! under which ids new ones go. Nothing here knows what is asked of them.
+//! The list of statements that a store holds: which one an id names, which are voided, which one refers to which, and
+//! the ids under which new ones go. Nothing here knows who asks or what is listed.
 #![tactic(auto)]
 
 mod index;

@@ -3,8 +3,8 @@ ghost use Rattle.std.specs.Prelude.{◌≡◌, ◌++◌, [], IfOk, OnOk};
 ghost use Rattle.lrs_json.specs.View.{view};
 ghost use Rattle.xapi_statement.specs.Statement.{own_id};
 ghost use Rattle.lrs_ids.specs.Ids.{are_distinct, supply_of};
-ghost use Rattle.lrs_ids.specs.Making.{GiveSame, left_of};
-ghost use Rattle.xapi_index.specs.Batches.{given_ids, id_for, named, ids_of_named, supply_after, supply_behind, with_given};
+ghost use Rattle.lrs_ids.specs.IdSupply.{GiveSame, left_of};
+ghost use Rattle.xapi_index.specs.Batches.{given_ids, id_for, with_ids, ids_under, supply_after, supply_behind, with_given};
 
 use lrs_ids::{IdSupply, UsedIds, are_distinct};
 use lrs_json::{Memory, Tree};
@@ -49,7 +49,7 @@ pub fn batch_ids<U: UsedIds>(
 ) -> Result<Vec<Id>, Memory>
     ensures { IfOk result (λ ids.
         let supply = supply_of (U.used used.now) (given_ids statements.now) draw.now.name in
-        ids.items ≡ ids_of_named (named supply statements.now)) }
+        ids.items ≡ ids_under (with_ids supply statements.now)) }
 {
     let given = given_ids(alloc, statements)?;
     let mut supply = IdSupply::new(alloc, used, given.as_slice(), draw.name)?;
@@ -64,7 +64,7 @@ pub fn take_ids<U: UsedIds>(
     statements: &[Tree],
 ) -> Result<Vec<Id>, Memory>
     ensures ids { IfOk result (λ ids.
-        ids.items ≡ ids_of_named (named (left_of (U.used used.now) supply.old) statements.now)) }
+        ids.items ≡ ids_under (with_ids (left_of (U.used used.now) supply.old) statements.now)) }
     ensures left { OnOk result (GiveSame (left_of (U.used used.now) supply.new)
         (supply_after (left_of (U.used used.now) supply.old) statements.now)) }
 {

@@ -5,7 +5,7 @@ use Rattle.lrs_json.specs.View.{members_of}
 use Rattle.lrs_json.specs.Written.{elements_text, escaped, quoted, written}
 use Rattle.xapi_query.specs.declared.query.Query.{Query}
 use Rattle.xapi_statement.specs.Stored.{StoredStatement}
-use Rattle.xapi_pages.specs.Listings.{Paged, items_text, more_text, page_body}
+use Rattle.xapi_pages.specs.Listings.{Page, items_text, more_text, page_body}
 
 regroup : (a e m q z : List ℕ) → a ++ e ++ m ++ q ++ z ≡ a ++ (e ++ (m ++ (q ++ z)))
 regroup a e m q z = simp append_assoc refl
@@ -16,7 +16,7 @@ whole : (items : Elements) (more : List ℕ)
 unfolding escaped
 whole items more = regroup (codes "{\"statements\":[") (elements_text false items) (codes ",\"more\":") (quoted more) (125 ∷ [])
 
-pub page_is : (query : Query) (n : ℕ) (held : List StoredStatement) (p : Paged) (a b c d e : List ℕ)
+pub page_is : (query : Query) (n : ℕ) (held : List StoredStatement) (p : Page) (a b c d e : List ℕ)
     → a ≡ codes "{\"statements\":[" → b ≡ a ++ items_text query.format held false p.positions → c ≡ b ++ codes ",\"more\":"
     → d ≡ c ++ quoted (more_text query n p.link) → e ≡ d ++ 125 ∷ [] → e ≡ page_body query n held p
 page_is query n held p a b c d e begins items named linked ends =

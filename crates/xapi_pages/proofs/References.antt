@@ -20,7 +20,7 @@ use Rattle.lrs_register.proofs.Firsts.{position-item}
 use Rattle.xapi_pages.proofs.Walks.{enough, none_reached, reach, reaches}
 
 -- Positions below n, some of which pass, each with a next one or none; and whether one that passes is met on the way from a position.
-pub record IsVerdict (p : ℕ → Bool) (next : ℕ → Option ℕ) (n : ℕ) (v : ℕ → Bool) : Type 0 where
+pub record TellsPassing (p : ℕ → Bool) (next : ℕ → Option ℕ) (n : ℕ) (v : ℕ → Bool) : Type 0 where
   pub here : (k : ℕ) → p k ≡ true → v k ≡ true
   pub on : (k j : ℕ) → k < n → p k ≡ false → next k ≡ Some j → v k ≡ v j
   pub ends : (k : ℕ) → k < n → p k ≡ false → next k ≡ None → v k ≡ false
@@ -90,8 +90,8 @@ module _ (held : List StoredStatement) where
       ∙ (ap (λ b. b || reaches (is_direct_at query sight held) (referred_at held) (length held) (referred_at held k)) fails
       ∙ ap (λ o. reaches (is_direct_at query sight held) (referred_at held) (length held) o) at)
 
-  pub verdict : (query : Query) (sight : Sight) → IsVerdict (is_direct_at query sight held) (referred_at held) (length held) (chain_passes query sight held)
-  verdict query sight = record {
+  pub passing : (query : Query) (sight : Sight) → TellsPassing (is_direct_at query sight held) (referred_at held) (length held) (chain_passes query sight held)
+  passing query sight = record {
     here = λ k is. sym (known query sight k) ∙ reach (is_direct_at query sight held) (referred_at held) (length held) 0 k (omega arith) is;
     on = λ k j lt fails at. sym (known query sight k) ∙ (further query sight k (Some j) lt fails at ∙ known query sight j);
     ends = λ k lt fails at. sym (known query sight k) ∙ further query sight k None lt fails at;
@@ -100,7 +100,7 @@ module _ (held : List StoredStatement) where
   }
 
 -- the same of the first n statements
-pub verdict_first : (query : Query) (sight : Sight) (held : List StoredStatement) (n : ℕ) → n ≤ length held
-    → IsVerdict (is_direct_at query sight (take n held)) (referred_at (take n held)) n (chain_passes query sight (take n held))
-verdict_first query sight held n le =
-    subst (λ m. IsVerdict (is_direct_at query sight (take n held)) (referred_at (take n held)) m (chain_passes query sight (take n held))) (length-take-le n held le) (verdict (take n held) query sight)
+pub passing_first : (query : Query) (sight : Sight) (held : List StoredStatement) (n : ℕ) → n ≤ length held
+    → TellsPassing (is_direct_at query sight (take n held)) (referred_at (take n held)) n (chain_passes query sight (take n held))
+passing_first query sight held n le =
+    subst (λ m. TellsPassing (is_direct_at query sight (take n held)) (referred_at (take n held)) m (chain_passes query sight (take n held))) (length-take-le n held le) (passing (take n held) query sight)

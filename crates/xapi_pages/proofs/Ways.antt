@@ -9,7 +9,7 @@ use Rattle.std.proofs.lemmas.List.Sums.{sum_by-set}
 use Rattle.xapi_pages.specs.declared.chains.Mark.{Mark}
 use Rattle.xapi_pages.specs.declared.chains.Mark.TheVariants.{Unknown, Passes, Fails}
 use Rattle.xapi_pages.specs.Chains.{AreTrue, is_among, known_by, mark_at}
-use Rattle.xapi_pages.proofs.References.{IsVerdict}
+use Rattle.xapi_pages.proofs.References.{TellsPassing}
 
 -- ---- positions
 
@@ -95,7 +95,7 @@ unknown Unknown false is = (refl, refl)
 unknown Passes direct is = cc is
 unknown Fails direct is = cc is
 
-module _ (p : ℕ → Bool) (next : ℕ → Option ℕ) (n : ℕ) (v : ℕ → Bool) (marks : List Mark) (path : List ℕ) (start position : ℕ) (is : IsVerdict p next n v) (way : IsOnWay p next n v marks path start position) where
+module _ (p : ℕ → Bool) (next : ℕ → Option ℕ) (n : ℕ) (v : ℕ → Bool) (marks : List Mark) (path : List ℕ) (start position : ℕ) (is : TellsPassing p next n v) (way : IsOnWay p next n v marks path start position) where
   -- one step further
   pub way_on : (j : ℕ) → known_by (mark_at marks position) (p position) ≡ None → position < length marks → next position ≡ Some j → IsOnWay p next n v (set marks position Fails) (path ++ position ∷ []) start j
   way_on j none lt at =

@@ -68,7 +68,7 @@ abbrev pub listing_behind : Query → Sight → List StoredStatement → Option 
 listing_behind query sight statements after = filter (is_behind query.ascending after) (listing query sight statements)
 
 -- The positions of a page, and the last one of them where something comes behind it.
-pub record Paged : Type 0 where
+pub record Page : Type 0 where
   pub positions : List ℕ
   pub link : Option ℕ
 
@@ -76,10 +76,10 @@ abbrev pub last_of : List ℕ → Option ℕ
 last_of ks = slice_get ks (length ks - 1)
 
 -- the first ones, as many as a page has, which is at least one
-abbrev pub first_page : ℕ → List ℕ → Paged
+abbrev pub first_page : ℕ → List ℕ → Page
 first_page size ks = record { positions = take size ks; link = if nat_lt size (length ks) then last_of (take size ks) else None }
 
-abbrev pub page_behind : Query → Sight → List StoredStatement → Option ℕ → Paged
+abbrev pub page_behind : Query → Sight → List StoredStatement → Option ℕ → Page
 page_behind query sight statements after = first_page query.page (listing_behind query sight statements after)
 
 -- ---- its text
@@ -102,5 +102,5 @@ list_json format statements more =
     object (members_of ((codes "statements", array (elements_of (map (shown_form format) statements))) ∷ (codes "more", string more) ∷ []))
 
 -- of a page, in a list of the first n statements
-abbrev pub page_body : Query → ℕ → List StoredStatement → Paged → List ℕ
+abbrev pub page_body : Query → ℕ → List StoredStatement → Page → List ℕ
 page_body query n statements p = written (list_json query.format (statements_at statements p.positions) (more_text query n p.link))

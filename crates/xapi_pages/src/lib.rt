@@ -1,5 +1,5 @@
-//! What a query lists of the statements that a store holds, and the pages in which they are given. Nothing here knows who
-//! asks or what else is told.
+//! What a query lists of the statements that a store holds, page by page. Nothing here knows who asks or what is
+//! refused.
 #![tactic(auto)]
 
 mod chains;

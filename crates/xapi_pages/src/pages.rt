@@ -2,7 +2,7 @@
 ghost use Rattle.std.specs.Prelude.{◌≡◌, ◌≤◌, ◌∷◌, ◌++◌, ℕ, List, false, length, take, IfOk, OnOk};
 ghost use Rattle.lrs_json.specs.Written.{comma_if, quoted};
 ghost use Rattle.xapi_statement.specs.Shown.{shown_text};
-ghost use Rattle.xapi_pages.specs.Listings.{Paged, items_text, more_text, page_behind, page_body};
+ghost use Rattle.xapi_pages.specs.Listings.{Page as SpecPage, items_text, more_text, page_behind, page_body};
 
 use crate::listing::{Page, find_page};
 use lrs_json::{Memory, Tree, write};
@@ -11,40 +11,40 @@ use xapi_index::Index;
 use xapi_query::{Query, Sight, link_text};
 use xapi_statement::{Format, StoredStatement};
 
-/// The body of the page behind a position, in the list as of the first n statements.
+/// The body of the page behind a position, in the list as of the first `asof` statements.
 pub fn page_text(
     alloc: Global,
     index: &Index,
     query: &Query,
     sight: &Sight,
-    n: usize,
+    asof: usize,
     after: Option<usize>,
 ) -> Result<Vec<u8>, Memory>
-    requires { n ≤ length index.now.held }
+    requires { asof ≤ length index.now.held }
     ensures { IfOk result (λ body.
         body.items
-        ≡ page_body query.now n index.now.held (page_behind query.now sight.now (take n index.now.held) after)) }
+        ≡ page_body query.now asof index.now.held (page_behind query.now sight.now (take asof index.now.held) after)) }
 {
-    let page = find_page(alloc, index, query, sight, n, after)?;
-    body_text(alloc, index, query, n, &page)
+    let page = find_page(alloc, index, query, sight, asof, after)?;
+    body_text(alloc, index, query, asof, &page)
 }
 
-// The body of a page, in a list of the first n statements.
+// The body of a page, in a list of the first `asof` statements.
 fn body_text(
     alloc: Global,
     index: &Index,
     query: &Query,
-    n: usize,
+    asof: usize,
     page: &Page,
 ) -> Result<Vec<u8>, Memory>
     ensures { IfOk result (λ body.
-        let shown : Paged = record { positions = page.now.positions.items; link = page.now.link } in
-        body.items ≡ page_body query.now n index.now.held shown) }
+        let shown : SpecPage = record { positions = page.now.positions.items; link = page.now.link } in
+        body.items ≡ page_body query.now asof index.now.held shown) }
 {
     let mut body = b"{\"statements\":[".to_vec(alloc)?;
     put_statements(index, query.format, page.positions.as_slice(), &mut body)?;
     body.extend_from_slice(b",\"more\":")?;
-    put_more(alloc, query, n, page.link, &mut body)?;
+    put_more(alloc, query, asof, page.link, &mut body)?;
     body.push(b'}')?;
     Ok(body)
 }
@@ -105,15 +105,15 @@ fn put_statement(
 fn put_more(
     alloc: Global,
     query: &Query,
-    n: usize,
+    asof: usize,
     after: Option<usize>,
     body: &mut Vec<u8>,
 ) -> Result<(), Memory>
-    ensures { OnOk result (body.new.items ≡ body.old.items ++ quoted (more_text query.now n after)) }
+    ensures { OnOk result (body.new.items ≡ body.old.items ++ quoted (more_text query.now asof after)) }
 {
     match after {
         Some(after) => {
-            let link = link_text(alloc, query, n as u64, after as u64)?;
+            let link = link_text(alloc, query, asof as u64, after as u64)?;
             write(&Tree::Words(link), body)
         }
         None => {

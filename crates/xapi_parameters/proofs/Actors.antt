@@ -5,28 +5,29 @@ use Rattle.lrs_json_reader.specs.Refusals.{Spells}
 use Rattle.lrs_json.specs.View.{view}
 use Rattle.lrs_json.specs.declared.tree.Tree.{Tree}
 use Rattle.lrs_json.specs.declared.memory.Memory.{Memory}
-use Rattle.lrs_names.specs.Agents.{agent_or_group_faults}
-use Rattle.lrs_names.specs.Identifiers.{identifier_of}
+use Rattle.lrs_json.specs.declared.limits.TheConstants.{DEPTH}
+use Rattle.lrs_agents.specs.Agents.{agent_or_group_faults}
+use Rattle.lrs_agents.specs.Identifiers.{identifier_of}
 use Rattle.lrs_names.specs.Rules.{least}
-use Rattle.lrs_names.specs.declared.identifiers.Ifi.{Ifi}
+use Rattle.lrs_agents.specs.declared.identifiers.Ifi.{Ifi}
 use Rattle.xapi_parameters.specs.Values.{IsActor, IsActorOf}
 
 -- it is the one value that the text spells
 abbrev pub IsAlone : List ℕ → Json → Type 0
-IsAlone text j = (k : Json) → Spells 64 text k → j ≡ k
+IsAlone text j = (k : Json) → Spells DEPTH text k → j ≡ k
 
 -- What reading gives, by whether it gives a value.
 abbrev pub Reads : List ℕ → Option Tree → Type 0
 Reads bytes found =
-    MatchOption found ((j : Json) → Spells 64 bytes j → ⊥) (λ tree. Spells 64 bytes (view tree) × ((j : Json) → Spells 64 bytes j → view tree ≡ j))
+    MatchOption found ((j : Json) → Spells DEPTH bytes j → ⊥) (λ tree. Spells DEPTH bytes (view tree) × ((j : Json) → Spells DEPTH bytes j → view tree ≡ j))
 
-pub spelled_at : (bytes : List ℕ) (found : Option Tree) (tree : Tree) → found ≡ Some tree → Reads bytes found → Spells 64 bytes (view tree) × IsAlone bytes (view tree)
+pub spelled_at : (bytes : List ℕ) (found : Option Tree) (tree : Tree) → found ≡ Some tree → Reads bytes found → Spells DEPTH bytes (view tree) × IsAlone bytes (view tree)
 spelled_at bytes found tree is reads = let P : Option Tree → Type 0 = λ o. Reads bytes o in subst P is reads
 
-pub unspelled_at : (bytes : List ℕ) (found : Option Tree) → found ≡ None → Reads bytes found → (j : Json) → Spells 64 bytes j → ⊥
+pub unspelled_at : (bytes : List ℕ) (found : Option Tree) → found ≡ None → Reads bytes found → (j : Json) → Spells DEPTH bytes j → ⊥
 unspelled_at bytes found is reads = let P : Option Tree → Type 0 = λ o. Reads bytes o in subst P is reads
 
-pub no_actor : (text : List ℕ) → ((j : Json) → Spells 64 text j → ⊥) → ¬ (IsActor text)
+pub no_actor : (text : List ℕ) → ((j : Json) → Spells DEPTH text j → ⊥) → ¬ (IsActor text)
 no_actor text none actor = none actor.1.0 actor.1.1
 
 pub broken_actor : (text : List ℕ) (j : Json) (rule : ℕ) → IsAlone text j → Some rule ≡ least (agent_or_group_faults 6 j) → ¬ (IsActor text)
@@ -39,7 +40,7 @@ unidentified text j alone none actor =
     let same = alone actor.1.0 actor.1.1 in
     let both : ◌≡◌ {A = Option Ifi} None (Some actor.0) = sym none ∙ ap identifier_of same ∙ actor.1.3 in absurd (cc both)
 
-pub identified : (text : List ℕ) (j : Json) (result : Result (Option Ifi) Memory) → Spells 64 text j → IsAlone text j → None ≡ least (agent_or_group_faults 6 j)
+pub identified : (text : List ℕ) (j : Json) (result : Result (Option Ifi) Memory) → Spells DEPTH text j → IsAlone text j → None ≡ least (agent_or_group_faults 6 j)
     → IfOk result (λ ifi. ifi ≡ identifier_of j) → IfOk result (λ found. MatchOption found (¬ (IsActor text)) (IsActorOf text))
 identified text j (Ok None) spells alone unbroken is = unidentified text j alone (sym is)
 identified text j (Ok (Some ifi)) spells alone unbroken is = (j, spells, sym unbroken, sym is)

@@ -1,10 +1,10 @@
 -- The least broken rule is found once, and tells the answer.
-use Rattle.std.proofs.Common.{◌≡◌, ℕ, ◌&&◌, ◌||◌, Bool, true, false, List, Option, Some, None, is_some, option_and_then, Ok, Err, MatchBool, codes, arith, refl, sym, ap, ◌∙◌, subst, nat_lt}
+use Rattle.std.proofs.Common.{◌≡◌, ℕ, ◌&&◌, ◌||◌, IsTrue, Bool, true, false, List, Option, Some, None, is_some, option_and_then, Ok, Err, MatchBool, codes, arith, refl, sym, ap, ◌∙◌, subst, nat_lt}
 use Rattle.std.specs.Option.{option_map_or}
 use Rattle.std.proofs.lemmas.Bool.{false≢true}
 use Rattle.std.proofs.lemmas.Bool.Decides.{nat_tests}
 use Rattle.lrs_names.specs.Ids.{id_of}
-use Rattle.xapi_parameters.specs.Parameters.{TellsLeast, Demands, DemandsOfList, LeastOfGet, LeastOfLink, LeastOfPut, asks_for_one, get_names, given, has, has_place, has_places, is_rule, link_names, number_under, passes}
+use Rattle.xapi_parameters.specs.Parameters.{TellsLeast, Demands, DemandsOfList, LeastOfGet, LeastOfLink, LeastOfPut, asks_for_one, get_names, given, has, has_link_number, has_link_numbers, has_ids, is_rule, link_names, number_under, passes}
 use Rattle.xapi_parameters.specs.Values.{is_id, is_no}
 use Rattle.xapi_parameters.specs.Queries.{AreFilters, id_under}
 use Rattle.xapi_parameters.specs.declared.pair.Pair.{Pair}
@@ -31,15 +31,16 @@ pub put_once : (pairs : List Pair) (a b : Option ℕ) → LeastOfPut a pairs →
 put_once pairs a b =
     once 2 _ a b _ _ (once 3 _ a b _ _ (once 4 _ a b _ _ (once 5 _ a b _ _ (both_none a b))))
 
-pub get_once : (pairs : List Pair) (a b : Option ℕ) → LeastOfGet a pairs → LeastOfGet b pairs → a ≡ b
-get_once pairs a b =
+list_once : (names : List (List ℕ)) (pairs : List Pair) (a b : Option ℕ) (R S : Type 0) → (R → S → a ≡ b) → DemandsOfList names pairs a R → DemandsOfList names pairs b S → a ≡ b
+list_once names pairs a b R S others =
     once 2 _ a b _ _ (once 3 _ a b _ _ (once 5 _ a b _ _ (once 6 _ a b _ _ (once 7 _ a b _ _ (once 8 _ a b _ _
-    (once 9 _ a b _ _ (once 10 _ a b _ _ (once 11 _ a b _ _ (once 12 _ a b _ _ (once 13 _ a b _ _ (both_none a b)))))))))))
+    (once 9 _ a b _ _ (once 10 _ a b _ _ (once 11 _ a b R S others))))))))
+
+pub get_once : (pairs : List Pair) (a b : Option ℕ) → LeastOfGet a pairs → LeastOfGet b pairs → a ≡ b
+get_once pairs a b = list_once get_names pairs a b _ _ (once 12 _ a b _ _ (once 13 _ a b _ _ (both_none a b)))
 
 pub link_once : (pairs : List Pair) (a b : Option ℕ) → LeastOfLink a pairs → LeastOfLink b pairs → a ≡ b
-link_once pairs a b =
-    once 2 _ a b _ _ (once 3 _ a b _ _ (once 5 _ a b _ _ (once 6 _ a b _ _ (once 7 _ a b _ _ (once 8 _ a b _ _
-    (once 9 _ a b _ _ (once 10 _ a b _ _ (once 11 _ a b _ _ (once 14 _ a b _ _ (both_none a b))))))))))
+link_once pairs a b = list_once link_names pairs a b _ _ (once 14 _ a b _ _ (both_none a b))
 
 pub memory_answers : (T : Type 0) (found : Option ℕ) → TellsLeast {T = T} found (Err Memory)
 memory_answers T None = tt
@@ -65,11 +66,24 @@ link_at pairs a b is least = let P : Option ℕ → Type 0 = λ found. LeastOfLi
 
 -- ---- where no rule is broken
 
+-- what is asked of a list is met, and the others decide
+pub record Meets (names : List (List ℕ)) (pairs : List Pair) (others : Type 0) : Type 0 where
+  pub ids : IsTrue (has_ids pairs)
+  pub filters : AreFilters pairs
+  pub rest : others
+
+meets : (names : List (List ℕ)) (pairs : List Pair) (others : Type 0) → DemandsOfList names pairs None others → Meets names pairs others
+meets names pairs others met = record {
+  ids = met.1.1.0;
+  filters = record { actor = met.1.1.1.0; iris = met.1.1.1.1.0; limit = met.1.1.1.1.1.1.1.0 };
+  rest = met.1.1.1.1.1.1.1.1.1;
+}
+
 pub get_filters : (pairs : List Pair) → LeastOfGet None pairs → AreFilters pairs
-get_filters pairs least = record { actor = least.1.1.1.0; iris = least.1.1.1.1.0; limit = least.1.1.1.1.1.1.1.0 }
+get_filters pairs least = (meets get_names pairs _ least).filters
 
 pub link_filters : (pairs : List Pair) → LeastOfLink None pairs → AreFilters pairs
-link_filters pairs least = record { actor = least.1.1.1.0; iris = least.1.1.1.1.0; limit = least.1.1.1.1.1.1.1.0 }
+link_filters pairs least = (meets link_names pairs _ least).filters
 
 left : (p q : Bool) → (p && q) ≡ true → p ≡ true
 left true q is = refl
@@ -81,10 +95,10 @@ right false q is = absurd (false≢true is)
 
 -- the two places, and that they are in order
 pub link_places : (pairs : List Pair) → LeastOfLink None pairs
-    → (has_place (codes "asof") pairs ≡ true) × (has_place (codes "after") pairs ≡ true)
+    → (has_link_number (codes "asof") pairs ≡ true) × (has_link_number (codes "after") pairs ≡ true)
     × (nat_lt (number_under (codes "after") pairs) (number_under (codes "asof") pairs) ≡ true)
 link_places pairs least =
-    let places = least.1.1.1.1.1.1.1.1.1.0 in
+    let places = (meets link_names pairs _ least).rest.0 in
     let two = left _ _ places in
     (left _ _ two, right _ _ two, right _ _ places)
 
@@ -96,7 +110,7 @@ not_given (Some text) passed none = absurd (false≢true (ap is_some none ∙ pa
 pub asks_for_many : (pairs : List Pair) → LeastOfGet None pairs → None ≡ id_under (codes "statementId") pairs → None ≡ id_under (codes "voidedStatementId") pairs
     → (has (codes "statementId") pairs || has (codes "voidedStatementId") pairs) ≡ false
 asks_for_many pairs least none neither =
-    let ids = left _ _ least.1.1.0 in
+    let ids = left _ _ (meets get_names pairs _ least).ids in
     let one = not_given (given (codes "statementId") pairs) (left _ _ ids) none in
     let other = not_given (given (codes "voidedStatementId") pairs) (right _ _ ids) neither in
     rw (one, other) refl
@@ -151,8 +165,8 @@ module _ (given : List (List ℕ)) (pairs : List Pair) (found : Option ℕ) (sam
   pub link_broken : (rule : ℕ) → found ≡ Some rule → LeastOfLink (Some rule) pairs
   link_broken rule is = list_broken given link_names pairs found same least rule _ is
 
-  pub link_14 : found ≡ None → has_places pairs ≡ false → LeastOfLink (Some 14) pairs
+  pub link_14 : found ≡ None → has_link_numbers pairs ≡ false → LeastOfLink (Some 14) pairs
   link_14 is places = list_met given link_names pairs found same least _ is (not_true _ places)
 
-  pub link_none : found ≡ None → has_places pairs ≡ true → LeastOfLink None pairs
+  pub link_none : found ≡ None → has_link_numbers pairs ≡ true → LeastOfLink None pairs
   link_none is places = list_met given link_names pairs found same least _ is (places, refl)

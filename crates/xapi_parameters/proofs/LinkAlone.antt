@@ -1,10 +1,11 @@
 -- Parameters ask for one link.
 use Rattle.std.proofs.Common.{◌≡◌, ℕ, List, Option, Some, None, codes, refl, sym, ap, ◌∙◌}
 use Rattle.lrs_json.specs.Json.{Json}
+use Rattle.lrs_json.specs.declared.limits.TheConstants.{DEPTH}
 use Rattle.lrs_json_reader.specs.Placed.{plain}
 use Rattle.lrs_json_reader.specs.Refusals.{Spells}
-use Rattle.lrs_names.specs.Identifiers.{identifier_of}
-use Rattle.lrs_names.specs.declared.identifiers.Ifi.{Ifi}
+use Rattle.lrs_agents.specs.Identifiers.{identifier_of}
+use Rattle.lrs_agents.specs.declared.identifiers.Ifi.{Ifi}
 use Rattle.xapi_parameters.specs.Links.{LinksAreReadAlone}
 use Rattle.xapi_parameters.specs.Parameters.{given}
 use Rattle.xapi_parameters.specs.Queries.{IsActorGiven, IsQuery}
@@ -14,7 +15,7 @@ use Rattle.xapi_query.specs.declared.query.Given.{Given}
 use Rattle.xapi_query.specs.declared.query.Query.{Query}
 use Rattle.xapi_parameters.proofs.OneJson.{one_json}
 
-one_value : (text : List ℕ) (j k : Json) → Spells 64 text j → Spells 64 text k → j ≡ k
+one_value : (text : List ℕ) (j k : Json) → Spells DEPTH text j → Spells DEPTH text k → j ≡ k
 one_value text j k a b = sym a.is ∙ ap plain (one_json text a.placed b.placed a.spelled b.spelled) ∙ b.is
 
 one_actor : (text : List ℕ) (a b : Ifi) → IsActorOf text a → IsActorOf text b → a ≡ b

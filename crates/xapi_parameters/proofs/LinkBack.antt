@@ -14,7 +14,7 @@ use Rattle.form_urlencoded.specs.Form.{decode, extend_pairs, parse, raw_pairs}
 use Rattle.form_urlencoded.proofs.FormLemmas.{round_trip}
 use Rattle.lrs_names.specs.Ids.{IsId, id_of, id_text}
 use Rattle.lrs_names.specs.Iris.{is_iri}
-use Rattle.lrs_names.specs.declared.identifiers.Ifi.{Ifi}
+use Rattle.lrs_agents.specs.declared.identifiers.Ifi.{Ifi}
 use Rattle.lrs_names.proofs.IdTexts.{IsUtf8-id_text, id_of-id_text}
 use Rattle.lrs_time.specs.Reading.{timestamp_at}
 use Rattle.lrs_time.specs.declared.timestamps.TimeRefused.{TimeRefused}
@@ -24,13 +24,14 @@ use Rattle.xapi_format.specs.declared.format.Format.TheVariants.{Exact, Ids}
 use Rattle.xapi_parameters.specs.Links.{IsLink, LinksAreReadBack}
 use Rattle.xapi_query.specs.Links.{format_pair, limit_pair, link_pairs, link_query, pair_if, pair_if_true}
 use Rattle.xapi_parameters.specs.Pairs.{AreTexts, IsText, pair_of, pairs_of}
-use Rattle.xapi_parameters.specs.Parameters.{LeastOfLink, Passes, are_among, are_distinct, given, has_ids, has_iris, has_places, has_timestamps, has_truths, link_names, passes}
+use Rattle.xapi_parameters.specs.Parameters.{LeastOfLink, Passes, are_among, are_distinct, given, has_ids, has_iris, has_link_numbers, has_timestamps, has_truths, link_names, passes}
 use Rattle.xapi_parameters.specs.Queries.{AreFilters, IsActorGiven, IsQuery, capped, format_named, instant_in}
-use Rattle.xapi_parameters.specs.Values.{IsActor, IsActorOf, is_format, is_id, is_limit, is_place, is_timestamp, is_truth}
+use Rattle.xapi_parameters.specs.Values.{IsActor, IsActorOf, is_format, is_id, is_limit, is_link_number, is_timestamp, is_truth}
 use Rattle.xapi_query.specs.declared.link.MoreLink.{MoreLink}
 use Rattle.xapi_parameters.specs.declared.pair.Pair.{Pair}
 use Rattle.xapi_query.specs.declared.query.Given.{Given}
 use Rattle.xapi_query.specs.declared.query.Query.{Query}
+use Rattle.xapi_query.specs.declared.query.TheConstants.{MOST_OF_PAGE}
 use Rattle.xapi_parameters.proofs.Bytes.{IsUtf8-decimal, IsUtf8-small, id_whole}
 use Rattle.xapi_parameters.proofs.Least.{get_filters, link_filters}
 use Rattle.xapi_parameters.proofs.Slots.{AreTextSlots, IsTextIf, Slot, among_in, as_pair, bytes_in, distinct_in, first_none, given_in, pairs_from, raw_of, texts_in}
@@ -42,7 +43,7 @@ asked true = Some (codes "true")
 asked false = None
 
 abbrev limit_given : ℕ → Option (List ℕ)
-limit_given size = if size == 100 then None else Some (decimal size)
+limit_given size = if size == MOST_OF_PAGE then None else Some (decimal size)
 
 abbrev format_given : Format → Option (List ℕ)
 format_given Exact = None
@@ -65,7 +66,7 @@ limit_at text true = refl
 limit_at text false = refl
 
 limit_is : (size : ℕ) → limit_pair size ≡ pair_if (codes "limit") (limit_given size)
-limit_is size = limit_at (decimal size) (size == 100)
+limit_is size = limit_at (decimal size) (size == MOST_OF_PAGE)
 
 format_is_given : (format : Format) → format_pair format ≡ pair_if (codes "format") (format_given format)
 format_is_given Exact = refl
@@ -160,7 +161,7 @@ record Holds (q : Query) : Type 0 where
   since : IsInstantIf q.since
   until : IsInstantIf q.until
   low : 1 ≤ q.page
-  high : q.page ≤ 100
+  high : q.page ≤ MOST_OF_PAGE
 
 text_at : (b : Bool) (text : List ℕ) (o : Option (List ℕ)) → IsUtf8 text → IsTextIf o → IsTextIf (if b then Some text else o)
 text_at true text o u rest = u
@@ -196,14 +197,14 @@ id_holds (Some t) = id_at t (id_of t) refl
 capped_low : (n : ℕ) → 1 ≤ capped n
 capped_low n = grind (arith, nat_tests)
 
-capped_high : (n : ℕ) → capped n ≤ 100
+capped_high : (n : ℕ) → capped n ≤ MOST_OF_PAGE
 capped_high n = grind (arith, nat_tests)
 
-page_low : (t : Option (List ℕ)) → 1 ≤ option_map_or (λ t. capped (digits_value 10 t)) t 100
+page_low : (t : Option (List ℕ)) → 1 ≤ option_map_or (λ t. capped (digits_value 10 t)) t MOST_OF_PAGE
 page_low None = omega arith
 page_low (Some t) = capped_low (digits_value 10 t)
 
-page_high : (t : Option (List ℕ)) → option_map_or (λ t. capped (digits_value 10 t)) t 100 ≤ 100
+page_high : (t : Option (List ℕ)) → option_map_or (λ t. capped (digits_value 10 t)) t MOST_OF_PAGE ≤ MOST_OF_PAGE
 page_high None = omega arith
 page_high (Some t) = capped_high (digits_value 10 t)
 
@@ -226,7 +227,7 @@ holds pairs q texts filters is = record {
   since = subst IsInstantIf (sym is.since_is) (instant_holds (given (codes "since") pairs) (given_text (codes "since") pairs texts));
   until = subst IsInstantIf (sym is.until_is) (instant_holds (given (codes "until") pairs) (given_text (codes "until") pairs texts));
   low = subst (λ (n : ℕ). 1 ≤ n) (sym is.page_is) (page_low (given (codes "limit") pairs));
-  high = subst (λ (n : ℕ). n ≤ 100) (sym is.page_is) (page_high (given (codes "limit") pairs));
+  high = subst (λ (n : ℕ). n ≤ MOST_OF_PAGE) (sym is.page_is) (page_high (given (codes "limit") pairs));
 }
 
 -- ---- each text is UTF-8
@@ -289,7 +290,7 @@ slot_texts link h asof after =
                         instant_text link.query.until h.until,
                         (
                           IsUtf8-small (codes "limit") refl,
-                          limit_text_at (decimal link.query.page) (link.query.page == 100) (IsUtf8-decimal link.query.page page),
+                          limit_text_at (decimal link.query.page) (link.query.page == MOST_OF_PAGE) (IsUtf8-decimal link.query.page page),
                           (
                             IsUtf8-small (codes "ascending") refl,
                             asked_text link.query.ascending,
@@ -375,7 +376,7 @@ limit_passes : (P : List Pair) (link : MoreLink) → Shown P link → Holds link
 limit_passes P link s h =
     let high = h.high in
     ap (λ (o : Option (List ℕ)). option_map_or is_limit o true) s.limit
-    ∙ limit_passes_at (decimal link.query.page) (link.query.page == 100) (digits_pass 9 link.query.page (omega arith) (omega arith) (omega arith))
+    ∙ limit_passes_at (decimal link.query.page) (link.query.page == MOST_OF_PAGE) (digits_pass 9 link.query.page (omega arith) (omega arith) (omega arith))
 
 format_passes_at : (format : Format) → option_map_or is_format (format_given format) true ≡ true
 format_passes_at Exact = refl
@@ -384,14 +385,14 @@ format_passes_at Ids = refl
 format_passes : (P : List Pair) (link : MoreLink) → Shown P link → passes is_format (codes "format") P ≡ true
 format_passes P link s = ap (λ (o : Option (List ℕ)). option_map_or is_format o true) s.format ∙ format_passes_at link.query.format
 
-places_pass : (P : List Pair) (link : MoreLink) → Shown P link → link.after < link.asof → link.asof < 10 ^ 18 → has_places P ≡ true
+places_pass : (P : List Pair) (link : MoreLink) → Shown P link → link.after < link.asof → link.asof < 10 ^ 18 → has_link_numbers P ≡ true
 places_pass P link s within short =
     let one = digits_pass 18 link.asof (omega arith) short (omega arith) in
     let other = digits_pass 18 link.after (omega arith) (omega arith) (omega arith) in
     let asof : digits_value 10 (decimal link.asof) ≡ link.asof = (decimal_is_IsNumeral link.asof (omega arith)).1 in
     let after : digits_value 10 (decimal link.after) ≡ link.after = (decimal_is_IsNumeral link.after (omega arith)).1 in
     let less : nat_lt link.after link.asof ≡ true = grind (arith, nat_tests) in
-    (λ i. option_map_or is_place (s.asof i) false && option_map_or is_place (s.after i) false && nat_lt (option_map_or (digits_value 10) (s.after i) 0) (option_map_or (digits_value 10) (s.asof i) 0))
+    (λ i. option_map_or is_link_number (s.asof i) false && option_map_or is_link_number (s.after i) false && nat_lt (option_map_or (digits_value 10) (s.after i) 0) (option_map_or (digits_value 10) (s.asof i) 0))
     ∙ (λ i. one i && other i && nat_lt (after i) (asof i)) ∙ less
 
 unbroken : (P : List Pair) (link : MoreLink) → Shown P link → Holds link.query → link.after < link.asof → link.asof < 10 ^ 18 → LeastOfLink None P
@@ -421,16 +422,16 @@ instant_again : (o : Option (Given ℤ)) → IsInstantIf o → o ≡ option_and_
 instant_again None x = refl
 instant_again (Some g) x = sym (ap (option_map (λ instant. record { text = g.text; value = instant })) x.1)
 
-page_at : (size : ℕ) (b : Bool) → (size == 100) ≡ b → capped (digits_value 10 (decimal size)) ≡ size
-    → size ≡ option_map_or (λ t. capped (digits_value 10 t)) (if b then None else Some (decimal size)) 100
+page_at : (size : ℕ) (b : Bool) → (size == MOST_OF_PAGE) ≡ b → capped (digits_value 10 (decimal size)) ≡ size
+    → size ≡ option_map_or (λ t. capped (digits_value 10 t)) (if b then None else Some (decimal size)) MOST_OF_PAGE
 page_at size true is same = grind (arith, nat_tests)
 page_at size false is same = sym same
 
-page_again : (size : ℕ) → 1 ≤ size → size ≤ 100 → size ≡ option_map_or (λ t. capped (digits_value 10 t)) (limit_given size) 100
+page_again : (size : ℕ) → 1 ≤ size → size ≤ MOST_OF_PAGE → size ≡ option_map_or (λ t. capped (digits_value 10 t)) (limit_given size) MOST_OF_PAGE
 page_again size low high =
     let value : digits_value 10 (decimal size) ≡ size = (decimal_is_IsNumeral size (omega arith)).1 in
     let same : capped size ≡ size = grind (arith, nat_tests) in
-    page_at size (size == 100) refl (ap capped value ∙ same)
+    page_at size (size == MOST_OF_PAGE) refl (ap capped value ∙ same)
 
 format_again : (format : Format) → format ≡ option_map_or format_named (format_given format) Exact
 format_again Exact = refl
@@ -448,7 +449,7 @@ asks P link s h =
       activities_are = asked_again q.related_activities ∙ sym (ap (λ (o : Option (List ℕ)). option_map_or (λ t. bytes_eq t (codes "true")) o false) s.related_activities);
       since_is = instant_again q.since h.since ∙ sym (ap (option_and_then instant_in) s.since);
       until_is = instant_again q.until h.until ∙ sym (ap (option_and_then instant_in) s.until);
-      page_is = page_again q.page h.low h.high ∙ sym (ap (λ (o : Option (List ℕ)). option_map_or (λ t. capped (digits_value 10 t)) o 100) s.limit);
+      page_is = page_again q.page h.low h.high ∙ sym (ap (λ (o : Option (List ℕ)). option_map_or (λ t. capped (digits_value 10 t)) o MOST_OF_PAGE) s.limit);
       order_is = asked_again q.ascending ∙ sym (ap (λ (o : Option (List ℕ)). option_map_or (λ t. bytes_eq t (codes "true")) o false) s.ascending);
       format_is = format_again q.format ∙ sym (ap (λ (o : Option (List ℕ)). option_map_or format_named o Exact) s.format);
     }

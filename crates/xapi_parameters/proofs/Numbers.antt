@@ -6,7 +6,7 @@ use Rattle.std.specs.Str.Parse.{AllDigits}
 use Rattle.std.specs.Option.{option_map_or}
 use Rattle.std.proofs.lemmas.Bool.{and_parts}
 use Rattle.std.proofs.lemmas.Bool.Decides.{nat_tests}
-use Rattle.xapi_parameters.specs.Values.{is_limit, is_place}
+use Rattle.xapi_parameters.specs.Values.{is_limit, is_link_number}
 use Rattle.lrs_time.proofs.DigitLemmas.{test_digit}
 
 digits_from_test : (ds : List ℕ) → list_all is_ascii_digit ds ≡ true → AllDigits 10 ds
@@ -23,13 +23,13 @@ few_digits most text is =
     let few : length text ≤ most = let test = both.1 in grind (arith, nat_tests) in
     (digits_from_test text parts.1, few)
 
--- of a text that is given as a place, and as a limit
+-- of a text that is given as a number of a link, and as a limit
 
-pub place_digits : (value : Option (List ℕ)) (text bytes : List ℕ) → Some text ≡ value → bytes ≡ text → option_map_or is_place value false ≡ true → AllDigits 10 bytes × (length bytes ≤ 19)
+pub place_digits : (value : Option (List ℕ)) (text bytes : List ℕ) → Some text ≡ value → bytes ≡ text → option_map_or is_link_number value false ≡ true → AllDigits 10 bytes × (length bytes ≤ 19)
 place_digits None text bytes is lent test = absurd (cc is)
 place_digits (Some t) text bytes is lent test =
     let same : bytes ≡ t = lent ∙ cc is in
-    let passed : is_place bytes ≡ true = ap is_place same ∙ test in
+    let passed : is_link_number bytes ≡ true = ap is_link_number same ∙ test in
     let few = few_digits 18 bytes passed in
     (few.0, omega (arith, few.1))
 

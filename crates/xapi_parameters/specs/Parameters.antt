@@ -8,7 +8,7 @@ use Rattle.lrs_names.specs.Members.{is_one_of}
 use Rattle.xapi_parameters.specs.declared.pair.Pair.{Pair}
 use Rattle.xapi_parameters.specs.declared.refused.QueryRefused.{QueryRefused}
 use Rattle.xapi_parameters.specs.declared.refused.QueryRefused.TheVariants.{BadLink, BadParameter, Memory}
-use Rattle.xapi_parameters.specs.Values.{IsActor, is_format, is_id, is_limit, is_no, is_place, is_timestamp, is_truth}
+use Rattle.xapi_parameters.specs.Values.{IsActor, is_format, is_id, is_limit, is_no, is_link_number, is_timestamp, is_truth}
 
 -- ---- the names of parameters
 
@@ -83,13 +83,13 @@ asks_for_one pairs =
 abbrev pub number_under : List ℕ → List Pair → ℕ
 number_under name pairs = option_map_or (digits_value 10) (given name pairs) 0
 
-abbrev pub has_place : List ℕ → List Pair → Bool
-has_place name pairs = option_map_or is_place (given name pairs) false
+abbrev pub has_link_number : List ℕ → List Pair → Bool
+has_link_number name pairs = option_map_or is_link_number (given name pairs) false
 
 -- It tells how many statements there were, and the position of one of them.
-abbrev pub has_places : List Pair → Bool
-has_places pairs =
-    has_place (codes "asof") pairs && has_place (codes "after") pairs
+abbrev pub has_link_numbers : List Pair → Bool
+has_link_numbers pairs =
+    has_link_number (codes "asof") pairs && has_link_number (codes "after") pairs
     && nat_lt (number_under (codes "after") pairs) (number_under (codes "asof") pairs)
 
 -- ---- the rules
@@ -136,7 +136,7 @@ LeastOfGet found pairs =
 -- The least rule that the parameters of a more link break, None where they break none. Its names leave nothing for P12 and
 -- P13.
 abbrev pub LeastOfLink : Option ℕ → List Pair → Type 0
-LeastOfLink found pairs = DemandsOfList link_names pairs found (Demands 14 (IsTrue (has_places pairs)) found (found ≡ None))
+LeastOfLink found pairs = DemandsOfList link_names pairs found (Demands 14 (IsTrue (has_link_numbers pairs)) found (found ≡ None))
 
 -- ---- answers
 

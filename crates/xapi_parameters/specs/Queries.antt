@@ -5,7 +5,7 @@ use Rattle.std.specs.Result.{result_ok}
 use Rattle.std.specs.Str.{bytes_eq}
 use Rattle.std.specs.Str.Parse.{digits_value}
 use Rattle.lrs_names.specs.Ids.{id_of}
-use Rattle.lrs_names.specs.declared.identifiers.Ifi.{Ifi}
+use Rattle.lrs_agents.specs.declared.identifiers.Ifi.{Ifi}
 use Rattle.lrs_time.specs.Reading.{timestamp_at}
 use Rattle.xapi_format.specs.declared.format.Format.{Format}
 use Rattle.xapi_format.specs.declared.format.Format.TheVariants.{Exact, Ids}
@@ -14,6 +14,7 @@ use Rattle.xapi_parameters.specs.Values.{IsActor, IsActorOf, is_limit}
 use Rattle.xapi_parameters.specs.declared.pair.Pair.{Pair}
 use Rattle.xapi_query.specs.declared.query.Given.{Given}
 use Rattle.xapi_query.specs.declared.query.Query.{Query}
+use Rattle.xapi_query.specs.declared.query.TheConstants.{MOST_OF_PAGE}
 
 -- ---- values
 
@@ -39,13 +40,13 @@ instant_under name pairs = option_and_then instant_in (given name pairs)
 abbrev pub is_asked : List ℕ → List Pair → Bool
 is_asked name pairs = option_map_or (λ t. bytes_eq t (codes "true")) (given name pairs) false
 
--- 100 statements at most, which 0 asks for too
+-- `MOST_OF_PAGE` statements at most, which 0 asks for too
 abbrev pub capped : ℕ → ℕ
-capped n = if (n == 0) || nat_lt 100 n then 100 else n
+capped n = if (n == 0) || nat_lt MOST_OF_PAGE n then MOST_OF_PAGE else n
 
 -- how many statements a page has at most
 abbrev pub page_size : List Pair → ℕ
-page_size pairs = option_map_or (λ t. capped (digits_value 10 t)) (given (codes "limit") pairs) 100
+page_size pairs = option_map_or (λ t. capped (digits_value 10 t)) (given (codes "limit") pairs) MOST_OF_PAGE
 
 abbrev pub format_named : List ℕ → Format
 format_named t = if bytes_eq t (codes "ids") then Ids else Exact

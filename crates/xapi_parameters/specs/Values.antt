@@ -4,10 +4,11 @@ use Rattle.std.specs.Char.{is_ascii_digit}
 use Rattle.std.specs.List.{list_all}
 use Rattle.std.specs.Str.{bytes_eq}
 use Rattle.lrs_json.specs.Json.{Json}
+use Rattle.lrs_json.specs.declared.limits.TheConstants.{DEPTH}
 use Rattle.lrs_json_reader.specs.Refusals.{Spells}
-use Rattle.lrs_names.specs.Agents.{agent_or_group_faults}
-use Rattle.lrs_names.specs.Identifiers.{identifier_of}
-use Rattle.lrs_names.specs.declared.identifiers.Ifi.{Ifi}
+use Rattle.lrs_agents.specs.Agents.{agent_or_group_faults}
+use Rattle.lrs_agents.specs.Identifiers.{identifier_of}
+use Rattle.lrs_agents.specs.declared.identifiers.Ifi.{Ifi}
 use Rattle.lrs_names.specs.Ids.{id_of}
 use Rattle.lrs_names.specs.Rules.{least}
 use Rattle.lrs_time.specs.Reading.{timestamp_at}
@@ -18,7 +19,7 @@ is_id text = is_some (id_of text)
 
 -- JSON of an agent, or of a group, with this identifier
 abbrev pub IsActorOf : List ℕ → Ifi → Type 0
-IsActorOf text ifi = (j : Json) × Spells 64 text j × (least (agent_or_group_faults 6 j) ≡ None) × (identifier_of j ≡ Some ifi)
+IsActorOf text ifi = (j : Json) × Spells DEPTH text j × (least (agent_or_group_faults 6 j) ≡ None) × (identifier_of j ≡ Some ifi)
 
 abbrev pub IsActor : List ℕ → Type 0
 IsActor text = (ifi : Ifi) × IsActorOf text ifi
@@ -40,6 +41,6 @@ is_format text = bytes_eq text (codes "exact") || bytes_eq text (codes "ids")
 abbrev pub is_no : List ℕ → Bool
 is_no text = bytes_eq text (codes "false")
 
--- a place of a more link: one to eighteen digits
-abbrev pub is_place : List ℕ → Bool
-is_place text = nat_le 1 (length text) && nat_le (length text) 18 && list_all is_ascii_digit text
+-- a number in a more link, asof or after: one to eighteen digits
+abbrev pub is_link_number : List ℕ → Bool
+is_link_number text = nat_le 1 (length text) && nat_le (length text) 18 && list_all is_ascii_digit text

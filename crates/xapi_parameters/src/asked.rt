@@ -1,16 +1,17 @@
 // What each parameter of a list asks for, where its value is one.
 ghost use Rattle.std.specs.Prelude.{◌≡◌, ◌≤◌, IfOk, IsTrue, codes, length};
 ghost use Rattle.lrs_names.specs.Iris.{is_iri};
-ghost use Rattle.xapi_parameters.specs.Parameters.{Passes, given, has_place, has_places, number_under, passes};
+ghost use Rattle.xapi_parameters.specs.Parameters.{Passes, given, has_link_number, has_link_numbers, number_under, passes};
 ghost use Rattle.xapi_parameters.specs.Queries.{IsActorGiven, capped, format_named, format_under, id_under, instant_in, instant_under, is_asked, page_size};
-ghost use Rattle.xapi_parameters.specs.Values.{IsActor, is_limit, is_place};
+ghost use Rattle.xapi_parameters.specs.Values.{IsActor, is_limit, is_link_number};
 
 use crate::Pair;
 use crate::parameters::given;
 use crate::values::{actor, are_digits};
+use lrs_agents::Ifi;
 use lrs_decimal::digits_value;
 use lrs_json::{Memory, Text};
-use lrs_names::{Id, Ifi, Iri};
+use lrs_names::{Id, Iri};
 use lrs_time::{Instant, read_timestamp};
 use std::alloc::Global;
 use xapi_query::{Format, Given, MOST_OF_PAGE};
@@ -98,7 +99,7 @@ pub fn page_under(pairs: &[Pair]) -> u32
 fn capped(n: u64) -> u32
     ensures { result ≡ capped n }
 {
-    if n == 0 || n > 100 {
+    if n == 0 || n > u64::from(MOST_OF_PAGE) {
         MOST_OF_PAGE
     } else {
         n as u32
@@ -128,32 +129,32 @@ fn format_named(text: &str) -> Format
 // ---- the places of a more link
 
 /// P14, but for how many statements there are.
-pub fn has_places(pairs: &[Pair]) -> bool
-    ensures { result ≡ has_places pairs.now }
+pub fn has_link_numbers(pairs: &[Pair]) -> bool
+    ensures { result ≡ has_link_numbers pairs.now }
 {
-    has_place(pairs, "asof")
-        && has_place(pairs, "after")
+    has_link_number(pairs, "asof")
+        && has_link_number(pairs, "after")
         && number_under(pairs, "after") < number_under(pairs, "asof")
 }
 
-fn has_place(pairs: &[Pair], name: &str) -> bool
-    ensures { result ≡ has_place name.now pairs.now }
+fn has_link_number(pairs: &[Pair], name: &str) -> bool
+    ensures { result ≡ has_link_number name.now pairs.now }
 {
     match given(pairs, name) {
-        Some(text) => is_place(text.as_bytes()),
+        Some(text) => is_link_number(text.as_bytes()),
         None => false,
     }
 }
 
-fn is_place(digits: &[u8]) -> bool
-    ensures { result ≡ is_place digits.now }
+fn is_link_number(digits: &[u8]) -> bool
+    ensures { result ≡ is_link_number digits.now }
 {
     1 <= digits.len() && digits.len() <= 18 && are_digits(digits)
 }
 
-/// The number that a place of a link is given by.
+/// The number of that name in a link.
 pub fn number_under(pairs: &[Pair], name: &str) -> u64
-    requires { IsTrue (has_place name.now pairs.now) }
+    requires { IsTrue (has_link_number name.now pairs.now) }
     ensures { result ≡ number_under name.now pairs.now }
 {
     match given(pairs, name) {

@@ -3,7 +3,7 @@ ghost use Rattle.std.specs.Prelude.{◌≡◌, None, IfOk, map};
 ghost use Rattle.xapi_parameters.specs.Parameters.{DemandsOfList, LeastOfGet, LeastOfLink, LeastOfPut, asks_for_one, get_names, link_names};
 
 use crate::Pair;
-use crate::asked::has_places;
+use crate::asked::has_link_numbers;
 use crate::parameters::{are_among, are_distinct, has};
 use crate::values::{
     has_actor, has_format, has_ids, has_iris, has_limit, has_no_attachments, has_timestamps,
@@ -48,7 +48,11 @@ pub fn broken_by_link(alloc: Global, pairs: &[Pair]) -> Result<Option<u8>, Memor
 {
     match broken_by_list(alloc, pairs, link_names())? {
         Some(rule) => Ok(Some(rule)),
-        None => Ok(if has_places(pairs) { None } else { Some(14) }),
+        None => Ok(if has_link_numbers(pairs) {
+            None
+        } else {
+            Some(14)
+        }),
     }
 }
 

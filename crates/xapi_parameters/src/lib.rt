@@ -1,5 +1,5 @@
-//! The parameters of requests for statements: the pairs that a query string spells, the rules P1 to P14 on them by their
-//! numbers, and what they ask for.
+//! The parameters of requests for statements: the pairs that a query string spells, the rules P1 to P14 that they
+//! break, and what they ask for.
 #![tactic(auto)]
 
 mod asked;

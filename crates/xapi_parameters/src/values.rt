@@ -5,15 +5,17 @@ ghost use Rattle.std.specs.List.{list_all};
 ghost use Rattle.lrs_json.specs.Json.{Json};
 ghost use Rattle.lrs_json_reader.specs.Refusals.{Spells};
 ghost use Rattle.lrs_json.specs.View.{view};
+ghost use Rattle.lrs_json.specs.declared.limits.TheConstants.{DEPTH};
 ghost use Rattle.lrs_names.specs.Iris.{is_iri};
 ghost use Rattle.xapi_parameters.specs.Parameters.{Passes, has_ids, has_iris, has_timestamps, has_truths, passes};
 ghost use Rattle.xapi_parameters.specs.Values.{IsActor, IsActorOf, is_format, is_id, is_limit, is_no, is_timestamp, is_truth};
 
 use crate::Pair;
 use crate::parameters::given;
+use lrs_agents::{Ifi, broken_agent_or_group};
 use lrs_json::{Memory, Text, Tree};
 use lrs_json_reader::{ReadRefused, read};
-use lrs_names::{Id, Ifi, Iri, broken_agent_or_group};
+use lrs_names::{Id, Iri};
 use lrs_time::read_timestamp;
 use std::alloc::Global;
 
@@ -61,8 +63,8 @@ pub fn actor(alloc: Global, text: &Text) -> Result<Option<Ifi>, Memory>
 
 // The one value that the bytes spell.
 fn json(alloc: Global, bytes: &[u8]) -> Result<Option<Tree>, Memory>
-    ensures { IfOk result (λ found. MatchOption found ((j : Json) → Spells 64 bytes.now j → ⊥)
-        (λ tree. Spells 64 bytes.now (view tree) × ((j : Json) → Spells 64 bytes.now j → view tree ≡ j))) }
+    ensures { IfOk result (λ found. MatchOption found ((j : Json) → Spells DEPTH bytes.now j → ⊥)
+        (λ tree. Spells DEPTH bytes.now (view tree) × ((j : Json) → Spells DEPTH bytes.now j → view tree ≡ j))) }
 {
     match read(alloc, bytes) {
         Ok(tree) => Ok(Some(tree)),

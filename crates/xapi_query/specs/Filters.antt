@@ -1,8 +1,9 @@
 -- Which statements a query asks for, each by itself (xAPI 1.0.3, part three, section 2.1.3), and who sees one.
-use Rattle.std.specs.Prelude.{ℕ, ℤ, pos, ◌*◌, ◌==◌, ◌&&◌, int_lt, not, Bool, true, false, List}
+use Rattle.std.specs.Prelude.{ℕ, ℤ, ◌==◌, ◌&&◌, int_lt, not, Bool, true, false, List}
 use Rattle.std.specs.Option.{option_map_or}
 use Rattle.std.specs.Str.{bytes_eq}
 use Rattle.lrs_json.specs.View.{view}
+use Rattle.lrs_time.specs.Timestamp.{instant_of_moment}
 use Rattle.xapi_statement.specs.Stored.{StoredStatement}
 use Rattle.xapi_statement.specs.Shown.{takes_part}
 use Rattle.xapi_statement.specs.Statement.{has_activity, registration_of, verb_of}
@@ -40,7 +41,7 @@ direct query s = passes_agent query s && passes_verb query s && passes_activity 
 
 -- the moment at which it was accepted, in nanoseconds since 1970
 abbrev pub stored_instant : StoredStatement → ℤ
-stored_instant s = pos (s.stored * 1_000_000)
+stored_instant s = instant_of_moment s.stored
 
 -- stored later than the first instant, and not later than the last
 abbrev pub in_time : Query → StoredStatement → Bool

@@ -8,6 +8,7 @@ use Rattle.xapi_format.specs.declared.format.Format.{Format}
 use Rattle.xapi_format.specs.declared.format.Format.TheVariants.{Exact, Ids}
 use Rattle.xapi_query.specs.declared.link.MoreLink.{MoreLink}
 use Rattle.xapi_query.specs.declared.query.Query.{Query}
+use Rattle.xapi_query.specs.declared.query.TheConstants.{MOST_OF_PAGE}
 
 -- the pair of that name, where there is a text to give
 abbrev pub pair_if : List ℕ → Option (List ℕ) → List (List ℕ × List ℕ)
@@ -21,7 +22,7 @@ pair_if_true name false = []
 
 -- stands where a page isn't as long as it is with no limit
 abbrev pub limit_pair : ℕ → List (List ℕ × List ℕ)
-limit_pair size = if size == 100 then [] else (codes "limit", decimal size) ∷ []
+limit_pair size = if size == MOST_OF_PAGE then [] else (codes "limit", decimal size) ∷ []
 
 abbrev pub format_pair : Format → List (List ℕ × List ℕ)
 format_pair Exact = []

@@ -1,5 +1,5 @@
-//! What lists of statements are asked for: the query, what a caller sees, which statement passes the filters, and the
-//! links from page to page. How parameters spell it stands in another crate.
+//! What a list of statements is asked for: the query, which statements pass its filters, which of them a caller sees,
+//! and the links from page to page. Another crate reads them from parameters.
 #![tactic(auto)]
 
 mod filters;

@@ -1,5 +1,6 @@
+use lrs_agents::Ifi;
 use lrs_json::Text;
-use lrs_names::{Id, Ifi, Iri};
+use lrs_names::{Id, Iri};
 use lrs_time::Instant;
 use xapi_statement::Format;
 
@@ -31,7 +32,7 @@ pub struct Query {
     pub since: Option<Given<Instant>>,
     /// Stored at this or before.
     pub until: Option<Given<Instant>>,
-    /// How many statements a page has at most: 1 to 100.
+    /// How many statements a page has at most: 1 to `MOST_OF_PAGE`.
     pub page: u32,
     /// The oldest first, else the newest.
     pub ascending: bool,

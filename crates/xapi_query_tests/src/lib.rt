@@ -1,4 +1,4 @@
-//! The tests of xapi_query.
+//! The tests of xapi_query and xapi_parameters.
 #![tactic(auto)]
 
 #[cfg(test)]

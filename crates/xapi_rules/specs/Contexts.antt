@@ -4,7 +4,7 @@ use Rattle.lrs_json.specs.Json.{Json, null, boolean, number, string, array, obje
 use Rattle.lrs_names.specs.Rules.{unless}
 use Rattle.lrs_names.specs.Iris.{iri_faults}
 use Rattle.lrs_names.specs.Languages.{is_language_tag, language_map_faults}
-use Rattle.lrs_names.specs.Agents.{group_faults, agent_or_group_faults}
+use Rattle.lrs_agents.specs.Agents.{group_faults, agent_or_group_faults}
 use Rattle.lrs_names.specs.Members.{is_string, is_string_that, has_only, has_member, has_member_that, if_member, faults_of_member}
 use Rattle.xapi_values.specs.Shapes.{is_object, is_boolean, is_uuid, is_duration, extension_faults}
 use Rattle.xapi_values.specs.Numbers.{is_count, is_score}

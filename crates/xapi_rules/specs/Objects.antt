@@ -6,7 +6,7 @@ use Rattle.lrs_json.specs.Names.{is_among}
 use Rattle.lrs_names.specs.Rules.{unless}
 use Rattle.lrs_names.specs.Iris.{iri_faults}
 use Rattle.lrs_names.specs.Languages.{language_map_faults}
-use Rattle.lrs_names.specs.Agents.{agent_faults, group_faults}
+use Rattle.lrs_agents.specs.Agents.{agent_faults, group_faults}
 use Rattle.lrs_names.specs.Members.{is_string, is_string_that, is_one_of, is_word, has_only, has_member, has_member_that, if_member, faults_of_member, text_under}
 use Rattle.xapi_values.specs.Shapes.{is_object, is_string_array, is_uuid, extension_faults}
 use Rattle.xapi_values.specs.Kinds.{kind_of}

@@ -4,7 +4,7 @@ use Rattle.lrs_json.specs.Json.{Json, null, boolean, number, string, array, obje
 use Rattle.lrs_names.specs.Rules.{unless, least}
 use Rattle.lrs_names.specs.Iris.{iri_faults}
 use Rattle.lrs_names.specs.Languages.{language_map_faults}
-use Rattle.lrs_names.specs.Agents.{agent_faults, group_faults, agent_or_group_faults}
+use Rattle.lrs_agents.specs.Agents.{agent_faults, group_faults, agent_or_group_faults}
 use Rattle.lrs_names.specs.Members.{is_word, has_only, has_member, has_member_that, if_member, faults_of_member}
 use Rattle.xapi_values.specs.Shapes.{is_object, is_uuid, is_timestamp, is_version}
 use Rattle.xapi_values.specs.Kinds.{kind_of, is_activity_kind, same_kind}

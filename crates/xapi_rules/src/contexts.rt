@@ -4,14 +4,13 @@ ghost use Rattle.lrs_json.specs.View.{view, elements_of};
 ghost use Rattle.lrs_names.specs.Rules.{least};
 ghost use Rattle.lrs_names.specs.Members.{faults_of_member, is_string_that};
 ghost use Rattle.lrs_names.specs.Languages.{is_language_tag};
-ghost use Rattle.lrs_names.specs.Agents.{group_faults};
+ghost use Rattle.lrs_agents.specs.Agents.{group_faults};
 ghost use Rattle.xapi_rules.specs.Contexts.{is_result, score_faults, duration_faults, result_faults, is_context, context_statement_faults, context_activity_faults, faults_of_activities, activities_faults, context_activities_faults, instructor_faults, context_agent_faults, context_faults};
 
 use crate::objects::{broken_activity, broken_reference};
+use lrs_agents::{Group, broken_agent_or_group};
 use lrs_json::{Memory, Tree};
-use lrs_names::{
-    Group, LangTag, broken_agent_or_group, has_only, is_string_if_there, lesser, unless,
-};
+use lrs_names::{LangTag, has_only, is_string_if_there, lesser, unless};
 use std::alloc::Global;
 use xapi_values::broken_extensions_of;
 use xapi_values::numbers::is_score;

@@ -1,5 +1,4 @@
-//! The thirty-two rules that a statement is held against (xAPI 1.0.3, part two, section 2): those that a value breaks,
-//! and the least of them.
+//! The thirty-two rules on statements (xAPI 1.0.3, part two, section 2): which of them a value breaks, and the least.
 #![tactic(auto)]
 
 mod attachments;

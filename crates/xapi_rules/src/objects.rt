@@ -6,8 +6,9 @@ ghost use Rattle.lrs_names.specs.Members.{faults_of_member};
 ghost use Rattle.xapi_rules.specs.Objects.{is_definition, definition_faults, is_activity, activity_faults, is_reference, reference_faults, faults_of_kind, nested_object_faults};
 
 use crate::components::broken_interaction;
+use lrs_agents::{Agent, Group};
 use lrs_json::{Memory, Tree};
-use lrs_names::{Agent, Group, has_member, has_only, is_word, lesser, unless};
+use lrs_names::{has_member, has_only, is_word, lesser, unless};
 use std::alloc::Global;
 use xapi_values::shapes::{is_object, is_uuid};
 use xapi_values::{Kind, broken_extensions_of, broken_iri_at, broken_map_at};

@@ -12,10 +12,9 @@ use crate::attachments::broken_attachments;
 use crate::contexts::{broken_context, broken_result};
 use crate::nulls::{Role, has_null};
 use crate::objects::{broken_nested_object, broken_plain_object};
+use lrs_agents::{Agent, Group, broken_agent_or_group};
 use lrs_json::{Memory, Tree};
-use lrs_names::{
-    Agent, Group, broken_agent_or_group, has_member, has_only, is_word, lesser, unless,
-};
+use lrs_names::{has_member, has_only, is_word, lesser, unless};
 use std::alloc::Global;
 use xapi_values::shapes::{is_object, is_timestamp, is_uuid, is_version};
 use xapi_values::{Kind, broken_iri_at, broken_map_at};

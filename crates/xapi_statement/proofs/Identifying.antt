@@ -4,8 +4,8 @@ use Rattle.std.specs.Prelude.{IsTrue, ◌↔◌}
 use Rattle.std.specs.Option.{option_map_or}
 use Rattle.std.specs.Str.{bytes_eq}
 use Rattle.std.proofs.lemmas.Slice.Eq.{bytes_eq-Decides}
-use Rattle.lrs_names.specs.declared.identifiers.Ifi.{Ifi}
-use Rattle.lrs_names.specs.declared.identifiers.Ifi.TheVariants.{Mbox, MboxSha1, OpenId, Account}
+use Rattle.lrs_agents.specs.declared.identifiers.Ifi.{Ifi}
+use Rattle.lrs_agents.specs.declared.identifiers.Ifi.TheVariants.{Mbox, MboxSha1, OpenId, Account}
 use Rattle.xapi_format.specs.Party.{same_ifi}
 
 -- a text equals itself, and no other

@@ -4,10 +4,10 @@ use Rattle.lrs_json.specs.Json.{Json}
 use Rattle.lrs_json.specs.View.{view}
 use Rattle.lrs_json.specs.Written.{written}
 use Rattle.lrs_names.specs.Members.{has_member_that}
-use Rattle.lrs_names.specs.declared.identifiers.Ifi.{Ifi}
+use Rattle.lrs_agents.specs.declared.identifiers.Ifi.{Ifi}
 use Rattle.xapi_format.specs.Authorities.{authority_json}
 use Rattle.xapi_format.specs.Party.{is_party}
-use Rattle.xapi_format.specs.Reduced.{reduced}
+use Rattle.xapi_reduced.specs.Reduced.{reduced}
 use Rattle.xapi_format.specs.declared.format.Format.{Format}
 use Rattle.xapi_format.specs.declared.format.Format.TheVariants.{Exact, Ids}
 use Rattle.xapi_statement.specs.Stored.{StoredStatement, completed_form}

@@ -5,18 +5,15 @@ use Rattle.lrs_json.specs.Find.{find}
 use Rattle.lrs_json.specs.Written.{written}
 use Rattle.lrs_names.specs.Ids.{id_of}
 use Rattle.lrs_names.specs.Members.{is_word, has_member, has_member_that, text_of, text_under}
-use Rattle.xapi_format.specs.Nested.{is_nested}
+use Rattle.xapi_values.specs.Nested.{is_nested}
 use Rattle.xapi_values.specs.Numbers.{member_number}
 use Rattle.xapi_rules.specs.Rules.{broken_rule, is_about_activity, is_about_reference}
 use Rattle.xapi_statement.specs.declared.refused.StatementRefused.{StatementRefused}
 use Rattle.xapi_statement.specs.declared.refused.StatementRefused.TheVariants.{TooLong, Broken}
-
--- the longest written form that is kept, in bytes
-abbrev pub longest : ℕ
-longest = 262_144
+use Rattle.xapi_statement.specs.declared.length.TheConstants.{LONGEST_STATEMENT}
 
 unfoldable pub is_too_long : Json → Bool
-is_too_long j = nat_lt longest (length (written j))
+is_too_long j = nat_lt LONGEST_STATEMENT (length (written j))
 
 -- why a value is no statement of the store, where it is none
 unfoldable pub refusal : Json → Option StatementRefused

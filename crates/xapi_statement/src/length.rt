@@ -6,15 +6,15 @@ ghost use Rattle.xapi_statement.specs.Statement.{is_too_long};
 
 use lrs_json::{Member, Text, Tree};
 
-/// The longest written form that is kept, in bytes.
-const LONGEST: usize = 262_144;
+/// The longest written form of a statement that is kept, in bytes.
+pub const LONGEST_STATEMENT: usize = 262_144;
 
 /// Whether the statement's written form has more bytes than are kept.
 #[tactic(auto, unfolding(crate::specs::Statement::is_too_long))]
 pub fn is_too_long(statement: &Tree) -> bool
     ensures { result ≡ is_too_long (view statement.now) }
 {
-    room_behind(statement, LONGEST).is_none()
+    room_behind(statement, LONGEST_STATEMENT).is_none()
 }
 
 // What is left of the room behind the tree's written form.

@@ -1,5 +1,5 @@
 //! Statements (xAPI 1.0.3, part two, section 2): a value that breaks none of the rules and isn't too long, what the
-//! layers above ask of one, and one as the store keeps it.
+//! layers above ask of one, and a statement as the store keeps it.
 #![tactic(auto)]
 
 mod activities;
@@ -10,7 +10,7 @@ mod refused;
 mod statement;
 mod stored;
 
-pub use length::is_too_long;
+pub use length::{LONGEST_STATEMENT, is_too_long};
 pub use lrs_json::Memory;
 pub use members::{own_id, target_of};
 pub use refused::{StatementRefused, judge};

@@ -8,9 +8,10 @@ ghost use Rattle.xapi_statement.specs.Statement.{is_too_long, refusal, is_statem
 
 use crate::refused::{StatementRefused, judge};
 use crate::{activities, members, parties};
+use lrs_agents::Ifi;
 use lrs_decimal::Decimal;
 use lrs_json::{Text, Tree};
-use lrs_names::{Id, Ifi};
+use lrs_names::Id;
 use std::alloc::Global;
 
 /// A value that breaks none of the rules on statements and isn't too long.

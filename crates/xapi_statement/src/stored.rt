@@ -6,12 +6,14 @@ ghost use Rattle.xapi_statement.specs.Shown.{shown_form, shown_text, takes_part}
 ghost use Rattle.xapi_statement.specs.Statement.{has_activity, registration_of, target_of, verb_of};
 
 use crate::{Authority, Format, Statement, parties};
+use lrs_agents::Ifi;
 use lrs_json::{Memory, Tree, write};
-use lrs_names::{Id, Ifi};
+use lrs_names::Id;
 use lrs_time::Moment;
 use std::alloc::Global;
 use std::marker::Model;
-use xapi_format::{completed, put_completed, reduced};
+use xapi_format::{completed, put_completed};
+use xapi_reduced::reduced;
 
 /// A statement as the store keeps it: as it was received, under its id, with the moment at which it was accepted and
 /// under whose authority it stands.

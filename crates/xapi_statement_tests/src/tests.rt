@@ -1,7 +1,8 @@
+use lrs_agents::Ifi;
 use lrs_decimal::Decimal;
 use lrs_json::{Text, Tree, write};
 use lrs_json_reader::read;
-use lrs_names::{Id, Ifi};
+use lrs_names::Id;
 use lrs_time::Moment;
 use std::alloc::Global;
 use std::cmp::Ordering;

@@ -1,7 +1,8 @@
 use Rattle.std.proofs.Common.{◌≡◌, drop, map}
 use Rattle.lrs_json.specs.Json.{Members}
 use Rattle.lrs_json.specs.View.{member_view, members_of}
-use Rattle.xapi_format.specs.Completed.{followed_by, kept_before}
+use Rattle.xapi_format.specs.Completed.{kept_before}
+use Rattle.xapi_values.specs.Following.{followed_by}
 use Rattle.xapi_format.proofs.building.kept.Given as goal
 
 -- what was kept so far, and what is left, for every list behind

@@ -5,7 +5,8 @@ use Rattle.lrs_json.specs.View.{view, member_view, members_of}
 use Rattle.lrs_names.specs.Ids.{id_text}
 use Rattle.lrs_time.specs.Moments.{moment_text}
 use Rattle.xapi_format.specs.Authorities.{authority_json}
-use Rattle.xapi_format.specs.Completed.{added_behind_id, followed_by}
+use Rattle.xapi_format.specs.Completed.{added_behind_id}
+use Rattle.xapi_values.specs.Following.{followed_by}
 use Rattle.xapi_format.proofs.building.push_added.Goals as goal
 
 pub returns : goal.returns

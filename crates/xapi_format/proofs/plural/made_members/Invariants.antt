@@ -1,7 +1,7 @@
 use Rattle.std.proofs.Common.{◌≡◌, drop, map}
 use Rattle.lrs_json.specs.View.{member_view, members_of}
-use Rattle.xapi_format.specs.Completed.{followed_by}
-use Rattle.xapi_format.specs.Memberwise.{each_member}
+use Rattle.xapi_values.specs.Following.{followed_by}
+use Rattle.xapi_values.specs.Memberwise.{each_member}
 use Rattle.xapi_format.proofs.plural.made_members.Given as goal
 
 -- what was made so far, and what is left

@@ -2,7 +2,7 @@ use Rattle.std.proofs.Common.{◌≡◌, ◌++◌, drop, map, nat_lt}
 use Rattle.lrs_json.specs.Json.{object}
 use Rattle.lrs_json.specs.View.{member_view, members_of}
 use Rattle.lrs_json.specs.Written.{Extends, members_text, written}
-use Rattle.xapi_format.specs.Memberwise.{each_member}
+use Rattle.xapi_values.specs.Memberwise.{each_member}
 use Rattle.xapi_format.proofs.plural.put_members.Given as goal
 
 -- with what is left, the object is whole

@@ -1,15 +1,15 @@
 use Rattle.std.proofs.Common.{◌++◌, ap, refl, subst}
 use Rattle.std.proofs.lemmas.List.{at_drop_all}
-use Rattle.lrs_ids.specs.Making.{GiveSame, left_of}
+use Rattle.lrs_ids.specs.IdSupply.{GiveSame, left_of}
 use Rattle.lrs_ids.proofs.Turns.{turn}
-use Rattle.xapi_index.specs.Batches.{named, ids_of_named, supply_after}
+use Rattle.xapi_index.specs.Batches.{with_ids, ids_under, supply_after}
 use Rattle.xapi_index.proofs.Supplies.{after_more, names_more}
 use Rattle.xapi_index.proofs.naming.take_ids.Goals as goal
 
 pub loop-statement-init : goal.loop-statement-init
 loop-statement-init g c =
     let supply = left_of (g.U.UsedIds.used c.args.used.now) c.args.supply.now in record {
-      named = ap (λ xs. xs ++ ids_of_named (named supply c.args.statements.now)) c.in_ok-ids.ensures.items;
+      with_ids = ap (λ xs. xs ++ ids_under (with_ids supply c.args.statements.now)) c.in_ok-ids.ensures.items;
       left = record { same = λ k. refl };
     }
 
@@ -23,8 +23,8 @@ loop-statement-preserved g c =
     let new = left_of (g.U.UsedIds.used c.args.used.now) c.next_id.new.supply in
     let next = turn ts at.statement-index t c.loop-statement-test.true c.statement-item.is in
     record {
-      named = names_more old new ts at.statement-index t c.in_ok-next_id.field-0 at.ids.items c.push.new.self.items (ids_of_named (named first ts)) next
-          c.in_ok-next_id.ensures.id c.in_ok-next_id.ensures.left c.in_ok-push.ensures.items at.invariant.named;
+      with_ids = names_more old new ts at.statement-index t c.in_ok-next_id.field-0 at.ids.items c.push.new.self.items (ids_under (with_ids first ts)) next
+          c.in_ok-next_id.ensures.id c.in_ok-next_id.ensures.left c.in_ok-push.ensures.items at.invariant.with_ids;
       left = after_more old new first ts at.statement-index t ts next c.in_ok-next_id.ensures.left at.invariant.left;
     }
 

@@ -3,7 +3,7 @@ use Rattle.std.specs.Prelude.{slice_set}
 use Rattle.xapi_pages.specs.declared.chains.Mark.TheVariants.{Fails}
 use Rattle.xapi_pages.specs.Chains.{AreTrue, chain_passes, is_among, is_direct_at}
 use Rattle.xapi_index.specs.Statements.{referred_at}
-use Rattle.xapi_pages.proofs.References.{verdict_first}
+use Rattle.xapi_pages.proofs.References.{passing_first}
 use Rattle.xapi_pages.proofs.Ways.{IsOnWay, alike_more, doubt, way_ends, way_known, way_on}
 use Rattle.xapi_pages.proofs.chains.walk.Goals as goal
 
@@ -12,7 +12,7 @@ returns-in-Some-clause-passes c =
     let at = c.loop-passes in
     let held = take c.args.asof c.args.index.now.held in
     sym (way_known (is_direct_at c.args.query.now c.args.sight.now held) (referred_at held) c.args.asof (chain_passes c.args.query.now c.args.sight.now held) at.marks at.path.items c.args.start at.position
-    (verdict_first c.args.query.now c.args.sight.now c.args.index.now.held c.args.asof c.requires.asof) at.invariant c.in-Some.passes (sym c.known_at.ensures ∙ c.in-Some.is))
+    (passing_first c.args.query.now c.args.sight.now c.args.index.now.held c.args.asof c.requires.asof) at.invariant c.in-Some.passes (sym c.known_at.ensures ∙ c.in-Some.is))
     ∙ sym at.invariant.begun
 
 pub returns-in-Some-clause-alike : goal.returns-in-Some-clause-alike
@@ -21,7 +21,7 @@ returns-in-Some-clause-alike c = λ k among.
     let held = take c.args.asof c.args.index.now.held in
     at.invariant.alike k among
     ∙ way_known (is_direct_at c.args.query.now c.args.sight.now held) (referred_at held) c.args.asof (chain_passes c.args.query.now c.args.sight.now held) at.marks at.path.items c.args.start at.position
-    (verdict_first c.args.query.now c.args.sight.now c.args.index.now.held c.args.asof c.requires.asof) at.invariant c.in-Some.passes (sym c.known_at.ensures ∙ c.in-Some.is)
+    (passing_first c.args.query.now c.args.sight.now c.args.index.now.held c.args.asof c.requires.asof) at.invariant c.in-Some.passes (sym c.known_at.ensures ∙ c.in-Some.is)
 
 pub loop-passes-preserved : goal.loop-passes-preserved
 loop-passes-preserved c =
@@ -34,7 +34,7 @@ loop-passes-preserved c =
     subst (λ ws. IsOnWay (is_direct_at c.args.query.now c.args.sight.now held) (referred_at held) c.args.asof (chain_passes c.args.query.now c.args.sight.now held) (slice_set at.marks at.position Fails) ws c.args.start c.in-Some-referred_at.next)
     (sym c.in_ok-push.ensures.items)
     (way_on (is_direct_at c.args.query.now c.args.sight.now held) (referred_at held) c.args.asof (chain_passes c.args.query.now c.args.sight.now held) at.marks at.path.items c.args.start at.position
-    (verdict_first c.args.query.now c.args.sight.now c.args.index.now.held c.args.asof c.requires.asof) at.invariant c.in-Some-referred_at.next
+    (passing_first c.args.query.now c.args.sight.now c.args.index.now.held c.args.asof c.requires.asof) at.invariant c.in-Some-referred_at.next
     (sym c.known_at.ensures ∙ c.in_default.is) lt (sym c.referred_at.ensures ∙ c.in-Some-referred_at.is))
 
 pub returns-in-None-clause-passes : goal.returns-in-None-clause-passes
@@ -43,16 +43,16 @@ returns-in-None-clause-passes c =
     let held = take c.args.asof c.args.index.now.held in
     sym (at.invariant.begun
     ∙ way_ends (is_direct_at c.args.query.now c.args.sight.now held) (referred_at held) c.args.asof (chain_passes c.args.query.now c.args.sight.now held) at.marks at.path.items c.args.start at.position
-    (verdict_first c.args.query.now c.args.sight.now c.args.index.now.held c.args.asof c.requires.asof) at.invariant (sym c.known_at.ensures ∙ c.in_default.is) (sym c.referred_at.ensures ∙ c.in-None.is))
+    (passing_first c.args.query.now c.args.sight.now c.args.index.now.held c.args.asof c.requires.asof) at.invariant (sym c.known_at.ensures ∙ c.in_default.is) (sym c.referred_at.ensures ∙ c.in-None.is))
 
 pub returns-in-None-clause-alike : goal.returns-in-None-clause-alike
 returns-in-None-clause-alike c = λ k among.
     let at = c.loop-passes in
     let held = take c.args.asof c.args.index.now.held in
     alike_more (is_direct_at c.args.query.now c.args.sight.now held) (referred_at held) c.args.asof (chain_passes c.args.query.now c.args.sight.now held) at.marks at.path.items c.args.start at.position
-    (verdict_first c.args.query.now c.args.sight.now c.args.index.now.held c.args.asof c.requires.asof) at.invariant k (subst (λ ws. is_among ws k ≡ true) c.in_ok-push.ensures.items among)
+    (passing_first c.args.query.now c.args.sight.now c.args.index.now.held c.args.asof c.requires.asof) at.invariant k (subst (λ ws. is_among ws k ≡ true) c.in_ok-push.ensures.items among)
     ∙ way_ends (is_direct_at c.args.query.now c.args.sight.now held) (referred_at held) c.args.asof (chain_passes c.args.query.now c.args.sight.now held) at.marks at.path.items c.args.start at.position
-    (verdict_first c.args.query.now c.args.sight.now c.args.index.now.held c.args.asof c.requires.asof) at.invariant (sym c.known_at.ensures ∙ c.in_default.is) (sym c.referred_at.ensures ∙ c.in-None.is)
+    (passing_first c.args.query.now c.args.sight.now c.args.index.now.held c.args.asof c.requires.asof) at.invariant (sym c.known_at.ensures ∙ c.in_default.is) (sym c.referred_at.ensures ∙ c.in-None.is)
 
 pub returns-in-None-clause-marks : goal.returns-in-None-clause-marks
 returns-in-None-clause-marks c =

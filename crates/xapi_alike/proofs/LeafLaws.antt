@@ -1,0 +1,158 @@
+-- What is alike of leaves is an equivalence.
+use Rattle.std.proofs.Common.{◌≡◌, ℕ, List, Bool, true, false, ◌&&◌, ◌||◌, ◌⊎◌, inl, inr, refl, sym, ap, ◌∙◌, subst, true≢false, Equal, Less, Greater}
+use Rattle.std.proofs.lemmas.Cmp.{nat_list_eq_equiv, int_eq_equiv}
+use Rattle.std.specs.declared.cmp.Ordering.{Ordering}
+use Rattle.std.specs.Ordering.{is_eq}
+use Rattle.std.specs.Str.{bytes_eq}
+use Rattle.std.proofs.lemmas.Slice.Eq.{bytes_eq-Decides}
+use Rattle.lrs_decimal.specs.Values.{order}
+use Rattle.lrs_decimal.proofs.Orders.{order-sym, order-trans}
+use Rattle.lrs_time.proofs.DurationLemmas.{same_span_equivalence}
+use Rattle.xapi_values.specs.Numbers.{is_decimal}
+use Rattle.xapi_values.specs.declared.kinds.Kind.{Kind}
+use Rattle.xapi_alike.specs.Normal.{Words, letters, uuid, instant, lasting}
+use Rattle.xapi_values.specs.Kinds.{same_kind}
+use Rattle.xapi_alike.specs.Alike.{same_amount, same_words, same_truth}
+
+-- ---- truth values
+
+pub and_left : (a b : Bool) → (a && b) ≡ true → a ≡ true
+and_left true b e = refl
+and_left false b e = e
+
+pub and_right : (a b : Bool) → (a && b) ≡ true → b ≡ true
+and_right true b e = e
+and_right false b e = absurd (true≢false (sym e))
+
+pub both : (a b : Bool) → a ≡ true → b ≡ true → (a && b) ≡ true
+both a b e f = rw (e, f) refl
+
+pub either : (a b : Bool) → (a || b) ≡ true → (a ≡ true) ⊎ (b ≡ true)
+either true b e = inl refl
+either false b e = inr e
+
+pub or_left : (a b : Bool) → a ≡ true → (a || b) ≡ true
+or_left a b e = rw e refl
+
+pub or_right : (a b : Bool) → b ≡ true → (a || b) ≡ true
+or_right true b e = refl
+or_right false b e = e
+
+pub neither_left : (a b : Bool) → (a || b) ≡ false → a ≡ false
+neither_left true b e = e
+neither_left false b e = refl
+
+pub neither_right : (a b : Bool) → (a || b) ≡ false → b ≡ false
+neither_right true b e = absurd (true≢false e)
+neither_right false b e = e
+
+-- two tests that imply one another are one
+pub both_ways : (a b : Bool) → (a ≡ true → b ≡ true) → (b ≡ true → a ≡ true) → a ≡ b
+both_ways true b f g = sym (f refl)
+both_ways false true f g = g refl
+both_ways false false f g = refl
+
+pub truth_is : (b c : Bool) → same_truth b c ≡ true → b ≡ c
+truth_is true true e = refl
+truth_is true false e = sym e
+truth_is false true e = absurd (true≢false (sym e))
+truth_is false false e = refl
+
+pub truth_refl : (b : Bool) → same_truth b b ≡ true
+truth_refl true = refl
+truth_refl false = refl
+
+pub kind_refl : (k : Kind) → same_kind k k ≡ true
+kind_refl Kind.Unstated = refl
+kind_refl Kind.Activity = refl
+kind_refl Kind.Agent = refl
+kind_refl Kind.Group = refl
+kind_refl Kind.StatementRef = refl
+kind_refl Kind.SubStatement = refl
+kind_refl Kind.Other = refl
+
+pub kind_is : (k l : Kind) → same_kind k l ≡ true → k ≡ l
+kind_is Kind.Unstated Kind.Unstated e = refl
+kind_is Kind.Activity Kind.Activity e = refl
+kind_is Kind.Agent Kind.Agent e = refl
+kind_is Kind.Group Kind.Group e = refl
+kind_is Kind.StatementRef Kind.StatementRef e = refl
+kind_is Kind.SubStatement Kind.SubStatement e = refl
+kind_is Kind.Other Kind.Other e = refl
+kind_is _ _ e = absurd (true≢false (sym e))
+
+-- ---- numbers
+
+is_equal : (o : Ordering) → is_eq o ≡ true → o ≡ Equal
+is_equal Less e = absurd (true≢false (sym e))
+is_equal Equal e = refl
+is_equal Greater e = absurd (true≢false (sym e))
+
+-- numbers in range of one value
+abbrev of_one_value : List ℕ → List ℕ → Bool
+of_one_value s t = is_decimal s && is_decimal t && is_eq (order s t)
+
+record OfOneValue (s t : List ℕ) : Type 0 where
+  first : is_decimal s ≡ true
+  second : is_decimal t ≡ true
+  equal : order s t ≡ Equal
+
+taken_apart : (s t : List ℕ) → of_one_value s t ≡ true → OfOneValue s t
+taken_apart s t e =
+    let front = and_left (is_decimal s && is_decimal t) (is_eq (order s t)) e in
+    record {
+      first = and_left (is_decimal s) (is_decimal t) front;
+      second = and_right (is_decimal s) (is_decimal t) front;
+      equal = is_equal (order s t) (and_right (is_decimal s && is_decimal t) (is_eq (order s t)) e);
+    }
+
+put_together : (s t : List ℕ) → OfOneValue s t → of_one_value s t ≡ true
+put_together s t o = both (is_decimal s && is_decimal t) (is_eq (order s t)) (both (is_decimal s) (is_decimal t) o.first o.second) (ap is_eq o.equal)
+
+spelled : (s t : List ℕ) → bytes_eq s t ≡ true → s ≡ t
+spelled s t e = (bytes_eq-Decides s t).0 e
+
+amount_sym : (s t : List ℕ) → same_amount s t ≡ true → same_amount t s ≡ true
+amount_sym s t e = turned (either (bytes_eq s t) (of_one_value s t) e)
+  where
+    turned : (bytes_eq s t ≡ true) ⊎ (of_one_value s t ≡ true) → same_amount t s ≡ true
+    turned (inl f) = or_left (bytes_eq t s) (of_one_value t s) (sym (nat_list_eq_equiv.symm s t) ∙ f)
+    turned (inr f) =
+        let o = taken_apart s t f in
+        or_right (bytes_eq t s) (of_one_value t s) (put_together t s (record { first = o.second; second = o.first; equal = order-sym s t o.equal }))
+
+amount_trans : (s t u : List ℕ) → same_amount s t ≡ true → same_amount t u ≡ true → same_amount s u ≡ true
+amount_trans s t u e f = joined (either (bytes_eq s t) (of_one_value s t) e) (either (bytes_eq t u) (of_one_value t u) f)
+  where
+    joined : (bytes_eq s t ≡ true) ⊎ (of_one_value s t ≡ true) → (bytes_eq t u ≡ true) ⊎ (of_one_value t u ≡ true) → same_amount s u ≡ true
+    joined (inl a) b = subst (λ (z : List ℕ). same_amount z u ≡ true) (sym (spelled s t a)) f
+    joined (inr a) (inl b) = subst (λ (z : List ℕ). same_amount s z ≡ true) (spelled t u b) e
+    joined (inr a) (inr b) =
+        let o = taken_apart s t a in
+        let p = taken_apart t u b in
+        or_right (bytes_eq s u) (of_one_value s u) (put_together s u (record { first = o.first; second = p.second; equal = order-trans s t u o.equal p.equal }))
+
+pub amount_refl : (s : List ℕ) → same_amount s s ≡ true
+amount_refl s = or_left (bytes_eq s s) (of_one_value s s) (nat_list_eq_equiv.refl s)
+
+pub amount_congr : (s t u : List ℕ) → same_amount s t ≡ true → same_amount s u ≡ same_amount t u
+amount_congr s t u e = both_ways (same_amount s u) (same_amount t u) (λ f. amount_trans t s u (amount_sym s t e) f) (λ f. amount_trans s t u e f)
+
+-- ---- texts
+
+pub words_refl : (v : Words) → same_words v v ≡ true
+words_refl (letters s) = nat_list_eq_equiv.refl s
+words_refl (uuid i) = nat_list_eq_equiv.refl i
+words_refl (instant i) = int_eq_equiv.refl i
+words_refl (lasting s) = same_span_equivalence.refl s
+
+pub words_congr : (v w u : Words) → same_words v w ≡ true → same_words v u ≡ same_words w u
+words_congr (letters s) (letters t) (letters u) e = nat_list_eq_equiv.congr s t u e
+words_congr (letters s) (letters t) _ e = refl
+words_congr (uuid s) (uuid t) (uuid u) e = nat_list_eq_equiv.congr s t u e
+words_congr (uuid s) (uuid t) _ e = refl
+words_congr (instant s) (instant t) (instant u) e = int_eq_equiv.congr s t u e
+words_congr (instant s) (instant t) _ e = refl
+words_congr (lasting s) (lasting t) (lasting u) e = same_span_equivalence.congr s t u e
+words_congr (lasting s) (lasting t) _ e = refl
+words_congr _ _ _ e = absurd (true≢false (sym e))

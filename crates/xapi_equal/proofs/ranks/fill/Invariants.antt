@@ -1,6 +1,0 @@
-use Rattle.std.proofs.Common.{◌≡◌, length}
-use Rattle.xapi_equal.specs.Ranks.{places_to}
-use Rattle.xapi_equal.proofs.ranks.fill.Given as goal
-
-abbrev pub invariant-loop-place : goal.invariant-loop-place
-invariant-loop-place l = (l.into.items ≡ places_to l.place) × (length l.into.items ≡ l.place)
