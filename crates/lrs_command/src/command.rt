@@ -1,5 +1,8 @@
-use crate::Rule;
-use lrs_record::Write;
+ghost use Rattle.std.specs.Prelude.{◌≡◌};
+ghost use Rattle.lrs_command.specs.Areas.{read_area};
+
+use lrs_record::{Area, Write};
+use lrs_rules::Rule;
 use xapi_query::{MoreLink, Wanted};
 
 /// What a caller asks.
@@ -24,13 +27,14 @@ pub enum Read {
     About,
 }
 
-/// Where a request goes, by what it asks of its caller.
-#[derive(Clone, Copy, Debug, PartialEq, Eq)]
-pub enum Area {
-    /// Anyone may ask.
-    Free,
-    /// The statements and documents: any caller that the history knows.
-    Store,
-    /// The desk: an admin.
-    Desk,
+impl Read {
+    /// The area of the question.
+    pub fn area(&self) -> Area
+        ensures { result ≡ read_area self.now }
+    {
+        match self {
+            Read::Statements(_) | Read::More(_) => Area::Store,
+            Read::About => Area::Free,
+        }
+    }
 }

@@ -1,11 +1,10 @@
-//! What a caller asks of the store: a write, which is kept where it is accepted, or a read, which is only answered; and the
-//! rules that a request can break.
+//! What a caller asks of the store: a write, which is kept if it is accepted, or a read, which is only answered. Also
+//! the areas that commands belong to, and who a caller turns out to be.
 #![tactic(auto)]
 
 mod command;
-mod rule;
 mod who;
 
-pub use command::{Area, Command, Read};
-pub use rule::Rule;
+pub use command::{Command, Read};
+pub use lrs_record::Area;
 pub use who::Who;

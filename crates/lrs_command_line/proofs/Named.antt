@@ -8,7 +8,7 @@ use Rattle.clap.specs.Faults.{fault_of}
 use Rattle.lrs_json.specs.Names.{is_among}
 use Rattle.lrs_command_line.specs.CommandLine.{Part, CommandLine, init, intake, serve, IsLineOf, IsPlain, IsNamed, IsCommandLine, IsTaken, Says, Gives, words_of, value_of, is_name, options_of, program, whole_line}
 use Rattle.lrs_command_line.specs.Shapes.{IsReadAs, Denotes, is_plain, alone, value_behind, said_by, init_with, intake_with, serve_with, init_in, intake_in, serve_in, command_in, is_faulty, is_nonempty, taken, named}
-use Rattle.lrs_command_line.specs.declared.words.CommandLine as code
+use Rattle.lrs_command_line.specs.declared.words.ProgramCommand.{ProgramCommand}
 use Rattle.lrs_command_line.proofs.Plain.{AreOptions, same, plain_line, parts_of, alone_of, value_found}
 
 -- ---- the options of a command begin with `-`
@@ -164,7 +164,7 @@ is_named words c e = by (is_plain (options_of words) false words) refl e where
     by_fault true faulty e = cc
     by_fault false whole e = record { whole = no_fault (fault_of program (whole_line words)) whole; gives = gives (subcommand_of program (whole_line words)) c e }
 
-pub read_as : {E : Type 0} (words : List (List ℕ)) (r : Result (Option code.CommandLine) E) → IfOk r (IsReadAs (named words))
+pub read_as : {E : Type 0} (words : List (List ℕ)) (r : Result (Option ProgramCommand) E) → IfOk r (IsReadAs (named words))
     → IfOk r (λ found. MatchOption found ((c : CommandLine) → IsCommandLine words c → ⊥) (λ read. (c : CommandLine) × IsCommandLine words c × Denotes read c))
 read_as words (Err e) read = tt
 read_as words (Ok None) read = λ c is. let out : IsReadAs (Some c) None = subst (λ o. IsReadAs o None) (names words c is.0) read in out is.1

@@ -11,6 +11,8 @@ use Rattle.clap.specs.Simple.{App, new_app, new_rule, with_rule, with_subcommand
 use Rattle.clap.specs.Faults.{fault_of}
 use Rattle.lrs_json.specs.Names.{is_among}
 use Rattle.lrs_parts.specs.Founding.{IsToken, IsBase}
+use Rattle.lrs_journal.specs.declared.sizes.TheConstants.{LEAST_BYTES, MOST_BYTES}
+use Rattle.lrs_command_line.specs.declared.words.TheConstants.{DEFAULT_BASE, DEFAULT_LIMIT, MOST_CONNECTIONS, MOST_DIGITS, MOST_WORKERS}
 
 -- ---- plain lines
 
@@ -140,10 +142,10 @@ pub record IsTaken (words : List (List ℕ)) (c : CommandLine) : Type 0 where
 
 -- ---- values
 
--- a number as words spell it: 1 to 20 digits and nothing else
+-- a number as words spell it: 1 to `MOST_DIGITS` digits and nothing else
 pub record IsNumber (word : List ℕ) : Type 0 where
   pub some : 0 < length word
-  pub few : length word ≤ 20
+  pub few : length word ≤ MOST_DIGITS
   pub digits : list_all is_ascii_digit word ≡ true
 
 -- a number of this range
@@ -154,24 +156,23 @@ pub record IsNumberIn (from to : ℕ) (word : List ℕ) : Type 0 where
 
 -- a number of bytes that a store may have
 abbrev pub IsLimit : List ℕ → Type 0
-IsLimit = IsNumberIn 512 1073741824
+IsLimit = IsNumberIn LEAST_BYTES MOST_BYTES
 
 -- the base address of the store, and its limit, where the words leave them out
 abbrev pub base_of : InitWords → List ℕ
-base_of w = unwrap_or w.base (codes "http://127.0.0.1:8080/")
+base_of w = unwrap_or w.base DEFAULT_BASE.now
 
 abbrev pub limit_of : InitWords → ℕ
-limit_of w = option_map_or (digits_value 10) w.limit 268435456
+limit_of w = option_map_or (digits_value 10) w.limit DEFAULT_LIMIT
 
 pub record IsInitInRange (w : InitWords) : Type 0 where
   pub admin : IsToken w.admin
   pub base : IsBase (base_of w)
   pub limit : IfSome w.limit IsLimit
 
--- one worker serves
 pub record IsServeInRange (w : ServeWords) : Type 0 where
-  pub workers : IsNumberIn 1 1 w.workers
-  pub connections : IsNumberIn 1 10000 w.connections
+  pub workers : IsNumberIn 1 MOST_WORKERS w.workers
+  pub connections : IsNumberIn 1 MOST_CONNECTIONS w.connections
 
 abbrev pub connections_of : ServeWords → ℕ
 connections_of w = digits_value 10 w.connections

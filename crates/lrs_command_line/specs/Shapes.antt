@@ -9,27 +9,27 @@ use Rattle.clap.specs.declared.builder.command.Command.TheViews.{out-Command as 
 use Rattle.clap.specs.Faults.{fault_of}
 use Rattle.lrs_json.specs.Names.{is_among}
 use Rattle.lrs_command_line.specs.CommandLine.{CommandLine, init, intake, serve, IsInRange, base_of, limit_of, connections_of, is_name, options_of, program, whole_line}
-use Rattle.lrs_command_line.specs.declared.words.Shape.{Shape}
-use Rattle.lrs_command_line.specs.declared.words.Shape.TheVariants as shape
 use Rattle.lrs_command_line.specs.declared.words.CommandLine as code
-use Rattle.lrs_command_line.specs.declared.words.CommandLine.TheVariants as words
+use Rattle.lrs_command_line.specs.declared.words.CommandLine.TheVariants as line
+use Rattle.lrs_command_line.specs.declared.words.ProgramCommand.{ProgramCommand}
+use Rattle.lrs_command_line.specs.declared.words.ProgramCommand.TheVariants as words
 
-abbrev pub command_of : Shape → CommandLine
-command_of (shape.Init file admin base limit) =
+abbrev pub command_of : code.CommandLine → CommandLine
+command_of (line.Init file admin base limit) =
     init (record { file = file.now; admin = admin.now; base = option_copied base; limit = option_copied limit })
-command_of (shape.Intake file) = intake file.now
-command_of (shape.Serve file address workers connections) =
+command_of (line.Intake file) = intake file.now
+command_of (line.Serve file address workers connections) =
     serve (record { file = file.now; address = address.now; workers = workers.now; connections = connections.now })
 
 -- the words as they were read mean this command
-abbrev pub Denotes : code.CommandLine → CommandLine → Type 0
+abbrev pub Denotes : ProgramCommand → CommandLine → Type 0
 Denotes (words.Init file admin base limit) (init w) = (file ≡ w.file) × (admin ≡ w.admin) × (base ≡ base_of w) × (limit ≡ limit_of w)
 Denotes (words.Intake file) (intake name) = file ≡ name
 Denotes (words.Serve file address connections) (serve w) = (file ≡ w.file) × (address ≡ w.address) × (connections ≡ connections_of w)
 Denotes other command = ⊥
 
 -- the words were read as this command, or refused for a value out of its range, where they name it
-abbrev pub IsReadAs : Option CommandLine → Option code.CommandLine → Type 0
+abbrev pub IsReadAs : Option CommandLine → Option ProgramCommand → Type 0
 IsReadAs None found = found ≡ None
 IsReadAs (Some c) found = MatchOption found (IsInRange c → ⊥) (λ words. IsInRange c × Denotes words c)
 

@@ -1,4 +1,4 @@
-ghost use Rattle.std.specs.Prelude.{◌≡◌, IsTrue, ◌↔◌, IfOk, IfSome, MatchOption, List, ℕ, codes, option_map, unwrap_or};
+ghost use Rattle.std.specs.Prelude.{◌≡◌, IsTrue, ◌↔◌, IfOk, IfSome, MatchOption, List, ℕ, option_map, unwrap_or};
 ghost use Rattle.std.specs.Char.{is_ascii_digit};
 ghost use Rattle.std.specs.List.{list_all};
 ghost use Rattle.std.specs.Option.{SomeIff, option_copied, option_map_or};
@@ -12,6 +12,7 @@ mod taken;
 
 use crate::words::plain::{is_plain, read_plain};
 use crate::words::taken::read_taken;
+use lrs_journal::{LEAST_BYTES, MOST_BYTES};
 use lrs_json::{Memory, Text};
 use lrs_parts::{is_base, is_token};
 use std::alloc::Global;
@@ -22,10 +23,8 @@ const DEFAULT_BASE: &str = "http://127.0.0.1:8080/";
 /// The limit of a store whose words name none, in bytes.
 const DEFAULT_LIMIT: u64 = 268_435_456;
 
-/// The limits that a store may have, in bytes.
-const LEAST_LIMIT: u64 = 512;
-
-const MOST_LIMIT: u64 = 1_073_741_824;
+/// How many digits a number may have.
+const MOST_DIGITS: usize = 20;
 
 /// How many workers may serve.
 const MOST_WORKERS: u64 = 1;
@@ -35,7 +34,7 @@ const MOST_CONNECTIONS: u64 = 10_000;
 
 /// A command of the program with what its words name.
 #[derive(Drop)]
-pub enum CommandLine {
+pub enum ProgramCommand {
     Init {
         file: Text,
         admin: Text,
@@ -54,7 +53,7 @@ pub enum CommandLine {
 
 // A command as its words name it, before a value is looked at.
 #[derive(Clone, Copy)]
-enum Shape<'a> {
+enum CommandLine<'a> {
     Init {
         file: &'a str,
         admin: &'a str,
@@ -81,7 +80,7 @@ fn are_digits(word: &str) -> bool
 fn is_number(word: &str) -> bool
     ensures { IsTrue result ↔ IsNumber word.now }
 {
-    !word.is_empty() && word.len() <= 20 && are_digits(word)
+    !word.is_empty() && word.len() <= MOST_DIGITS && are_digits(word)
 }
 
 // The number that a word spells, where it is of the range.
@@ -100,10 +99,10 @@ fn read_number(word: &str, least: u64, most: u64) -> Option<u64>
 fn read_limit(limit: Option<&str>) -> Option<u64>
     ensures { MatchOption result (IfSome (option_copied limit.entry) IsLimit → ⊥)
         (λ n. IfSome (option_copied limit.entry) IsLimit
-        × (n ≡ option_map_or (digits_value 10) (option_copied limit.entry) 268435456)) }
+        × (n ≡ option_map_or (digits_value 10) (option_copied limit.entry) DEFAULT_LIMIT)) }
 {
     match limit {
-        Some(word) => read_number(word, LEAST_LIMIT, MOST_LIMIT),
+        Some(word) => read_number(word, LEAST_BYTES, MOST_BYTES),
         None => Some(DEFAULT_LIMIT),
     }
 }
@@ -120,7 +119,7 @@ fn read_token(alloc: Global, word: &str) -> Result<Option<Text>, Memory>
 }
 
 fn base_or_default(alloc: Global, base: Option<&str>) -> Result<Text, Memory>
-    ensures { IfOk result (λ text. text ≡ unwrap_or (option_copied base.entry) (codes "http://127.0.0.1:8080/")) }
+    ensures { IfOk result (λ text. text ≡ unwrap_or (option_copied base.entry) DEFAULT_BASE.now) }
 {
     match base {
         Some(base) => Text::of(alloc, base),
@@ -130,7 +129,7 @@ fn base_or_default(alloc: Global, base: Option<&str>) -> Result<Text, Memory>
 
 fn read_base(alloc: Global, base: Option<&str>) -> Result<Option<Text>, Memory>
     ensures { IfOk result (λ found. let text : List ℕ = unwrap_or (option_copied base.entry)
-        (codes "http://127.0.0.1:8080/") in
+        DEFAULT_BASE.now in
         MatchOption found (IsBase text → ⊥) (λ read. IsBase text × (read ≡ text))) }
 {
     let text = base_or_default(alloc, base)?;
@@ -147,7 +146,7 @@ fn test_init(
     admin: &str,
     base: Option<&str>,
     limit: Option<&str>,
-) -> Result<Option<CommandLine>, Memory>
+) -> Result<Option<ProgramCommand>, Memory>
     ensures { IfOk result (λ found. let w : InitWords = record {
       file = file.now;
       admin = admin.now;
@@ -165,7 +164,7 @@ fn test_init(
     let Some(base) = read_base(alloc, base)? else {
         return Ok(None);
     };
-    Ok(Some(CommandLine::Init {
+    Ok(Some(ProgramCommand::Init {
         file: Text::of(alloc, file)?,
         admin,
         base,
@@ -180,7 +179,7 @@ fn test_serve(
     address: &str,
     workers: &str,
     connections: &str,
-) -> Result<Option<CommandLine>, Memory>
+) -> Result<Option<ProgramCommand>, Memory>
     ensures { IfOk result (λ found. let w : ServeWords = record {
       file = file.now;
       address = address.now;
@@ -191,7 +190,7 @@ fn test_serve(
 {
     let workers = read_number(workers, 1, MOST_WORKERS);
     match read_number(connections, 1, MOST_CONNECTIONS) {
-        Some(connections) if workers.is_some() => Ok(Some(CommandLine::Serve {
+        Some(connections) if workers.is_some() => Ok(Some(ProgramCommand::Serve {
             file: Text::of(alloc, file)?,
             address: Text::of(alloc, address)?,
             connections: connections as u32,
@@ -201,21 +200,21 @@ fn test_serve(
 }
 
 // The words of a command, with its values tested.
-fn test_values(alloc: Global, shape: Shape<'_>) -> Result<Option<CommandLine>, Memory>
+fn test_values(alloc: Global, shape: CommandLine<'_>) -> Result<Option<ProgramCommand>, Memory>
     ensures { IfOk result (λ found. MatchOption found (IsInRange (command_of shape.entry) → ⊥)
         (λ words. IsInRange (command_of shape.entry) × Denotes words (command_of shape.entry))) }
 {
     match shape {
-        Shape::Init {
+        CommandLine::Init {
             file,
             admin,
             base,
             limit,
         } => test_init(alloc, file, admin, base, limit),
-        Shape::Intake { file } => Ok(Some(CommandLine::Intake {
+        CommandLine::Intake { file } => Ok(Some(ProgramCommand::Intake {
             file: Text::of(alloc, file)?,
         })),
-        Shape::Serve {
+        CommandLine::Serve {
             file,
             address,
             workers,
@@ -225,7 +224,10 @@ fn test_values(alloc: Global, shape: Shape<'_>) -> Result<Option<CommandLine>, M
 }
 
 // The same, where the words name a command.
-fn test_named(alloc: Global, shape: Option<Shape<'_>>) -> Result<Option<CommandLine>, Memory>
+fn test_named(
+    alloc: Global,
+    shape: Option<CommandLine<'_>>,
+) -> Result<Option<ProgramCommand>, Memory>
     ensures { IfOk result (IsReadAs (option_map command_of shape.entry)) }
 {
     match shape {
@@ -234,7 +236,7 @@ fn test_named(alloc: Global, shape: Option<Shape<'_>>) -> Result<Option<CommandL
     }
 }
 
-fn read_named(alloc: Global, words: &[Text]) -> Result<Option<CommandLine>, Memory>
+fn read_named(alloc: Global, words: &[Text]) -> Result<Option<ProgramCommand>, Memory>
     ensures { IfOk result (IsReadAs (named words.now)) }
 {
     if is_plain(words) {
@@ -248,7 +250,7 @@ fn read_named(alloc: Global, words: &[Text]) -> Result<Option<CommandLine>, Memo
 ///
 /// A command's options stand in any order and at any place behind its name, `--name VALUE` or `--name=VALUE`, and each
 /// once. A `--` ends them, so that a FILE behind it may begin with `-`.
-pub fn read_words(alloc: Global, words: &[Text]) -> Result<Option<CommandLine>, Memory>
+pub fn read_words(alloc: Global, words: &[Text]) -> Result<Option<ProgramCommand>, Memory>
     ensures { IfOk result (λ found. MatchOption found ((c : SpecCommandLine) → IsCommandLine words.now c → ⊥)
         (λ read. (c : SpecCommandLine) × IsCommandLine words.now c × Denotes read c)) }
 {

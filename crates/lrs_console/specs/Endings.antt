@@ -2,7 +2,7 @@
 use Rattle.std.specs.Prelude.{ℕ, List, ◌++◌, codes}
 use Rattle.std.specs.Fmt.{decimal}
 use Rattle.lrs_names.specs.Ids.{id_text}
-use Rattle.lrs_command.specs.Rules.{rule_text}
+use Rattle.lrs_rules.specs.Rules.{rule_text}
 use Rattle.lrs_console.specs.declared.ending.Ending.{Ending}
 use Rattle.lrs_console.specs.declared.ending.Ending.TheVariants as ending
 

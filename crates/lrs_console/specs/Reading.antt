@@ -3,10 +3,11 @@ use Rattle.std.specs.Prelude.{◌≡◌, ◌≤◌, ◌+◌, ℕ, List, [], ◌+
 use Rattle.lrs_disk.specs.Faults.{Rises}
 use Rattle.lrs_console.specs.declared.reading.InputRefused.{InputRefused}
 use Rattle.lrs_console.specs.declared.reading.InputRefused.TheVariants as refused
+use Rattle.xapi_statement.specs.declared.length.TheConstants.{LONGEST_STATEMENT}
 
--- the most bytes that an input may have
+-- the most bytes that an input may have: those of a statement
 abbrev pub longest_input : ℕ
-longest_input = 262144
+longest_input = LONGEST_STATEMENT
 
 -- these bytes were given
 abbrev pub HasGiven : List ℕ → Option (List ℕ) → Option (List ℕ) → Type 0

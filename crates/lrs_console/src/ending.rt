@@ -2,13 +2,13 @@ ghost use Rattle.std.specs.Prelude.{◌≡◌, ◌≤◌, ◌+◌, ◌++◌, len
 ghost use Rattle.std.specs.Fmt.{decimal};
 ghost use Rattle.arrayvec.specs.ArrayVec.{array_vec_len};
 ghost use Rattle.lrs_names.specs.Ids.{id_text};
-ghost use Rattle.lrs_command.specs.Rules.{rule_text};
+ghost use Rattle.lrs_rules.specs.Rules.{rule_text};
 ghost use Rattle.lrs_console.specs.Endings.{ending_status, ending_text, ending_line};
 
 use arrayvec::ArrayVec;
 use itoa::Buffer;
-use lrs_command::Rule;
 use lrs_names::Id;
+use lrs_rules::Rule;
 
 /// How a command ends. Each ending has its status and its line.
 #[derive(Clone, Copy, PartialEq, Eq)]
@@ -37,7 +37,7 @@ pub enum Ending {
     Refused(Rule),
     /// The statement of the input gives itself no id.
     NoId,
-    /// The input has more bytes than a statement may.
+    /// The input has more bytes than a statement may, or its written form has.
     TooLong,
     /// Another statement is held under this id.
     Conflict(Id),

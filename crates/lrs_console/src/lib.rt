@@ -1,5 +1,5 @@
-//! The program's standard input and output: the statement that an input asks to be kept, how a command ends, and the
-//! line that is printed of it.
+//! The program's standard input and output: the statement that an input asks to be kept, and how a run ends, with its
+//! status and printed line.
 #![tactic(auto)]
 
 mod asking;

@@ -3,9 +3,7 @@ ghost use Rattle.lrs_console.specs.Reading.{GivesOn, IsAtEnd, IsInput, IsNotInpu
 
 use lrs_disk::{Failed, Source};
 use std::alloc::Global;
-
-/// The most bytes that an input may have.
-const LONGEST: usize = 262_144;
+use xapi_statement::LONGEST_STATEMENT;
 
 const PIECE: usize = 4_096;
 
@@ -44,7 +42,7 @@ fn read_piece<I: Source>(input: &mut I, bytes: &mut Vec<u8>) -> Result<bool, Inp
     ensures later { I.fault_count input.old ≤ I.fault_count input.new }
 {
     let mut piece = [0; PIECE];
-    let most = PIECE.min(LONGEST + 1 - bytes.len());
+    let most = PIECE.min(LONGEST_STATEMENT + 1 - bytes.len());
     let read = input.read(&mut piece[..most])?;
     if bytes.extend_from_slice(&piece[..read]).is_err() {
         return Err(InputRefused::Memory);
@@ -61,7 +59,7 @@ pub(crate) fn read_input<I: Source>(alloc: Global, input: &mut I) -> Result<Vec<
     ensures later { I.fault_count input.old ≤ I.fault_count input.new }
 {
     let mut bytes = Vec::new(alloc);
-    while bytes.len() <= LONGEST {
+    while bytes.len() <= LONGEST_STATEMENT {
         if !read_piece(input, &mut bytes)? {
             return Ok(bytes);
         }

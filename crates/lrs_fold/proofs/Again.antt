@@ -6,14 +6,14 @@ use Rattle.lrs_command.specs.declared.command.Command.TheVariants as command
 use Rattle.lrs_history.specs.Answers.{acceptance_said, write_said}
 use Rattle.lrs_history.specs.Effects.{effect}
 use Rattle.lrs_history.specs.History.{Accepted, answer, answer_of, end_place, need, state, outcome, ComesNext, IsLegal}
-use Rattle.lrs_history.proofs.Kept.{room_is}
+use Rattle.lrs_history.proofs.Room.{room_is}
 use Rattle.lrs_history.proofs.Outcomes.{accepts, again}
 use Rattle.lrs_names.specs.declared.draw.Draw.{Draw}
 use Rattle.lrs_parts.specs.State.{State, changes_nothing}
 use Rattle.lrs_parts.specs.declared.acceptance.Acceptance.{Acceptance}
 use Rattle.lrs_parts.specs.declared.acceptance.Acceptance.TheVariants.{Ids, Plain, Provider}
 use Rattle.lrs_parts.specs.declared.effect.Effect.{Effect}
-use Rattle.lrs_record.specs.Moments.{latest}
+use Rattle.lrs_time.specs.declared.moments.TheConstants.{LATEST}
 use Rattle.lrs_record.specs.declared.entry.Caller.{Caller}
 use Rattle.lrs_record.specs.declared.entry.Entry.{Entry}
 use Rattle.lrs_replies.specs.Replies.{IsRefusal}
@@ -30,7 +30,7 @@ next_of limit (x ∷ h) e legal is = is
 
 -- asked again at its own moment, a kept entry is kept
 pub kept_again : (limit : ℕ) (h : List Entry) (caller : Caller) (c : Command) (clock : ℕ) (draw : Draw) (e : Entry) (said : Answered) → IsLegal limit h → outcome (state h) caller c clock draw ≡ Accepted e said
-    → need (end_place limit h) e ≤ limit → e.moment ≤ latest → ComesNext limit h e
+    → need (end_place limit h) e ≤ limit → e.moment ≤ LATEST → ComesNext limit h e
 kept_again limit h caller c clock draw e said legal is fits early =
     next_of limit h e legal
     (ap (λ v. (answer_of limit (end_place limit h) v).entry) (again (state h) caller c clock draw e said is early) ∙ ap (λ a. a.entry) (room_is limit (end_place limit h) said e fits))
@@ -45,6 +45,6 @@ no_refusal x k = by_acceptance x.acceptance (changes_nothing x) k
     by_acceptance (Ids ids) b k = k
     by_acceptance (Provider place token) b k = k
 
-pub thanks_no_refusal : (st : State) (caller : Caller) (c : Command) (clock : ℕ) (draw : Draw) (e : Entry) (t : Answered) → outcome st caller c clock draw ≡ Accepted e t → IsRefusal (Ok t) → ⊥
-thanks_no_refusal st caller c clock draw e t at refuses =
+pub acceptance_no_refusal : (st : State) (caller : Caller) (c : Command) (clock : ℕ) (draw : Draw) (e : Entry) (t : Answered) → outcome st caller c clock draw ≡ Accepted e t → IsRefusal (Ok t) → ⊥
+acceptance_no_refusal st caller c clock draw e t at refuses =
     let shown = accepts st caller c clock draw e t at in no_refusal (effect st e) (subst (λ u. IsRefusal (Ok u)) (sym shown.said) refuses)

@@ -10,16 +10,16 @@ use Rattle.lrs_json.specs.declared.tree.Tree.{Tree}
 use Rattle.lrs_parts.specs.State.{State}
 use Rattle.lrs_record.specs.declared.entry.Write.TheVariants.{Post}
 use Rattle.lrs_replies.specs.declared.answered.Refusal.{Refusal}
-use Rattle.xapi_index.specs.Batches.{Named, id_for, named, supply_behind}
+use Rattle.xapi_index.specs.Batches.{WithId, id_for, with_ids, supply_behind}
 use Rattle.lrs_ids.specs.Ids.{Supply}
 use Rattle.xapi_index.specs.Statements.{held_under}
 use Rattle.xapi_statement.specs.Stored.{StoredStatement}
 use Rattle.xapi_statement.specs.Statement.{own_id}
 
-refused_alone : (st : State) (at : Occasion) (before : List StoredStatement) (supply : Supply) (ts : List Tree) → refused_in st at before (named supply ts) ≡ refused_each st at.by ts
+refused_alone : (st : State) (at : Occasion) (before : List StoredStatement) (supply : Supply) (ts : List Tree) → refused_in st at before (with_ids supply ts) ≡ refused_each st at.by ts
 refused_alone st at before supply [] = refl
 refused_alone st at before supply (t ∷ ts) =
-    let n : Named = record { id = id_for (supply 0) (own_id (view t)); tree = t } in
+    let n : WithId = record { id = id_for (supply 0) (own_id (view t)); tree = t } in
     ap (λ o. option_or (refused_under st at.by before (own_id (view t)) (view t)) o)
     (refused_alone st at (before_next st at before n) (supply_behind supply (own_id (view t))) ts)
     ∙ ap (λ o. option_or o (refused_each st at.by ts)) (whichever (own_id (view t)))

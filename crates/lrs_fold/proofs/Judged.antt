@@ -2,7 +2,7 @@
 use Rattle.std.proofs.Common.{◌≡◌, ℕ, List, [], ◌∷◌, refl, Option, Some, None, Bool, true, false, not, ◌||◌}
 use Rattle.std.specs.List.{AllByRecursion, list_any}
 use Rattle.std.specs.Option.{option_or}
-use Rattle.lrs_command.specs.declared.rule.Rule.TheVariants as rule
+use Rattle.lrs_rules.specs.declared.rule.Rule.TheVariants as rule
 use Rattle.lrs_fold.specs.Judged.{IsJudged, IsJudgedTree}
 use Rattle.lrs_history.specs.Refusals.{bad_form, broken, broken_in, is_too_large, other_id, refused_batch, refused_form}
 use Rattle.lrs_json.specs.View.{view}

@@ -3,7 +3,7 @@ pub mod Alone
 pub mod Naming
 pub mod Coming
 pub mod Late
-pub mod Promised
+pub mod Outcomes
 pub mod Puts
-pub mod Decides
+pub mod Founded
 pub mod Again

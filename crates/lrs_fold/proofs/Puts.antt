@@ -6,7 +6,7 @@ use Rattle.std.specs.Option.{option_or}
 use Rattle.std.specs.Str.{bytes_eq}
 use Rattle.lrs_command.specs.declared.command.Command.{Command}
 use Rattle.lrs_command.specs.declared.command.Command.TheVariants as command
-use Rattle.lrs_command.specs.declared.rule.Rule.TheVariants as rule
+use Rattle.lrs_rules.specs.declared.rule.Rule.TheVariants as rule
 use Rattle.lrs_command.specs.declared.who.Who.TheVariants as who
 use Rattle.lrs_fold.specs.Own.{IsPut, MayRefusePut, SaysOfPut}
 use Rattle.lrs_history.specs.Effects.{effect}
@@ -23,7 +23,7 @@ use Rattle.lrs_record.specs.declared.entry.Write.TheVariants.{Put}
 use Rattle.lrs_replies.specs.declared.answered.Answered.TheVariants.{Kept, Same}
 use Rattle.lrs_replies.specs.declared.answered.Refusal.{Refusal}
 use Rattle.lrs_replies.specs.declared.answered.Refusal.TheVariants.{Broken, Conflict, Forbidden, TooLong}
-use Rattle.xapi_equal.specs.Same.{same}
+use Rattle.xapi_alike.specs.Same.{same}
 use Rattle.lrs_ids.specs.Choices.{first_some, when}
 use Rattle.xapi_index.specs.Statements.{held_under}
 use Rattle.xapi_rules.specs.Rules.{broken_rule, is_voiding}

@@ -9,7 +9,7 @@ use Rattle.lrs_parts.specs.State.{State}
 use Rattle.lrs_replies.specs.declared.answered.Refusal.{Refusal}
 use Rattle.xapi_statement.specs.Statement.{own_id}
 
--- why the first isn't kept that comes under its own id and isn't, whatever stands before it
+-- the refusal of the first statement that is refused under its own id, whatever stands before it
 abbrev pub refused_each : State → Who → List Tree → Option Refusal
 refused_each st by [] = None
 refused_each st by (t ∷ ts) = option_or (refused_under st by st.statements (own_id (view t)) (view t)) (refused_each st by ts)

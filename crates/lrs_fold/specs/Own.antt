@@ -2,9 +2,9 @@
 use Rattle.std.specs.Prelude.{ℕ, List}
 use Rattle.lrs_command.specs.declared.command.Command.{Command}
 use Rattle.lrs_command.specs.declared.command.Command.TheVariants as command
-use Rattle.lrs_history.specs.History.{Outcome, Told, Accepted, entry_at}
+use Rattle.lrs_history.specs.History.{Outcome, Said, Accepted, entry_at}
 use Rattle.lrs_json.specs.declared.tree.Tree.{Tree}
-use Rattle.lrs_record.specs.Moments.{clamped}
+use Rattle.lrs_time.specs.Moments.{clamped}
 use Rattle.lrs_record.specs.declared.entry.Caller.{Caller}
 use Rattle.lrs_record.specs.declared.entry.Caller.TheVariants.{Nobody, Operator, Token}
 use Rattle.lrs_record.specs.declared.entry.Entry.{Entry}
@@ -45,5 +45,5 @@ IsOfPut other = Unit {0}
 
 -- the same of what becomes of a command
 abbrev pub SaysOfPut : Outcome → Type 0
-SaysOfPut (Told said) = IsOfPut said
+SaysOfPut (Said said) = IsOfPut said
 SaysOfPut (Accepted e said) = IsOfPut said

@@ -2,14 +2,14 @@
 ghost use Rattle.std.specs.Prelude.{◌≡◌, ◌∷◌, ◌++◌, [], Some, IfOk, OnOk};
 ghost use Rattle.std.specs.List.{AllByRecursion};
 ghost use Rattle.lrs_fold.specs.Judged.{IsJudged, IsJudgedTree};
-ghost use Rattle.lrs_fold.specs.Keeping.{keeping, keeping_all, making_by, new_by};
-ghost use Rattle.lrs_fold.specs.Naming.{named_of};
-ghost use Rattle.lrs_history.specs.Effects.{Occasion, effect, effect_of, supply_in};
+ghost use Rattle.lrs_fold.specs.Naming.{with_these_ids};
+ghost use Rattle.lrs_history.specs.Effects.{effect, keeping, keeping_all, making, new_by, supply_in};
 ghost use Rattle.lrs_parts.specs.Parts.{state_of};
 ghost use Rattle.lrs_parts.specs.declared.acceptance.Acceptance.TheVariants as acceptance;
 ghost use Rattle.lrs_parts.specs.State.{no_change};
+ghost use Rattle.lrs_replies.specs.Texts.{token_text};
 ghost use Rattle.lrs_record.specs.declared.entry.Write.TheVariants as write;
-ghost use Rattle.xapi_index.specs.Batches.{named};
+ghost use Rattle.xapi_index.specs.Batches.{with_ids};
 
 use crate::Fold;
 use lrs_command::Who;
@@ -54,12 +54,13 @@ impl Fold {
         moment: Moment,
         draw: &Draw,
     ) -> Result<Effect, Memory>
-        ensures { IfOk result (λ made. made ≡ making_by (state_of self.now.parts) moment name draw.now.secret) }
+        ensures { IfOk result (λ made. made ≡ making (state_of self.now.parts) moment name
+            (token_text self.now.parts.length draw.now.secret)) }
     {
         let token = token_text(alloc, self.parts.length, draw.secret)?;
         let told = token.clone()?;
         let place = self.parts.providers.len();
-        let mut effect = Effect::none(alloc, moment);
+        let mut effect = Effect::no_change(alloc, moment);
         effect.providers = ProvidersChange::of_new(HeldProvider { name, token });
         effect.acceptance = Acceptance::Provider { place, token: told };
         Ok(effect)
@@ -82,7 +83,7 @@ impl Fold {
         Ok(writing(alloc, moment, added))
     }
 
-    #[tactic(auto, using(crate::proofs::Naming::named_again))]
+    #[tactic(auto, using(crate::proofs::Naming::with_ids_again))]
     fn post(
         &self,
         alloc: Global,
@@ -93,9 +94,9 @@ impl Fold {
     ) -> Result<Effect, Memory>
         requires { AllByRecursion IsJudgedTree statements.items }
         ensures { IfOk result (λ made. made ≡ keeping_all (state_of self.now.parts) who moment
-            (named (supply_in (state_of self.now.parts) (write.Post statements.items) draw.now) statements.items)) }
+            (with_ids (supply_in (state_of self.now.parts) (write.Post statements.items) draw.now) statements.items)) }
     {
-        let ids = batch_ids(alloc, &self.parts.statements, statements.as_slice(), draw)?;
+        let ids = batch_ids(alloc, &self.parts, statements.as_slice(), draw)?;
         let added = self.new_of_batch(alloc, who, moment, ids.as_slice(), statements)?;
         Ok(writing_all(alloc, moment, added, ids))
     }
@@ -134,7 +135,7 @@ impl Fold {
     ) -> Result<Vec<StoredStatement>, Memory>
         requires { AllByRecursion IsJudgedTree statements.items }
         ensures { IfOk result (λ added. added.items
-            ≡ new_by (state_of self.now.parts) who moment (named_of ids.now statements.items)) }
+            ≡ new_by (state_of self.now.parts) who moment (with_these_ids ids.now statements.items)) }
     {
         let mut added = Vec::with_capacity(alloc, ids.len())?;
         let mut statements = statements.into_iter();
@@ -151,7 +152,7 @@ impl Fold {
 fn founding(alloc: Global, admin: Text, base: Text, moment: Moment) -> Effect
     ensures { result ≡ record (no_change moment) { founding = Some (record { admin = admin; base = base }) } }
 {
-    let mut effect = Effect::none(alloc, moment);
+    let mut effect = Effect::no_change(alloc, moment);
     effect.founding = Some(Founding { admin, base });
     effect
 }
@@ -159,7 +160,7 @@ fn founding(alloc: Global, admin: Text, base: Text, moment: Moment) -> Effect
 fn writing(alloc: Global, moment: Moment, added: Vec<StoredStatement>) -> Effect
     ensures { result ≡ record (no_change moment) { statements = added.items } }
 {
-    let mut effect = Effect::none(alloc, moment);
+    let mut effect = Effect::no_change(alloc, moment);
     effect.statements = Items::from_vec(added);
     effect
 }

@@ -5,11 +5,11 @@ ghost use Rattle.lrs_json.specs.View.{view};
 ghost use Rattle.xapi_statement.specs.Statement.{is_too_long};
 ghost use Rattle.lrs_history.specs.Refusals.{broken_in, is_too_large, other_id, refused_batch, refused_form};
 
-use lrs_command::Rule;
 use lrs_history::MOST_OF_BATCH;
 use lrs_json::{Memory, Tree};
 use lrs_names::Id;
 use lrs_replies::Refusal;
+use lrs_rules::Rule;
 use std::alloc::Global;
 use xapi_index::have_distinct_ids;
 use xapi_statement::{broken_rule, is_too_long, own_id};

@@ -1,5 +1,6 @@
-//! The abstract store in memory: the parts that the entries so far give, why a command is refused over them, what an entry
-//! changes and what is told of it. There is no disk here.
+//! The abstract store in memory: the parts that the entries so far give, why a command is refused, what an entry
+//! changes, and what is said to a command. There is no disk here. Begin with `outcome`: `refusals`, `effects` and
+//! `saying` are its steps.
 #![tactic(auto)]
 
 mod effects;
@@ -15,5 +16,5 @@ mod saying;
 mod whose;
 
 pub use fold::Fold;
-pub use outcome::{Accepted, Outcome, frame_of};
+pub use outcome::{Accepted, Outcome, entry_text};
 pub use own::{founding_entry, put_of};

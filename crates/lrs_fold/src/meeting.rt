@@ -5,17 +5,18 @@ ghost use Rattle.lrs_history.specs.Refusals.{forbidden, may_void, refused_over, 
 ghost use Rattle.lrs_json.specs.View.{view};
 ghost use Rattle.lrs_parts.specs.Parts.{state_of};
 ghost use Rattle.lrs_replies.specs.declared.answered.Refusal.TheVariants as refusal;
-ghost use Rattle.xapi_equal.specs.Same.{same};
+ghost use Rattle.xapi_alike.specs.Same.{same};
 ghost use Rattle.lrs_ids.specs.Choices.{when};
 ghost use Rattle.xapi_index.specs.Statements.{held_under};
 ghost use Rattle.xapi_statement.specs.Statement.{own_id};
 
 use crate::Fold;
-use lrs_command::{Rule, Who};
+use lrs_command::Who;
 use lrs_json::Tree;
 use lrs_names::Id;
 use lrs_replies::Refusal;
-use xapi_equal::same_received;
+use lrs_rules::Rule;
+use xapi_alike::same_received;
 use xapi_statement::{StoredStatement, is_voiding, own_id};
 
 fn may_void(who: Who) -> bool
@@ -85,7 +86,7 @@ impl Fold {
         self.refused_under(who, own_id(statement), statement)
     }
 
-    /// Why the first isn't kept of statements that come together and that isn't.
+    /// The refusal of the first statement that is refused, of statements that come together.
     pub(crate) fn refused_each(&self, who: Who, statements: &[Tree]) -> Option<Refusal>
         ensures { result ≡ refused_each (state_of self.now.parts) who statements.now }
     {

@@ -1,7 +1,8 @@
 // Whether an entry comes next, and what it changes then.
 ghost use Rattle.std.specs.Prelude.{◌≡◌, ◌&&◌, is_none, nat_le, nat_lt, IfOk, Ok, true};
 ghost use Rattle.lrs_fold.specs.Judged.{IsJudged};
-ghost use Rattle.lrs_fold.specs.Next.{founds, is_founding, may_be_next, Changes, Comes};
+ghost use Rattle.lrs_fold.specs.Next.{may_be_next, Changes, Comes};
+ghost use Rattle.lrs_history.specs.History.{founds, is_founding};
 ghost use Rattle.lrs_parts.specs.Parts.{state_of};
 
 use crate::Fold;
@@ -11,20 +12,13 @@ use lrs_record::{Caller, Entry, Write};
 use std::alloc::Global;
 
 impl Fold {
-    /// What an entry changes, where it may come next: as the first one or behind others, in a store of that limit whose end
-    /// gate stands at that place behind the entry's frame. None where it may not.
+    /// What an entry changes, where it may come next as the first one or behind others, if there is room for it. None where
+    /// it may not.
     #[tactic(auto, using(crate::proofs::Coming::comes, crate::proofs::Coming::stays))]
-    pub fn next(
-        &self,
-        alloc: Global,
-        first: bool,
-        limit: u64,
-        place: u64,
-        entry: Entry,
-    ) -> Result<Option<Effect>, Memory>
-        ensures { IfOk result (λ next. Comes first limit place (state_of self.now.parts) entry next) }
+    pub fn next(&self, alloc: Global, first: bool, entry: Entry) -> Result<Option<Effect>, Memory>
+        ensures { IfOk result (λ next. Comes first (state_of self.now.parts) entry next) }
     {
-        match self.may_be_next(alloc, first, limit, place, &entry) {
+        match self.may_be_next(alloc, first, &entry) {
             Ok(true) => self.prepare_next(alloc, first, entry),
             Ok(false) => {
                 drop(entry);
@@ -56,15 +50,8 @@ impl Fold {
     }
 
     // Whether an entry comes next, if it changes anything.
-    fn may_be_next(
-        &self,
-        alloc: Global,
-        first: bool,
-        limit: u64,
-        place: u64,
-        entry: &Entry,
-    ) -> Result<bool, Memory>
-        ensures may { IfOk result (λ may. may ≡ may_be_next first limit place (state_of self.now.parts) entry.now) }
+    fn may_be_next(&self, alloc: Global, first: bool, entry: &Entry) -> Result<bool, Memory>
+        ensures may { IfOk result (λ may. may ≡ may_be_next first (state_of self.now.parts) entry.now) }
         ensures judged { result ≡ Ok true → IsJudged entry.now.write }
     {
         if first {
@@ -73,7 +60,7 @@ impl Fold {
         if self.refusal(alloc, entry)?.is_some() {
             return Ok(false);
         }
-        Ok(self.parts.last.milliseconds() <= entry.moment.milliseconds() && place < limit)
+        Ok(self.parts.last.milliseconds() <= entry.moment.milliseconds())
     }
 }
 

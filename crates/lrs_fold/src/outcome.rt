@@ -2,30 +2,32 @@
 ghost use Rattle.std.specs.Prelude.{◌≡◌, max, IfOk, Ok, None};
 ghost use Rattle.lrs_command.specs.Commands.{HasReadTrees};
 ghost use Rattle.lrs_fold.specs.Judged.{IsJudged};
-ghost use Rattle.lrs_fold.specs.Outcomes.{IsOutcome, made_of, outcome_on};
-ghost use Rattle.lrs_history.specs.History.{refused, refused_or, outcome};
+ghost use Rattle.lrs_fold.specs.Outcomes.{IsOutcome, made_of};
+ghost use Rattle.lrs_history.specs.History.{refused, refused_or, outcome, write_outcome};
 ghost use Rattle.lrs_history.specs.Refusals.{barred, refusal, refused_with};
 ghost use Rattle.lrs_history.specs.Whose.{who_is};
 ghost use Rattle.lrs_parts.specs.Parts.{state_of};
 ghost use Rattle.lrs_record.specs.Entries.{IsLawful, IsLawfulCaller, IsLawfulWrite, written_entry};
-ghost use Rattle.lrs_record.specs.Moments.{clamped};
+ghost use Rattle.lrs_time.specs.Moments.{clamped};
 
 use crate::Fold;
 use crate::saying::write_said;
-use lrs_command::{Area, Command, Rule};
+use lrs_command::{Area, Command};
 use lrs_history::{barred, refused_with};
 use lrs_json::{Items, Memory};
 use lrs_names::Draw;
 use lrs_parts::Effect;
 use lrs_record::{Caller, Entry, Moment, write_entry};
 use lrs_replies::Answered;
+use lrs_rules::Rule;
 use std::alloc::Global;
+use std::snapshot::Snapshot;
 
 /// What becomes of a command.
 #[derive(Drop)]
 pub enum Outcome {
-    /// It is told this at once, and nothing is kept.
-    Told(Answered),
+    /// This is said at once, and nothing is kept.
+    Said(Answered),
     /// It is to have an entry.
     Accepted(Accepted),
 }
@@ -33,15 +35,17 @@ pub enum Outcome {
 /// An entry that is to be kept where there is room for it.
 #[derive(Drop)]
 pub struct Accepted {
+    /// The entry, as clauses see it.
+    pub entry: Snapshot<Entry>,
     /// Its text.
-    pub frame: Items<u8>,
+    pub text: Items<u8>,
     pub effect: Effect,
-    /// What its caller is told once it is kept.
+    /// What is said to its caller once it is kept.
     pub said: Answered,
 }
 
-// What most frames have room in, so that few grow while they are written.
-const FRAME_ROOM: usize = 1_024;
+// What most entries have room in, so that few texts grow while they are written.
+const ENTRY_ROOM: usize = 1_024;
 
 impl Fold {
     /// What becomes of a command. All that it takes to keep its entry is made here, but for the room in the parts.
@@ -69,20 +73,20 @@ impl Fold {
                 },
             ),
             Command::Read(read) => {
-                let said = self.told(alloc, &caller, &read);
+                let said = self.read_answered(alloc, &caller, &read);
                 drop(caller);
                 drop(read);
-                Ok(Outcome::Told(said?))
+                Ok(Outcome::Said(said?))
             }
             Command::Refused { area, status, rule } => {
                 let said = self.refused(&caller, area, status, rule);
                 drop(caller);
-                Ok(Outcome::Told(said))
+                Ok(Outcome::Said(said))
             }
         }
     }
 
-    // What a caller is told whose command's form is refused.
+    // What is said to a caller whose command's form is refused.
     fn refused(&self, caller: &Caller, area: Area, status: u16, rule: Rule) -> Answered
         ensures { result
             ≡ refused_or (barred area (who_is (state_of self.now.parts) caller.now))
@@ -94,17 +98,17 @@ impl Fold {
         }
     }
 
-    #[tactic(auto, using(crate::proofs::Promised::refused_now))]
+    #[tactic(auto, using(crate::proofs::Outcomes::refused_now))]
     fn write_outcome(&self, alloc: Global, entry: Entry) -> Result<Outcome, Memory>
         requires caller { IsLawfulCaller entry.caller }
         requires write { IsLawfulWrite entry.write }
-        ensures { IfOk result (IsOutcome (state_of self.now.parts) (outcome_on (state_of self.now.parts) entry)) }
+        ensures { IfOk result (IsOutcome (state_of self.now.parts) (write_outcome (state_of self.now.parts) entry)) }
     {
         match self.refusal(alloc, &entry) {
             Ok(None) => self.accepted(alloc, entry),
             Ok(Some(refusal)) => {
                 drop(entry);
-                Ok(Outcome::Told(Answered::Refused(refusal)))
+                Ok(Outcome::Said(Answered::Refused(refusal)))
             }
             Err(refused) => {
                 drop(entry);
@@ -119,10 +123,10 @@ impl Fold {
         requires write { IsLawfulWrite entry.write }
         requires judged { IsJudged entry.write }
         requires unrefused { refusal (state_of self.now.parts) entry ≡ None }
-        ensures { IfOk result (IsOutcome (state_of self.now.parts) (outcome_on (state_of self.now.parts) entry)) }
+        ensures { IfOk result (IsOutcome (state_of self.now.parts) (write_outcome (state_of self.now.parts) entry)) }
     {
-        match frame_of(alloc, &entry) {
-            Ok(frame) => self.promised(alloc, frame, entry),
+        match entry_text(alloc, &entry) {
+            Ok(text) => self.outcome_with(alloc, text, entry),
             Err(refused) => {
                 drop(entry);
                 Err(refused)
@@ -130,17 +134,23 @@ impl Fold {
         }
     }
 
-    // Of an entry with its frame.
-    fn promised(&self, alloc: Global, frame: Vec<u8>, entry: Entry) -> Result<Outcome, Memory>
+    // Of an entry with its text.
+    fn outcome_with(&self, alloc: Global, text: Vec<u8>, entry: Entry) -> Result<Outcome, Memory>
         requires judged { IsJudged entry.write }
         requires unrefused { refusal (state_of self.now.parts) entry ≡ None }
-        requires frame { frame.items ≡ written_entry entry }
+        requires text { text.items ≡ written_entry entry }
         requires lawful { IsLawful entry }
-        ensures { IfOk result (IsOutcome (state_of self.now.parts) (outcome_on (state_of self.now.parts) entry)) }
+        ensures { IfOk result (IsOutcome (state_of self.now.parts) (write_outcome (state_of self.now.parts) entry)) }
     {
+        let made = Snapshot::of(&entry);
         let effect = self.prepare(alloc, entry)?;
         match write_said(alloc, &effect) {
-            Ok(said) => Ok(outcome_of(frame, effect, said)),
+            Ok(said) => Ok(outcome_of(Accepted {
+                entry: made,
+                text: Items::from_vec(text),
+                effect,
+                said,
+            })),
             Err(refused) => {
                 drop(effect);
                 Err(refused)
@@ -149,31 +159,33 @@ impl Fold {
     }
 }
 
-// What changes nothing is told at once, all else is to be kept.
-fn outcome_of(frame: Vec<u8>, effect: Effect, said: Answered) -> Outcome
-    ensures { result ≡ made_of frame.items effect said }
+// What changes nothing is answered at once, all else is to be kept.
+fn outcome_of(accepted: Accepted) -> Outcome
+    ensures { result ≡ made_of accepted }
 {
-    if effect.changes_nothing() {
-        drop(effect);
-        return Outcome::Told(said);
+    if !accepted.effect.changes_nothing() {
+        return Outcome::Accepted(accepted);
     }
-    Outcome::Accepted(Accepted {
-        frame: Items::from_vec(frame),
+    let Accepted {
+        entry: _,
+        text: _,
         effect,
         said,
-    })
+    } = accepted;
+    drop(effect);
+    Outcome::Said(said)
 }
 
-/// An entry as a frame of the journal.
-pub fn frame_of(alloc: Global, entry: &Entry) -> Result<Vec<u8>, Memory>
+/// An entry's text.
+pub fn entry_text(alloc: Global, entry: &Entry) -> Result<Vec<u8>, Memory>
     requires caller { IsLawfulCaller entry.now.caller }
     requires write { IsLawfulWrite entry.now.write }
-    ensures text { IfOk result (λ frame. frame.items ≡ written_entry entry.now) }
+    ensures text { IfOk result (λ text. text.items ≡ written_entry entry.now) }
     ensures lawful { IfOk result (λ _. IsLawful entry.now) }
 {
-    let mut frame = Vec::with_capacity(alloc, FRAME_ROOM)?;
-    write_entry(entry, &mut frame)?;
-    Ok(frame)
+    let mut text = Vec::with_capacity(alloc, ENTRY_ROOM)?;
+    write_entry(entry, &mut text)?;
+    Ok(text)
 }
 
 // The later one of the clock's reading, which may be out of range, and the last entry's moment.

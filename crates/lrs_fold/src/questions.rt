@@ -1,42 +1,48 @@
-// What is told of a question.
+// What is said to a question.
 ghost use Rattle.std.specs.Prelude.{◌≡◌, ◌≤◌, length, IfOk};
 ghost use Rattle.lrs_command.specs.declared.command.Read.TheVariants as question;
-ghost use Rattle.lrs_fold.specs.Telling.{told_inside, told_to};
 ghost use Rattle.lrs_history.specs.Answers.{is_shown, one_said, page_said, wanted_said};
+ghost use Rattle.lrs_history.specs.History.{answered_inside, read_answered};
 ghost use Rattle.lrs_history.specs.Whose.{who_is};
 ghost use Rattle.lrs_parts.specs.Parts.{state_of};
 ghost use Rattle.xapi_index.specs.Statements.{held_under};
 ghost use Rattle.xapi_statement.specs.Shown.{shown_text};
 
 use crate::Fold;
-use lrs_command::{Read, Rule, Who};
-use lrs_history::{barred, read_area};
+use lrs_command::{Read, Who};
+use lrs_history::barred;
 use lrs_json::{Items, Memory};
 use lrs_names::Id;
 use lrs_record::Caller;
 use lrs_replies::{Answered, Refusal, versions_text};
+use lrs_rules::Rule;
 use std::alloc::Global;
 use xapi_pages::page_text;
 use xapi_query::{MoreLink, Query, Wanted, sees};
 use xapi_statement::{Format, StoredStatement};
 
 impl Fold {
-    /// What a caller is told who asks.
+    /// What is said to a caller who asks.
     #[tactic(auto, using(crate::proofs::Late::late_alone))]
-    pub fn told(&self, alloc: Global, caller: &Caller, read: &Read) -> Result<Answered, Memory>
+    pub fn read_answered(
+        &self,
+        alloc: Global,
+        caller: &Caller,
+        read: &Read,
+    ) -> Result<Answered, Memory>
         ensures { IfOk result (λ said. said
-            ≡ told_to (state_of self.now.parts) (who_is (state_of self.now.parts) caller.now) read.now) }
+            ≡ read_answered (state_of self.now.parts) (who_is (state_of self.now.parts) caller.now) read.now) }
     {
         let who = self.who(caller);
-        match barred(read_area(read), who) {
+        match barred(read.area(), who) {
             Some(refusal) => Ok(Answered::Refused(refusal)),
-            None => self.told_inside(alloc, who, read),
+            None => self.answered_inside(alloc, who, read),
         }
     }
 
-    // What a caller is told who is let in.
-    fn told_inside(&self, alloc: Global, who: Who, read: &Read) -> Result<Answered, Memory>
-        ensures { IfOk result (λ said. said ≡ told_inside (state_of self.now.parts) who read.now) }
+    // What is said to a caller who is let in.
+    fn answered_inside(&self, alloc: Global, who: Who, read: &Read) -> Result<Answered, Memory>
+        ensures { IfOk result (λ said. said ≡ answered_inside (state_of self.now.parts) who read.now) }
     {
         match read {
             Read::Statements(wanted) => self.wanted_said(alloc, who, wanted),
@@ -48,9 +54,9 @@ impl Fold {
         }
     }
 
-    // The page that a link leads to, where there is a list as it speaks of.
+    // The page that a link leads to, where there is such a list as it speaks of.
     fn more_said(&self, alloc: Global, who: Who, link: &MoreLink) -> Result<Answered, Memory>
-        ensures { IfOk result (λ said. said ≡ told_inside (state_of self.now.parts) who (question.More link.now)) }
+        ensures { IfOk result (λ said. said ≡ answered_inside (state_of self.now.parts) who (question.More link.now)) }
     {
         if link.asof > self.parts.statements.len() as u64 {
             return Ok(Answered::Refused(Refusal::Broken(Rule::P(14))));

@@ -8,7 +8,7 @@ ghost use Rattle.lrs_parts.specs.Parts.{state_of};
 use crate::Fold;
 use crate::forms::{refused_batch, refused_form};
 use lrs_command::Who;
-use lrs_history::{area_of, barred, refused_name};
+use lrs_history::{barred, refused_name};
 use lrs_json::Memory;
 use lrs_record::{Entry, Write};
 use lrs_replies::Refusal;
@@ -41,7 +41,7 @@ impl Fold {
             → refused ≡ refusal_at (state_of self.now.parts) at write.now) }
         ensures judged { result ≡ Ok None → IsJudged write.now }
     {
-        if let Some(refusal) = barred(area_of(write), who) {
+        if let Some(refusal) = barred(write.area(), who) {
             return Ok(Some(refusal));
         }
         if let Some(refusal) = bad_form(alloc, write)? {

@@ -43,9 +43,9 @@ impl Fold {
             Who::Unknown => Ok(None),
             Who::Admin => Ok(Some(Authority::Admin)),
             Who::Provider(number) => match self.parts.providers.get(number) {
-                Some(caller) => Ok(Some(Authority::Provider {
+                Some(provider) => Ok(Some(Authority::Provider {
                     number,
-                    name: caller.name.clone()?,
+                    name: provider.name.clone()?,
                 })),
                 None => Ok(None),
             },

@@ -1,3 +1,3 @@
-pub mod Kept
+pub mod Room
 pub mod Outcomes
 pub mod Strangers

@@ -7,7 +7,8 @@ use Rattle.lrs_history.specs.Effects.{effect}
 use Rattle.lrs_history.specs.History.{Accepted, entry_at, next_entry, said_at_once, outcome, outcome_by}
 use Rattle.lrs_names.specs.declared.draw.Draw.{Draw}
 use Rattle.lrs_parts.specs.State.{State}
-use Rattle.lrs_record.specs.Moments.{clamped, latest}
+use Rattle.lrs_time.specs.Moments.{clamped}
+use Rattle.lrs_time.specs.declared.moments.TheConstants.{LATEST}
 use Rattle.lrs_record.specs.declared.entry.Caller.{Caller}
 use Rattle.lrs_record.specs.declared.entry.Entry.{Entry}
 use Rattle.lrs_replies.specs.declared.answered.Answered.{Answered}
@@ -40,10 +41,10 @@ accepted_again st e said same at told =
     ap (λ m. let y = entry_at e.caller e.write m e.draw in outcome_by (said_at_once st y) y (write_said (effect st y))) same
     ∙ (ap (λ o. outcome_by o e (write_said (effect st e))) at ∙ ap (λ s. Accepted e s) told)
 
-moment_again : (c n m : ℕ) → m ≡ max (min c 253402300799999) n → m ≤ 253402300799999 → max (min m 253402300799999) n ≡ m
+moment_again : (c n m : ℕ) → m ≡ max (min c LATEST) n → m ≤ LATEST → max (min m LATEST) n ≡ m
 moment_again c n m is le = omega (arith, is, le)
 
-pub again : (st : State) (caller : Caller) (c : Command) (clock : ℕ) (draw : Draw) (e : Entry) (said : Answered) → outcome st caller c clock draw ≡ Accepted e said → e.moment ≤ latest
+pub again : (st : State) (caller : Caller) (c : Command) (clock : ℕ) (draw : Draw) (e : Entry) (said : Answered) → outcome st caller c clock draw ≡ Accepted e said → e.moment ≤ LATEST
     → outcome st e.caller (command.Write e.write) e.moment e.draw ≡ Accepted e said
 again st caller c clock draw e said is early =
     let shown = accepts st caller c clock draw e said is in

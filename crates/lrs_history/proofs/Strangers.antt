@@ -4,10 +4,11 @@ use Rattle.std.specs.Prelude.{option_map}
 use Rattle.std.specs.Option.{option_or}
 use Rattle.lrs_command.specs.declared.command.Command.{Command}
 use Rattle.lrs_command.specs.declared.command.Command.TheVariants as command
-use Rattle.lrs_history.specs.Answers.{reading, write_said}
+use Rattle.lrs_history.specs.Answers.{read_said, write_said}
 use Rattle.lrs_history.specs.Effects.{effect, occasion}
-use Rattle.lrs_history.specs.History.{answer, answer_of, end_place, next_entry, only, outcome_by, refused, refused_or, state, Told}
-use Rattle.lrs_history.specs.Refusals.{bad_form, barred, command_area, conflict, refused_with, too_late}
+use Rattle.lrs_history.specs.History.{answer, answer_of, end_place, next_entry, only, outcome_by, refused, refused_or, state, Said}
+use Rattle.lrs_history.specs.Refusals.{bad_form, barred, conflict, refused_with, too_late}
+use Rattle.lrs_command.specs.Areas.{command_area}
 use Rattle.lrs_history.specs.Whose.{who_is}
 use Rattle.lrs_ids.specs.Choices.{first_some, when}
 use Rattle.lrs_names.specs.declared.draw.Draw.{Draw}
@@ -26,6 +27,6 @@ told_barred limit h caller (command.Write write) clock draw r is =
     e (write_said (effect st e)))) is
 told_barred limit h caller (command.Read read) clock draw r is =
     let st = state h in
-    ap (λ (o : Option Refusal). answer_of limit (end_place limit h) (Told (refused_or (first_some (o ∷ too_late st read ∷ [])) (reading st (who_is st caller) read)))) is
+    ap (λ (o : Option Refusal). answer_of limit (end_place limit h) (Said (refused_or (first_some (o ∷ too_late st read ∷ [])) (read_said st (who_is st caller) read)))) is
 told_barred limit h caller (command.Refused area status rule) clock draw r is =
-    ap (λ (o : Option Refusal). answer_of limit (end_place limit h) (Told (refused_or o (refused (refused_with status rule))))) is
+    ap (λ (o : Option Refusal). answer_of limit (end_place limit h) (Said (refused_or o (refused (refused_with status rule))))) is

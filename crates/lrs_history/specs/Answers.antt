@@ -1,4 +1,4 @@
--- What is told where nothing is refused.
+-- What is said where nothing is refused.
 use Rattle.std.specs.Prelude.{ℕ, ◌&&◌, Bool, true, false, not, length, take, Option, Some, None, if◌then◌else◌}
 use Rattle.lrs_command.specs.declared.command.Read.{Read}
 use Rattle.lrs_command.specs.declared.command.Read.TheVariants.{Statements, More, About}
@@ -58,8 +58,8 @@ wanted_said st by (One id format) = one_said st by format false (held_under id s
 wanted_said st by (Voided id format) = one_said st by format true (held_under id st.statements)
 wanted_said st by (Many query) = page_said st by query (length st.statements) None
 
--- What is told of a question that isn't refused. What isn't there is told so.
-abbrev pub reading : State → Who → Read → Answered
-reading st by (Statements wanted) = wanted_said st by wanted
-reading st by (More link) = page_said st by link.query link.asof (Some link.after)
-reading st by About = Shown versions_body None
+-- What is said to a question that isn't refused. Of what isn't there this is said.
+abbrev pub read_said : State → Who → Read → Answered
+read_said st by (Statements wanted) = wanted_said st by wanted
+read_said st by (More link) = page_said st by link.query link.asof (Some link.after)
+read_said st by About = Shown versions_body None

@@ -11,7 +11,7 @@ use Rattle.lrs_record.specs.declared.entry.Entry.{Entry}
 use Rattle.lrs_record.specs.declared.entry.Write.{Write}
 use Rattle.lrs_record.specs.declared.entry.Write.TheVariants.{Found, Provider, Put, Post}
 use Rattle.lrs_replies.specs.Texts.{token_text}
-use Rattle.xapi_index.specs.Batches.{Named, given_ids, kept_by, named, ids_of_named}
+use Rattle.xapi_index.specs.Batches.{WithId, given_ids, kept_by, with_ids, ids_under}
 use Rattle.lrs_ids.specs.Ids.{Supply, supply_of}
 use Rattle.xapi_index.specs.Statements.{new_ones}
 use Rattle.xapi_statement.specs.Stored.{StoredStatement}
@@ -45,39 +45,43 @@ occasion st e = record {
 -- ---- statements
 
 -- the statements of a write, with the ids under which they go
-abbrev pub named_in : Occasion → Write → List Named
-named_in at (Put id statement) = record { id = id; tree = statement } ∷ []
-named_in at (Post statements) = named at.supply statements
-named_in at other = []
+abbrev pub with_ids_in : Occasion → Write → List WithId
+with_ids_in at (Put id statement) = record { id = id; tree = statement } ∷ []
+with_ids_in at (Post statements) = with_ids at.supply statements
+with_ids_in at other = []
 
--- the same as they are kept: with the moment of the entry and its caller's authority
-abbrev pub brought : State → Occasion → Write → List StoredStatement
-brought st at write = kept_by at.moment (authority_of st at.by) (named_in at write)
+-- statements as they are kept: with the moment of their entry and its caller's authority
+abbrev pub brought : State → Who → ℕ → List WithId → List StoredStatement
+brought st by moment ns = kept_by moment (authority_of st by) ns
+
+-- those of them that aren't held
+abbrev pub new_by : State → Who → ℕ → List WithId → List StoredStatement
+new_by st by moment ns = new_ones st.statements (brought st by moment ns)
 
 -- Those that aren't held are new.
-abbrev pub writing : State → Occasion → Write → Effect
-writing st at write = record (no_change at.moment) { statements = new_ones st.statements (brought st at write) }
+abbrev pub keeping : State → Who → ℕ → List WithId → Effect
+keeping st by moment ns = record (no_change moment) { statements = new_by st by moment ns }
 
 -- Of statements that come together all ids are told.
-abbrev pub writing_all : State → Occasion → Write → Effect
-writing_all st at write = record (writing st at write) { acceptance = acceptance.Ids (ids_of_named (named_in at write)) }
+abbrev pub keeping_all : State → Who → ℕ → List WithId → Effect
+keeping_all st by moment ns = record (keeping st by moment ns) { acceptance = acceptance.Ids (ids_under ns) }
 
 -- ---- providers
 
--- its place and its token are told
-abbrev pub making : State → Occasion → List ℕ → Effect
-making st at name = record (no_change at.moment) {
-  providers = record unchanged_providers { new = Some (record { name = name; token = at.token }) };
-  acceptance = acceptance.Provider (length st.providers) at.token;
+-- a provider of that name with that token; its place and its token are told
+abbrev pub making : State → ℕ → List ℕ → List ℕ → Effect
+making st moment name token = record (no_change moment) {
+  providers = record unchanged_providers { new = Some (record { name = name; token = token }) };
+  acceptance = acceptance.Provider (length st.providers) token;
 }
 
 -- ---- all of them
 
 abbrev pub effect_of : State → Occasion → Write → Effect
 effect_of st at (Found admin base) = record (no_change at.moment) { founding = Some (record { admin = admin; base = base }) }
-effect_of st at (Provider name) = making st at name
-effect_of st at (Put id statement) = writing st at (Put id statement)
-effect_of st at (Post statements) = writing_all st at (Post statements)
+effect_of st at (Provider name) = making st at.moment name at.token
+effect_of st at (Put id statement) = keeping st at.by at.moment (with_ids_in at (Put id statement))
+effect_of st at (Post statements) = keeping_all st at.by at.moment (with_ids_in at (Post statements))
 
 abbrev pub effect : State → Entry → Effect
 effect st e = effect_of st (occasion st e) e.write

@@ -1,18 +1,20 @@
 -- The store as a plain list of entries: what it holds, what it answers, and which lists can have come about.
-use Rattle.std.specs.Prelude.{◌≡◌, ◌<◌, ◌+◌, ◌-◌, ◌^◌, ℕ, min, max, List, [], ◌∷◌, ◌++◌, length, map, Option, Some, None, option_map, if◌then◌else◌, nat_lt}
+use Rattle.std.specs.Prelude.{◌≡◌, ◌<◌, ◌==◌, ◌&&◌, ℕ, max, Bool, true, false, IsTrue, List, [], ◌∷◌, ◌++◌, length, map, Option, Some, None, option_map, if◌then◌else◌, nat_lt}
 use Rattle.std.specs.Option.{option_or}
 use Rattle.lrs_command.specs.declared.command.Command.{Command}
 use Rattle.lrs_command.specs.declared.command.Command.TheVariants as command
-use Rattle.lrs_history.specs.Answers.{reading, write_said}
+use Rattle.lrs_command.specs.declared.command.Read.{Read}
+use Rattle.lrs_command.specs.declared.who.Who.{Who}
+use Rattle.lrs_history.specs.Answers.{read_said, write_said}
 use Rattle.lrs_history.specs.Effects.{effect}
-use Rattle.lrs_history.specs.Refusals.{barred, read_refusal, refusal, refused_with}
+use Rattle.lrs_history.specs.Refusals.{barred, read_refusal, refusal, refused_with, too_late}
 use Rattle.lrs_history.specs.Whose.{who_is}
-use Rattle.lrs_journal.specs.Store.{store}
+use Rattle.lrs_journal.specs.Store.{need_at, need_told, store}
 use Rattle.lrs_names.specs.declared.draw.Draw.{Draw}
-use Rattle.lrs_parts.specs.Founding.{IsBase, IsToken}
+use Rattle.lrs_parts.specs.Founding.{is_base, is_token}
 use Rattle.lrs_parts.specs.State.{State, apply, changes_nothing, nothing}
 use Rattle.lrs_record.specs.Entries.{IsLawful, written_entry}
-use Rattle.lrs_record.specs.Moments.{clamped}
+use Rattle.lrs_time.specs.Moments.{clamped}
 use Rattle.lrs_record.specs.declared.entry.Caller.{Caller}
 use Rattle.lrs_record.specs.declared.entry.Caller.TheVariants.{Operator}
 use Rattle.lrs_record.specs.declared.entry.Entry.{Entry}
@@ -57,16 +59,16 @@ refused_or (Some refusal) said = refused refusal
 abbrev pub end_place : ℕ → List Entry → ℕ
 end_place limit entries = length (store limit (map written_entry entries))
 
--- The bytes that a file whose end gate stands there has with one entry more: a gate, four bytes of length, the entry and the new end gate.
+-- the bytes that a file whose end gate stands there has with one entry more
 abbrev pub need : ℕ → Entry → ℕ
-need place e = place + 6 + length (written_entry e)
+need place e = need_at place (written_entry e)
 
 -- where there is room for its entry, a write is accepted
-abbrev pub kept : ℕ → ℕ → Answered → Entry → Answer
-kept limit place said e =
-    if nat_lt limit (need place e) then only (refused (Full (min (need place e) (2 ^ 64 - 1)) limit)) else record { said = said; entry = Some e }
+abbrev pub if_room : ℕ → ℕ → Answered → Entry → Answer
+if_room limit place said e =
+    if nat_lt limit (need place e) then only (refused (Full (need_told place (written_entry e)) limit)) else record { said = said; entry = Some e }
 
--- What is said to a write whatever room there is, or None where it is to have its entry: why it is refused, or what is told
+-- What is said to a write whatever room there is, or None where it is to have its entry: why it is refused, or what is said
 -- where nothing changes.
 abbrev pub said_at_once : State → Entry → Option Answered
 said_at_once st e =
@@ -79,27 +81,37 @@ entry_at caller write moment draw = record { caller = caller; write = write; mom
 abbrev pub next_entry : State → Caller → Write → ℕ → Draw → Entry
 next_entry st caller write clock draw = entry_at caller write (max (clamped clock) st.last) draw
 
--- What becomes of a command: it is told something at once, or has an entry and is told this where there is room for it.
+-- What becomes of a command: something is said to it at once, or it has an entry and this is said where there is room for it.
 pub data Outcome : Type 0 where
-  Told : Answered → Outcome
+  Said : Answered → Outcome
   Accepted : Entry → Answered → Outcome
 
 abbrev pub outcome_by : Option Answered → Entry → Answered → Outcome
-outcome_by (Some said) e then_said = Told said
+outcome_by (Some said) e then_said = Said said
 outcome_by None e then_said = Accepted e then_said
+
+-- what becomes of a write, by the entry that it would have
+abbrev pub write_outcome : State → Entry → Outcome
+write_outcome st e = outcome_by (said_at_once st e) e (write_said (effect st e))
+
+-- what a caller is told who asks
+abbrev pub read_answered : State → Who → Read → Answered
+read_answered st by read = refused_or (read_refusal st by read) (read_said st by read)
+
+-- the same of a caller who is let in
+abbrev pub answered_inside : State → Who → Read → Answered
+answered_inside st by read = refused_or (too_late st read) (read_said st by read)
 
 -- a form that is refused is told so once its caller is let in
 abbrev pub outcome : State → Caller → Command → ℕ → Draw → Outcome
-outcome st caller (command.Write write) clock draw =
-    let e = next_entry st caller write clock draw in outcome_by (said_at_once st e) e (write_said (effect st e))
-outcome st caller (command.Read read) clock draw =
-    Told (refused_or (read_refusal st (who_is st caller) read) (reading st (who_is st caller) read))
+outcome st caller (command.Write write) clock draw = write_outcome st (next_entry st caller write clock draw)
+outcome st caller (command.Read read) clock draw = Said (read_answered st (who_is st caller) read)
 outcome st caller (command.Refused area status rule) clock draw =
-    Told (refused_or (barred area (who_is st caller)) (refused (refused_with status rule)))
+    Said (refused_or (barred area (who_is st caller)) (refused (refused_with status rule)))
 
 abbrev pub answer_of : ℕ → ℕ → Outcome → Answer
-answer_of limit place (Told said) = only said
-answer_of limit place (Accepted e said) = kept limit place said e
+answer_of limit place (Said said) = only said
+answer_of limit place (Accepted e said) = if_room limit place said e
 
 -- the answer over a store of this limit whose end gate stands there
 abbrev pub answer_in : ℕ → ℕ → State → Caller → Command → ℕ → Draw → Answer
@@ -116,15 +128,23 @@ with_entry entries (Some e) = entries ++ e ∷ []
 
 -- ---- legal histories
 
-abbrev pub Founds : Write → Type 0
-Founds (Found admin base) = IsToken admin × IsBase base
-Founds other = ⊥
+abbrev pub is_operator : Caller → Bool
+is_operator Operator = true
+is_operator other = false
+
+abbrev pub is_zero : Draw → Bool
+is_zero draw = (draw.name == 0) && (draw.secret == 0)
+
+abbrev pub founds : Write → Bool
+founds (Found admin base) = is_token admin && is_base base
+founds other = false
 
 -- the operator's founding entry, with draw 0
-pub record IsFounding (e : Entry) : Type 0 where
-  pub caller : e.caller ≡ Operator
-  pub draw : e.draw ≡ record { name = 0; secret = 0 }
-  pub write : Founds e.write
+abbrev pub is_founding : Entry → Bool
+is_founding e = is_operator e.caller && is_zero e.draw && founds e.write
+
+abbrev pub IsFounding : Entry → Type 0
+IsFounding e = IsTrue (is_founding e)
 
 -- This entry may come next: the first founds the store, each other is the one that the answer to its own write gives.
 abbrev pub ComesNext : ℕ → List Entry → Entry → Type 0

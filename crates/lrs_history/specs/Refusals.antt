@@ -1,21 +1,22 @@
 -- Why a command is refused: the first reason in a fixed order. It is: the caller (A1, A2), the form (its lengths, then the
--- rules S and B, then P15 and B9), an earlier list that there is not (P14), then for each statement in its order another one
--- under its id (409) or what a new one may not be (C2).
+-- rules S and B, then P15 and B9; of `found` 404), what a write speaks of that isn't there (404), an earlier list that there
+-- is not (P14), then for each statement in its order another one under its id (409) or what a new one may not be (C2). What
+-- a read asks for that isn't there is told in its answer.
 use Rattle.std.specs.Prelude.{ℕ, ◌==◌, ◌&&◌, ◌||◌, nat_lt, Bool, true, false, not, List, [], ◌∷◌, length, Option, Some, None, option_map, if◌then◌else◌}
 use Rattle.std.specs.List.{list_any}
 use Rattle.std.specs.Option.{option_or}
 use Rattle.std.specs.Str.{bytes_eq}
-use Rattle.lrs_command.specs.declared.command.Area.{Area}
-use Rattle.lrs_command.specs.declared.command.Area.TheVariants.{Free, Store, Desk}
-use Rattle.lrs_command.specs.declared.command.Command.{Command}
-use Rattle.lrs_command.specs.declared.command.Command.TheVariants as command
+use Rattle.lrs_record.specs.declared.entry.Area.{Area}
+use Rattle.lrs_record.specs.declared.entry.Area.TheVariants.{Free, Store, Desk}
+use Rattle.lrs_command.specs.Areas.{read_area}
 use Rattle.lrs_command.specs.declared.command.Read.{Read}
 use Rattle.lrs_command.specs.declared.command.Read.TheVariants.{Statements, More, About}
-use Rattle.lrs_command.specs.declared.rule.Rule.{Rule}
-use Rattle.lrs_command.specs.declared.rule.Rule.TheVariants as rule
+use Rattle.lrs_record.specs.Writes.{write_area}
+use Rattle.lrs_rules.specs.declared.rule.Rule.{Rule}
+use Rattle.lrs_rules.specs.declared.rule.Rule.TheVariants as rule
 use Rattle.lrs_command.specs.declared.who.Who.{Who}
 use Rattle.lrs_command.specs.declared.who.Who.TheVariants as who
-use Rattle.lrs_history.specs.Effects.{Occasion, named_in, occasion}
+use Rattle.lrs_history.specs.Effects.{Occasion, with_ids_in, occasion}
 use Rattle.lrs_history.specs.Whose.{authority_of}
 use Rattle.lrs_history.specs.declared.admitting.TheConstants.{MOST_OF_BATCH}
 use Rattle.lrs_json.specs.Json.{Json}
@@ -28,8 +29,8 @@ use Rattle.lrs_record.specs.declared.entry.Write.{Write}
 use Rattle.lrs_record.specs.declared.entry.Write.TheVariants.{Found, Provider, Put, Post}
 use Rattle.lrs_replies.specs.declared.answered.Refusal.{Refusal}
 use Rattle.lrs_replies.specs.declared.answered.Refusal.TheVariants.{Conflict, Broken, TooLong, Unauthorized, Forbidden, NotFound}
-use Rattle.xapi_equal.specs.Same.{same}
-use Rattle.xapi_index.specs.Batches.{Named, given_ids, kept_by}
+use Rattle.xapi_alike.specs.Same.{same}
+use Rattle.xapi_index.specs.Batches.{WithId, given_ids, kept_by}
 use Rattle.lrs_ids.specs.Choices.{first_some, when}
 use Rattle.lrs_ids.specs.Ids.{are_distinct}
 use Rattle.xapi_index.specs.Statements.{add_each, held_under}
@@ -38,23 +39,6 @@ use Rattle.xapi_statement.specs.Stored.{StoredStatement}
 use Rattle.xapi_statement.specs.Statement.{is_too_long, own_id}
 
 -- ---- the caller
-
--- where a write goes, by what it asks of its caller
-abbrev pub area_of : Write → Area
-area_of (Found admin base) = Desk
-area_of (Provider name) = Desk
-area_of (Put id statement) = Store
-area_of (Post statements) = Store
-
-abbrev pub read_area : Read → Area
-read_area (Statements wanted) = Store
-read_area (More link) = Store
-read_area About = Free
-
-abbrev pub command_area : Command → Area
-command_area (command.Write write) = area_of write
-command_area (command.Read read) = read_area read
-command_area (command.Refused area status rule) = area
 
 -- Why a caller isn't let in: no caller of the history (A1), or another than an admin at the desk (A2).
 abbrev pub barred : Area → Who → Option Refusal
@@ -108,6 +92,12 @@ bad_form (Provider name) = refused_name name
 bad_form (Put id statement) = refused_form id (view statement)
 bad_form (Post statements) = refused_batch statements
 
+-- ---- what isn't there
+
+-- What a write speaks of isn't there. No write so far speaks of anything but what it brings.
+abbrev pub missing : State → Write → Option Refusal
+missing st write = None
+
 -- ---- what statements meet in the store
 
 abbrev pub may_void : Who → Bool
@@ -129,11 +119,11 @@ refused_under st by before None j = forbidden st by before j
 refused_under st by before (Some id) j = refused_over st by before id j (held_under id st.statements)
 
 -- those before the next one, behind this one
-abbrev pub before_next : State → Occasion → List StoredStatement → Named → List StoredStatement
+abbrev pub before_next : State → Occasion → List StoredStatement → WithId → List StoredStatement
 before_next st at before n = add_each before (kept_by at.moment (authority_of st at.by) (n ∷ []))
 
 -- Each in its order, with those before it. No two of them have one id, so none comes under that of an earlier one of them.
-abbrev pub refused_in : State → Occasion → List StoredStatement → List Named → Option Refusal
+abbrev pub refused_in : State → Occasion → List StoredStatement → List WithId → Option Refusal
 refused_in st at before [] = None
 refused_in st at before (n ∷ ns) = option_or
     (refused_under st at.by before (own_id (view n.tree)) (view n.tree))
@@ -141,13 +131,13 @@ refused_in st at before (n ∷ ns) = option_or
 
 abbrev pub conflict : State → Occasion → Write → Option Refusal
 conflict st at (Put id statement) = refused_under st at.by st.statements (Some id) (view statement)
-conflict st at (Post statements) = refused_in st at st.statements (named_in at (Post statements))
+conflict st at (Post statements) = refused_in st at st.statements (with_ids_in at (Post statements))
 conflict st at other = None
 
 -- ---- all of them
 
 abbrev pub refusal_at : State → Occasion → Write → Option Refusal
-refusal_at st at write = first_some (barred (area_of write) at.by ∷ bad_form write ∷ conflict st at write ∷ [])
+refusal_at st at write = first_some (barred (write_area write) at.by ∷ bad_form write ∷ missing st write ∷ conflict st at write ∷ [])
 
 -- why a write is refused whatever room there is
 abbrev pub refusal : State → Entry → Option Refusal

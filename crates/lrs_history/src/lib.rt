@@ -1,7 +1,8 @@
-//! The abstract store: a history is the list of accepted entries, and each answer is a fold over it. The definitions stand in
-//! `specs/`; here are the few functions that need no store: where a command goes, and who is let in there.
+//! The abstract store: a history is the list of accepted entries, and each answer is a fold over it. The definitions
+//! stand in `specs/`. The few functions here need no store: the area of a command, who is let in there, and refusals
+//! that follow from a form or a name alone.
 #![tactic(auto)]
 
 mod admitting;
 
-pub use admitting::{MOST_OF_BATCH, area_of, barred, read_area, refused_name, refused_with};
+pub use admitting::{MOST_OF_BATCH, barred, refused_name, refused_with};

@@ -11,15 +11,17 @@ use Rattle.lrs_http.specs.declared.request.Request.{Request}
 use Rattle.lrs_http.specs.declared.request.RequestRefused.{RequestRefused}
 use Rattle.lrs_http.specs.declared.request.RequestRefused.TheVariants as refused
 use Rattle.lrs_http.specs.Fields.{NameAndValue, first_value, count_named, asks_to_close, is_length, is_text}
+use Rattle.lrs_http.specs.declared.fields.TheConstants.{LONGEST_BODY}
+use Rattle.lrs_http.specs.declared.heads.TheConstants.{MOST_FIELDS}
 use Rattle.std.specs.Str.{bytes_eq}
 
 -- the most fields that a head may have
 abbrev pub most_fields : ℕ
-most_fields = 64
+most_fields = MOST_FIELDS
 
 -- the most bytes that a body may have
 abbrev pub longest_body : ℕ
-longest_body = 4194304
+longest_body = LONGEST_BODY
 
 -- what counts of a head
 pub record HeadParts : Type 0 where

@@ -6,10 +6,12 @@ use Rattle.lrs_http.specs.declared.request.Request.{Request}
 use Rattle.lrs_http.specs.declared.request.RequestRefused.{RequestRefused}
 use Rattle.lrs_http.specs.declared.request.RequestRefused.TheVariants as refused
 use Rattle.lrs_http.specs.Head.{HeadParts, parts_of, announced, request_of}
+use Rattle.lrs_http.specs.declared.heads.TheConstants.{LONGEST_HEAD}
+use Rattle.lrs_http.specs.declared.reading.TheConstants.{MOST_REQUESTS}
 
 -- the most bytes that a head may have, the empty lines before it among them
 abbrev pub longest_head : ℕ
-longest_head = 16384
+longest_head = LONGEST_HEAD
 
 -- the bytes in which a head has to stand
 abbrev pub window : List ℕ → List ℕ
@@ -71,7 +73,7 @@ IsItem stream item = (front : Front) × IsFront stream front × (item ≡ item_o
 
 -- the most requests of a connection
 abbrev pub most_requests : ℕ
-most_requests = 1000
+most_requests = MOST_REQUESTS
 
 -- The requests of a stream, one behind the other, and how they end: by a refusal, or with none where the last request is one that ends the connection.
 abbrev pub Spells : ℕ → List ℕ → List Request → Option RequestRefused → Type 0

@@ -1,4 +1,4 @@
-//! HTTP/1.1 on a link (RFC 9112): requests are read and responses written, however their bytes are cut.
+//! HTTP/1.1 on a link (RFC 9112): requests are read and responses written, however the link cuts their bytes.
 #![tactic(auto)]
 
 mod fields;
@@ -10,6 +10,6 @@ mod response;
 
 pub use fields::trims_to;
 pub use laws::law_of_one_list;
-pub use reading::read_request;
+pub use reading::{MOST_REQUESTS, read_request};
 pub use request::{Method, Request, RequestRefused};
 pub use response::{LinkFault, Reply2, write_response};

@@ -17,6 +17,9 @@ use std::alloc::{AllocError, Global};
 // As many bytes are asked for in one read while a head is read.
 const PIECE: usize = 2_048;
 
+/// The most requests of a connection.
+pub const MOST_REQUESTS: u16 = 1_000;
+
 static ZEROS: [u8; PIECE] = [0; PIECE];
 
 // How far the empty line was looked for that ends a head.

@@ -3,13 +3,13 @@ use Rattle.std.proofs.Common.{◌≡◌, ℕ, List, [], ◌∷◌, ◌++◌, Boo
 use Rattle.std.specs.Prelude.{is_some, option_map, if◌then◌else◌}
 use Rattle.std.specs.List.{AllByRecursion}
 use Rattle.std.specs.Option.{option_or}
-use Rattle.lrs_command.specs.declared.command.Area.TheVariants.{Store}
+use Rattle.lrs_record.specs.declared.entry.Area.TheVariants.{Store}
 use Rattle.lrs_command.specs.declared.command.Command.TheVariants as command
 use Rattle.lrs_command.specs.declared.who.Who.{Who}
 use Rattle.lrs_history.specs.Answers.{write_said}
 use Rattle.lrs_history.specs.Effects.{Occasion, effect}
 use Rattle.lrs_history.specs.History.{answer, answer_of, end_place, next_entry, only, refused, said_at_once, state, outcome_by}
-use Rattle.lrs_history.specs.Refusals.{barred, before_next, conflict, refused_in, refused_over, refused_under, refusal}
+use Rattle.lrs_history.specs.Refusals.{barred, before_next, conflict, refused_batch, refused_form, refused_in, refused_over, refused_under, refusal}
 use Rattle.lrs_history.specs.Whose.{authority_of}
 use Rattle.lrs_json.specs.View.{view}
 use Rattle.lrs_json.specs.declared.tree.Tree.{Tree}
@@ -25,9 +25,9 @@ use Rattle.lrs_replies.specs.declared.answered.Answered.{Answered}
 use Rattle.lrs_replies.specs.declared.answered.Answered.TheVariants.{Kept, Same, Shown}
 use Rattle.lrs_replies.specs.declared.answered.Refusal.{Refusal}
 use Rattle.lrs_replies.specs.declared.answered.Refusal.TheVariants.{Conflict}
-use Rattle.xapi_equal.specs.Same.{same}
+use Rattle.xapi_alike.specs.Same.{same}
 use Rattle.xapi_format.specs.declared.authority.Authority.{Authority}
-use Rattle.xapi_index.specs.Batches.{Named, given_ids, held_of, id_for, kept_by, named, ids_of_named, supply_behind, with_given}
+use Rattle.xapi_index.specs.Batches.{WithId, given_ids, held_of, id_for, kept_by, with_ids, ids_under, supply_behind, with_given}
 use Rattle.lrs_ids.specs.Choices.{first_some, when}
 use Rattle.lrs_ids.specs.Ids.{Supply}
 use Rattle.xapi_index.specs.Statements.{add_each, is_held, new_ones}
@@ -52,13 +52,10 @@ said_unchanged st e none same =
     ∙ ap (λ b. when b (write_said (effect st e))) same
 
 -- the last of the reasons, where there is none before it
-last_reason : (a b c : Option Refusal) → a ≡ None → b ≡ None → first_some (a ∷ b ∷ c ∷ []) ≡ c
-last_reason a b c none neither =
-    ap (λ o. first_some (o ∷ b ∷ c ∷ [])) none ∙ (ap (λ o. first_some (o ∷ c ∷ [])) neither ∙ alone c)
-  where
-    alone : (o : Option Refusal) → first_some (o ∷ []) ≡ o
-    alone None = refl
-    alone (Some r) = refl
+last_reason : (before : List (Option Refusal)) (c : Option Refusal) → AllByRecursion (λ o. o ≡ None) before → first_some (before ++ c ∷ []) ≡ c
+last_reason [] None none = refl
+last_reason [] (Some r) none = refl
+last_reason (o ∷ before) c none = ap (λ p. option_or p (first_some (before ++ c ∷ []))) none.0 ∙ last_reason before c none.1
 
 -- ---- alone
 
@@ -70,11 +67,11 @@ put_met : (h : List Entry) (caller : Caller) (id : List ℕ) (t : Tree) (s : Sto
 put_met h caller id t s clock draw b meets is =
     let st : State = state h in
     let held : List StoredStatement = st.statements in
-    last_reason (barred Store (who_in h caller)) _ (refused_under st (who_in h caller) held (Some id) (view t)) meets.let_in meets.formed
+    last_reason (barred Store (who_in h caller) ∷ refused_form id (view t) ∷ []) (refused_under st (who_in h caller) held (Some id) (view t)) (meets.let_in, (meets.formed, tt))
     ∙ (ap (λ o. refused_over st (who_in h caller) held id (view t) o) meets.held ∙ ap (λ c. when (not c) (Conflict id)) is)
 
 -- where it is held, it isn't new
-old_one : (moment : ℕ) (o : Option Authority) (held : List StoredStatement) (n : Named) → is_held n.id held ≡ true → new_ones held (kept_by moment o (n ∷ [])) ≡ []
+old_one : (moment : ℕ) (o : Option Authority) (held : List StoredStatement) (n : WithId) → is_held n.id held ≡ true → new_ones held (kept_by moment o (n ∷ [])) ≡ []
 old_one moment None held n is = refl
 old_one moment (Some by) held n is = ap (λ b. if b then [] else held_of moment by n ∷ []) is
 
@@ -104,33 +101,33 @@ post_entry h caller trees clock draw = next_entry (state h) caller (Post trees) 
 post_met : (h : List Entry) (caller : Caller) (trees : List Tree) (clock : ℕ) (draw : Draw) (o : Option Refusal) → ComeTogether h caller trees
     → conflict (state h) (occasion_of h caller trees clock draw) (Post trees) ≡ o → refusal (state h) (post_entry h caller trees clock draw) ≡ o
 post_met h caller trees clock draw o together is =
-    last_reason (barred Store (who_in h caller)) _ (conflict (state h) (occasion_of h caller trees clock draw) (Post trees)) together.let_in together.formed ∙ is
+    last_reason (barred Store (who_in h caller) ∷ refused_batch trees ∷ []) (conflict (state h) (occasion_of h caller trees clock draw) (Post trees)) (together.let_in, (together.formed, tt)) ∙ is
 
 repeated : (st : State) (by : Who) (before : List StoredStatement) (t : Tree) → Repeats st.statements t → refused_under st by before (own_id (view t)) (view t) ≡ None
 repeated st by before t again =
     ap (λ o. refused_under st by before o (view t)) again.own
     ∙ (ap (λ o. refused_over st by before again.id (view t) o) again.there ∙ ap (λ b. when (not b) (Conflict again.id)) again.equal)
 
-none_refused : (st : State) (at : Occasion) (before : List StoredStatement) (supply : Supply) (ts : List Tree) → AllByRecursion (Repeats st.statements) ts → refused_in st at before (named supply ts) ≡ None
+none_refused : (st : State) (at : Occasion) (before : List StoredStatement) (supply : Supply) (ts : List Tree) → AllByRecursion (Repeats st.statements) ts → refused_in st at before (with_ids supply ts) ≡ None
 none_refused st at before supply [] each = refl
 none_refused st at before supply (t ∷ ts) each =
-    let n : Named = record { id = id_for (supply 0) (own_id (view t)); tree = t } in
-    ap (λ o. option_or o (refused_in st at (before_next st at before n) (named (supply_behind supply (own_id (view t))) ts))) (repeated st at.by before t each.0)
+    let n : WithId = record { id = id_for (supply 0) (own_id (view t)); tree = t } in
+    ap (λ o. option_or o (refused_in st at (before_next st at before n) (with_ids (supply_behind supply (own_id (view t))) ts))) (repeated st at.by before t each.0)
     ∙ none_refused st at (before_next st at before n) (supply_behind supply (own_id (view t))) ts each.1
 
 -- they go under the ids that they give themselves
-own_names : (held : List StoredStatement) (supply : Supply) (ts : List Tree) → AllByRecursion (Repeats held) ts → ids_of_named (named supply ts) ≡ given_ids ts
+own_names : (held : List StoredStatement) (supply : Supply) (ts : List Tree) → AllByRecursion (Repeats held) ts → ids_under (with_ids supply ts) ≡ given_ids ts
 own_names held supply [] each = refl
 own_names held supply (t ∷ ts) each =
-    ap (λ o. id_for (supply 0) o ∷ ids_of_named (named (supply_behind supply o) ts)) each.0.own
+    ap (λ o. id_for (supply 0) o ∷ ids_under (with_ids (supply_behind supply o) ts)) each.0.own
     ∙ (ap (λ ids. each.0.id ∷ ids) (own_names held supply ts each.1) ∙ sym (ap (λ o. with_given o (given_ids ts)) each.0.own))
 
-none_new : (moment : ℕ) (o : Option Authority) (held : List StoredStatement) (supply : Supply) (ts : List Tree) → AllByRecursion (Repeats held) ts → new_ones held (kept_by moment o (named supply ts)) ≡ []
+none_new : (moment : ℕ) (o : Option Authority) (held : List StoredStatement) (supply : Supply) (ts : List Tree) → AllByRecursion (Repeats held) ts → new_ones held (kept_by moment o (with_ids supply ts)) ≡ []
 none_new moment None held supply ts each = refl
 none_new moment (Some by) held supply [] each = refl
 none_new moment (Some by) held supply (t ∷ ts) each =
-    let n : Named = record { id = id_for (supply 0) (own_id (view t)); tree = t } in
-    let rest = kept_by moment (Some by) (named (supply_behind supply (own_id (view t))) ts) in
+    let n : WithId = record { id = id_for (supply 0) (own_id (view t)); tree = t } in
+    let rest = kept_by moment (Some by) (with_ids (supply_behind supply (own_id (view t))) ts) in
     ap (λ b. if b then new_ones held rest else held_of moment by n ∷ new_ones held rest) (ap (λ o. is_held (id_for (supply 0) o) held) each.0.own ∙ ap (λ o. is_some o) each.0.there)
     ∙ none_new moment (Some by) held (supply_behind supply (own_id (view t))) ts each.1
 
@@ -152,15 +149,15 @@ pub first_none : (o p : Option Refusal) → option_or o p ≡ None → (o ≡ No
 first_none None p is = (refl, is)
 first_none (Some r) p is = cc is
 
-first_refused : (st : State) (at : Occasion) (before : List StoredStatement) (supply : Supply) (ts behind : List Tree) (t : Tree) (r : Refusal) → refused_in st at before (named supply ts) ≡ None
-    → ((those : List StoredStatement) → refused_under st at.by those (own_id (view t)) (view t) ≡ Some r) → refused_in st at before (named supply (ts ++ t ∷ behind)) ≡ Some r
+first_refused : (st : State) (at : Occasion) (before : List StoredStatement) (supply : Supply) (ts behind : List Tree) (t : Tree) (r : Refusal) → refused_in st at before (with_ids supply ts) ≡ None
+    → ((those : List StoredStatement) → refused_under st at.by those (own_id (view t)) (view t) ≡ Some r) → refused_in st at before (with_ids supply (ts ++ t ∷ behind)) ≡ Some r
 first_refused st at before supply [] behind t r none is =
-    let n : Named = record { id = id_for (supply 0) (own_id (view t)); tree = t } in
-    ap (λ o. option_or o (refused_in st at (before_next st at before n) (named (supply_behind supply (own_id (view t))) behind))) (is before)
+    let n : WithId = record { id = id_for (supply 0) (own_id (view t)); tree = t } in
+    ap (λ o. option_or o (refused_in st at (before_next st at before n) (with_ids (supply_behind supply (own_id (view t))) behind))) (is before)
 first_refused st at before supply (x ∷ ts) behind t r none is =
-    let n : Named = record { id = id_for (supply 0) (own_id (view x)); tree = x } in
-    let both = first_none (refused_under st at.by before (own_id (view x)) (view x)) (refused_in st at (before_next st at before n) (named (supply_behind supply (own_id (view x))) ts)) none in
-    ap (λ o. option_or o (refused_in st at (before_next st at before n) (named (supply_behind supply (own_id (view x))) (ts ++ t ∷ behind)))) both.0
+    let n : WithId = record { id = id_for (supply 0) (own_id (view x)); tree = x } in
+    let both = first_none (refused_under st at.by before (own_id (view x)) (view x)) (refused_in st at (before_next st at before n) (with_ids (supply_behind supply (own_id (view x))) ts)) none in
+    ap (λ o. option_or o (refused_in st at (before_next st at before n) (with_ids (supply_behind supply (own_id (view x))) (ts ++ t ∷ behind)))) both.0
     ∙ first_refused st at (before_next st at before n) (supply_behind supply (own_id (view x))) ts behind t r both.1 is
 
 pub batch_conflicts_are_told : BatchConflictsAreTold

@@ -1,5 +1,5 @@
 -- Made ids are new.
-use Rattle.std.proofs.Common.{◌≡◌, ℕ, zero, suc, ◌+◌, ◌^◌, ◌%◌, ◌<◌, ◌≤◌, List, [], ◌∷◌, ◌++◌, length, Bool, true, false, not, ◌&&◌, ◌||◌, ◌⊎◌, inl, inr, Option, Some, None, cond, refl, sym, ap, subst, ◌∙◌, arith, length-append}
+use Rattle.std.proofs.Common.{◌≡◌, ℕ, zero, suc, ◌+◌, ◌%◌, ◌<◌, ◌≤◌, List, [], ◌∷◌, ◌++◌, length, Bool, true, false, not, ◌&&◌, ◌||◌, ◌⊎◌, inl, inr, Option, Some, None, cond, refl, sym, ap, subst, ◌∙◌, arith, length-append}
 use Rattle.std.specs.Prelude.{find, unwrap_or}
 use Rattle.std.specs.List.{AllByRecursion}
 use Rattle.std.specs.Str.{bytes_eq}
@@ -8,7 +8,7 @@ use Rattle.std.proofs.lemmas.Bool.{false≢true}
 use Rattle.std.proofs.lemmas.Cmp.{nat_list_eq_equiv}
 use Rattle.std.proofs.lemmas.List.{length-map}
 use Rattle.std.proofs.lemmas.List.Folds.{list_any-append}
-use Rattle.lrs_command.specs.declared.rule.Rule.TheVariants as rule
+use Rattle.lrs_rules.specs.declared.rule.Rule.TheVariants as rule
 use Rattle.lrs_history.specs.History.{state}
 use Rattle.lrs_history.specs.Refusals.{broken, broken_in, is_too_large, refused_batch}
 use Rattle.lrs_json.specs.View.{view}
@@ -17,9 +17,10 @@ use Rattle.lrs_laws.specs.Laws.{MadeIdsAreNew}
 use Rattle.lrs_laws.proofs.Keepers.{held_one, left_false, right_false}
 use Rattle.lrs_names.specs.Ids.{id_of_word}
 use Rattle.lrs_names.specs.Members.{is_one_of}
-use Rattle.lrs_names.proofs.FreshLemmas.{not_all_used}
+use Rattle.lrs_ids.proofs.FreshLemmas.{not_all_used}
+use Rattle.lrs_names.specs.declared.id.TheConstants.{WORDS}
 use Rattle.lrs_replies.specs.declared.answered.Refusal.TheVariants.{Broken, TooLong}
-use Rattle.xapi_index.specs.Batches.{Named, given_ids, id_for, named, ids_of_named, supply_behind, with_given}
+use Rattle.xapi_index.specs.Batches.{WithId, given_ids, id_for, with_ids, ids_under, supply_behind, with_given}
 use Rattle.lrs_ids.specs.Choices.{first_some, when}
 use Rattle.lrs_ids.specs.Ids.{Supply, Used, IsCounted, are_distinct, free_word, is_free, made_id, supply_of, those, words_from}
 use Rattle.xapi_index.specs.Statements.{ids_of, is_held}
@@ -28,7 +29,7 @@ use Rattle.xapi_statement.specs.Statement.{own_id}
 
 -- the ids under which statements go that come together
 abbrev ids_from : Supply → List Tree → List (List ℕ)
-ids_from supply ts = ids_of_named (named supply ts)
+ids_from supply ts = ids_under (with_ids supply ts)
 
 -- ---- the search
 
@@ -64,7 +65,7 @@ not_true true is = cc is
 not_true false is = refl
 
 -- where no more ids are used than are tried, one is free
-pub free_word-free : (used : Used) → IsCounted used → (ids : List (List ℕ)) (most word : ℕ) → used.count + length ids ≤ most → most < 2 ^ 122 → is_free used ids (free_word used ids most word) ≡ true
+pub free_word-free : (used : Used) → IsCounted used → (ids : List (List ℕ)) (most word : ℕ) → used.count + length ids ≤ most → most < WORDS → is_free used ids (free_word used ids most word) ≡ true
 free_word-free used counted ids most word fits small = by_end (search_ends (is_free used ids) most word)
   where
     there : (q : List ℕ) → is_one_of (counted.ids ++ ids) q ≡ used.is_used q || is_one_of ids q
@@ -100,7 +101,7 @@ given_missing (t ∷ ts) = by_own (own_id (view t)) (given_missing ts)
 
 -- Enough words are tried for the ids that are used, and there are enough for those that are to be made.
 abbrev Suffices : Used → List (List ℕ) → ℕ → ℕ → Type 0
-Suffices used ids most n = (used.count + length ids ≤ most) × (most + n < 2 ^ 122)
+Suffices used ids most n = (used.count + length ids ≤ most) × (most + n < WORDS)
 
 one_made : (used : Used) (id : List ℕ) (ids : List (List ℕ)) (most n : ℕ) → Suffices used ids most (suc n) → Suffices used (id ∷ ids) (most + 1) n
 one_made used id ids most n fits = (omega (arith, fits.0), omega (arith, fits.1))
@@ -116,7 +117,7 @@ made_free used counted ids most word n fits =
 
 -- where the next made id begins
 abbrev next_word : ℕ → ℕ
-next_word free = (free + 1) % 2 ^ 122
+next_word free = (free + 1) % WORDS
 
 or_right : (a b : Bool) → b ≡ true → a || b ≡ true
 or_right true b is = refl
@@ -205,10 +206,10 @@ distinct_ids used counted ids most word (t ∷ ts) fits apart given =
         (more ids most word fit (and_right (not (is_one_of (given_ids ts) own)) (are_distinct (given_ids ts)) still) (λ g there. all g (or_right (bytes_eq own g) (is_one_of (given_ids ts) g) there)))
 
 -- where none is its own, the id isn't used
-abbrev IsNew : Used → Named → Type 0
+abbrev IsNew : Used → WithId → Type 0
 IsNew used n = own_id (view n.tree) ≡ None → used.is_used n.id ≡ false
 
-made_new : (used : Used) → IsCounted used → (ids : List (List ℕ)) (most word : ℕ) (ts : List Tree) → Suffices used ids most (missing ts) → AllByRecursion (IsNew used) (named (made_id used ids most word) ts)
+made_new : (used : Used) → IsCounted used → (ids : List (List ℕ)) (most word : ℕ) (ts : List Tree) → Suffices used ids most (missing ts) → AllByRecursion (IsNew used) (with_ids (made_id used ids most word) ts)
 made_new used counted ids most word [] fits = tt
 made_new used counted ids most word (t ∷ ts) fits = (
   λ none. ap (λ o. used.is_used (id_for (id_of_word (free_word used ids most word)) o)) none
@@ -217,8 +218,8 @@ made_new used counted ids most word (t ∷ ts) fits = (
 )
   where
     by_own : (o : Option (List ℕ)) → Suffices used ids most (count o (missing ts))
-        → ((others : List (List ℕ)) (more after : ℕ) → Suffices used others more (missing ts) → AllByRecursion (IsNew used) (named (made_id used others more after) ts))
-        → AllByRecursion (IsNew used) (named (supply_behind (made_id used ids most word) o) ts)
+        → ((others : List (List ℕ)) (more after : ℕ) → Suffices used others more (missing ts) → AllByRecursion (IsNew used) (with_ids (made_id used others more after) ts))
+        → AllByRecursion (IsNew used) (with_ids (supply_behind (made_id used ids most word) o) ts)
     by_own None fit more =
         more (id_of_word (free_word used ids most word) ∷ ids) (most + 1) (next_word (free_word used ids most word)) (one_made used (id_of_word (free_word used ids most word)) ids most (missing ts) fit)
     by_own (Some own) fit more = more ids most word fit
@@ -244,34 +245,34 @@ distinct_given ts formed = by_size (is_too_large ts) formed
 pub counted : (held : List StoredStatement) → IsCounted (those (ids_of held))
 counted held = record { ids = ids_of held; same = λ id. refl; count = refl }
 
-suffices_at_first : (held : List StoredStatement) (ts : List Tree) → length held + length ts < 2 ^ 122 → Suffices (those (ids_of held)) (given_ids ts) (length (ids_of held) + length (given_ids ts)) (missing ts)
+suffices_at_first : (held : List StoredStatement) (ts : List Tree) → length held + length ts < WORDS → Suffices (those (ids_of held)) (given_ids ts) (length (ids_of held) + length (given_ids ts)) (missing ts)
 suffices_at_first held ts small = (omega arith, omega (arith, small, given_missing ts, length-map held (λ (s : StoredStatement). s.id)))
 
 -- the statements of a batch, as a store of these would name them
-abbrev pub batch : List StoredStatement → ℕ → List Tree → List Named
-batch held name ts = named (supply_of (those (ids_of held)) (given_ids ts) name) ts
+abbrev pub batch : List StoredStatement → ℕ → List Tree → List WithId
+batch held name ts = with_ids (supply_of (those (ids_of held)) (given_ids ts) name) ts
 
-pub batch_distinct : (held : List StoredStatement) (name : ℕ) (ts : List Tree) → length held + length ts < 2 ^ 122 → refused_batch ts ≡ None → are_distinct (ids_of_named (batch held name ts)) ≡ true
+pub batch_distinct : (held : List StoredStatement) (name : ℕ) (ts : List Tree) → length held + length ts < WORDS → refused_batch ts ≡ None → are_distinct (ids_under (batch held name ts)) ≡ true
 batch_distinct held name ts small formed =
-    distinct_ids (those (ids_of held)) (counted held) (given_ids ts) (length (ids_of held) + length (given_ids ts)) (name % 2 ^ 122) ts (suffices_at_first held ts small) (distinct_given ts formed) (λ g there. there)
+    distinct_ids (those (ids_of held)) (counted held) (given_ids ts) (length (ids_of held) + length (given_ids ts)) (name % WORDS) ts (suffices_at_first held ts small) (distinct_given ts formed) (λ g there. there)
 
-each_implied : (P Q : Named → Type 0) → ((n : Named) → P n → Q n) → (ns : List Named) → AllByRecursion P ns → AllByRecursion Q ns
+each_implied : (P Q : WithId → Type 0) → ((n : WithId) → P n → Q n) → (ns : List WithId) → AllByRecursion P ns → AllByRecursion Q ns
 each_implied P Q from [] each = tt
 each_implied P Q from (n ∷ ns) each = (from n each.0, each_implied P Q from ns each.1)
 
-pub batch_new : (held : List StoredStatement) (name : ℕ) (ts : List Tree) → length held + length ts < 2 ^ 122 → AllByRecursion (λ (n : Named). own_id (view n.tree) ≡ None → is_held n.id held ≡ false) (batch held name ts)
+pub batch_new : (held : List StoredStatement) (name : ℕ) (ts : List Tree) → length held + length ts < WORDS → AllByRecursion (λ (n : WithId). own_id (view n.tree) ≡ None → is_held n.id held ≡ false) (batch held name ts)
 batch_new held name ts small =
-    each_implied (IsNew (those (ids_of held))) (λ (n : Named). own_id (view n.tree) ≡ None → is_held n.id held ≡ false) (λ n new none. held_one n.id held ∙ new none) (batch held name ts)
-    (made_new (those (ids_of held)) (counted held) (given_ids ts) (length (ids_of held) + length (given_ids ts)) (name % 2 ^ 122) ts (suffices_at_first held ts small))
+    each_implied (IsNew (those (ids_of held))) (λ (n : WithId). own_id (view n.tree) ≡ None → is_held n.id held ≡ false) (λ n new none. held_one n.id held ∙ new none) (batch held name ts)
+    (made_new (those (ids_of held)) (counted held) (given_ids ts) (length (ids_of held) + length (given_ids ts)) (name % WORDS) ts (suffices_at_first held ts small))
 
 -- the used ids are as many as the statements
-pub few_held : (held : List StoredStatement) (ts : List Tree) → length (ids_of held) + length ts < 2 ^ 122 → length held + length ts < 2 ^ 122
+pub few_held : (held : List StoredStatement) (ts : List Tree) → length (ids_of held) + length ts < WORDS → length held + length ts < WORDS
 few_held held ts small = omega (arith, small, length-map held (λ (s : StoredStatement). s.id))
 
 pub made_ids_are_new : MadeIdsAreNew
 made_ids_are_new h trees draw small formed =
     let held : List StoredStatement = (state h).statements in
-    let few : length held + length trees < 2 ^ 122 = few_held held trees small in (
+    let few : length held + length trees < WORDS = few_held held trees small in (
       batch_distinct held draw.name trees few formed,
-      made_new (those (ids_of held)) (counted held) (given_ids trees) (length (ids_of held) + length (given_ids trees)) (draw.name % 2 ^ 122) trees (suffices_at_first held trees few),
+      made_new (those (ids_of held)) (counted held) (given_ids trees) (length (ids_of held) + length (given_ids trees)) (draw.name % WORDS) trees (suffices_at_first held trees few),
     )

@@ -1,23 +1,24 @@
 -- The pages of a list give it whole, and a link is told the same page for ever.
 use Rattle.std.proofs.Common.{◌≡◌, ◌≢◌, ℕ, zero, suc, ◌+◌, ◌-◌, ◌<◌, ◌≤◌, List, [], ◌∷◌, ◌++◌, length, take, map, reverse, Bool, true, false, Option, Some, None, refl, sym, ap, subst, ◌∙◌, arith, nat_lt, length-append, append_assoc}
-use Rattle.std.specs.Prelude.{filter, filter_map, slice_get, MatchOption, if◌then◌else◌}
+use Rattle.std.specs.Prelude.{◌&&◌, filter, filter_map, slice_get, MatchOption, if◌then◌else◌}
 use Rattle.std.specs.List.{AllByRecursion, cons_option, range_with_len}
 use Rattle.std.proofs.lemmas.Bool.Decides.{nat_tests}
 use Rattle.std.proofs.lemmas.List.{append-nil, length-drop, length-take, reverse-append, take-append-drop, take-append-le}
 use Rattle.std.proofs.Math.Seq.{take-append_seam, take-length}
-use Rattle.lrs_command.specs.declared.command.Area.TheVariants.{Store}
+use Rattle.lrs_record.specs.declared.entry.Area.TheVariants.{Store}
 use Rattle.lrs_command.specs.declared.command.Read.TheVariants as read
 use Rattle.lrs_command.specs.declared.who.Who.{Who}
 use Rattle.lrs_command.specs.declared.who.Who.TheVariants as who
-use Rattle.lrs_command.specs.declared.rule.Rule.TheVariants as rule
-use Rattle.lrs_history.specs.Answers.{page_said, reading}
+use Rattle.lrs_rules.specs.declared.rule.Rule.TheVariants as rule
+use Rattle.lrs_history.specs.Answers.{page_said, read_said}
 use Rattle.lrs_history.specs.Effects.{effect}
-use Rattle.lrs_history.specs.History.{only, refused_or, state, state_from, step, Founds, IsLegal}
+use Rattle.lrs_history.specs.History.{only, refused_or, state, state_from, step, IsFounding, IsLegal, founds, is_operator, is_zero}
 use Rattle.lrs_history.specs.Refusals.{barred, read_refusal, too_late}
 use Rattle.lrs_history.specs.Whose.{provider_at, sight_of, who_is}
 use Rattle.lrs_json.specs.Written.{written}
 use Rattle.lrs_laws.specs.Laws.{FirstPagesAreTold, Follows, LinksGoOn, LinksStay, LinksWhereMoreComes, PagesEnd, PagesGiveTheList, PositionsComeOnce, IsLetIn, sight_in, who_in}
 use Rattle.lrs_laws.proofs.Keepers.{state_from-append}
+use Rattle.lrs_laws.proofs.NewIds.{and_right}
 use Rattle.lrs_laws.proofs.Paging.{IsInOrder, Links, distinct_in_order, each_at, each_filtered, filtered_in_order, linked, positions_in_order, unlinked}
 use Rattle.lrs_parts.proofs.Tokens.{place_kept}
 use Rattle.lrs_parts.specs.Providers.{place_of_token}
@@ -208,7 +209,7 @@ links_where_more_comes query sight s after some = by_link (page_behind query sig
         let shown = links query sight s after last some is in
         omega (arith, shown.more, ap (λ ks. length ks) shown.rest, ap (λ ks. length ks) none, length-drop query.page (listing_behind query sight s after))
 
--- ---- what providers are told
+-- ---- what callers are told
 
 -- what is told of a question to a caller who is let in, where it comes in time
 asked : (by : Who) (late : Option Refusal) (said : Answered) → barred Store by ≡ None → late ≡ None → only (refused_or (first_some (barred Store by ∷ late ∷ [])) said) ≡ only said
@@ -217,7 +218,7 @@ asked by late said let_in none =
 
 pub first_pages_are_told : FirstPagesAreTold
 first_pages_are_told limit h caller query clock draw let_in =
-    asked (who_in h caller) None (reading (state h) (who_in h caller) (read.Statements (Many query))) let_in refl
+    asked (who_in h caller) None (read_said (state h) (who_in h caller) (read.Statements (Many query))) let_in refl
     ∙ ap (λ s. only (Shown (page_body query (length (state h).statements) (state h).statements (page_behind query (sight_in h caller) s None)) (Some (state h).last))) (take-length (state h).statements)
 
 -- what the store was founded with stays
@@ -225,17 +226,17 @@ founding_on : (st : State) (more : List Entry) (founding : Founding) → st.foun
 founding_on st [] founding is = is
 founding_on st (e ∷ more) founding is = founding_on (step st e) more founding (ap (λ o. founding_after o (effect st e).founding) is)
 
-founded : (e : Entry) → Founds e.write → (founding : Founding) × ((step nothing e).founding ≡ Some founding)
-founded e founds = by_write e.write founds
+founded : (e : Entry) → IsFounding e → (founding : Founding) × ((step nothing e).founding ≡ Some founding)
+founded e is = by_write e.write (and_right (is_operator e.caller && is_zero e.draw) (founds e.write) is)
   where
-    by_write : (w : Write) → Founds w → (founding : Founding) × ((step nothing (record e { write = w })).founding ≡ Some founding)
-    by_write (Found admin base) founds = (record { admin = admin; base = base }, refl)
-    by_write other founds = absurd founds
+    by_write : (w : Write) → founds w ≡ true → (founding : Founding) × ((step nothing (record e { write = w })).founding ≡ Some founding)
+    by_write (Found admin base) is = (record { admin = admin; base = base }, refl)
+    by_write other is = absurd (cc is)
 
 has_founding : (limit : ℕ) (h : List Entry) → IsLegal limit h → (founding : Founding) × ((state h).founding ≡ Some founding)
 has_founding limit [] legal = absurd (omega (arith, legal.0))
 has_founding limit (e ∷ h) legal =
-    let first = founded e legal.1.1.write in
+    let first = founded e legal.1.1 in
     (first.0, founding_on (step nothing e) h first.0 first.1)
 
 -- who is let in stays who he is
@@ -314,8 +315,8 @@ pub links_stay : LinksStay
 links_stay limit h more caller link clock draw legal let_in fits =
     let on = statements_on (state h) more in
     let statements : (state (h ++ more)).statements ≡ (state h).statements ++ on.0 = ap (λ st. st.statements) (state_from-append nothing h more) ∙ on.1 in
-    ap (λ by. only (refused_or (read_refusal (state (h ++ more)) by (read.More link)) (reading (state (h ++ more)) by (read.More link)))) (who_stays limit h more caller legal let_in)
-    ∙ (asked (who_in h caller) (too_late (state (h ++ more)) (read.More link)) (reading (state (h ++ more)) (who_in h caller) (read.More link)) let_in (in_time (state (h ++ more)) link (state h).statements on.0 statements fits)
+    ap (λ by. only (refused_or (read_refusal (state (h ++ more)) by (read.More link)) (read_said (state (h ++ more)) by (read.More link)))) (who_stays limit h more caller legal let_in)
+    ∙ (asked (who_in h caller) (too_late (state (h ++ more)) (read.More link)) (read_said (state (h ++ more)) (who_in h caller) (read.More link)) let_in (in_time (state (h ++ more)) link (state h).statements on.0 statements fits)
     ∙ (ap only (page_is (state (h ++ more)) (who_in h caller) link (state h).statements on.0 statements fits)
     ∙ ap (λ s. only (Shown (page_body link.query link.asof (state h).statements (page_behind link.query s (take link.asof (state h).statements) (Some link.after))) (Some (state (h ++ more)).last)))
     (sight_on (state h) (state (h ++ more)) (who_in h caller))))

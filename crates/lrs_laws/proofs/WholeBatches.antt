@@ -1,5 +1,5 @@
 -- What isn't refused is held: a statement alone, and a batch whole.
-use Rattle.std.proofs.Common.{◌≡◌, ℕ, List, [], ◌∷◌, ◌++◌, get_or, map, Bool, true, false, not, ◌||◌, Option, Some, None, cond, refl, sym, ap, subst, ◌∙◌, ◌+◌, ◌-◌, ◌<◌, ◌^◌, length, min, nat_lt}
+use Rattle.std.proofs.Common.{◌≡◌, ℕ, List, [], ◌∷◌, ◌++◌, get_or, map, Bool, true, false, not, ◌||◌, Option, Some, None, cond, refl, sym, ap, subst, ◌∙◌, ◌+◌, ◌<◌, length, nat_lt}
 use Rattle.std.specs.Prelude.{position, slice_get, is_some, option_map, if◌then◌else◌}
 use Rattle.std.specs.List.{AllByRecursion}
 use Rattle.std.specs.Option.{option_or}
@@ -10,22 +10,23 @@ use Rattle.std.proofs.lemmas.List.{map-append}
 use Rattle.std.proofs.lemmas.List.Folds.{find-append, list_any-append}
 use Rattle.std.proofs.lemmas.List.Quantifiers.{position-Some}
 use Rattle.std.proofs.lemmas.Option.{slice_get-get_or}
-use Rattle.lrs_command.specs.declared.command.Area.TheVariants.{Store}
+use Rattle.lrs_record.specs.declared.entry.Area.TheVariants.{Store}
 use Rattle.lrs_command.specs.declared.who.Who.{Who}
 use Rattle.lrs_command.specs.declared.who.Who.TheVariants as who
 use Rattle.lrs_history.specs.Answers.{write_said}
 use Rattle.lrs_history.specs.Effects.{Occasion, brought, effect, occasion}
 use Rattle.lrs_history.specs.History.{Answer, answer_of, end_place, next_entry, need, only, refused, state, outcome_by, with_entry}
-use Rattle.lrs_history.specs.Refusals.{barred, before_next, conflict, refusal, refused_batch, refused_form, refused_in, refused_over, refused_under}
+use Rattle.lrs_history.specs.Refusals.{barred, before_next, conflict, missing, refusal, refused_batch, refused_form, refused_in, refused_over, refused_under}
 use Rattle.lrs_history.specs.Whose.{authority_of, provider_at, who_is}
-use Rattle.lrs_history.proofs.Kept.{no_room, kept_answer}
+use Rattle.lrs_history.proofs.Room.{no_room, kept_answer}
 use Rattle.lrs_json.specs.View.{view}
 use Rattle.lrs_json.specs.declared.tree.Tree.{Tree}
-use Rattle.lrs_laws.specs.Laws.{BatchesAreWhole, CallersHaveAuthority, IsAccepted, IsHeldSame, PutsAreHeld, named_batch, occasion_of}
+use Rattle.lrs_laws.specs.Laws.{BatchesAreWhole, CallersHaveAuthority, IsAccepted, IsHeldSame, PutsAreHeld, batch_with_ids, occasion_of}
 use Rattle.lrs_laws.proofs.Again.{first_none}
 use Rattle.lrs_laws.proofs.Keepers.{held_one, left_false, or_false, right_false, state_from-append, stays_each}
 use Rattle.lrs_laws.proofs.NewIds.{batch_distinct, batch_new, few_held, not_true, and_left, and_right}
 use Rattle.lrs_names.specs.Members.{is_one_of}
+use Rattle.lrs_names.specs.declared.id.TheConstants.{WORDS}
 use Rattle.lrs_parts.specs.Providers.{place_of_token}
 use Rattle.lrs_parts.specs.Founding.{is_admin}
 use Rattle.lrs_parts.specs.State.{State, changes_nothing, is_empty, nothing}
@@ -38,10 +39,10 @@ use Rattle.lrs_record.specs.declared.entry.Write.TheVariants.{Put, Post}
 use Rattle.lrs_replies.specs.declared.answered.Answered.{Answered}
 use Rattle.lrs_replies.specs.declared.answered.Refusal.{Refusal}
 use Rattle.lrs_replies.specs.declared.answered.Refusal.TheVariants.{Conflict, Full}
-use Rattle.xapi_equal.specs.Same.{same, IsSameness}
+use Rattle.xapi_alike.specs.Same.{same, IsSameness}
 use Rattle.xapi_format.specs.declared.authority.Authority.{Authority}
 use Rattle.xapi_format.specs.declared.authority.Authority.TheVariants.{Admin, Provider}
-use Rattle.xapi_index.specs.Batches.{Named, held_of, id_for, kept_by, named, ids_of_named, supply_behind}
+use Rattle.xapi_index.specs.Batches.{WithId, held_of, id_for, kept_by, with_ids, ids_under, supply_behind}
 use Rattle.lrs_ids.specs.Choices.{first_some, when}
 use Rattle.lrs_ids.specs.Ids.{Supply, are_distinct}
 use Rattle.xapi_index.specs.Statements.{add, add_each, held_under, ids_of, is_held, new_ones}
@@ -62,7 +63,7 @@ by_answer P limit place x t None true old new accepted = old refl refl
 by_answer P limit place x t None false old new accepted = by_room (nat_lt limit (need place x)) accepted
   where
     by_room : (c : Bool) → IsAccepted (if c then no_room limit place x else kept_answer t x) → P (if c then no_room limit place x else kept_answer t x)
-    by_room true accepted = absurd (accepted (Full (min (need place x) (2 ^ 64 - 1)) limit) refl)
+    by_room true accepted = absurd (accepted _ refl)
     by_room false accepted = new refl
 
 none_new : (held xs : List StoredStatement) → is_empty (new_ones held xs) ≡ true → held ≡ add_each held xs
@@ -85,11 +86,9 @@ is_behind_it limit place h x t xs new =
     (λ none same. (none, refl, none_new held xs (ap (λ l. is_empty l) (sym new) ∙ and_right _ (is_empty (effect (state h) x).statements) same)))
     (λ none. (none, refl, ap (λ s. s.statements) (state_from-append nothing h (x ∷ [])) ∙ (ap (λ l. add_each held l) new ∙ add_each-new held xs)))
 
-no_reason : (a b c : Option Refusal) → first_some (a ∷ b ∷ c ∷ []) ≡ None → (a ≡ None) × (b ≡ None) × (c ≡ None)
-no_reason a b c is =
-    let first = first_none a (first_some (b ∷ c ∷ [])) is in
-    let next = first_none b (first_some (c ∷ [])) first.1 in
-    (first.0, next.0, (first_none c None next.1).0)
+no_reason : (os : List (Option Refusal)) → first_some os ≡ None → AllByRecursion (λ o. o ≡ None) os
+no_reason [] is = tt
+no_reason (o ∷ os) is = let first = first_none o (first_some os) is in (first.0, no_reason os first.1)
 
 -- ---- whoever is let in has an authority
 
@@ -124,10 +123,10 @@ each_both : {A : Type 0} (P Q R : A → Type 0) → ((x : A) → P x → Q x →
 each_both P Q R join [] p q = tt
 each_both P Q R join (x ∷ xs) p q = (join x p.0 q.0, each_both P Q R join xs p.1 q.1)
 
-others : (id : List ℕ) (ns : List Named) → is_one_of (ids_of_named ns) id ≡ false → AllByRecursion (λ (n : Named). bytes_eq n.id id ≡ false) ns
+others : (id : List ℕ) (ns : List WithId) → is_one_of (ids_under ns) id ≡ false → AllByRecursion (λ (n : WithId). bytes_eq n.id id ≡ false) ns
 others id [] none = tt
 others id (n ∷ ns) none =
-    (left_false (bytes_eq n.id id) (is_one_of (ids_of_named ns) id) none, others id ns (right_false (bytes_eq n.id id) (is_one_of (ids_of_named ns) id) none))
+    (left_false (bytes_eq n.id id) (is_one_of (ids_under ns) id) none, others id ns (right_false (bytes_eq n.id id) (is_one_of (ids_under ns) id) none))
 
 unheld_add : (held : List StoredStatement) (x : StoredStatement) (id : List ℕ) → is_held x.id held ≡ false → bytes_eq x.id id ≡ false → is_held id held ≡ false → is_held id (add held x) ≡ false
 unheld_add held x id new other none =
@@ -148,25 +147,25 @@ found_add held x new =
     ∙ (ap (λ o. option_or o (held_under x.id (x ∷ []))) (none_held (held_under x.id held) new) ∙ ap (λ b. cond b (Some x) None) (nat_list_eq_equiv.refl x.id)))
 
 -- those of which none is held are held behind
-abbrev Added : ℕ → Authority → List StoredStatement → List Named → Named → Type 0
+abbrev Added : ℕ → Authority → List StoredStatement → List WithId → WithId → Type 0
 Added moment by held ns n = is_held n.id held ≡ false → held_under n.id (add_each held (map (held_of moment by) ns)) ≡ Some (held_of moment by n)
 
-added : (moment : ℕ) (by : Authority) (held : List StoredStatement) (ns : List Named) → are_distinct (ids_of_named ns) ≡ true → AllByRecursion (Added moment by held ns) ns
+added : (moment : ℕ) (by : Authority) (held : List StoredStatement) (ns : List WithId) → are_distinct (ids_under ns) ≡ true → AllByRecursion (Added moment by held ns) ns
 added moment by held [] apart = tt
 added moment by held (n ∷ ns) apart = (
   λ new. stays_each n.id (add held (held_of moment by n)) (map (held_of moment by) ns) (held_of moment by n) (found_add held (held_of moment by n) new),
-  each_both (λ (m : Named). bytes_eq m.id n.id ≡ false) (Added moment by (add held (held_of moment by n)) ns) (Added moment by held (n ∷ ns)) (λ m other rest new. rest (by_held m other new (is_held n.id held) refl)) ns
-      (others n.id ns (not_true (is_one_of (ids_of_named ns) n.id) (and_left _ (are_distinct (ids_of_named ns)) apart)))
-      (added moment by (add held (held_of moment by n)) ns (and_right _ (are_distinct (ids_of_named ns)) apart)),
+  each_both (λ (m : WithId). bytes_eq m.id n.id ≡ false) (Added moment by (add held (held_of moment by n)) ns) (Added moment by held (n ∷ ns)) (λ m other rest new. rest (by_held m other new (is_held n.id held) refl)) ns
+      (others n.id ns (not_true (is_one_of (ids_under ns) n.id) (and_left _ (are_distinct (ids_under ns)) apart)))
+      (added moment by (add held (held_of moment by n)) ns (and_right _ (are_distinct (ids_under ns)) apart)),
 )
   where
-    by_held : (m : Named) → bytes_eq m.id n.id ≡ false → is_held m.id held ≡ false → (b : Bool) → is_held n.id held ≡ b → is_held m.id (add held (held_of moment by n)) ≡ false
+    by_held : (m : WithId) → bytes_eq m.id n.id ≡ false → is_held m.id held ≡ false → (b : Bool) → is_held n.id held ≡ b → is_held m.id (add held (held_of moment by n)) ≡ false
     by_held m other new true there = ap (λ b. is_held m.id (if b then held else held ++ held_of moment by n ∷ [])) there ∙ new
     by_held m other new false none = unheld_add held (held_of moment by n) m.id none (nat_list_eq_equiv.symm n.id m.id ∙ other) new
 
 -- ---- what is held under their ids
 
-abbrev IsTaken : List StoredStatement → Named → Type 0
+abbrev IsTaken : List StoredStatement → WithId → Type 0
 IsTaken held n = (s : StoredStatement) → held_under n.id held ≡ Some s → same (view s.received) (view n.tree) ≡ true
 
 taken_under : (st : State) (by : Who) (before : List StoredStatement) (t : Tree) (id : List ℕ) (s : StoredStatement) → refused_under st by before (Some id) (view t) ≡ None → held_under id st.statements ≡ Some s → same (view s.received) (view t) ≡ true
@@ -176,8 +175,8 @@ taken_under st by before t id s none is = by_same (same (view s.received) (view 
     by_same true q = refl
     by_same false q = cc q
 
-taken_from : (st : State) (at : Occasion) (before : List StoredStatement) (supply : Supply) (ts : List Tree) → refused_in st at before (named supply ts) ≡ None
-    → AllByRecursion (λ (n : Named). own_id (view n.tree) ≡ None → is_held n.id st.statements ≡ false) (named supply ts) → AllByRecursion (IsTaken st.statements) (named supply ts)
+taken_from : (st : State) (at : Occasion) (before : List StoredStatement) (supply : Supply) (ts : List Tree) → refused_in st at before (with_ids supply ts) ≡ None
+    → AllByRecursion (λ (n : WithId). own_id (view n.tree) ≡ None → is_held n.id st.statements ≡ false) (with_ids supply ts) → AllByRecursion (IsTaken st.statements) (with_ids supply ts)
 taken_from st at before supply [] none new = tt
 taken_from st at before supply (t ∷ ts) none new = (
   λ s is. by_own s (own_id (view t)) refl is,
@@ -192,23 +191,23 @@ taken_from st at before supply (t ∷ ts) none new = (
         (sym (ap (λ o. refused_under st at.by before o (view t)) own) ∙ (first_none (refused_under st at.by before (own_id (view t)) (view t)) _ none).0)
         (sym (ap (λ o. held_under (id_for (supply 0) o) st.statements) own) ∙ is)
 
-alike_from : IsSameness → (supply : Supply) (ts : List Tree) → AreLawfulTrees ts → AllByRecursion (λ (n : Named). same (view n.tree) (view n.tree) ≡ true) (named supply ts)
+alike_from : IsSameness → (supply : Supply) (ts : List Tree) → AreLawfulTrees ts → AllByRecursion (λ (n : WithId). same (view n.tree) (view n.tree) ≡ true) (with_ids supply ts)
 alike_from sameness supply [] lawful = tt
 alike_from sameness supply (t ∷ ts) lawful = (sameness.reflexive (view t) lawful.0.0, alike_from sameness (supply_behind supply (own_id (view t))) ts lawful.1)
 
-abbrev IsFresh : ℕ → Authority → List StoredStatement → List Named → Named → Type 0
+abbrev IsFresh : ℕ → Authority → List StoredStatement → List WithId → WithId → Type 0
 IsFresh moment by held ns n = Added moment by held ns n × (same (view n.tree) (view n.tree) ≡ true)
 
-kept_one : (moment : ℕ) (by : Authority) (held : List StoredStatement) (ns : List Named) (n : Named) (o : Option StoredStatement) → held_under n.id held ≡ o → IsTaken held n → IsFresh moment by held ns n
+kept_one : (moment : ℕ) (by : Authority) (held : List StoredStatement) (ns : List WithId) (n : WithId) (o : Option StoredStatement) → held_under n.id held ≡ o → IsTaken held n → IsFresh moment by held ns n
     → IsHeldSame (add_each held (map (held_of moment by) ns)) n
 kept_one moment by held ns n None is taken fresh = (held_of moment by n, fresh.0 (ap (λ o. is_some o) is), fresh.1)
 kept_one moment by held ns n (Some s) is taken fresh = (s, stays_each n.id held (map (held_of moment by) ns) s is, taken s is)
 
-whole_list : (moment : ℕ) (by : Authority) (held : List StoredStatement) (ns : List Named) → are_distinct (ids_of_named ns) ≡ true → AllByRecursion (IsTaken held) ns
-    → AllByRecursion (λ (n : Named). same (view n.tree) (view n.tree) ≡ true) ns → AllByRecursion (IsHeldSame (add_each held (map (held_of moment by) ns))) ns
+whole_list : (moment : ℕ) (by : Authority) (held : List StoredStatement) (ns : List WithId) → are_distinct (ids_under ns) ≡ true → AllByRecursion (IsTaken held) ns
+    → AllByRecursion (λ (n : WithId). same (view n.tree) (view n.tree) ≡ true) ns → AllByRecursion (IsHeldSame (add_each held (map (held_of moment by) ns))) ns
 whole_list moment by held ns apart taken alike =
     each_both (IsTaken held) (IsFresh moment by held ns) (IsHeldSame (add_each held (map (held_of moment by) ns))) (λ n t fresh. kept_one moment by held ns n (held_under n.id held) refl t fresh) ns taken
-    (each_both (Added moment by held ns) (λ (n : Named). same (view n.tree) (view n.tree) ≡ true) (IsFresh moment by held ns) (λ n a b. (a, b)) ns (added moment by held ns apart) alike)
+    (each_both (Added moment by held ns) (λ (n : WithId). same (view n.tree) (view n.tree) ≡ true) (IsFresh moment by held ns) (λ n a b. (a, b)) ns (added moment by held ns apart) alike)
 
 -- ---- the laws
 
@@ -218,13 +217,13 @@ puts_are_held sameness limit h caller id t clock draw lawful accepted =
     let held : List StoredStatement = st.statements in
     let x : Entry = next_entry st caller (Put id t) clock draw in
     let at : Occasion = occasion st x in
-    let n : Named = record { id = id; tree = t } in
-    let behind = is_behind_it limit (end_place limit h) h x (write_said (effect st x)) (brought st at (Put id t)) refl accepted in
-    let reasons = no_reason (barred Store at.by) (refused_form id (view t)) (conflict st at (Put id t)) behind.0 in
+    let n : WithId = record { id = id; tree = t } in
+    let behind = is_behind_it limit (end_place limit h) h x (write_said (effect st x)) (brought st at.by at.moment (n ∷ [])) refl accepted in
+    let reasons = no_reason (barred Store at.by ∷ refused_form id (view t) ∷ missing st (Put id t) ∷ conflict st at (Put id t) ∷ []) behind.0 in
     let authority = known st caller reasons.0 in
     let statements = behind.2 ∙ ap (λ o. add_each held (kept_by at.moment o (n ∷ []))) authority.1 in
     subst (λ l. IsHeldSame l n) (sym statements)
-    (whole_list at.moment authority.0 held (n ∷ []) refl (λ s is. taken_under st at.by held t id s reasons.2 is, tt) (sameness.reflexive (view t) lawful.0, tt)).0
+    (whole_list at.moment authority.0 held (n ∷ []) refl (λ s is. taken_under st at.by held t id s reasons.1.1.1.0 is, tt) (sameness.reflexive (view t) lawful.0, tt)).0
 
 pub batches_are_whole : IsSameness → BatchesAreWhole
 batches_are_whole sameness limit h caller trees clock draw small lawful accepted =
@@ -232,15 +231,15 @@ batches_are_whole sameness limit h caller trees clock draw small lawful accepted
     let held : List StoredStatement = st.statements in
     let x : Entry = next_entry st caller (Post trees) clock draw in
     let at : Occasion = occasion_of h caller trees clock draw in
-    let batch : List Named = named_batch h trees draw in
-    let behind = is_behind_it limit (end_place limit h) h x (write_said (effect st x)) (brought st at (Post trees)) refl accepted in
-    let reasons = no_reason (barred Store at.by) (refused_batch trees) (conflict st at (Post trees)) behind.0 in
+    let batch : List WithId = batch_with_ids h trees draw in
+    let behind = is_behind_it limit (end_place limit h) h x (write_said (effect st x)) (brought st at.by at.moment batch) refl accepted in
+    let reasons = no_reason (barred Store at.by ∷ refused_batch trees ∷ missing st (Post trees) ∷ conflict st at (Post trees) ∷ []) behind.0 in
     let authority = known st caller reasons.0 in
     let statements = behind.2 ∙ ap (λ o. add_each held (kept_by at.moment o batch)) authority.1 in
-    let few : length held + length trees < 2 ^ 122 = few_held held trees small in (
+    let few : length held + length trees < WORDS = few_held held trees small in (
       behind.1,
       subst (λ l. AllByRecursion (IsHeldSame l) batch) (sym statements)
-          (whole_list at.moment authority.0 held batch (batch_distinct held draw.name trees few reasons.1)
-          (taken_from st at held at.supply trees reasons.2 (batch_new held draw.name trees few))
+          (whole_list at.moment authority.0 held batch (batch_distinct held draw.name trees few reasons.1.0)
+          (taken_from st at held at.supply trees reasons.1.1.1.0 (batch_new held draw.name trees few))
           (alike_from sameness at.supply trees lawful)),
     )

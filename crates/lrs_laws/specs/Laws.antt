@@ -1,19 +1,21 @@
 -- What follows from the definitions over every history: an id names one statement, for good, a batch is kept whole, and the
 -- pages of a list give it whole.
-use Rattle.std.specs.Prelude.{◌≡◌, ◌≢◌, ◌<◌, ◌≤◌, ◌+◌, ◌^◌, ◌==◌, ℕ, List, [], ◌∷◌, ◌++◌, length, map, take, Option, Some, None, MatchOption, true, false, IsTrue}
+use Rattle.std.specs.Prelude.{◌≡◌, ◌≢◌, ◌<◌, ◌≤◌, ◌+◌, ◌==◌, ℕ, List, [], ◌∷◌, ◌++◌, length, map, take, Option, Some, None, MatchOption, true, false, IsTrue}
 use Rattle.std.specs.List.{AllByRecursion, IsDistinct}
-use Rattle.lrs_command.specs.declared.command.Area.TheVariants.{Store}
+use Rattle.lrs_record.specs.declared.entry.Area.TheVariants.{Store}
 use Rattle.lrs_command.specs.declared.command.Command.{Command}
 use Rattle.lrs_command.specs.declared.command.Command.TheVariants.{Read, Write}
 use Rattle.lrs_command.specs.declared.command.Read.TheVariants as read
 use Rattle.lrs_command.specs.declared.who.Who.{Who}
 use Rattle.lrs_history.specs.Effects.{Occasion, occasion, supply_in}
 use Rattle.lrs_history.specs.History.{Answer, answer, next_entry, only, refused, state, with_entry, IsLegal}
-use Rattle.lrs_history.specs.Refusals.{barred, command_area, refused_in, refused_batch, refused_form}
+use Rattle.lrs_history.specs.Refusals.{barred, refused_in, refused_batch, refused_form}
+use Rattle.lrs_command.specs.Areas.{command_area}
 use Rattle.lrs_history.specs.Whose.{authority_of, sight_of, who_is}
 use Rattle.lrs_json.specs.View.{view}
 use Rattle.lrs_json.specs.declared.tree.Tree.{Tree}
 use Rattle.lrs_names.specs.declared.draw.Draw.{Draw}
+use Rattle.lrs_names.specs.declared.id.TheConstants.{WORDS}
 use Rattle.lrs_parts.specs.State.{used_in}
 use Rattle.lrs_record.specs.Entries.{AreLawfulTrees, IsLawfulTree}
 use Rattle.lrs_record.specs.declared.entry.Caller.{Caller}
@@ -23,9 +25,9 @@ use Rattle.lrs_replies.specs.Texts.{ids_body}
 use Rattle.lrs_replies.specs.declared.answered.Answered.TheVariants.{Same, Shown}
 use Rattle.lrs_replies.specs.declared.answered.Refusal.{Refusal}
 use Rattle.lrs_replies.specs.declared.answered.Refusal.TheVariants.{Conflict}
-use Rattle.xapi_equal.specs.Same.{same}
+use Rattle.xapi_alike.specs.Same.{same}
 use Rattle.xapi_format.specs.declared.authority.Authority.{Authority}
-use Rattle.xapi_index.specs.Batches.{Named, given_ids, named, ids_of_named}
+use Rattle.xapi_index.specs.Batches.{WithId, given_ids, with_ids, ids_under}
 use Rattle.lrs_ids.specs.Ids.{are_distinct}
 use Rattle.xapi_pages.specs.Listings.{is_behind, listing, listing_behind, page_behind, page_body}
 use Rattle.xapi_index.specs.Statements.{held_under, ids_of, is_held, is_voided}
@@ -75,12 +77,12 @@ abbrev pub occasion_of : List Entry → Caller → List Tree → ℕ → Draw �
 occasion_of h caller trees clock draw = occasion (state h) (next_entry (state h) caller (Post trees) clock draw)
 
 -- the same statements, each with the id under which it goes
-abbrev pub named_batch : List Entry → List Tree → Draw → List Named
-named_batch h trees draw = named (supply_in (state h) (Post trees) draw) trees
+abbrev pub batch_with_ids : List Entry → List Tree → Draw → List WithId
+batch_with_ids h trees draw = with_ids (supply_in (state h) (Post trees) draw) trees
 
 -- There are fewer ids in use than can be made.
 abbrev pub IsSmall : List Entry → List Tree → Type 0
-IsSmall h trees = (used_in (state h)).count + length trees < 2 ^ 122
+IsSmall h trees = (used_in (state h)).count + length trees < WORDS
 
 -- ---- callers
 
@@ -133,7 +135,7 @@ abbrev pub BatchConflictsAreTold : Type 0
 BatchConflictsAreTold =
     (limit : ℕ) (h : List Entry) (caller : Caller) (before behind : List Tree) (t : Tree) (id : List ℕ) (clock : ℕ) (draw : Draw) → ComeTogether h caller (before ++ t ∷ behind)
     → let at = occasion_of h caller (before ++ t ∷ behind) clock draw in
-    refused_in (state h) at (state h).statements (named at.supply before) ≡ None → Contradicts (state h).statements t id
+    refused_in (state h) at (state h).statements (with_ids at.supply before) ≡ None → Contradicts (state h).statements t id
     → answer limit h caller (Write (Post (before ++ t ∷ behind))) clock draw ≡ only (refused (Conflict id))
 
 -- ---- a batch
@@ -142,15 +144,15 @@ BatchConflictsAreTold =
 abbrev pub MadeIdsAreNew : Type 0
 MadeIdsAreNew =
     (h : List Entry) (trees : List Tree) (draw : Draw) → IsSmall h trees → refused_batch trees ≡ None
-    → IsTrue (are_distinct (ids_of_named (named_batch h trees draw)))
-    × AllByRecursion (λ (n : Named). own_id (view n.tree) ≡ None → (used_in (state h)).is_used n.id ≡ false) (named_batch h trees draw)
+    → IsTrue (are_distinct (ids_under (batch_with_ids h trees draw)))
+    × AllByRecursion (λ (n : WithId). own_id (view n.tree) ≡ None → (used_in (state h)).is_used n.id ≡ false) (batch_with_ids h trees draw)
 
 -- it isn't refused
 abbrev pub IsAccepted : Answer → Type 0
 IsAccepted a = (r : Refusal) → a.said ≢ refused r
 
 -- under its id this statement is held, or the same one
-abbrev pub IsHeldSame : List StoredStatement → Named → Type 0
+abbrev pub IsHeldSame : List StoredStatement → WithId → Type 0
 IsHeldSame held n = (s : StoredStatement) × (held_under n.id held ≡ Some s) × (same (view s.received) (view n.tree) ≡ true)
 
 -- Behind a PUT that isn't refused its statement is held, or the same one.
@@ -165,7 +167,7 @@ abbrev pub BatchesAreWhole : Type 0
 BatchesAreWhole =
     (limit : ℕ) (h : List Entry) (caller : Caller) (trees : List Tree) (clock : ℕ) (draw : Draw) → IsSmall h trees → AreLawfulTrees trees
     → let a = answer limit h caller (Write (Post trees)) clock draw in IsAccepted a
-    → (a.said ≡ Shown (ids_body (ids_of_named (named_batch h trees draw))) None) × AllByRecursion (IsHeldSame (state (with_entry h a.entry)).statements) (named_batch h trees draw)
+    → (a.said ≡ Shown (ids_body (ids_under (batch_with_ids h trees draw))) None) × AllByRecursion (IsHeldSame (state (with_entry h a.entry)).statements) (batch_with_ids h trees draw)
 
 -- ---- pages
 

@@ -1,5 +1,5 @@
-//! What follows from the definitions of the abstract store over every history. Nothing runs here: each law is a clause of a
-//! function that does nothing.
+//! What follows from the definitions of the abstract store over every history. Nothing runs here: each law is a clause
+//! of a function that does nothing.
 #![tactic(auto)]
 
 mod laws;

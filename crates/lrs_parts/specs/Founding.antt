@@ -27,15 +27,15 @@ abbrev pub is_token : List ℕ → Bool
 is_token token = nat_le SHORTEST_TOKEN (length token) && nat_le (length token) LONGEST_TOKEN && list_all is_ascii_alphanumeric token
 
 -- neither ? nor #
-abbrev pub is_plain : ℕ → Bool
-is_plain b = not (b == 63) && not (b == 35)
+abbrev pub is_no_separator : ℕ → Bool
+is_no_separator b = not (b == 63) && not (b == 35)
 
 abbrev pub is_of_the_web : List ℕ → Bool
 is_of_the_web text = starts_with nat_eq text (codes "http://") || starts_with nat_eq text (codes "https://")
 
 -- what can be seen of an address without reading it as one
 abbrev pub has_base_form : List ℕ → Bool
-has_base_form text = is_of_the_web text && ends_with nat_eq text (codes "/") && list_all is_plain text && is_iri text
+has_base_form text = is_of_the_web text && ends_with nat_eq text (codes "/") && list_all is_no_separator text && is_iri text
 
 -- An address of the web that ends with a slash: http or https, an IRI, without query and fragment, and read by the URL Standard's parser.
 abbrev pub is_base : List ℕ → Bool

@@ -9,7 +9,7 @@ use Rattle.lrs_register.specs.Changes.{unchanged, with_change}
 use Rattle.lrs_register.specs.declared.change.Change.{Change}
 
 abbrev pub token_of : HeldProvider → List ℕ
-token_of caller = caller.token
+token_of provider = provider.token
 
 -- the place of the first provider with the token
 abbrev pub place_of_token : List ℕ → List HeldProvider → Option ℕ
@@ -25,7 +25,7 @@ abbrev pub unchanged_providers : ProvidersChange
 unchanged_providers = unchanged
 
 abbrev pub has_token_of : HeldProvider → HeldProvider → Bool
-has_token_of caller other = bytes_eq caller.token other.token
+has_token_of provider other = bytes_eq provider.token other.token
 
 abbrev pub providers_after : List HeldProvider → ProvidersChange → List HeldProvider
 providers_after providers change = with_change has_token_of providers change

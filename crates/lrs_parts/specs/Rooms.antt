@@ -1,4 +1,4 @@
--- Room for a change, in each part.
+-- Room for a change of the providers.
 use Rattle.std.specs.Prelude.{◌+◌, ◌<◌, ◌^◌, ℕ, List, length}
 use Rattle.std.specs.Cmp.Lexicographic.{slice_cmp}
 use Rattle.std.specs.Ordering.{nat_cmp}
@@ -8,6 +8,6 @@ use Rattle.lrs_register.specs.Changes.{HasRoomForChange}
 use Rattle.lrs_register.specs.Register.{Registered}
 
 -- for a provider more, which can still be counted
-pub record HasRoomForProviders (providers : Registered (List ℕ) HeldProvider) (change : ProvidersChange) : Type 0 where
+pub record HasRoomForProvider (providers : Registered (List ℕ) HeldProvider) (change : ProvidersChange) : Type 0 where
   pub room : HasRoomForChange (slice_cmp nat_cmp) token_of providers change
   pub few : length providers.held + 1 < 2 ^ 32

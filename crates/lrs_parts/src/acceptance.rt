@@ -1,7 +1,7 @@
 use lrs_json::{Items, Text};
 use lrs_names::Id;
 
-/// What the caller of an entry is told beside that it is kept.
+/// What is said to the caller of an entry beyond that it is kept.
 #[derive(Drop)]
 pub enum Acceptance {
     /// Nothing.

@@ -7,7 +7,7 @@ use lrs_time::Moment;
 use std::alloc::Global;
 use xapi_statement::StoredStatement;
 
-/// What an entry changes: a field for each part. Behind them its moment, and what its caller is told beside that it is kept.
+/// What an entry changes, with a field for each part; its moment; what is said to its caller beyond that it is kept.
 #[derive(Drop)]
 pub struct Effect {
     pub founding: Option<Founding>,
@@ -18,8 +18,8 @@ pub struct Effect {
 }
 
 impl Effect {
-    /// What an entry of this moment changes that changes no part.
-    pub fn none(alloc: Global, moment: Moment) -> Effect
+    /// The effect of an entry of this moment that changes no part.
+    pub fn no_change(alloc: Global, moment: Moment) -> Effect
         ensures { result ≡ no_change moment }
     {
         Effect {

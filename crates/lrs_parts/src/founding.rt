@@ -2,7 +2,7 @@
 ghost use Rattle.std.specs.Prelude.{◌≡◌, IfOk};
 ghost use Rattle.std.specs.List.{list_all};
 ghost use Rattle.std.specs.Char.{is_ascii_alphanumeric};
-ghost use Rattle.lrs_parts.specs.Founding.{is_admin, is_token, is_base, has_base_form, is_of_the_web, is_plain};
+ghost use Rattle.lrs_parts.specs.Founding.{is_admin, is_token, is_base, has_base_form, is_of_the_web, is_no_separator};
 
 use lrs_json::{Memory, Text};
 use lrs_names::Iri;
@@ -28,9 +28,9 @@ pub fn is_admin(founding: &Option<Founding>, token: &Text) -> bool
     }
 }
 
-/// How many bytes an admin's token has at least.
+/// The least length of an admin's token, in bytes.
 const SHORTEST_TOKEN: usize = 8;
-/// How many bytes an admin's token has at most.
+/// The greatest length of an admin's token, in bytes.
 const LONGEST_TOKEN: usize = 64;
 
 /// Whether a text may be an admin's token: 8 to 64 letters and digits.
@@ -71,7 +71,7 @@ fn has_base_form(text: &Text) -> bool
     ensures { result ≡ has_base_form text.now }
 {
     let bytes = text.as_bytes();
-    is_of_the_web(bytes) && bytes.ends_with(b"/") && is_plain(bytes) && Iri::is(text)
+    is_of_the_web(bytes) && bytes.ends_with(b"/") && has_no_separator(bytes) && Iri::is(text)
 }
 
 fn is_of_the_web(text: &[u8]) -> bool
@@ -80,8 +80,8 @@ fn is_of_the_web(text: &[u8]) -> bool
     text.starts_with(b"http://") || text.starts_with(b"https://")
 }
 
-fn is_plain(text: &[u8]) -> bool
-    ensures { result ≡ list_all is_plain text.now }
+fn has_no_separator(text: &[u8]) -> bool
+    ensures { result ≡ list_all is_no_separator text.now }
 {
     text.iter().all(|b| *b != b'?' && *b != b'#')
 }

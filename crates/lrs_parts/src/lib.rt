@@ -1,5 +1,6 @@
-//! What a store holds, in parts: what it was founded with, the providers, the statements; and what an entry changes in them.
-//! Each part knows its own change, and no other part. No part knows a command.
+//! What a store holds, in parts (what it was founded with, the providers, the statements), what an entry changes in
+//! them, and what is said to its caller. A part knows its own change, but no other part and no command. Begin with
+//! `effect`, then `parts`.
 #![tactic(auto)]
 
 mod acceptance;

@@ -5,7 +5,9 @@ ghost use Rattle.lrs_parts.specs.Parts.{state_of, IsReadyFor};
 ghost use Rattle.lrs_parts.specs.State.{apply, nothing};
 
 use crate::{Effect, Founding, Providers};
+use lrs_ids::UsedIds;
 use lrs_json::Memory;
+use lrs_names::Id;
 use lrs_time::Moment;
 use std::alloc::Global;
 use xapi_index::Index;
@@ -23,7 +25,7 @@ pub struct Parts {
 }
 
 impl Parts {
-    /// What no entry gives.
+    /// The parts of a store without entries.
     pub fn new(alloc: Global) -> Parts
         ensures { state_of result ≡ nothing }
     {
@@ -36,7 +38,7 @@ impl Parts {
         }
     }
 
-    /// Makes room for an effect in each part. A store whose entries can't be counted any more has none.
+    /// Makes room for an effect in each part. There is none if the entries can't be counted any more.
     pub fn ready(&mut self, effect: &Effect) -> Result<(), Memory>
         ensures same { state_of self.new ≡ state_of self.old }
         ensures ready { OnOk result (IsReadyFor self.new effect.now) }
@@ -65,6 +67,22 @@ impl Parts {
         self.statements.install(statements.into_vec());
         self.length += 1;
         self.last = moment;
+    }
+}
+
+// The ids of the statements are used.
+impl UsedIds for Parts {
+    ghost use Rattle.lrs_parts.specs.Parts.{state_of};
+    ghost use Rattle.lrs_parts.specs.State.{used_in};
+
+    ghost used = { λ parts. used_in (state_of parts) };
+
+    fn is_used(&self, id: &Id) -> bool {
+        self.statements.is_used(id)
+    }
+
+    fn count(&self) -> u128 {
+        self.statements.count()
     }
 }
 

@@ -3,7 +3,7 @@ ghost use Rattle.std.specs.Prelude.{◌≡◌, [], length, slice_get, OnOk};
 ghost use Rattle.std.specs.List.{list_all};
 ghost use Rattle.std.specs.Option.{option_copied};
 ghost use Rattle.lrs_parts.specs.Providers.{providers_after, is_name, is_name_byte, place_of_token};
-ghost use Rattle.lrs_parts.specs.Rooms.{HasRoomForProviders};
+ghost use Rattle.lrs_parts.specs.Rooms.{HasRoomForProvider};
 
 use lrs_json::{Memory, Text};
 use lrs_register::{Change, Keyed, Register};
@@ -19,7 +19,7 @@ pub struct HeldProvider {
     pub token: Text,
 }
 
-/// What an entry changes among the providers: one that it makes, and one that takes the place of the first with its token.
+/// What an entry changes among the providers: one that it makes, and one that replaces the first with its token.
 pub type ProvidersChange = Change<HeldProvider>;
 
 impl Keyed<Text> for HeldProvider {
@@ -88,10 +88,10 @@ impl Providers {
         self.list.get(place as usize)
     }
 
-    /// Makes room for a change. There is none where the providers can't be counted any more.
+    /// Makes room for a change. There is none if the providers can't be counted any more.
     pub fn ready(&mut self, change: &ProvidersChange) -> Result<(), Memory>
         ensures held { self.new.held ≡ self.old.held }
-        ensures room { OnOk result (HasRoomForProviders self.new change.now) }
+        ensures room { OnOk result (HasRoomForProvider self.new change.now) }
     {
         if self.list.len() >= u32::MAX as usize {
             return Err(Memory);
@@ -102,14 +102,14 @@ impl Providers {
 
     /// Takes a change in for which there is room. It takes no memory.
     pub fn install(&mut self, change: ProvidersChange)
-        requires { HasRoomForProviders self.old change }
+        requires { HasRoomForProvider self.old change }
         ensures { self.new.held ≡ providers_after self.old.held change }
     {
         self.list.install_change(change);
     }
 }
 
-/// How many bytes a provider's name has at most.
+/// The greatest length of a provider's name, in bytes.
 const LONGEST_NAME: usize = 64;
 
 /// Whether a text may be a provider's name: 1 to 64 letters, digits, `.` and `_`.

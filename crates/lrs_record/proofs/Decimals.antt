@@ -13,7 +13,7 @@ use Rattle.lrs_decimal.specs.Parts.{all_digits, before, begins_with, behind, beh
 use Rattle.lrs_decimal.specs.Range.{is_in_range, is_zero, is_zero_digit, significant_digits, trailing_zeros}
 use Rattle.lrs_json.specs.Fits.{Fits}
 use Rattle.lrs_json.specs.Json.{number}
-use Rattle.lrs_record.specs.Moments.{latest}
+use Rattle.lrs_time.specs.declared.moments.TheConstants.{LATEST}
 
 tells_each : IsDigitsTest (Each is_digit)
 tells_each = record {
@@ -101,7 +101,7 @@ in_range ds digits short =
     ∙ ap (λ l. passes (length ds) [] ds 0 l) left
     ∙ few_digits_pass ds short
 
-pub Fits-moment : (moment : ℕ) → moment ≤ latest → Fits (number (decimal moment))
+pub Fits-moment : (moment : ℕ) → moment ≤ LATEST → Fits (number (decimal moment))
 Fits-moment moment small =
     let fits : moment < 2 ^ 64 = omega (arith, small) in
     let digits = are_digits moment fits in

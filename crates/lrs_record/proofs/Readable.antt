@@ -20,6 +20,7 @@ use Rattle.lrs_record.proofs.Decimals.{Fits-moment}
 use Rattle.lrs_record.proofs.ManyTrees.{Fits-trees, shallow_trees}
 use Rattle.lrs_record.proofs.Words.{IsUtf8-draw_text, IsUtf8-small, are_small}
 use Rattle.lrs_record.proofs.Writes.{are_apart, well_named}
+use Rattle.lrs_record.specs.declared.reading.TheConstants.{ENTRY_DEPTH}
 
 IsUtf8-caller_text : (caller : Caller) → HoldsCaller caller → IsUtf8 (caller_text caller)
 IsUtf8-caller_text Nobody holds = IsUtf8-nil
@@ -68,7 +69,7 @@ shallow_fields (f ∷ fs) lawful = omega (arith, shallow_value f.1 lawful.0, sha
 shallow_write : (write : Write) → IsLawfulWrite write → depth (write_json write) ≤ 67
 shallow_write write lawful = omega (arith, shallow_fields (write_fields write) lawful)
 
-pub readable : (entry : Entry) → IsLawful entry → IsReadable 68 (entry_json entry)
+pub readable : (entry : Entry) → IsLawful entry → IsReadable ENTRY_DEPTH (entry_json entry)
 unfolding entry_json
 readable entry lawful =
     let values = lawful.values in (
@@ -91,6 +92,6 @@ readable entry lawful =
       omega (arith, shallow_write entry.write lawful.write),
     )
 
-pub entry_is_spelled : (entry : Entry) (bytes : List ℕ) → IsLawful entry → written_entry entry ≡ bytes → Spells 68 bytes (entry_json entry)
+pub entry_is_spelled : (entry : Entry) (bytes : List ℕ) → IsLawful entry → written_entry entry ≡ bytes → Spells ENTRY_DEPTH bytes (entry_json entry)
 unfolding written_entry
-entry_is_spelled entry bytes lawful is = subst (λ text. Spells 68 text (entry_json entry)) is (written-Spells 68 (entry_json entry) (readable entry lawful))
+entry_is_spelled entry bytes lawful is = subst (λ text. Spells ENTRY_DEPTH text (entry_json entry)) is (written-Spells ENTRY_DEPTH (entry_json entry) (readable entry lawful))

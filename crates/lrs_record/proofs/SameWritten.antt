@@ -8,7 +8,7 @@ use Rattle.lrs_json.specs.Fits.{Fits, FitElements, FitMembers}
 use Rattle.lrs_json.specs.Json.{Json, null, boolean, number, string, array, object, Elements, no_elements, element, Members, no_members, member}
 use Rattle.lrs_json.specs.Written.{comma_if, elements_text, members_text, written}
 use Rattle.lrs_json_reader.proofs.Escapes.{same_quoted}
-use Rattle.lrs_record.proofs.ValueKinds.{begins_none, elements_in, first, kind, kind_at, kind_told, members_in, of_kind, text_in, value_of}
+use Rattle.lrs_record.proofs.ValueKinds.{begins_none, elements_in, first, kind, kind_at, kind_told, members_in, of_kind, spelling_in, value_of}
 
 same_number : (a b r s : List ℕ) → IsNumber a → IsNumber b → Ends r → Ends s → a ++ r ≡ b ++ s → (a ≡ b) × (r ≡ s)
 same_number a b r s x y ends stops e =
@@ -26,10 +26,10 @@ members_end no_members r = refl
 members_end (member k j ms) r = refl
 
 -- the value of another of the same kind
-other : (k : Json) (n : ℕ) (s : List ℕ) → kind k ≡ n → written k ++ s ≡ written (value_of n (text_in k) (elements_in k) (members_in k)) ++ s
+other : (k : Json) (n : ℕ) (s : List ℕ) → kind k ≡ n → written k ++ s ≡ written (value_of n (spelling_in k) (elements_in k) (members_in k)) ++ s
 other k n s is = ap (λ z. written z ++ s) (of_kind k n is)
 
-fits_as : (k : Json) (n : ℕ) → kind k ≡ n → Fits k → Fits (value_of n (text_in k) (elements_in k) (members_in k))
+fits_as : (k : Json) (n : ℕ) → kind k ≡ n → Fits k → Fits (value_of n (spelling_in k) (elements_in k) (members_in k))
 fits_as k n is fits = subst Fits (of_kind k n is) fits
 
 same_kind : (j k : Json) (r s : List ℕ) → Fits j → Fits k → written j ++ r ≡ written k ++ s → kind k ≡ kind j
@@ -77,11 +77,11 @@ mutual
       (sym (of_kind k 2 is), cc (e ∙ other k 2 s is))
   same_written (number a) k r s x y ends stops e =
       let is = same_kind (number a) k r s x y e in
-      let parts = same_number a (text_in k) r s x.0 (fits_as k 3 is y).0 ends stops (e ∙ other k 3 s is) in
+      let parts = same_number a (spelling_in k) r s x.0 (fits_as k 3 is y).0 ends stops (e ∙ other k 3 s is) in
       (ap number parts.0 ∙ sym (of_kind k 3 is), parts.1)
   same_written (string a) k r s x y ends stops e =
       let is = same_kind (string a) k r s x y e in
-      let parts = same_quoted a (text_in k) r s (e ∙ other k 4 s is) in
+      let parts = same_quoted a (spelling_in k) r s (e ∙ other k 4 s is) in
       (ap string parts.0 ∙ sym (of_kind k 4 is), parts.1)
   same_written (array js) k r s x y ends stops e =
       let is = same_kind (array js) k r s x y e in

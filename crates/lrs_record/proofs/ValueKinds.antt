@@ -15,13 +15,13 @@ kind (string text) = 4
 kind (array js) = 5
 kind (object ms) = 6
 
-abbrev pub text_in : Json → List ℕ
-text_in null = []
-text_in (boolean b) = []
-text_in (number spelling) = spelling
-text_in (string text) = text
-text_in (array js) = []
-text_in (object ms) = []
+abbrev pub spelling_in : Json → List ℕ
+spelling_in null = []
+spelling_in (boolean b) = []
+spelling_in (number spelling) = spelling
+spelling_in (string text) = text
+spelling_in (array js) = []
+spelling_in (object ms) = []
 
 abbrev pub elements_in : Json → Elements
 elements_in null = no_elements
@@ -44,7 +44,7 @@ value_of n text js ms =
     if n == 0 then null else (if n == 1 then boolean true else (if n == 2 then boolean false else (if n == 3 then number text else (if n == 4 then string text
     else (if n == 5 then array js else object ms)))))
 
-value_again : (j : Json) → j ≡ value_of (kind j) (text_in j) (elements_in j) (members_in j)
+value_again : (j : Json) → j ≡ value_of (kind j) (spelling_in j) (elements_in j) (members_in j)
 value_again null = refl
 value_again (boolean true) = refl
 value_again (boolean false) = refl
@@ -53,8 +53,8 @@ value_again (string text) = refl
 value_again (array js) = refl
 value_again (object ms) = refl
 
-pub of_kind : (j : Json) (n : ℕ) → kind j ≡ n → j ≡ value_of n (text_in j) (elements_in j) (members_in j)
-of_kind j n is = value_again j ∙ ap (λ k. value_of k (text_in j) (elements_in j) (members_in j)) is
+pub of_kind : (j : Json) (n : ℕ) → kind j ≡ n → j ≡ value_of n (spelling_in j) (elements_in j) (members_in j)
+of_kind j n is = value_again j ∙ ap (λ k. value_of k (spelling_in j) (elements_in j) (members_in j)) is
 
 abbrev pub first : List ℕ → ℕ
 first [] = 0

@@ -10,6 +10,7 @@ use Rattle.lrs_json.specs.View.{elements_of, members_of, view}
 use Rattle.lrs_json.specs.declared.tree.Tree.{Tree, List as Many}
 use Rattle.lrs_json.proofs.Back.{back}
 use Rattle.lrs_json.proofs.Views.{view-List}
+use Rattle.lrs_json.specs.declared.limits.TheConstants.{DEPTH}
 use Rattle.lrs_names.specs.Ids.{IsId, id_text}
 use Rattle.lrs_names.proofs.IdTexts.{id_of-id_text}
 use Rattle.lrs_record.specs.Writes.{id_in, read_first, tree_in, trees_in, value_first, values_in}
@@ -18,23 +19,23 @@ use Rattle.lrs_record.proofs.SameParts.{all_parts}
 pub read_id : (id : List ℕ) → IsId id → id_in (string (id_text id)) ≡ Some id
 read_id id is = id_of-id_text id is
 
-pub read_tree : (tree : Tree) → depth (view tree) ≤ 64 → tree_in (view tree) ≡ Some tree
-read_tree tree shallow = rw (le-leb (depth (view tree)) 64 shallow, back tree) refl
+pub read_tree : (tree : Tree) → depth (view tree) ≤ DEPTH → tree_in (view tree) ≡ Some tree
+read_tree tree shallow = rw (le-leb (depth (view tree)) DEPTH shallow, back tree) refl
 
 trees_back : (trees : List Tree) → trees_of (elements_of (map view trees)) ≡ trees
 trees_back [] = refl
 trees_back (tree ∷ trees) = rw (back tree, trees_back trees) refl
 
-pub read_trees : (trees : List Tree) → depth_of_elements (elements_of (map view trees)) ≤ 64 → trees_in (array (elements_of (map view trees))) ≡ Some trees
-read_trees trees shallow = rw (le-leb (depth_of_elements (elements_of (map view trees))) 64 shallow, trees_back trees) refl
+pub read_trees : (trees : List Tree) → depth_of_elements (elements_of (map view trees)) ≤ DEPTH → trees_in (array (elements_of (map view trees))) ≡ Some trees
+read_trees trees shallow = rw (le-leb (depth_of_elements (elements_of (map view trees))) DEPTH shallow, trees_back trees) refl
 
 -- the same of the first of several values
 
-pub first_tree : (values : List Json) (tree : Tree) → Some (view tree) ≡ value_first values → depth (view tree) ≤ 64 → Some tree ≡ read_first tree_in values
+pub first_tree : (values : List Json) (tree : Tree) → Some (view tree) ≡ value_first values → depth (view tree) ≤ DEPTH → Some tree ≡ read_first tree_in values
 first_tree values tree is shallow = sym (ap (λ value. option_and_then tree_in value) (sym is) ∙ read_tree tree shallow)
 
 pub first_trees : (values : List Json) (tree : Tree) (trees : List Tree) → tree ≡ Many trees → Some (view tree) ≡ value_first values
-    → depth_of_elements (elements_of (map view trees)) ≤ 64 → Some trees ≡ read_first trees_in values
+    → depth_of_elements (elements_of (map view trees)) ≤ DEPTH → Some trees ≡ read_first trees_in values
 first_trees values tree trees kind is shallow =
     let seen : Some (view tree) ≡ Some (array (elements_of (map view trees))) = ap Some (ap view kind ∙ view-List trees) in
     sym (ap (λ value. option_and_then trees_in value) (sym is ∙ seen) ∙ read_trees trees shallow)

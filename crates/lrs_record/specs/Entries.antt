@@ -9,13 +9,14 @@ use Rattle.lrs_json.specs.Json.{Json, number, string, object}
 use Rattle.lrs_json.specs.View.{view, members_of}
 use Rattle.lrs_json.specs.Written.{written}
 use Rattle.lrs_json.specs.declared.tree.Tree.{Tree}
+use Rattle.lrs_json.specs.declared.limits.TheConstants.{DEPTH}
 use Rattle.lrs_names.specs.Ids.{IsId}
 use Rattle.lrs_names.specs.declared.draw.Draw.{Draw}
 use Rattle.lrs_record.specs.declared.entry.Caller.{Caller}
 use Rattle.lrs_record.specs.declared.entry.Caller.TheVariants.{Nobody, Operator, Token}
 use Rattle.lrs_record.specs.declared.entry.Write.{Write}
 use Rattle.lrs_record.specs.declared.entry.Entry.{Entry}
-use Rattle.lrs_record.specs.Moments.{latest}
+use Rattle.lrs_time.specs.declared.moments.TheConstants.{LATEST}
 use Rattle.lrs_record.specs.Writes.{Value, text_value, id_value, tree_value, trees_value, members_for, write_fields, write_name}
 
 -- an object of these members
@@ -53,9 +54,9 @@ IsLawfulCaller Nobody = Unit {0}
 IsLawfulCaller Operator = Unit {0}
 IsLawfulCaller (Token token) = (token ≢ []) × (token ≢ codes "*")
 
--- a tree such as reading gives, with at most 64 levels
+-- a tree such as reading gives, with at most `DEPTH` levels
 abbrev pub IsLawfulTree : Json → Type 0
-IsLawfulTree tree = IsReadable 64 tree
+IsLawfulTree tree = IsReadable DEPTH tree
 
 abbrev pub AreLawfulTrees : List Tree → Type 0
 AreLawfulTrees trees = AllByRecursion (λ tree. IsLawfulTree (view tree)) trees
@@ -94,7 +95,7 @@ HoldsDraw draw = (draw.name < 2 ^ 128) × (draw.secret < 2 ^ 128)
 pub record HasValues (entry : Entry) : Type 0 where
   pub caller : HoldsCaller entry.caller
   pub write : HoldsWrite entry.write
-  pub moment : entry.moment ≤ latest
+  pub moment : entry.moment ≤ LATEST
   pub draw : HoldsDraw entry.draw
 
 -- an entry that may be written, and is read again as itself

@@ -1,4 +1,3 @@
-pub mod Moments
 pub mod Writes
 pub mod Entries
 pub mod Widths

@@ -7,7 +7,11 @@ use Rattle.lrs_json.specs.Json.{Json, string, array}
 use Rattle.lrs_json.specs.Trees.{tree_of, trees_of}
 use Rattle.lrs_json.specs.View.{view, member_view, elements_of}
 use Rattle.lrs_json.specs.declared.tree.Tree.{Tree}
+use Rattle.lrs_json.specs.declared.limits.TheConstants.{DEPTH}
+use Rattle.lrs_names.specs.Members.{text_of}
 use Rattle.lrs_names.specs.Ids.{id_of, id_text}
+use Rattle.lrs_record.specs.declared.entry.Area.{Area}
+use Rattle.lrs_record.specs.declared.entry.Area.TheVariants.{Store, Desk}
 use Rattle.lrs_record.specs.declared.entry.Write.{Write}
 use Rattle.lrs_record.specs.declared.entry.Write.TheVariants.{Found, Provider, Put, Post}
 use Rattle.lrs_record.specs.declared.fields.Fields.{Fields}
@@ -46,20 +50,16 @@ values_left fields = values_in (map member_view (into_iter_items fields.left))
 
 -- ---- what a value is, as it is of one kind
 
-abbrev pub text_in : Json → Option (List ℕ)
-text_in (string t) = Some t
-text_in other = None
-
 abbrev pub id_in : Json → Option (List ℕ)
-id_in value = option_and_then id_of (text_in value)
+id_in value = option_and_then id_of (text_of value)
 
--- with at most 64 levels
+-- with at most `DEPTH` levels
 abbrev pub tree_in : Json → Option Tree
-tree_in value = if nat_le (depth value) 64 then Some (tree_of value) else None
+tree_in value = if nat_le (depth value) DEPTH then Some (tree_of value) else None
 
--- each with at most 64 levels
+-- each with at most `DEPTH` levels
 abbrev pub trees_in : Json → Option (List Tree)
-trees_in (array items) = if nat_le (depth_of_elements items) 64 then Some (trees_of items) else None
+trees_in (array items) = if nat_le (depth_of_elements items) DEPTH then Some (trees_of items) else None
 trees_in other = None
 
 abbrev pub value_first : List Json → Option Json
@@ -71,29 +71,36 @@ abbrev pub read_first : {A : Type 0} → (Json → Option A) → List Json → O
 read_first read values = option_and_then read (value_first values)
 
 -- what is made of the first of the values and of those behind it
-abbrev pub taken : {A : Type 0} → (Json → Option A) → List Json → (A → List Json → Option Write) → Option Write
-taken read values make = option_and_then (λ a. make a (drop 1 values)) (read_first read values)
+abbrev pub from_first : {A : Type 0} → (Json → Option A) → List Json → (A → List Json → Option Write) → Option Write
+from_first read values make = option_and_then (λ a. make a (drop 1 values)) (read_first read values)
 
 -- ---- the writes
+
+-- where a write goes, by what it asks of its caller
+abbrev pub write_area : Write → Area
+write_area (Found admin base) = Desk
+write_area (Provider name) = Desk
+write_area (Put id statement) = Store
+write_area (Post statements) = Store
 
 -- the name under which a write is kept
 abbrev pub write_name : Write → List ℕ
 write_name (Found admin base) = codes "found"
 write_name (Provider name) = codes "provider"
-write_name (Put key statement) = codes "put"
+write_name (Put id statement) = codes "put"
 write_name (Post statements) = codes "post"
 
 abbrev pub write_fields : Write → List (List ℕ × Value)
 write_fields (Found admin base) = (codes "admin", text_value admin) ∷ (codes "base", text_value base) ∷ []
 write_fields (Provider name) = (codes "name", text_value name) ∷ []
-write_fields (Put key statement) = (codes "id", id_value key) ∷ (codes "statement", tree_value statement) ∷ []
+write_fields (Put id statement) = (codes "id", id_value id) ∷ (codes "statement", tree_value statement) ∷ []
 write_fields (Post statements) = (codes "statements", trees_value statements) ∷ []
 
 -- the write of that name and of these values of fields
 abbrev pub write_of : List ℕ → List Json → Option Write
 write_of name values =
-    if bytes_eq name (codes "found") then taken text_in values (λ admin rest. taken text_in rest (λ base _. Some (Found admin base)))
-    else (if bytes_eq name (codes "provider") then taken text_in values (λ own _. Some (Provider own))
-    else (if bytes_eq name (codes "put") then taken id_in values (λ key rest. taken tree_in rest (λ statement _. Some (Put key statement)))
-    else (if bytes_eq name (codes "post") then taken trees_in values (λ statements _. Some (Post statements))
+    if bytes_eq name (codes "found") then from_first text_of values (λ admin rest. from_first text_of rest (λ base _. Some (Found admin base)))
+    else (if bytes_eq name (codes "provider") then from_first text_of values (λ own _. Some (Provider own))
+    else (if bytes_eq name (codes "put") then from_first id_in values (λ id rest. from_first tree_in rest (λ statement _. Some (Put id statement)))
+    else (if bytes_eq name (codes "post") then from_first trees_in values (λ statements _. Some (Post statements))
     else None)))

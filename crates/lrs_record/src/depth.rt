@@ -4,7 +4,7 @@ ghost use Rattle.lrs_json.specs.View.{elements_of, member_view, members_of, view
 
 use lrs_json::{Member, Tree};
 
-/// Whether the brackets of the tree nest at most so deep.
+/// Whether the brackets of the tree nest at most `levels` deep.
 #[cycle(within)]
 pub fn is_within(tree: &Tree, levels: u32) -> bool
     ensures { IsTrue result ↔ (depth (view tree.now) ≤ levels) }

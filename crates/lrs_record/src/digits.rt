@@ -17,8 +17,9 @@ pub fn draw_digits(draw: Draw) -> [u8; 64]
     digits
 }
 
+/// Writes a word as 32 lower-case hexadecimal digits.
 #[tactic(auto, unfolding(crate::specs::Entries::word_text))]
-fn put_word(word: u128, digits: &mut [u8])
+pub fn put_word(word: u128, digits: &mut [u8])
     requires { length digits.old ≡ 32 }
     ensures { digits.new ≡ word_text word }
 {

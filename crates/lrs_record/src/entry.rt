@@ -4,7 +4,7 @@ ghost use Rattle.lrs_json.specs.Fits.{Fits};
 ghost use Rattle.lrs_json.specs.View.{members_of};
 ghost use Rattle.lrs_json.specs.Written.{Extends, members_text};
 ghost use Rattle.lrs_record.specs.Entries.{HoldsCaller, HoldsWrite, IsLawfulWrite, caller_text};
-ghost use Rattle.lrs_record.specs.Writes.{members_for, values_left, write_fields, write_name, write_of};
+ghost use Rattle.lrs_record.specs.Writes.{members_for, values_left, write_area, write_fields, write_name, write_of};
 
 use crate::Moment;
 use crate::fields::{Fields, Lent, put_fields};
@@ -22,7 +22,7 @@ pub enum Caller {
     Token(Text),
 }
 
-/// A command that is kept where it is accepted.
+/// A command that is kept if it is accepted.
 #[derive(Drop)]
 pub enum Write {
     /// Begins a store: the token of its first admin, and the address under which it is reached.
@@ -33,6 +33,17 @@ pub enum Write {
     Put { id: Id, statement: Tree },
     /// Keeps statements together, each under the id that it gives itself or one that is made.
     Post { statements: Items<Tree> },
+}
+
+/// Where a request goes, by what it asks of its caller.
+#[derive(Clone, Copy, Debug, PartialEq, Eq)]
+pub enum Area {
+    /// Anyone may ask.
+    Free,
+    /// The statements: any caller that the history knows.
+    Store,
+    /// The desk: an admin.
+    Desk,
 }
 
 /// An accepted command, as the journal keeps it: with its caller, the moment at which it was accepted and what was
@@ -55,6 +66,16 @@ impl Write {
             Write::Provider { .. } => "provider",
             Write::Put { .. } => "put",
             Write::Post { .. } => "post",
+        }
+    }
+
+    /// The area of the command.
+    pub fn area(&self) -> Area
+        ensures { result ≡ write_area self.now }
+    {
+        match self {
+            Write::Put { .. } | Write::Post { .. } => Area::Store,
+            Write::Found { .. } | Write::Provider { .. } => Area::Desk,
         }
     }
 

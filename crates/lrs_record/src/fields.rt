@@ -7,17 +7,15 @@ ghost use Rattle.lrs_json.specs.Texts.{member_text};
 ghost use Rattle.lrs_json.specs.View.{elements_of, members_of, view};
 ghost use Rattle.lrs_json.specs.Written.{Extends, elements_text, members_text, written};
 ghost use Rattle.lrs_record.specs.Entries.{AreLawfulTrees, HoldsValue, IsLawfulTree};
-ghost use Rattle.lrs_record.specs.Writes.{id_in, lent, members_for, read_first, text_in, tree_in, trees_in, value_first, value_json, values_in, values_left};
+ghost use Rattle.lrs_names.specs.Members.{text_of};
+ghost use Rattle.lrs_record.specs.Writes.{id_in, lent, members_for, read_first, tree_in, trees_in, value_first, value_json, values_in, values_left};
 
 use crate::depth::{are_within, is_within};
 use crate::members::members;
 use lrs_json::appending::{put, put_comma, put_name, put_quoted, put_tree};
-use lrs_json::{Items, Member, Memory, Text, Tree, utf8_text};
+use lrs_json::{DEPTH, Items, Member, Memory, Text, Tree, utf8_text};
 use lrs_names::Id;
 use std::vec::IntoIter;
-
-/// How deep a statement may nest.
-pub const STATEMENT_DEPTH: u32 = 64;
 
 /// What a field holds, lent.
 #[derive(Clone, Copy)]
@@ -93,9 +91,9 @@ pub struct Fields {
     left: IntoIter<Member>,
 }
 
-// Each but the first takes the value of the next field, where it is of that kind.
+// Each but the first takes the value of the next field, if it is of that kind.
 impl Fields {
-    /// The members of the tree, where it is an object.
+    /// The members of the tree, if it is an object.
     pub fn of(tree: Tree) -> Option<Fields>
         requires { Fits (view tree) }
         ensures fit { IfSome result (λ left. AllByRecursion Fits (values_left left)) }
@@ -119,7 +117,7 @@ impl Fields {
 
     pub fn text(&mut self) -> Option<Text>
         requires { AllByRecursion Fits (values_left self.old) }
-        ensures is { result ≡ read_first text_in (values_left self.old) }
+        ensures is { result ≡ read_first text_of (values_left self.old) }
         ensures rest { values_left self.new ≡ drop 1 (values_left self.old) }
         ensures fit { AllByRecursion Fits (values_left self.new) }
     {
@@ -146,7 +144,7 @@ impl Fields {
         ensures lawful { IfSome result (λ tree. IsLawfulTree (view tree)) }
     {
         let tree = self.next()?;
-        if is_within(&tree, STATEMENT_DEPTH) {
+        if is_within(&tree, DEPTH) {
             Some(tree)
         } else {
             None
@@ -162,7 +160,7 @@ impl Fields {
     {
         match self.next()? {
             Tree::List(trees) => {
-                if are_within(trees.as_slice(), STATEMENT_DEPTH) {
+                if are_within(trees.as_slice(), DEPTH) {
                     Some(trees)
                 } else {
                     None

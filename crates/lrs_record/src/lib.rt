@@ -1,5 +1,6 @@
-//! The entries of the journal: accepted commands, and the text in which the journal keeps them,
-//! `{"caller":C,"moment":MS,"draw":HEX64,"command":{NAME:ARGS}}` in the written form of JSON.
+//! Callers, the writes that a store keeps, and the entries of the journal: an accepted write with its caller, moment
+//! and draw. The journal keeps an entry as `{"caller":C,"moment":MS,"draw":HEX64,"command":{NAME:ARGS}}`, in the
+//! written form of JSON.
 #![tactic(auto)]
 
 mod depth;
@@ -7,12 +8,13 @@ mod digits;
 mod entry;
 mod fields;
 mod members;
-mod parts;
+mod pieces;
 mod reading;
 mod refused;
 mod writing;
 
-pub use entry::{Caller, Entry, Write};
+pub use digits::put_word;
+pub use entry::{Area, Caller, Entry, Write};
 pub use lrs_time::Moment;
 pub use reading::read_entry;
 pub use refused::EntryRefused;

@@ -5,7 +5,7 @@ ghost use Rattle.lrs_record.specs.Widths.{width};
 
 use lrs_json::{Member, Text, Tree};
 
-/// The member of the tree, where it is an object of one.
+/// The member of the tree, if it is an object of one.
 pub fn one(tree: Tree) -> Option<Member>
     ensures found { IfSome result (λ member. view tree ≡ object (members_of (member_view member ∷ []))) }
     ensures all { width (view tree) ≡ Some 1 → IsSome result }
@@ -19,7 +19,7 @@ pub fn one(tree: Tree) -> Option<Member>
     }
 }
 
-/// The members of the tree, where it is an object of four.
+/// The members of the tree, if it is an object of four.
 pub fn four(tree: Tree) -> Option<(Member, Member, Member, Member)>
     ensures found { IfSome result (λ members. view tree ≡ object (members_of (member_view members.0
         ∷ member_view members.1 ∷ member_view members.2 ∷ member_view members.3 ∷ []))) }
@@ -35,7 +35,7 @@ pub fn four(tree: Tree) -> Option<(Member, Member, Member, Member)>
     }
 }
 
-// Takes the last two members, where there are two.
+// Takes the last two members, if there are two.
 fn last_two(members: &mut Vec<Member>) -> Option<(Member, Member)>
     ensures found { IfSome result (λ pair. members.old.items ≡ members.new.items ++ pair.0 ∷ pair.1 ∷ []) }
     ensures all { 2 ≤ vec_len members.old → IsSome result }
@@ -46,7 +46,7 @@ fn last_two(members: &mut Vec<Member>) -> Option<(Member, Member)>
     Some((first, second))
 }
 
-/// The members of the tree, where it is an object.
+/// The members of the tree, if it is an object.
 pub fn members(tree: Tree) -> Option<Vec<Member>>
     ensures found { IfSome result (λ members. view tree ≡ object (members_of (map member_view members.items))) }
     ensures all { (n : ℕ) → width (view tree) ≡ Some n → IsSome result }
@@ -58,7 +58,7 @@ pub fn members(tree: Tree) -> Option<Vec<Member>>
     }
 }
 
-/// The value of the member, where it has that name.
+/// The value of the member, if it has that name.
 pub fn named(member: Member, name: &str) -> Option<Tree>
     ensures found { IfSome result (λ value. member_view member ≡ (name.now, view value)) }
     ensures all { (value : Json) → member_view member ≡ (name.now, value) → IsSome result }
@@ -71,7 +71,7 @@ pub fn named(member: Member, name: &str) -> Option<Tree>
     }
 }
 
-/// The text that is the value of the member, where it has that name.
+/// The text that is the value of the member, if it has that name.
 pub fn text(member: Member, name: &str) -> Option<Text>
     ensures { (value : List ℕ) → member_view member ≡ (name.now, string value) → result ≡ Some value }
 {

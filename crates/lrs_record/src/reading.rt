@@ -2,24 +2,23 @@ ghost use Rattle.std.specs.Prelude.{◌≡◌, ◌↔◌, ◌⊎◌, IfOk, IsTru
 ghost use Rattle.lrs_record.specs.Entries.{IsEntryText, IsLawful, IsLawfulCaller, IsLawfulWrite, written_entry};
 ghost use Rattle.lrs_record.specs.declared.entry.Entry.{Entry as SpecEntry};
 
-use crate::fields::STATEMENT_DEPTH;
-use crate::parts::entry_of;
+use crate::pieces::entry_of;
 use crate::{Entry, EntryRefused, write_entry};
-use lrs_json::Memory;
+use lrs_json::{DEPTH, Memory};
 use lrs_json_reader::read_to;
 use std::alloc::Global;
 
 /// How deep an entry's text may nest: a statement may stand four levels down, as those of a `post` do.
-const DEPTH: u32 = STATEMENT_DEPTH + 4;
+const ENTRY_DEPTH: u32 = DEPTH + 4;
 
-/// The entry whose text the bytes are, with nothing before, between or behind.
+/// The entry whose text the bytes are, with nothing before, between or after its parts.
 pub fn read_entry(alloc: Global, bytes: &[u8]) -> Result<Entry, EntryRefused>
     ensures lawful { IfOk result IsLawful }
     ensures read { IfOk result (λ entry. written_entry entry ≡ bytes.now) }
     ensures again { (entry : SpecEntry) → IsLawful entry → written_entry entry ≡ bytes.now → MatchResult result
         (λ read. read ≡ entry) (λ refused. refused ≡ EntryRefused.Memory) }
 
-    // `BadEntry` exactly where the bytes are the text of no lawful entry.
+    // `BadEntry` exactly if the bytes are the text of no lawful entry.
     ensures bad { result ≡ Err EntryRefused.BadEntry → ¬ IsEntryText bytes.now }
     ensures always { ¬ IsEntryText bytes.now → (result ≡ Err EntryRefused.BadEntry)
         ⊎ (result ≡ Err EntryRefused.Memory) }
@@ -32,7 +31,7 @@ fn read_lawful(alloc: Global, bytes: &[u8]) -> Result<Entry, EntryRefused>
     ensures again { (entry : SpecEntry) → IsLawful entry → written_entry entry ≡ bytes.now → MatchResult result
         (λ read. read ≡ entry) (λ refused. refused ≡ EntryRefused.Memory) }
 {
-    let tree = read_to(alloc, bytes, DEPTH)?;
+    let tree = read_to(alloc, bytes, ENTRY_DEPTH)?;
     match entry_of(tree) {
         Some(entry) => match has_text(alloc, &entry, bytes) {
             Ok(true) => Ok(entry),

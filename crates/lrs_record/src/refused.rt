@@ -6,7 +6,7 @@ use lrs_json_reader::ReadRefused;
 pub enum EntryRefused {
     /// The bytes are the text of no entry.
     BadEntry,
-    /// Want of memory.
+    /// Memory ran out.
     Memory,
 }
 

@@ -4,7 +4,7 @@ ghost use Rattle.lrs_json.specs.Json.{number};
 ghost use Rattle.lrs_json.specs.Texts.{member_text};
 ghost use Rattle.lrs_json.specs.Written.{Extends};
 ghost use Rattle.lrs_record.specs.Entries.{HasValues, HoldsWrite, IsLawful, IsLawfulCaller, IsLawfulWrite, write_json, written_entry};
-ghost use Rattle.lrs_record.specs.Moments.{latest};
+ghost use Rattle.lrs_time.specs.declared.moments.TheConstants.{LATEST};
 ghost use Rattle.lrs_record.specs.declared.entry.Entry.{Entry as SpecEntry};
 
 use crate::digits::draw_digits;
@@ -13,7 +13,7 @@ use itoa::Buffer;
 use lrs_json::appending::{put, put_name, put_text};
 use lrs_json::{Memory, utf8_text};
 
-/// Appends the text of the entry, or nothing where memory runs out.
+/// Appends the text of the entry, or nothing if memory runs out.
 pub fn write_entry(entry: &Entry, into: &mut Vec<u8>) -> Result<(), Memory>
     requires caller { IsLawfulCaller entry.now.caller }
     requires write { IsLawfulWrite entry.now.write }
@@ -35,7 +35,7 @@ pub fn write_entry(entry: &Entry, into: &mut Vec<u8>) -> Result<(), Memory>
     }
 }
 
-// Each of the following appends its part of the text, and leaves what stood before where memory runs out in the middle.
+// Each of the following appends its part of the text. If memory runs out in the middle, what stood before stays.
 
 fn put_entry(entry: &Entry, into: &mut Vec<u8>) -> Result<(), Memory>
     ensures ok { OnOk result (into.new.items ≡ into.old.items ++ written_entry entry.now) }
@@ -55,7 +55,7 @@ fn put_moment(moment: Moment, into: &mut Vec<u8>) -> Result<(), Memory>
     ensures ok { OnOk result (into.new.items ≡ into.old.items
         ++ member_text true (codes "moment") (number (decimal moment))) }
     ensures kept { Extends into.old.items into.new.items }
-    ensures holds { moment ≤ latest }
+    ensures holds { moment ≤ LATEST }
 {
     let mut buffer = Buffer::new();
     let digits = buffer.format(moment.milliseconds());

@@ -138,7 +138,7 @@ fn reads_entries_back(rt: HostRuntime) -> Result<(), Fail> {
 }
 
 // What reading says of a text.
-fn verdict(alloc: Global, text: &str) -> Result<(), EntryRefused> {
+fn read(alloc: Global, text: &str) -> Result<(), EntryRefused> {
     match read_entry(alloc, text.as_bytes()) {
         Ok(entry) => {
             drop(entry);
@@ -183,7 +183,7 @@ const CHANGES: [(&str, &str); 19] = [
 fn first_let_through(alloc: Global) -> Result<Option<usize>, Fail> {
     for (i, (old, new)) in CHANGES.iter().enumerate() {
         let text = FOUNDING.replacen(alloc, *old, new, 1)?;
-        if verdict(alloc, text.as_str()) != Err(EntryRefused::BadEntry) {
+        if read(alloc, text.as_str()) != Err(EntryRefused::BadEntry) {
             return Ok(Some(i));
         }
     }
@@ -242,7 +242,7 @@ fn first_wrong_limit(alloc: Global) -> Result<Option<usize>, Fail> {
         } else {
             Err(EntryRefused::BadEntry)
         };
-        if verdict(alloc, text.as_str()) != wanted {
+        if read(alloc, text.as_str()) != wanted {
             return Ok(Some(i));
         }
     }

@@ -2,7 +2,8 @@
 use Rattle.std.specs.Prelude.{◌≡◌, ◌⊎◌, ℕ, List, [], ◌++◌, Option, Result, Ok, Err, None, codes}
 use Rattle.std.specs.Fmt.{decimal}
 use Rattle.lrs_names.specs.Ids.{id_text}
-use Rattle.lrs_command.specs.Rules.{rule_text}
+use Rattle.lrs_rules.specs.Rules.{rule_text}
+use Rattle.lrs_rules.specs.declared.rule.Rule.TheVariants as rule
 use Rattle.lrs_replies.specs.declared.answered.Answered.{Answered}
 use Rattle.lrs_replies.specs.declared.answered.Answered.TheVariants.{Kept, Same, Shown, Refused}
 use Rattle.lrs_replies.specs.declared.answered.Refusal.{Refusal}
@@ -46,7 +47,7 @@ refusal_body (Conflict id) = error_body (codes "409") (codes ",\"id\":\"" ++ id_
 refusal_body (Full need limit) = error_body (codes "507") (codes ",\"need\":" ++ decimal need ++ codes ",\"limit\":" ++ decimal limit)
 refusal_body (Broken rule) = error_body (rule_text rule) []
 refusal_body TooLong = error_body (codes "413") []
-refusal_body Unauthorized = error_body (codes "A1") []
+refusal_body Unauthorized = error_body (rule_text (rule.A 1)) []
 refusal_body (Forbidden rule) = error_body (rule_text rule) []
 refusal_body NotFound = error_body (codes "404") []
 

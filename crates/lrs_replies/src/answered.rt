@@ -1,14 +1,14 @@
-use lrs_command::Rule;
 use lrs_json::Items;
 use lrs_names::Id;
 use lrs_record::Moment;
+use lrs_rules::Rule;
 
 /// What the store says to a command.
 #[derive(Drop)]
 pub enum Answered {
-    /// The command is kept: it has its entry.
+    /// The write changed the store: it has its entry.
     Kept,
-    /// The same statement is held under that id. Nothing changes.
+    /// The write changes nothing: what it gives is held already.
     Same,
     /// What was asked for or made, as a JSON text. Of statements that were asked for also the moment up to which it is
     /// consistent.
@@ -27,7 +27,7 @@ pub enum Refusal {
     Conflict(Id),
     /// The journal's file would have more bytes than it may.
     Full { need: u64, limit: u64 },
-    /// An argument breaks a rule.
+    /// Its form breaks this rule.
     Broken(Rule),
     /// A statement's written form has too many bytes, or too many statements come together.
     TooLong,

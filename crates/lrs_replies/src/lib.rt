@@ -1,4 +1,4 @@
-//! What the store says to a command, and the replies that say it: their statuses, their bodies and the texts in them.
+//! What the store says to a command, and the reply that says it: its status, its body and the texts in it.
 #![tactic(auto)]
 
 mod answered;

@@ -7,7 +7,7 @@ use std::alloc::AllocError;
 pub enum Media {
     /// `application/json`
     Json,
-    /// The type under which a document was written; for what is to come.
+    /// A type of its own, as this text names it.
     Own(Text),
     /// There is no body.
     Empty,

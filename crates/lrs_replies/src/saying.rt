@@ -2,13 +2,13 @@
 ghost use Rattle.std.specs.Prelude.{◌≡◌, ◌++◌, [], codes, IfOk, Ok, Err};
 ghost use Rattle.std.specs.Fmt.{decimal};
 ghost use Rattle.lrs_names.specs.Ids.{id_text};
-ghost use Rattle.lrs_command.specs.Rules.{rule_text};
+ghost use Rattle.lrs_rules.specs.Rules.{rule_text};
 ghost use Rattle.lrs_replies.specs.Replies.{Says, IsReplyTo, status_of, status_in, refusal_status, refusal_body, error_body};
 
 use crate::{Answered, Body, Media, Refusal, Reply, Trouble};
-use lrs_command::Rule;
 use lrs_json::{Items, Memory};
 use lrs_names::Id;
+use lrs_rules::Rule;
 use std::alloc::Global;
 
 impl Answered {
@@ -51,7 +51,7 @@ impl Refusal {
             Refusal::Full { need, limit } => full_body(alloc, *need, *limit),
             Refusal::Broken(rule) => rule_body(alloc, *rule),
             Refusal::TooLong => error_body(alloc, b"413", &[]),
-            Refusal::Unauthorized => error_body(alloc, b"A1", &[]),
+            Refusal::Unauthorized => rule_body(alloc, Rule::A(1)),
             Refusal::Forbidden(rule) => rule_body(alloc, *rule),
             Refusal::NotFound => error_body(alloc, b"404", &[]),
         }

@@ -1,13 +1,14 @@
 // The texts that are shown: tokens, and the bodies of answers.
-ghost use Rattle.std.specs.Prelude.{◌≡◌, ◌++◌, IfOk, OnOk, IsUtf8, codes};
+ghost use Rattle.std.specs.Prelude.{◌≡◌, ◌++◌, IfOk, OnOk, codes};
 ghost use Rattle.lrs_json.specs.Written.{comma_if};
 ghost use Rattle.lrs_names.specs.Ids.{id_text};
 ghost use Rattle.lrs_record.specs.Entries.{word_text};
 ghost use Rattle.lrs_replies.specs.Texts.{token_text, provider_body, ids_body, versions_body};
 
-use hex::encode_to_slice;
-use lrs_json::{Memory, Text};
+use lrs_json::appending::put_comma;
+use lrs_json::{Memory, Text, utf8_text};
 use lrs_names::Id;
+use lrs_record::put_word;
 use std::alloc::Global;
 
 /// The token of a provider whose entry stands at that place and was drawn with that secret.
@@ -15,31 +16,18 @@ pub fn token_text(alloc: Global, place: u64, secret: u128) -> Result<Text, Memor
     ensures { IfOk result (λ token. token ≡ token_text place secret) }
 {
     let digits = digits_of(secret);
-    let digits = ascii(&digits);
+    let digits = utf8_text(&digits);
     let text = format!(in alloc; "{digits}-{place}")?;
     Text::of(alloc, text.as_str())
 }
 
 // 32 hexadecimal digits.
-#[tactic(auto, unfolding(lrs_record::specs::Entries::word_text))]
 fn digits_of(word: u128) -> [u8; 32]
     ensures { result ≡ word_text word }
 {
     let mut digits = [0; 32];
-    match encode_to_slice(word.to_be_bytes(), &mut digits) {
-        Ok(()) => digits,
-        Err(_) => unreachable!(),
-    }
-}
-
-fn ascii(bytes: &[u8]) -> &str
-    requires { IsUtf8 bytes.now }
-    ensures { result.now ≡ bytes.now }
-{
-    match str::from_utf8(bytes) {
-        Ok(text) => text,
-        Err(_) => unreachable!(),
-    }
+    put_word(word, &mut digits);
+    digits
 }
 
 /// The body that tells of a provider its place and its token.
@@ -81,15 +69,9 @@ fn put_id(body: &mut Vec<u8>, later: bool, id: &Id) -> Result<(), Memory>
     ensures { OnOk result (body.new.items
         ≡ body.old.items ++ comma_if later ++ codes "\"" ++ id_text id.now ++ codes "\"") }
 {
-    put_comma(body, later)?;
+    put_comma(later, body)?;
     body.push(b'"')?;
     body.extend_from_slice(&id.text())?;
     body.push(b'"')?;
     Ok(())
-}
-
-fn put_comma(body: &mut Vec<u8>, later: bool) -> Result<(), Memory>
-    ensures { OnOk result (body.new.items ≡ body.old.items ++ comma_if later) }
-{
-    if later { Ok(body.push(b',')?) } else { Ok(()) }
 }

@@ -16,8 +16,8 @@ use Rattle.lrs_routes.specs.declared.operation.Operation.{Operation}
 use Rattle.lrs_routes.specs.declared.table.Route.{Route}
 use Rattle.lrs_routes.proofs.Leads.{one_route}
 
-abbrev Account : Type 0
-Account = Result Asked RouteRefused
+abbrev Reading : Type 0
+Reading = Result Asked RouteRefused
 
 none_some : (operation : Operation) → ◌≡◌ {A = Option Operation} None (Some operation) → ⊥
 none_some operation e = cc e
@@ -42,7 +42,7 @@ module _ (request : Request) where
       → has_version a request.version ≡ false → has_version b request.version ≡ true → ⊥
   version_missing a b f g none is = true_false (sym (at_route (λ (r : Route). has_version r request.version ≡ true) a b f g is) ∙ none)
 
-  pub refused_alone : (e : RouteRefused) → IsRouteRefused request.path request.method request.version e → (other : Account) → IsAsked request other → Agree (Err e) other
+  pub refused_alone : (e : RouteRefused) → IsRouteRefused request.path request.method request.version e → (other : Reading) → IsAsked request other → Agree (Err e) other
   refused_alone refused.Memory h other o = inr (inl refl)
   refused_alone e h (Err refused.Memory) o = inr (inr refl)
   refused_alone refused.NoRoute h (Ok asked) o = absurd (h o.0 o.2.fits)
@@ -81,7 +81,7 @@ module _ (request : Request) where
   pub asked_alone : (asked : Asked) (route : Route) (operation : Operation) → IsRouted request.path request.method request.version route operation
       → asked.caller ≡ caller_of (row_of route).area request.credential
       → ((other : Command) → IsCommand (row_of route).area operation request other → other ≡ asked.command)
-      → (other : Account) → IsAsked request other → Agree (Ok asked) other
+      → (other : Reading) → IsAsked request other → Agree (Ok asked) other
   asked_alone asked route operation routed caller command (Ok other) o =
       inl (ap Ok (asked_is asked other route operation (record { routed = routed; caller = caller; command = command }) o))
   asked_alone asked route operation routed caller command (Err refused.NoRoute) o = absurd (o route routed.fits)
@@ -90,7 +90,7 @@ module _ (request : Request) where
   asked_alone asked route operation routed caller command (Err refused.Memory) o = inr (inr refl)
 
   -- a refusal that is handed on is an account of the request
-  pub asked_handed : (e : RouteRefused) (r : Account) → IsErrAnd r (λ own. own ≡ e) → IsRouteRefused request.path request.method request.version e → IsAsked request r
+  pub asked_handed : (e : RouteRefused) (r : Reading) → IsErrAnd r (λ own. own ≡ e) → IsRouteRefused request.path request.method request.version e → IsAsked request r
   asked_handed e (Ok asked) is h = absurd is
   asked_handed e (Err own) is h = subst (λ (x : RouteRefused). IsRouteRefused request.path request.method request.version x) (sym is) h
 

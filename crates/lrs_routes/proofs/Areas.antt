@@ -1,16 +1,16 @@
--- A request's command goes into its route's area, for whoever tells the areas of commands.
+-- A request's command goes into its route's area.
 use Rattle.std.proofs.Common.{◌≡◌, ℕ, List, [], ◌∷◌, Option, Some, None, sym, ap, ◌∙◌}
 use Rattle.std.specs.Prelude.{MatchOption}
-use Rattle.lrs_command.specs.declared.command.Area.{Area}
-use Rattle.lrs_command.specs.declared.command.Area.TheVariants.{Free, Store, Desk}
+use Rattle.lrs_record.specs.declared.entry.Area.{Area}
+use Rattle.lrs_record.specs.declared.entry.Area.TheVariants.{Free, Store, Desk}
+use Rattle.lrs_command.specs.Areas.{command_area}
 use Rattle.lrs_command.specs.declared.command.Command.{Command}
 use Rattle.lrs_command.specs.declared.command.Command.TheVariants as command
 use Rattle.lrs_command.specs.declared.command.Read.TheVariants as read
-use Rattle.lrs_command.specs.declared.rule.Rule.{Rule}
+use Rattle.lrs_rules.specs.declared.rule.Rule.{Rule}
 use Rattle.lrs_http.specs.declared.request.Method.{Method}
 use Rattle.lrs_http.specs.declared.request.Method.TheVariants.{Get, Put, Post, Delete, Other}
 use Rattle.lrs_http.specs.declared.request.Request.{Request}
-use Rattle.lrs_json.specs.declared.tree.Tree.{Tree}
 use Rattle.lrs_record.specs.declared.entry.Write.TheVariants as write
 use Rattle.lrs_routes.specs.Asked.{IsCommandOf, IsRoutedAs, operation_at}
 use Rattle.lrs_routes.specs.Forms.{Means}
@@ -23,20 +23,8 @@ use Rattle.lrs_routes.specs.declared.table.Route.{Route}
 use Rattle.lrs_routes.specs.declared.table.Route.TheVariants as route
 use Rattle.lrs_routes.specs.declared.values.BodyValue.{BodyValue}
 use Rattle.lrs_routes.specs.declared.values.BodyValue.TheVariants as body
-use Rattle.lrs_routes.specs.declared.values.QueryValue.{QueryValue}
-use Rattle.lrs_routes.specs.declared.values.QueryValue.TheVariants as query
-use Rattle.xapi_query.specs.declared.link.MoreLink.{MoreLink}
-use Rattle.xapi_query.specs.declared.wanted.Wanted.{Wanted}
-
--- the areas of the commands that requests make
-pub record TellsAreas (goes : Command → Area) : Type 0 where
-  pub about : goes (command.Read read.About) ≡ Free
-  pub wanted : (w : Wanted) → goes (command.Read (read.Statements w)) ≡ Store
-  pub more : (l : MoreLink) → goes (command.Read (read.More l)) ≡ Store
-  pub post : (ts : List Tree) → goes (command.Write (write.Post ts)) ≡ Store
-  pub put : (id : List ℕ) (t : Tree) → goes (command.Write (write.Put id t)) ≡ Store
-  pub provider : (name : List ℕ) → goes (command.Write (write.Provider name)) ≡ Desk
-  pub refused : (area : Area) (status : ℕ) (rule : Rule) → goes (command.Refused area status rule) ≡ area
+use Rattle.lrs_routes.specs.declared.values.ParameterValue.{ParameterValue}
+use Rattle.lrs_routes.specs.declared.values.ParameterValue.TheVariants as parameter
 
 none_some : {X : Type 0} (x : X) → None ≡ Some x → ⊥
 none_some x e = cc e
@@ -54,8 +42,8 @@ same_area : (x o : Operation) → Some x ≡ Some o → area_at o ≡ area_at x
 same_area x o e = ap area_at (sym (some_same x o e))
 
 route_area : (r : Route) (m : Method) (o : Operation) → operation_at r m ≡ Some o → area_at o ≡ (row_of r).area
-route_area route.Callers Post o e = same_area operation.MakeProvider o e
-route_area route.Callers m o e = absurd (none_some o e)
+route_area route.Providers Post o e = same_area operation.MakeProvider o e
+route_area route.Providers m o e = absurd (none_some o e)
 route_area route.About Get o e = same_area operation.TellVersions o e
 route_area route.About m o e = absurd (none_some o e)
 route_area route.MoreStatements Get o e = same_area operation.GetMoreStatements o e
@@ -65,28 +53,28 @@ route_area route.Statements Post o e = same_area operation.PostStatements o e
 route_area route.Statements Put o e = same_area operation.PutStatement o e
 route_area route.Statements m o e = absurd (none_some o e)
 
-module _ (goes : Command → Area) (tells : TellsAreas goes) where
-  found : (x c : Command) → Some x ≡ Some c → goes c ≡ goes x
-  found x c e = ap goes (sym (some_same x c e))
+found : (x c : Command) → Some x ≡ Some c → command_area c ≡ command_area x
+found x c e = ap command_area (sym (some_same x c e))
 
-  command_at : (o : Operation) (q : QueryValue) (b : BodyValue) (c : Command) → command_of o q b ≡ Some c → goes c ≡ area_at o
-  command_at operation.TellVersions q b c e = found (command.Read read.About) c e ∙ tells.about
-  command_at operation.GetStatements (query.Wanted wanted) b c e = found (command.Read (read.Statements wanted)) c e ∙ tells.wanted wanted
-  command_at operation.GetStatements q b c e = absurd (none_some c e)
-  command_at operation.GetMoreStatements (query.Link link) b c e = found (command.Read (read.More link)) c e ∙ tells.more link
-  command_at operation.GetMoreStatements q b c e = absurd (none_some c e)
-  command_at operation.PostStatements q (body.Statements statements) c e = found (command.Write (write.Post statements)) c e ∙ tells.post statements
-  command_at operation.PostStatements q b c e = absurd (none_some c e)
-  command_at operation.PutStatement (query.Id id) (body.Statement statement) c e = found (command.Write (write.Put id statement)) c e ∙ tells.put id statement
-  command_at operation.PutStatement q b c e = absurd (none_some c e)
-  command_at operation.MakeProvider q (body.Strings (name ∷ [])) c e = found (command.Write (write.Provider name)) c e ∙ tells.provider name
-  command_at operation.MakeProvider q b c e = absurd (none_some c e)
+command_at : (o : Operation) (q : ParameterValue) (b : BodyValue) (c : Command) → command_of o q b ≡ Some c → command_area c ≡ area_at o
+command_at operation.TellVersions q b c e = found (command.Read read.About) c e
+command_at operation.GetStatements (parameter.Wanted wanted) b c e = found (command.Read (read.Statements wanted)) c e
+command_at operation.GetStatements q b c e = absurd (none_some c e)
+command_at operation.GetMoreStatements (parameter.Link link) b c e = found (command.Read (read.More link)) c e
+command_at operation.GetMoreStatements q b c e = absurd (none_some c e)
+command_at operation.PostStatements q (body.Statements statements) c e = found (command.Write (write.Post statements)) c e
+command_at operation.PostStatements q b c e = absurd (none_some c e)
+command_at operation.PutStatement (parameter.Id id) (body.Statement statement) c e = found (command.Write (write.Put id statement)) c e
+command_at operation.PutStatement q b c e = absurd (none_some c e)
+command_at operation.MakeProvider q (body.Strings (name ∷ [])) c e = found (command.Write (write.Provider name)) c e
+command_at operation.MakeProvider q b c e = absurd (none_some c e)
 
-  by_broken : (area : Area) (o : Operation) (request : Request) (c : Command) (broken : Option Rule) → area_at o ≡ area
-      → MatchOption broken (Means o request c) (λ r. c ≡ command.Refused area 400 r) → goes c ≡ area
-  by_broken area o request c None is means = command_at o means.0 means.1 c means.4 ∙ is
-  by_broken area o request c (Some r) is refused = ap goes refused ∙ tells.refused area 400 r
+by_broken : (area : Area) (o : Operation) (request : Request) (c : Command) (broken : Option Rule) → area_at o ≡ area
+    → MatchOption broken (Means o request c) (λ r. c ≡ command.Refused area 400 r) → command_area c ≡ area
+by_broken area o request c None is means = command_at o means.0 means.1 c means.4 ∙ is
+by_broken area o request c (Some r) is refused = ap command_area refused
 
-  pub goes_there : (request : Request) (routed : Routed) (c : Command) → IsRoutedAs request routed → IsCommandOf request routed c → goes c ≡ routed.area
-  goes_there request routed c h is =
-      by_broken routed.area routed.operation request c is.0 (route_area h.route request.method routed.operation h.is.is ∙ sym h.area) is.2
+-- a request's command is one of its route's area
+pub goes_there : (request : Request) (routed : Routed) (c : Command) → IsRoutedAs request routed → IsCommandOf request routed c → command_area c ≡ routed.area
+goes_there request routed c h is =
+    by_broken routed.area routed.operation request c is.0 (route_area h.route request.method routed.operation h.is.is ∙ sym h.area) is.2

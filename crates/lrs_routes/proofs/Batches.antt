@@ -6,6 +6,7 @@ use Rattle.lrs_json.specs.Json.{Json, null, boolean, number, string, array, obje
 use Rattle.lrs_json.specs.View.{view, elements_of}
 use Rattle.lrs_json.specs.declared.tree.Tree.{Tree}
 use Rattle.lrs_json.proofs.Back.{same_tree}
+use Rattle.lrs_json.specs.declared.limits.TheConstants.{DEPTH}
 use Rattle.lrs_record.specs.Entries.{AreLawfulTrees}
 use Rattle.lrs_routes.specs.Operations.{batch_of}
 
@@ -18,12 +19,12 @@ same_trees (t ∷ ts) (u ∷ us) e =
     let rest : elements_of (map view ts) ≡ elements_of (map view us) = cc e in
     cc (same_tree t u first, same_trees ts us rest)
 
-lawful_elements : (ts : List Tree) → FitElements (elements_of (map view ts)) → depth_of_elements (elements_of (map view ts)) ≤ 64 → AreLawfulTrees ts
+lawful_elements : (ts : List Tree) → FitElements (elements_of (map view ts)) → depth_of_elements (elements_of (map view ts)) ≤ DEPTH → AreLawfulTrees ts
 lawful_elements [] fit shallow = tt
 lawful_elements (t ∷ ts) fit shallow = ((fit.0, omega (arith, shallow)), lawful_elements ts fit.1 (omega (arith, shallow)))
 
 -- a batch is no deeper than its body
-batch_fits : (j : Json) → IsReadable 64 j → FitElements (batch_of j) × (depth_of_elements (batch_of j) ≤ 64)
+batch_fits : (j : Json) → IsReadable DEPTH j → FitElements (batch_of j) × (depth_of_elements (batch_of j) ≤ DEPTH)
 batch_fits null h = ((h.0, tt), omega arith)
 batch_fits (boolean b) h = ((h.0, tt), omega arith)
 batch_fits (number s) h = ((h.0, tt), omega arith)
@@ -31,7 +32,7 @@ batch_fits (string s) h = ((h.0, tt), omega arith)
 batch_fits (array js) h = (h.0, omega (arith, h.1))
 batch_fits (object ms) h = ((h.0, tt), omega (arith, h.1))
 
-pub lawful_batch : (j : Json) (ts : List Tree) → IsReadable 64 j → elements_of (map view ts) ≡ batch_of j → AreLawfulTrees ts
+pub lawful_batch : (j : Json) (ts : List Tree) → IsReadable DEPTH j → elements_of (map view ts) ≡ batch_of j → AreLawfulTrees ts
 lawful_batch j ts h e =
     let fits = batch_fits j h in
-    lawful_elements ts (subst FitElements (sym e) fits.0) (subst (λ (js : Elements). depth_of_elements js ≤ 64) (sym e) fits.1)
+    lawful_elements ts (subst FitElements (sym e) fits.0) (subst (λ (js : Elements). depth_of_elements js ≤ DEPTH) (sym e) fits.1)

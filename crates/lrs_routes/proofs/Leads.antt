@@ -1,8 +1,10 @@
 -- The route that the router finds is the one that the path fits.
-use Rattle.std.proofs.Common.{◌≡◌, ◌⊎◌, ℕ, Bool, true, false, List, [], ◌∷◌, length, map, Some, None, refl, sym, ap, ◌∙◌, subst, inl, inr, arith}
-use Rattle.std.specs.Prelude.{◌==◌, ltb, ◌&&◌, ◌||◌, not, slice_index, drop}
+use Rattle.std.proofs.Common.{◌≡◌, ◌⊎◌, ℕ, Bool, true, false, List, [], ◌∷◌, length, map, Option, Some, None, refl, sym, ap, ◌∙◌, subst, inl, inr, arith}
+use Rattle.std.specs.Prelude.{◌==◌, ltb, ◌&&◌, ◌||◌, not, slice_index, drop, if◌then◌else◌}
+use Rattle.std.specs.Str.{bytes_eq}
 use Rattle.std.proofs.lemmas.Bool.{false≢true, and_parts}
 use Rattle.std.proofs.lemmas.Bool.Decides.{nat_tests}
+use Rattle.std.proofs.lemmas.Slice.Eq.{bytes_eq-Decides}
 use Rattle.matchit.specs.Rows.{RowsOf}
 use Rattle.matchit.specs.Router.{RouteOf}
 use Rattle.matchit.specs.Seek.{first}
@@ -46,12 +48,26 @@ pattern_is (r ∷ ks) t k h = elim h [
   | inr later ↦ pattern_is ks t k later
 ]
 
--- each route is in the table
+-- the first of these routes that has this pattern
+abbrev with_pattern : List ℕ → List Route → Option Route
+with_pattern t [] = None
+with_pattern t (r ∷ ks) = if bytes_eq (row_of r).pattern t then Some r else with_pattern t ks
+
+has_found : (ks : List Route) (t : List ℕ) (k : Route) → with_pattern t ks ≡ Some k → Has (map (λ (r : Route). ((row_of r).pattern, r)) ks) t k
+has_found [] t k is = cc is
+has_found (r ∷ ks) t k is = by_test (bytes_eq (row_of r).pattern t) refl is (λ later. has_found ks t k later)
+  where
+    by_test : (b : Bool) → bytes_eq (row_of r).pattern t ≡ b → (if b then Some r else with_pattern t ks) ≡ Some k
+        → (with_pattern t ks ≡ Some k → Has (map (λ (r : Route). ((row_of r).pattern, r)) ks) t k) → Has (map (λ (r : Route). ((row_of r).pattern, r)) (r ∷ ks)) t k
+    by_test true same is more = inl ((bytes_eq-Decides (row_of r).pattern t).0 same, cc is)
+    by_test false other is more = inr (more is)
+
+-- each route is in the table, wherever it stands there
 in_table : (k : Route) → Has patterns (row_of k).pattern k
-in_table route.Callers = inl (refl, refl)
-in_table route.About = inr (inl (refl, refl))
-in_table route.MoreStatements = inr (inr (inl (refl, refl)))
-in_table route.Statements = inr (inr (inr (inl (refl, refl))))
+in_table route.Providers = has_found routes (row_of route.Providers).pattern route.Providers refl
+in_table route.About = has_found routes (row_of route.About).pattern route.About refl
+in_table route.MoreStatements = has_found routes (row_of route.MoreStatements).pattern route.MoreStatements refl
+in_table route.Statements = has_found routes (row_of route.Statements).pattern route.Statements refl
 
 abbrev ends_part : List ℕ → Bool
 ends_part [] = true
@@ -73,7 +89,7 @@ neat_from (x ∷ t) e =
     (λ is. part_ends t (grind (arith, nat_tests, parts.0, is)), λ is. grind (arith, nat_tests, more.0, is), neat_from t more.1)
 
 neat_route : (k : Route) → Neat (row_of k).pattern
-neat_route route.Callers = neat_from (row_of route.Callers).pattern refl
+neat_route route.Providers = neat_from (row_of route.Providers).pattern refl
 neat_route route.About = neat_from (row_of route.About).pattern refl
 neat_route route.MoreStatements = neat_from (row_of route.MoreStatements).pattern refl
 neat_route route.Statements = neat_from (row_of route.Statements).pattern refl

@@ -5,39 +5,40 @@ use Rattle.std.proofs.lemmas.Bool.{false≢true}
 use Rattle.std.proofs.lemmas.Bool.Decides.{nat_tests}
 use Rattle.lrs_http.specs.declared.request.Request.{Request}
 use Rattle.lrs_json.specs.Depth.{depth}
-use Rattle.lrs_json_reader.specs.Faults.{earlier, earliest, out_of_range_numbers, repeated_names}
+use Rattle.lrs_json_reader.specs.Flaws.{earlier, earliest, out_of_range_numbers, repeated_names}
 use Rattle.lrs_json_reader.specs.Grammar.{IsText}
 use Rattle.lrs_json.specs.Json.{Json}
 use Rattle.lrs_json_reader.specs.Placed.{Placed, plain}
 use Rattle.lrs_json_reader.specs.Refusals.{Spells, is_too_deep}
 use Rattle.lrs_json.specs.View.{view}
 use Rattle.lrs_json.proofs.Back.{same_tree}
+use Rattle.lrs_json.specs.declared.limits.TheConstants.{DEPTH}
 use Rattle.lrs_json_reader.proofs.Scan.{shallow-scan}
 use Rattle.lrs_names.specs.Members.{text_under}
-use Rattle.lrs_command.specs.Rules.{BreaksJson}
+use Rattle.lrs_rules.specs.Rules.{BreaksJson}
 use Rattle.lrs_command.specs.declared.command.Command.{Command}
 use Rattle.lrs_command.specs.declared.command.Command.TheVariants as command
-use Rattle.lrs_command.specs.declared.command.Area.{Area}
-use Rattle.lrs_command.specs.declared.rule.Rule.{Rule}
+use Rattle.lrs_record.specs.declared.entry.Area.{Area}
+use Rattle.lrs_rules.specs.declared.rule.Rule.{Rule}
 use Rattle.xapi_parameters.specs.Parameters.{LeastOfGet, LeastOfLink, LeastOfPut}
 use Rattle.xapi_parameters.specs.declared.pair.Pair.{Pair}
 use Rattle.xapi_parameters.proofs.Least.{get_once, link_once, put_once}
 use Rattle.xapi_parameters.proofs.LinkAlone.{links_alone}
 use Rattle.lrs_routes.specs.Asked.{Agree, IsAsked}
-use Rattle.lrs_command.specs.declared.rule.Rule.TheVariants as rule
+use Rattle.lrs_rules.specs.declared.rule.Rule.TheVariants as rule
 use Rattle.lrs_routes.specs.Fields.{allows_json}
-use Rattle.lrs_routes.specs.Forms.{AreStrings, BodyBreaks, FirstBroken, Given, IsCommand, LeastOfNone, Means, QueryBreaks, Spelled, StatementBody, Tested, first_unlike, has_just, parameters_of}
-use Rattle.lrs_routes.specs.Operations.{BodyForm, any_body, statement_body, statements_body, strings_body, QueryForm, any_query, no_query, query_of_get, query_of_link, query_of_put, IsBodyValue, IsQueryValue, batch_of, command_of, form_of, names_of}
+use Rattle.lrs_routes.specs.Forms.{AreStrings, BodyBreaks, FirstBroken, Decoded, IsCommand, LeastOfNone, Means, ParametersBreak, Spelled, StatementBody, Tested, first_unlike, has_just, parameters_of}
+use Rattle.lrs_routes.specs.Operations.{BodyForm, any_body, statement_body, statements_body, strings_body, ParameterForm, any_parameters, no_parameters, parameters_of_get, parameters_of_link, parameters_of_put, IsBodyValue, IsParameterValue, batch_of, command_of, form_of, names_of}
 use Rattle.lrs_routes.specs.declared.asked.Asked.{Asked}
 use Rattle.lrs_routes.specs.declared.asked.RouteRefused.{RouteRefused}
 use Rattle.lrs_routes.specs.declared.operation.Operation.{Operation}
 use Rattle.lrs_routes.specs.declared.values.BodyValue.{BodyValue}
 use Rattle.lrs_routes.specs.declared.values.BodyValue.TheVariants as body
-use Rattle.lrs_routes.specs.declared.values.QueryValue.{QueryValue}
-use Rattle.lrs_routes.specs.declared.values.QueryValue.TheVariants as query
+use Rattle.lrs_routes.specs.declared.values.ParameterValue.{ParameterValue}
+use Rattle.lrs_routes.specs.declared.values.ParameterValue.TheVariants as parameter
 use Rattle.lrs_routes.proofs.Alone.{asked_alone, refused_alone}
 use Rattle.lrs_routes.proofs.Batches.{same_trees}
-use Rattle.lrs_routes.proofs.OneWanted.{given_least, wanted_once}
+use Rattle.lrs_routes.proofs.OneWanted.{decoded_least, wanted_once}
 use Rattle.xapi_parameters.proofs.OneJson.{one_json}
 
 -- a JSON text spells one value, each of its parts at one place
@@ -58,13 +59,13 @@ no_earliest : (places : List ℕ) (left : ℕ) → places ≡ [] → earliest pl
 no_earliest places left e s = none_some left (sym (ap earliest e) ∙ s)
 
 module _ (one : OneJson) (bytes : List ℕ) where
-  one_value : (j k : Json) → Spells 64 bytes j → Spells 64 bytes k → j ≡ k
+  one_value : (j k : Json) → Spells DEPTH bytes j → Spells DEPTH bytes k → j ≡ k
   one_value j k a b = sym a.is ∙ ap plain (one bytes a.placed b.placed a.spelled b.spelled) ∙ b.is
 
-  not_deep : (j : Json) → Spells 64 bytes j → is_too_deep 64 bytes ≡ false
-  not_deep j s = shallow-scan 64 bytes s.placed s.spelled (subst (λ (k : Json). depth k ≤ 64) (sym s.is) s.shallow)
+  not_deep : (j : Json) → Spells DEPTH bytes j → is_too_deep DEPTH bytes ≡ false
+  not_deep j s = shallow-scan DEPTH bytes s.placed s.spelled (subst (λ (k : Json). depth k ≤ DEPTH) (sym s.is) s.shallow)
 
-  spelled_unbroken : (j : Json) (r : Rule) → Spells 64 bytes j → BreaksJson bytes r → ⊥
+  spelled_unbroken : (j : Json) (r : Rule) → Spells DEPTH bytes j → BreaksJson bytes r → ⊥
   spelled_unbroken j r s h = elim h [
     | inl deep ↦ false≢true (sym (not_deep j s) ∙ deep.1)
     | inr later ↦ elim later [
@@ -151,8 +152,8 @@ module _ (own : Option ℕ → List Pair → Type 0) (pairs : List Pair) (least 
   obeyed_once a b (Some m) None e once h k = absurd (none_some m (sym e))
   obeyed_once a b (Some m) (Some n) e once h k = let same : m ≡ n = cc e in h ∙ ap (λ (i : ℕ). Some (rule.P i)) same ∙ sym k
 
-  given_once : (a b : Broken) → (next a → next b → a ≡ b) → Given own pairs a (next a) → Given own pairs b (next b) → a ≡ b
-  given_once a b once h k = elim h [
+  decoded_once : (a b : Broken) → (next a → next b → a ≡ b) → Decoded own pairs a (next a) → Decoded own pairs b (next b) → a ≡ b
+  decoded_once a b once h k = elim h [
     | inl x ↦ elim k [
       | inl y ↦ obeyed_once a b x.1.0 y.1.0 (least x.1.0 y.1.0 x.1.1 y.1.1) once x.1.2 y.1.2
       | inr y ↦ absurd (y.0 x.0)
@@ -193,17 +194,17 @@ body_once one (strings_body members) request a b h k =
     spelled_once one request.body (λ j x. AreStrings members j x) a b (λ j. strings_once members j a b) h k
 
 -- the parameters tell one rule, where what stands behind does
-query_once : (form : QueryForm) (pairs : List Pair) (next : Broken → Type 0) (a b : Broken) → (next a → next b → a ≡ b)
-    → QueryBreaks form pairs a (next a) → QueryBreaks form pairs b (next b) → a ≡ b
-query_once any_query pairs next a b once h k = once h k
-query_once no_query pairs next a b once h k = given_once LeastOfNone pairs (none_once pairs) next a b once h k
-query_once query_of_get pairs next a b once h k = given_once LeastOfGet pairs (get_once pairs) next a b once h k
-query_once query_of_link pairs next a b once h k = given_once LeastOfLink pairs (link_once pairs) next a b once h k
-query_once query_of_put pairs next a b once h k = given_once LeastOfPut pairs (put_once pairs) next a b once h k
+parameters_once : (form : ParameterForm) (pairs : List Pair) (next : Broken → Type 0) (a b : Broken) → (next a → next b → a ≡ b)
+    → ParametersBreak form pairs a (next a) → ParametersBreak form pairs b (next b) → a ≡ b
+parameters_once any_parameters pairs next a b once h k = once h k
+parameters_once no_parameters pairs next a b once h k = decoded_once LeastOfNone pairs (none_once pairs) next a b once h k
+parameters_once parameters_of_get pairs next a b once h k = decoded_once LeastOfGet pairs (get_once pairs) next a b once h k
+parameters_once parameters_of_link pairs next a b once h k = decoded_once LeastOfLink pairs (link_once pairs) next a b once h k
+parameters_once parameters_of_put pairs next a b once h k = decoded_once LeastOfPut pairs (put_once pairs) next a b once h k
 
 first_once : OneJson → (o : Operation) (request : Request) (a b : Broken) → FirstBroken o request a → FirstBroken o request b → a ≡ b
 first_once one o request a b h k =
-    query_once (form_of o).query (parameters_of request.query) (λ x. BodyBreaks (form_of o).body request x) a b
+    parameters_once (form_of o).parameters (parameters_of request.query) (λ x. BodyBreaks (form_of o).body request x) a b
     (λ s t. body_once one (form_of o).body request a b s t) h k
 
 some_same : {A : Type 0} (a b : A) → Some a ≡ Some b → a ≡ b
@@ -219,13 +220,13 @@ some_texts (t ∷ ts) (u ∷ us) e =
     cc (first, some_texts ts us rest)
 
 -- parameters that break no rule give one value
-query_value_once : (form : QueryForm) (pairs : List Pair) (next : Type 0) (a b : QueryValue) → QueryBreaks form pairs None next → IsQueryValue form pairs a → IsQueryValue form pairs b → a ≡ b
-query_value_once any_query pairs next a b unbroken h k = h ∙ sym k
-query_value_once no_query pairs next a b unbroken h k = h ∙ sym k
-query_value_once query_of_get pairs next a b unbroken h k =
-    h.2 ∙ ap query.Wanted (wanted_once pairs (given_least pairs next unbroken) h.0 k.0 h.1 k.1) ∙ sym k.2
-query_value_once query_of_link pairs next a b unbroken h k = h.2 ∙ ap query.Link (links_alone pairs h.0 k.0 h.1 k.1) ∙ sym k.2
-query_value_once query_of_put pairs next a b unbroken h k = h.2 ∙ ap query.Id (some_same h.0 k.0 (sym h.1 ∙ k.1)) ∙ sym k.2
+parameter_value_once : (form : ParameterForm) (pairs : List Pair) (next : Type 0) (a b : ParameterValue) → ParametersBreak form pairs None next → IsParameterValue form pairs a → IsParameterValue form pairs b → a ≡ b
+parameter_value_once any_parameters pairs next a b unbroken h k = h ∙ sym k
+parameter_value_once no_parameters pairs next a b unbroken h k = h ∙ sym k
+parameter_value_once parameters_of_get pairs next a b unbroken h k =
+    h.2 ∙ ap parameter.Wanted (wanted_once pairs (decoded_least pairs next unbroken) h.0 k.0 h.1 k.1) ∙ sym k.2
+parameter_value_once parameters_of_link pairs next a b unbroken h k = h.2 ∙ ap parameter.Link (links_alone pairs h.0 k.0 h.1 k.1) ∙ sym k.2
+parameter_value_once parameters_of_put pairs next a b unbroken h k = h.2 ∙ ap parameter.Id (some_same h.0 k.0 (sym h.1 ∙ k.1)) ∙ sym k.2
 
 -- a body gives one value
 body_value_once : OneJson → (form : BodyForm) (bytes : List ℕ) (a b : BodyValue) → IsBodyValue form bytes a → IsBodyValue form bytes b → a ≡ b
@@ -246,7 +247,7 @@ body_value_once one (strings_body members) bytes a b h k =
 means_once : OneJson → (o : Operation) (request : Request) (c d : Command) → FirstBroken o request None → Means o request c → Means o request d → c ≡ d
 means_once one o request c d unbroken h k =
     let pairs = parameters_of request.query in
-    let queries : h.0 ≡ k.0 = query_value_once (form_of o).query pairs (BodyBreaks (form_of o).body request None) h.0 k.0 unbroken h.2 k.2 in
+    let queries : h.0 ≡ k.0 = parameter_value_once (form_of o).parameters pairs (BodyBreaks (form_of o).body request None) h.0 k.0 unbroken h.2 k.2 in
     let bodies : h.1 ≡ k.1 = body_value_once one (form_of o).body request.body h.1 k.1 h.3 k.3 in
     let commands : command_of o h.0 h.1 ≡ command_of o k.0 k.1 = λ i. command_of o (queries i) (bodies i) in
     some_same c d (sym h.4 ∙ commands ∙ k.4)

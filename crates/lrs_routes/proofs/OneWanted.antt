@@ -2,7 +2,7 @@
 use Rattle.std.proofs.Common.{◌≡◌, ℕ, Bool, true, false, List, Option, Some, None, refl, sym, ap, ◌∙◌, inl, inr}
 use Rattle.std.specs.Prelude.{◌&&◌, ◌||◌, not, is_some, option_and_then, codes, MatchOption}
 use Rattle.lrs_names.specs.Ids.{id_of}
-use Rattle.lrs_command.specs.declared.rule.Rule.{Rule}
+use Rattle.lrs_rules.specs.declared.rule.Rule.{Rule}
 use Rattle.xapi_parameters.specs.Parameters.{LeastOfGet, are_among, given, has, number_under, one_names}
 use Rattle.xapi_parameters.specs.Queries.{IsQuery, id_under}
 use Rattle.xapi_parameters.specs.Wants.{IsWanted}
@@ -12,8 +12,8 @@ use Rattle.xapi_query.specs.declared.wanted.Wanted.{Wanted}
 use Rattle.xapi_query.specs.declared.wanted.Wanted.TheVariants.{One, Voided, Many}
 use Rattle.xapi_query.specs.declared.query.Query.{Query}
 use Rattle.xapi_parameters.proofs.LinkAlone.{links_alone}
-use Rattle.lrs_command.specs.declared.rule.Rule.TheVariants as rule
-use Rattle.lrs_routes.specs.Forms.{Given}
+use Rattle.lrs_rules.specs.declared.rule.Rule.TheVariants as rule
+use Rattle.lrs_routes.specs.Forms.{Decoded}
 
 id_given : (value : Option (List ℕ)) (id : List ℕ) → option_and_then id_of value ≡ Some id → is_some value ≡ true
 id_given None id e = cc e
@@ -56,8 +56,8 @@ voided_not_many pairs id h none = none_second (has (codes "statementId") pairs) 
 abbrev link_of : List Pair → Query → MoreLink
 link_of pairs query = record { query = query; asof = number_under (codes "asof") pairs; after = number_under (codes "after") pairs }
 
-query_once : (pairs : List Pair) (a b : Query) → IsQuery pairs a → IsQuery pairs b → a ≡ b
-query_once pairs a b h k =
+parameters_once : (pairs : List Pair) (a b : Query) → IsQuery pairs a → IsQuery pairs b → a ≡ b
+parameters_once pairs a b h k =
     let links : link_of pairs a ≡ link_of pairs b = links_alone pairs (link_of pairs a) (link_of pairs b)
     (record { query_is = h; asof_is = refl; after_is = refl }) (record { query_is = k; asof_is = refl; after_is = refl }) in
     ap (λ (link : MoreLink). link.query) links
@@ -77,7 +77,7 @@ wanted_once pairs least (Voided a f) (Voided b g) h k =
 wanted_once pairs least (Voided a f) (Many q) h k = absurd (voided_not_many pairs a h.0 k.0)
 wanted_once pairs least (Many p) (One b g) h k = absurd (one_not_many pairs b k.0 h.0)
 wanted_once pairs least (Many p) (Voided b g) h k = absurd (voided_not_many pairs b k.0 h.0)
-wanted_once pairs least (Many p) (Many q) h k = ap Many (query_once pairs p q h.1 k.1)
+wanted_once pairs least (Many p) (Many q) h k = ap Many (parameters_once pairs p q h.1 k.1)
 
 none_some : (r : Rule) → ◌≡◌ {A = Option Rule} None (Some r) → ⊥
 none_some r e = cc e
@@ -87,8 +87,8 @@ least_at pairs None next own h = own
 least_at pairs (Some n) next own h = absurd (none_some (rule.P n) h)
 
 -- where a GET breaks no rule, its parameters break none
-pub given_least : (pairs : List Pair) (next : Type 0) → Given LeastOfGet pairs None next → LeastOfGet None pairs
-given_least pairs next h = elim h [
+pub decoded_least : (pairs : List Pair) (next : Type 0) → Decoded LeastOfGet pairs None next → LeastOfGet None pairs
+decoded_least pairs next h = elim h [
   | inl good ↦ least_at pairs good.1.0 next good.1.1 good.1.2
   | inr bad ↦ absurd (none_some (rule.P 1) bad.1)
 ]

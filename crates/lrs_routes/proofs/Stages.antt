@@ -2,14 +2,14 @@
 use Rattle.std.proofs.Common.{◌≡◌, ℕ, Bool, true, false, List, Option, Some, None, refl, sym, inl, inr}
 use Rattle.std.specs.Prelude.{MatchOption}
 use Rattle.std.proofs.lemmas.Bool.{false≢true}
-use Rattle.lrs_command.specs.declared.rule.Rule.{Rule}
-use Rattle.lrs_command.specs.declared.rule.Rule.TheVariants as rule
+use Rattle.lrs_rules.specs.declared.rule.Rule.{Rule}
+use Rattle.lrs_rules.specs.declared.rule.Rule.TheVariants as rule
 use Rattle.xapi_parameters.specs.Pairs.{AreTexts}
 use Rattle.xapi_parameters.specs.Parameters.{LeastOfGet, LeastOfLink, LeastOfPut}
 use Rattle.xapi_parameters.specs.declared.pair.Pair.{Pair}
-use Rattle.lrs_routes.specs.Forms.{Given, LeastOfNone, Obeyed, QueryBreaks, Tested}
-use Rattle.lrs_routes.specs.Operations.{QueryForm, any_query, no_query, query_of_get, query_of_link, query_of_put}
-use Rattle.lrs_routes.specs.Parts.{OnlyGiven, OnlyQuery}
+use Rattle.lrs_routes.specs.Forms.{Decoded, LeastOfNone, Obeyed, ParametersBreak, Tested}
+use Rattle.lrs_routes.specs.Operations.{ParameterForm, any_parameters, no_parameters, parameters_of_get, parameters_of_link, parameters_of_put}
+use Rattle.lrs_routes.specs.Looks.{OnlyDecoded, OnlyParameters}
 
 abbrev Broken : Type 0
 Broken = Option Rule
@@ -23,19 +23,19 @@ none_some r e = cc e
 -- ---- parameters
 
 module _ (own : Option ℕ → List Pair → Type 0) (pairs : List Pair) where
-  pub given_found : AreTexts pairs → (n : ℕ) → own (Some n) pairs → OnlyGiven own pairs (Some (rule.P n))
-  given_found texts n broken = inl (texts, (Some n, broken, refl))
+  pub decoded_found : AreTexts pairs → (n : ℕ) → own (Some n) pairs → OnlyDecoded own pairs (Some (rule.P n))
+  decoded_found texts n broken = inl (texts, (Some n, broken, refl))
 
-  pub given_none : AreTexts pairs → own None pairs → OnlyGiven own pairs None
-  given_none texts obeyed = inl (texts, (None, obeyed, refl))
+  pub decoded_none : AreTexts pairs → own None pairs → OnlyDecoded own pairs None
+  decoded_none texts obeyed = inl (texts, (None, obeyed, refl))
 
   module _ (next : Type 0) where
     stopped : (r : Rule) (a : Option ℕ) → own a pairs → MatchOption a (◌≡◌ {A = Broken} (Some r) None) (λ n. Some r ≡ Some (rule.P n)) → Obeyed own pairs (Some r) next
     stopped r None o h = absurd (some_none r h)
     stopped r (Some n) o h = (Some n, o, h)
 
-    given_stops : (r : Rule) → OnlyGiven own pairs (Some r) → Given own pairs (Some r) next
-    given_stops r h = elim h [
+    decoded_stops : (r : Rule) → OnlyDecoded own pairs (Some r) → Decoded own pairs (Some r) next
+    decoded_stops r h = elim h [
       | inl good ↦ inl (good.0, stopped r good.1.0 good.1.1 good.1.2)
       | inr bad ↦ inr bad
     ]
@@ -44,27 +44,27 @@ module _ (own : Option ℕ → List Pair → Type 0) (pairs : List Pair) where
     obeyed_none None o h = o
     obeyed_none (Some n) o h = absurd (none_some (rule.P n) h)
 
-    given_passes : (b : Broken) → OnlyGiven own pairs None → next → Given own pairs b next
-    given_passes b h later = elim h [
+    decoded_passes : (b : Broken) → OnlyDecoded own pairs None → next → Decoded own pairs b next
+    decoded_passes b h later = elim h [
       | inl good ↦ inl (good.0, (None, obeyed_none good.1.0 good.1.1 good.1.2, later))
       | inr bad ↦ absurd (none_some (rule.P 1) bad.1)
     ]
 
 -- a rule on the parameters that is broken hides what stands behind
-pub query_stops : (form : QueryForm) (pairs : List Pair) (next : Type 0) (r : Rule) → OnlyQuery form pairs (Some r) → QueryBreaks form pairs (Some r) next
-query_stops any_query pairs next r h = absurd (some_none r h)
-query_stops no_query pairs next r h = given_stops LeastOfNone pairs next r h
-query_stops query_of_get pairs next r h = given_stops LeastOfGet pairs next r h
-query_stops query_of_link pairs next r h = given_stops LeastOfLink pairs next r h
-query_stops query_of_put pairs next r h = given_stops LeastOfPut pairs next r h
+pub parameters_stop : (form : ParameterForm) (pairs : List Pair) (next : Type 0) (r : Rule) → OnlyParameters form pairs (Some r) → ParametersBreak form pairs (Some r) next
+parameters_stop any_parameters pairs next r h = absurd (some_none r h)
+parameters_stop no_parameters pairs next r h = decoded_stops LeastOfNone pairs next r h
+parameters_stop parameters_of_get pairs next r h = decoded_stops LeastOfGet pairs next r h
+parameters_stop parameters_of_link pairs next r h = decoded_stops LeastOfLink pairs next r h
+parameters_stop parameters_of_put pairs next r h = decoded_stops LeastOfPut pairs next r h
 
 -- where they break none, what stands behind decides
-pub query_passes : (form : QueryForm) (pairs : List Pair) (next : Type 0) (b : Broken) → OnlyQuery form pairs None → next → QueryBreaks form pairs b next
-query_passes any_query pairs next b h later = later
-query_passes no_query pairs next b h later = given_passes LeastOfNone pairs next b h later
-query_passes query_of_get pairs next b h later = given_passes LeastOfGet pairs next b h later
-query_passes query_of_link pairs next b h later = given_passes LeastOfLink pairs next b h later
-query_passes query_of_put pairs next b h later = given_passes LeastOfPut pairs next b h later
+pub parameters_pass : (form : ParameterForm) (pairs : List Pair) (next : Type 0) (b : Broken) → OnlyParameters form pairs None → next → ParametersBreak form pairs b next
+parameters_pass any_parameters pairs next b h later = later
+parameters_pass no_parameters pairs next b h later = decoded_passes LeastOfNone pairs next b h later
+parameters_pass parameters_of_get pairs next b h later = decoded_passes LeastOfGet pairs next b h later
+parameters_pass parameters_of_link pairs next b h later = decoded_passes LeastOfLink pairs next b h later
+parameters_pass parameters_of_put pairs next b h later = decoded_passes LeastOfPut pairs next b h later
 
 -- ---- tests
 

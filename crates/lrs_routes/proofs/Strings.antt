@@ -8,12 +8,12 @@ use Rattle.lrs_json.specs.Json.{Json, null, boolean, number, string, array, obje
 use Rattle.lrs_json.specs.View.{view}
 use Rattle.lrs_json.specs.declared.tree.Tree.{Tree}
 use Rattle.lrs_names.specs.Members.{has_member_that, is_string, text_of, text_under}
-use Rattle.lrs_command.specs.declared.rule.Rule.{Rule}
+use Rattle.lrs_rules.specs.declared.rule.Rule.{Rule}
 use Rattle.lrs_routes.specs.Forms.{AreStrings, Spelled}
 use Rattle.lrs_routes.specs.Operations.{AreTextsOf, OfBody, strings_body, texts_under}
-use Rattle.lrs_routes.specs.Parts.{AreStringsOf, Finds, IsInBody, IsTreeOf, OnlySpelled}
-use Rattle.lrs_routes.specs.declared.fault.Fault.{Fault}
-use Rattle.lrs_routes.specs.declared.fault.Fault.TheVariants as fault
+use Rattle.lrs_routes.specs.Looks.{AreStringsOf, Finds, IsInBody, IsTreeOf, OnlySpelled}
+use Rattle.lrs_routes.specs.declared.form_refused.FormRefused.{FormRefused}
+use Rattle.lrs_routes.specs.declared.form_refused.FormRefused.TheVariants as form_refused
 use Rattle.lrs_routes.specs.declared.values.BodyValue.{BodyValue}
 use Rattle.lrs_routes.specs.declared.values.BodyValue.TheVariants as body
 
@@ -45,11 +45,11 @@ value_found bytes members tree value of are = record {
   kind = subst (λ (v : BodyValue). OfBody (strings_body members) v) (sym are.2) (as_many (view tree) members are.0 are.1);
 }
 
-pub strings_found : (bytes : List ℕ) (members : Members) (tree : Tree) (r : Result BodyValue Fault) → IsTreeOf bytes tree
+pub strings_found : (bytes : List ℕ) (members : Members) (tree : Tree) (r : Result BodyValue FormRefused) → IsTreeOf bytes tree
     → Finds (AreStrings members (view tree)) (AreStringsOf members (view tree)) r → Finds (Behind bytes members) (IsInBody (strings_body members) bytes) r
 strings_found bytes members tree (Ok value) of h = (inl (view tree, of.spelled, h.0), value_found bytes members tree value of h.1)
-strings_found bytes members tree (Err (fault.Broken rule)) of h = (inl (view tree, of.spelled, h.0), h.1)
-strings_found bytes members tree (Err fault.Memory) of h = tt
+strings_found bytes members tree (Err (form_refused.Broken rule)) of h = (inl (view tree, of.spelled, h.0), h.1)
+strings_found bytes members tree (Err form_refused.Memory) of h = tt
 
 -- ---- the texts, one after the other
 

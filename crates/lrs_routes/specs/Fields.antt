@@ -5,8 +5,8 @@ use Rattle.std.specs.Str.{bytes_eq, str_eq_ignore_ascii_case}
 use Rattle.lrs_http.specs.Fields.{trims_to}
 use Rattle.lrs_record.specs.declared.entry.Caller.{Caller}
 use Rattle.lrs_record.specs.declared.entry.Caller.TheVariants.{Nobody, Token}
-use Rattle.lrs_command.specs.declared.command.Area.{Area}
-use Rattle.lrs_command.specs.declared.command.Area.TheVariants.{Free, Store, Desk}
+use Rattle.lrs_record.specs.declared.entry.Area.{Area}
+use Rattle.lrs_record.specs.declared.entry.Area.TheVariants.{Free, Store, Desk}
 
 -- ---- the version (xAPI 1.0.3, part three, section 3.3)
 

@@ -3,22 +3,23 @@ use Rattle.std.specs.Prelude.{◌≡◌, ◌⊎◌, ℕ, Bool, ◌&&◌, List, [
 use Rattle.std.specs.List.{list_all}
 use Rattle.lrs_http.specs.declared.request.Request.{Request}
 use Rattle.lrs_json.specs.Json.{Json}
+use Rattle.lrs_json.specs.declared.limits.TheConstants.{DEPTH}
 use Rattle.lrs_json_reader.specs.Refusals.{Spells}
 use Rattle.lrs_names.specs.Members.{has_member, has_member_that, has_only, is_string}
-use Rattle.lrs_command.specs.Rules.{BreaksJson}
-use Rattle.lrs_command.specs.declared.command.Area.{Area}
+use Rattle.lrs_rules.specs.Rules.{BreaksJson}
+use Rattle.lrs_record.specs.declared.entry.Area.{Area}
 use Rattle.lrs_command.specs.declared.command.Command.{Command}
 use Rattle.lrs_command.specs.declared.command.Command.TheVariants.{Refused}
-use Rattle.lrs_command.specs.declared.rule.Rule.{Rule}
-use Rattle.lrs_command.specs.declared.rule.Rule.TheVariants as rule
+use Rattle.lrs_rules.specs.declared.rule.Rule.{Rule}
+use Rattle.lrs_rules.specs.declared.rule.Rule.TheVariants as rule
 use Rattle.xapi_parameters.specs.Pairs.{AreTexts, pairs_of}
 use Rattle.xapi_parameters.specs.Parameters.{Demands, LeastOfGet, LeastOfLink, LeastOfPut}
 use Rattle.xapi_parameters.specs.declared.pair.Pair.{Pair}
 use Rattle.lrs_routes.specs.Fields.{allows_json}
-use Rattle.lrs_routes.specs.Operations.{QueryForm, any_query, no_query, query_of_get, query_of_link, query_of_put, BodyForm, any_body, statement_body, statements_body, strings_body, IsQueryValue, IsBodyValue, command_of, form_of, names_of}
+use Rattle.lrs_routes.specs.Operations.{ParameterForm, any_parameters, no_parameters, parameters_of_get, parameters_of_link, parameters_of_put, BodyForm, any_body, statement_body, statements_body, strings_body, IsParameterValue, IsBodyValue, command_of, form_of, names_of}
 use Rattle.lrs_routes.specs.declared.operation.Operation.{Operation}
 use Rattle.lrs_routes.specs.declared.values.BodyValue.{BodyValue}
-use Rattle.lrs_routes.specs.declared.values.QueryValue.{QueryValue}
+use Rattle.lrs_routes.specs.declared.values.ParameterValue.{ParameterValue}
 
 -- ---- what is looked at, each behind the one before: it is in order and the rest tells what is broken, or this is
 
@@ -40,12 +41,12 @@ abbrev pub Obeyed : (Option ℕ → List Pair → Type 0) → List Pair → Opti
 Obeyed own pairs broken rest = (found : Option ℕ) × own found pairs × MatchOption found rest (λ number. broken ≡ Some (rule.P number))
 
 -- the same behind the first rule, that they are texts
-abbrev pub Given : (Option ℕ → List Pair → Type 0) → List Pair → Option Rule → Type 0 → Type 0
-Given own pairs broken rest = (AreTexts pairs × Obeyed own pairs broken rest) ⊎ ((¬ AreTexts pairs) × (broken ≡ Some (rule.P 1)))
+abbrev pub Decoded : (Option ℕ → List Pair → Type 0) → List Pair → Option Rule → Type 0 → Type 0
+Decoded own pairs broken rest = (AreTexts pairs × Obeyed own pairs broken rest) ⊎ ((¬ AreTexts pairs) × (broken ≡ Some (rule.P 1)))
 
 -- they spell a value, or break a rule on JSON
 abbrev pub Spelled : List ℕ → Option Rule → (Json → Type 0) → Type 0
-Spelled bytes broken rest = ((j : Json) × Spells 64 bytes j × rest j) ⊎ ((r : Rule) × BreaksJson bytes r × (broken ≡ Some r))
+Spelled bytes broken rest = ((j : Json) × Spells DEPTH bytes j × rest j) ⊎ ((r : Rule) × BreaksJson bytes r × (broken ≡ Some r))
 
 -- an object that has these members, and no others
 abbrev pub has_just : List (List ℕ) → Json → Bool
@@ -59,12 +60,12 @@ first_unlike (member ∷ members) j = if has_member_that member.0 is_string j th
 -- ---- the first rule that is broken
 
 -- of the form of the parameters
-abbrev pub QueryBreaks : QueryForm → List Pair → Option Rule → Type 0 → Type 0
-QueryBreaks any_query pairs broken rest = rest
-QueryBreaks no_query pairs broken rest = Given LeastOfNone pairs broken rest
-QueryBreaks query_of_get pairs broken rest = Given LeastOfGet pairs broken rest
-QueryBreaks query_of_link pairs broken rest = Given LeastOfLink pairs broken rest
-QueryBreaks query_of_put pairs broken rest = Given LeastOfPut pairs broken rest
+abbrev pub ParametersBreak : ParameterForm → List Pair → Option Rule → Type 0 → Type 0
+ParametersBreak any_parameters pairs broken rest = rest
+ParametersBreak no_parameters pairs broken rest = Decoded LeastOfNone pairs broken rest
+ParametersBreak parameters_of_get pairs broken rest = Decoded LeastOfGet pairs broken rest
+ParametersBreak parameters_of_link pairs broken rest = Decoded LeastOfLink pairs broken rest
+ParametersBreak parameters_of_put pairs broken rest = Decoded LeastOfPut pairs broken rest
 
 -- the body of a statement, or of statements
 abbrev pub StatementBody : Request → Option Rule → Type 0
@@ -85,12 +86,12 @@ BodyBreaks (strings_body members) request broken = Spelled request.body broken (
 -- The first rule that the request's form breaks, None where it breaks none.
 abbrev pub FirstBroken : Operation → Request → Option Rule → Type 0
 FirstBroken operation request broken =
-    QueryBreaks (form_of operation).query (parameters_of request.query) broken (BodyBreaks (form_of operation).body request broken)
+    ParametersBreak (form_of operation).parameters (parameters_of request.query) broken (BodyBreaks (form_of operation).body request broken)
 
 -- What the request means, where its form breaks no rule.
 abbrev pub Means : Operation → Request → Command → Type 0
 Means operation request command =
-    (q : QueryValue) × (b : BodyValue) × IsQueryValue (form_of operation).query (parameters_of request.query) q
+    (q : ParameterValue) × (b : BodyValue) × IsParameterValue (form_of operation).parameters (parameters_of request.query) q
     × IsBodyValue (form_of operation).body request.body b × (command_of operation q b ≡ Some command)
 
 -- The command of a request to a route of that area: what it means, or the refusal by the first rule that its form breaks.

@@ -1,8 +1,8 @@
 pub mod Paths
 pub mod Table
 pub mod Fields
-pub mod Faults
+pub mod FormRefused
 pub mod Operations
 pub mod Forms
-pub mod Parts
+pub mod Looks
 pub mod Asked

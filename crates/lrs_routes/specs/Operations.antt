@@ -5,6 +5,7 @@ use Rattle.lrs_json.specs.Json.{Json, null, boolean, number, string, array, obje
 use Rattle.lrs_json_reader.specs.Refusals.{Spells}
 use Rattle.lrs_json.specs.View.{view, elements_of}
 use Rattle.lrs_json.specs.declared.tree.Tree.{Tree}
+use Rattle.lrs_json.specs.declared.limits.TheConstants.{DEPTH}
 use Rattle.lrs_names.specs.Members.{text_under}
 use Rattle.lrs_record.specs.Entries.{AreLawfulTrees}
 use Rattle.lrs_record.specs.declared.entry.Write.TheVariants.{Provider, Put, Post}
@@ -21,18 +22,18 @@ use Rattle.lrs_routes.specs.declared.operation.Operation.{Operation}
 use Rattle.lrs_routes.specs.declared.operation.Operation.TheVariants as operation
 use Rattle.lrs_routes.specs.declared.values.BodyValue.{BodyValue}
 use Rattle.lrs_routes.specs.declared.values.BodyValue.TheVariants as body
-use Rattle.lrs_routes.specs.declared.values.QueryValue.{QueryValue}
-use Rattle.lrs_routes.specs.declared.values.QueryValue.TheVariants as query
+use Rattle.lrs_routes.specs.declared.values.ParameterValue.{ParameterValue}
+use Rattle.lrs_routes.specs.declared.values.ParameterValue.TheVariants as parameter
 
 -- ---- the rows
 
 -- What the parameters are to be: any, as they aren't looked at; none; or those that the operation knows.
-pub data QueryForm : Type 0 where
-  any_query : QueryForm
-  no_query : QueryForm
-  query_of_get : QueryForm
-  query_of_link : QueryForm
-  query_of_put : QueryForm
+pub data ParameterForm : Type 0 where
+  any_parameters : ParameterForm
+  no_parameters : ParameterForm
+  parameters_of_get : ParameterForm
+  parameters_of_link : ParameterForm
+  parameters_of_put : ParameterForm
 
 -- What the body is to be: any, as it isn't looked at; a statement; statements; or an object of just these members, each a string, and each with the number of the rule that it breaks where it is none.
 pub data BodyForm : Type 0 where
@@ -45,38 +46,38 @@ abbrev pub names_of : List (List ℕ × ℕ) → List (List ℕ)
 names_of members = map (λ member. member.0) members
 
 pub record Form : Type 0 where
-  pub query : QueryForm
+  pub parameters : ParameterForm
   pub body : BodyForm
 
-abbrev form : QueryForm → BodyForm → Form
-form query body = record { query = query; body = body }
+abbrev form : ParameterForm → BodyForm → Form
+form parameters body = record { parameters = parameters; body = body }
 
 abbrev pub form_of : Operation → Form
-form_of operation.TellVersions = form any_query any_body
-form_of operation.GetStatements = form query_of_get any_body
-form_of operation.GetMoreStatements = form query_of_link any_body
-form_of operation.PostStatements = form no_query statements_body
-form_of operation.PutStatement = form query_of_put statement_body
-form_of operation.MakeProvider = form no_query (strings_body ((codes "name", 2) ∷ []))
+form_of operation.TellVersions = form any_parameters any_body
+form_of operation.GetStatements = form parameters_of_get any_body
+form_of operation.GetMoreStatements = form parameters_of_link any_body
+form_of operation.PostStatements = form no_parameters statements_body
+form_of operation.PutStatement = form parameters_of_put statement_body
+form_of operation.MakeProvider = form no_parameters (strings_body ((codes "name", 2) ∷ []))
 
 -- The command of what the parameters and the body give. None where these aren't what the row asks for.
-abbrev pub command_of : Operation → QueryValue → BodyValue → Option Command
+abbrev pub command_of : Operation → ParameterValue → BodyValue → Option Command
 command_of operation.TellVersions q b = Some (Read read.About)
-command_of operation.GetStatements (query.Wanted wanted) b = Some (Read (read.Statements wanted))
-command_of operation.GetMoreStatements (query.Link link) b = Some (Read (read.More link))
+command_of operation.GetStatements (parameter.Wanted wanted) b = Some (Read (read.Statements wanted))
+command_of operation.GetMoreStatements (parameter.Link link) b = Some (Read (read.More link))
 command_of operation.PostStatements q (body.Statements statements) = Some (Write (Post statements))
-command_of operation.PutStatement (query.Id id) (body.Statement statement) = Some (Write (Put id statement))
+command_of operation.PutStatement (parameter.Id id) (body.Statement statement) = Some (Write (Put id statement))
 command_of operation.MakeProvider q (body.Strings (name ∷ [])) = Some (Write (Provider name))
 command_of other q b = None
 
 -- ---- what the parameters give
 
-abbrev pub IsQueryValue : QueryForm → List Pair → QueryValue → Type 0
-IsQueryValue any_query pairs value = value ≡ query.Nothing
-IsQueryValue no_query pairs value = value ≡ query.Nothing
-IsQueryValue query_of_get pairs value = (wanted : Wanted) × IsWanted pairs wanted × (value ≡ query.Wanted wanted)
-IsQueryValue query_of_link pairs value = (link : MoreLink) × IsLink pairs link × (value ≡ query.Link link)
-IsQueryValue query_of_put pairs value = (id : List ℕ) × (id_under (codes "statementId") pairs ≡ Some id) × (value ≡ query.Id id)
+abbrev pub IsParameterValue : ParameterForm → List Pair → ParameterValue → Type 0
+IsParameterValue any_parameters pairs value = value ≡ parameter.Nothing
+IsParameterValue no_parameters pairs value = value ≡ parameter.Nothing
+IsParameterValue parameters_of_get pairs value = (wanted : Wanted) × IsWanted pairs wanted × (value ≡ parameter.Wanted wanted)
+IsParameterValue parameters_of_link pairs value = (link : MoreLink) × IsLink pairs link × (value ≡ parameter.Link link)
+IsParameterValue parameters_of_put pairs value = (id : List ℕ) × (id_under (codes "statementId") pairs ≡ Some id) × (value ≡ parameter.Id id)
 
 -- ---- what the body gives
 
@@ -98,27 +99,27 @@ AreTextsOf members j texts = texts_under members j ≡ map Some texts
 
 abbrev pub IsBodyValue : BodyForm → List ℕ → BodyValue → Type 0
 IsBodyValue any_body bytes value = value ≡ body.Nothing
-IsBodyValue statement_body bytes value = (tree : Tree) × Spells 64 bytes (view tree) × (value ≡ body.Statement tree)
+IsBodyValue statement_body bytes value = (tree : Tree) × Spells DEPTH bytes (view tree) × (value ≡ body.Statement tree)
 IsBodyValue statements_body bytes value =
-    (trees : List Tree) × (j : Json) × Spells 64 bytes j × (elements_of (map view trees) ≡ batch_of j) × (value ≡ body.Statements trees)
+    (trees : List Tree) × (j : Json) × Spells DEPTH bytes j × (elements_of (map view trees) ≡ batch_of j) × (value ≡ body.Statements trees)
 IsBodyValue (strings_body members) bytes value =
-    (texts : List (List ℕ)) × (j : Json) × Spells 64 bytes j × AreTextsOf members j texts × (value ≡ body.Strings texts)
+    (texts : List (List ℕ)) × (j : Json) × Spells DEPTH bytes j × AreTextsOf members j texts × (value ≡ body.Strings texts)
 
 -- ---- the kinds of values
 
 -- such a value as parameters of this form give
-abbrev pub OfQuery : QueryForm → QueryValue → Type 0
-OfQuery any_query query.Nothing = Unit {0}
-OfQuery no_query query.Nothing = Unit {0}
-OfQuery query_of_get (query.Wanted value) = Unit {0}
-OfQuery query_of_link (query.Link value) = Unit {0}
-OfQuery query_of_put (query.Id value) = Unit {0}
-OfQuery form value = ⊥
+abbrev pub OfParameters : ParameterForm → ParameterValue → Type 0
+OfParameters any_parameters parameter.Nothing = Unit {0}
+OfParameters no_parameters parameter.Nothing = Unit {0}
+OfParameters parameters_of_get (parameter.Wanted value) = Unit {0}
+OfParameters parameters_of_link (parameter.Link value) = Unit {0}
+OfParameters parameters_of_put (parameter.Id value) = Unit {0}
+OfParameters form value = ⊥
 
 -- such a value as a body of this form gives; its trees are such as reading gives
 abbrev pub OfBody : BodyForm → BodyValue → Type 0
 OfBody any_body body.Nothing = Unit {0}
-OfBody statement_body (body.Statement tree) = IsReadable 64 (view tree)
+OfBody statement_body (body.Statement tree) = IsReadable DEPTH (view tree)
 OfBody statements_body (body.Statements trees) = AreLawfulTrees trees
 OfBody (strings_body members) (body.Strings texts) = length texts ≡ length members
 OfBody form value = ⊥

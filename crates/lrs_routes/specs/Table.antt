@@ -3,8 +3,8 @@ use Rattle.std.specs.Prelude.{ℕ, List, [], ◌∷◌, ◌++◌, Bool, true, fa
 use Rattle.std.specs.Str.{bytes_eq}
 use Rattle.lrs_http.specs.declared.request.Method.{Method}
 use Rattle.lrs_http.specs.declared.request.Method.TheVariants.{Get, Put, Post, Delete, Other}
-use Rattle.lrs_command.specs.declared.command.Area.{Area}
-use Rattle.lrs_command.specs.declared.command.Area.TheVariants as area
+use Rattle.lrs_record.specs.declared.entry.Area.{Area}
+use Rattle.lrs_record.specs.declared.entry.Area.TheVariants as area
 use Rattle.lrs_routes.specs.declared.table.Allow.{Allow}
 use Rattle.lrs_routes.specs.declared.operation.Operation.{Operation}
 use Rattle.lrs_routes.specs.declared.operation.Operation.TheVariants as operation
@@ -25,14 +25,14 @@ abbrev row : List ℕ → Area → Bool → List (Method × Operation) → Row
 row pattern area versioned methods = record { pattern = pattern; area = area; versioned = versioned; methods = methods }
 
 abbrev pub row_of : Route → Row
-row_of route.Callers = row (codes "/desk/callers") area.Desk false ((Post, operation.MakeProvider) ∷ [])
+row_of route.Providers = row (codes "/desk/callers") area.Desk false ((Post, operation.MakeProvider) ∷ [])
 row_of route.About = row (codes "/xapi/about") area.Free false ((Get, operation.TellVersions) ∷ [])
 row_of route.MoreStatements = row (codes "/xapi/statements/more") area.Store true ((Get, operation.GetMoreStatements) ∷ [])
 row_of route.Statements = row (codes "/xapi/statements") area.Store true ((Get, operation.GetStatements) ∷ (Post, operation.PostStatements) ∷ (Put, operation.PutStatement) ∷ [])
 
 -- each route, in the order in which the router has their paths: a longer one before its beginning
 abbrev pub routes : List Route
-routes = route.Callers ∷ route.About ∷ route.MoreStatements ∷ route.Statements ∷ []
+routes = route.Providers ∷ route.About ∷ route.MoreStatements ∷ route.Statements ∷ []
 
 -- the routes' patterns, as the router has them
 abbrev pub patterns : List (List ℕ × Route)

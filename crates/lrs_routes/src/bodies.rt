@@ -3,23 +3,23 @@ ghost use Rattle.std.specs.Prelude.{◌≡◌, [], ◌∷◌, IfOk, map, option_
 ghost use Rattle.std.specs.List.{list_all};
 ghost use Rattle.lrs_json.specs.View.{elements_of, member_view, members_of, view};
 ghost use Rattle.lrs_names.specs.Members.{are_named_by, has_member, has_only, is_one_of};
-ghost use Rattle.lrs_command.specs.declared.rule.Rule.TheVariants as rule;
+ghost use Rattle.lrs_rules.specs.declared.rule.Rule.TheVariants as rule;
 ghost use Rattle.lrs_routes.specs.Forms.{AreStrings, BodyBreaks, StatementBody, first_unlike, has_just};
 ghost use Rattle.lrs_routes.specs.Operations.{AreTextsOf, batch_of, names_of, statement_body, statements_body, strings_body};
-ghost use Rattle.lrs_routes.specs.Parts.{AreStringsOf, Finds, IsInBody, IsTreeOf, OnlySpelled};
+ghost use Rattle.lrs_routes.specs.Looks.{AreStringsOf, Finds, IsInBody, IsTreeOf, OnlySpelled};
 
-use crate::fault::Fault;
 use crate::fields::allows_json;
+use crate::form_refused::FormRefused;
 use crate::values::BodyValue;
-use lrs_command::Rule;
 use lrs_http::Request;
 use lrs_json::{Items, Member, Memory, Text, Tree};
 use lrs_json_reader::read;
 use lrs_names::{has_member, text_under};
+use lrs_rules::Rule;
 use std::alloc::Global;
 
 /// The body as a statement that isn't looked into.
-pub(crate) fn statement_in(alloc: Global, request: &Request) -> Result<BodyValue, Fault>
+pub(crate) fn statement_in(alloc: Global, request: &Request) -> Result<BodyValue, FormRefused>
     ensures { Finds (BodyBreaks statement_body request.now) (IsInBody statement_body request.now.body) result }
 {
     let body = statement_tree(alloc, request)?;
@@ -27,7 +27,7 @@ pub(crate) fn statement_in(alloc: Global, request: &Request) -> Result<BodyValue
 }
 
 /// The body as statements that aren't looked into: an array of them, or one alone.
-pub(crate) fn statements_in(alloc: Global, request: &Request) -> Result<BodyValue, Fault>
+pub(crate) fn statements_in(alloc: Global, request: &Request) -> Result<BodyValue, FormRefused>
     ensures { Finds (BodyBreaks statements_body request.now) (IsInBody statements_body request.now.body) result }
 {
     let body = statement_tree(alloc, request)?;
@@ -41,7 +41,7 @@ pub(crate) fn strings_in(
     alloc: Global,
     request: &Request,
     members: &[(&str, u8)],
-) -> Result<BodyValue, Fault>
+) -> Result<BodyValue, FormRefused>
     ensures { Finds (BodyBreaks (strings_body (map (λ m. (m.0.now, m.1)) members.now)) request.now)
         (IsInBody (strings_body (map (λ m. (m.0.now, m.1)) members.now)) request.now.body) result }
 {
@@ -51,22 +51,22 @@ pub(crate) fn strings_in(
     strings
 }
 
-fn statement_tree(alloc: Global, request: &Request) -> Result<Tree, Fault>
+fn statement_tree(alloc: Global, request: &Request) -> Result<Tree, FormRefused>
     ensures { Finds (StatementBody request.now) (IsTreeOf request.now.body) result }
 {
     if allows_json(&request.media) {
         tree(alloc, request.body.as_slice())
     } else {
-        Err(Fault::Broken(Rule::F(3)))
+        Err(FormRefused::Broken(Rule::F(3)))
     }
 }
 
-fn tree(alloc: Global, bytes: &[u8]) -> Result<Tree, Fault>
+fn tree(alloc: Global, bytes: &[u8]) -> Result<Tree, FormRefused>
     ensures { Finds (OnlySpelled bytes.now) (IsTreeOf bytes.now) result }
 {
     match read(alloc, bytes) {
         Ok(tree) => Ok(tree),
-        Err(refused) => Err(Fault::from(refused)),
+        Err(refused) => Err(FormRefused::from(refused)),
     }
 }
 
@@ -87,12 +87,12 @@ fn alone(alloc: Global, statement: Tree) -> Result<Items<Tree>, Memory>
     Ok(statements)
 }
 
-fn strings_of(alloc: Global, tree: &Tree, members: &[(&str, u8)]) -> Result<BodyValue, Fault>
+fn strings_of(alloc: Global, tree: &Tree, members: &[(&str, u8)]) -> Result<BodyValue, FormRefused>
     ensures { Finds (AreStrings (map (λ m. (m.0.now, m.1)) members.now) (view tree.now))
         (AreStringsOf (map (λ m. (m.0.now, m.1)) members.now) (view tree.now)) result }
 {
     if !has_just(tree, members) {
-        return Err(Fault::Broken(Rule::B(1)));
+        return Err(FormRefused::Broken(Rule::B(1)));
     }
     let texts = texts_of(alloc, tree, members)?;
     Ok(BodyValue::Strings(texts))
@@ -150,7 +150,7 @@ fn has_all(tree: &Tree, members: &[(&str, u8)]) -> bool
 }
 
 // The texts of the members, in their order, up to the first that is no string.
-fn texts_of(alloc: Global, tree: &Tree, members: &[(&str, u8)]) -> Result<Items<Text>, Fault>
+fn texts_of(alloc: Global, tree: &Tree, members: &[(&str, u8)]) -> Result<Items<Text>, FormRefused>
     ensures { Finds (λ broken. broken ≡ option_map (λ number. rule.B number)
         (first_unlike (map (λ m. (m.0.now, m.1)) members.now) (view tree.now)))
         (AreTextsOf (map (λ m. (m.0.now, m.1)) members.now) (view tree.now)) result }
@@ -159,7 +159,7 @@ fn texts_of(alloc: Global, tree: &Tree, members: &[(&str, u8)]) -> Result<Items<
     for member in members {
         match text_under(tree, member.0) {
             Some(text) => texts.push(Text::of(alloc, text.as_str())?)?,
-            None => return Err(Fault::Broken(Rule::B(member.1))),
+            None => return Err(FormRefused::Broken(Rule::B(member.1))),
         }
     }
     Ok(texts)

@@ -2,9 +2,9 @@
 ghost use Rattle.std.specs.Prelude.{IfOk};
 ghost use Rattle.lrs_command.specs.Commands.{HasReadTrees};
 ghost use Rattle.lrs_routes.specs.Forms.{FirstBroken, IsCommand};
-ghost use Rattle.lrs_routes.specs.Parts.{Finds, HasFormRule, IsMeant};
+ghost use Rattle.lrs_routes.specs.Looks.{Finds, HasFormRule, IsMeant};
 
-use crate::fault::Fault;
+use crate::form_refused::FormRefused;
 use crate::operation::Operation;
 use lrs_command::{Area, Command};
 use lrs_http::Request;
@@ -24,25 +24,25 @@ pub fn command(
 {
     match meaning(alloc, operation, request) {
         Ok(command) => Ok(command),
-        Err(Fault::Broken(rule)) => Ok(Command::Refused {
+        Err(FormRefused::Broken(rule)) => Ok(Command::Refused {
             area,
             status: 400,
             rule,
         }),
-        Err(Fault::Memory) => Err(Memory),
+        Err(FormRefused::Memory) => Err(Memory),
     }
 }
 
 // The parameters first, and then the body.
-fn meaning(alloc: Global, operation: Operation, request: &Request) -> Result<Command, Fault>
+fn meaning(alloc: Global, operation: Operation, request: &Request) -> Result<Command, FormRefused>
     ensures { Finds (FirstBroken operation request.now) (IsMeant operation request.now) result }
 {
-    let query = operation.query_value(alloc, &request.query)?;
+    let query = operation.parameter_value(alloc, &request.query)?;
     match operation.body_value(alloc, request) {
         Ok(body) => Ok(operation.command(query, body)),
-        Err(fault) => {
+        Err(refused) => {
             drop(query);
-            Err(fault)
+            Err(refused)
         }
     }
 }

@@ -1,11 +1,11 @@
-//! From a request to what it asks: the route of its path, who asks, and the command that its parameters and its
-//! body mean.
+//! From a request to what it asks: the route of its path, its caller, and the command that its parameters and its body
+//! mean. Begin with `routes`; `table` and `operation` list what can be asked, `parameters` and `bodies` read it.
 #![tactic(auto)]
 
 mod asked;
 mod bodies;
-mod fault;
 mod fields;
+mod form_refused;
 mod forms;
 mod operation;
 mod parameters;

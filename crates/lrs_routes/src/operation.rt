@@ -1,12 +1,12 @@
 ghost use Rattle.std.specs.Prelude.{◌≡◌, Some};
 ghost use Rattle.lrs_routes.specs.Forms.{BodyBreaks, parameters_of};
-ghost use Rattle.lrs_routes.specs.Operations.{OfBody, OfQuery, command_of, form_of};
-ghost use Rattle.lrs_routes.specs.Parts.{Finds, IsInBody, IsInQuery, IsPlain, OnlyQuery};
+ghost use Rattle.lrs_routes.specs.Operations.{OfBody, OfParameters, command_of, form_of};
+ghost use Rattle.lrs_routes.specs.Looks.{Finds, IsInBody, IsInParameters, IsNoRefusal, OnlyParameters};
 
 use crate::bodies::{statement_in, statements_in, strings_in};
-use crate::fault::Fault;
+use crate::form_refused::FormRefused;
 use crate::parameters::{id_in, link_in, nothing_in, wanted_in};
-use crate::values::{BodyValue, QueryValue, first};
+use crate::values::{BodyValue, ParameterValue, first};
 use lrs_command::{Command, Read};
 use lrs_http::Request;
 use lrs_json::Text;
@@ -32,16 +32,16 @@ pub(crate) enum Operation {
 
 impl Operation {
     /// What the parameters give, by the operation's rules on them.
-    pub(crate) fn query_value(
+    pub(crate) fn parameter_value(
         self,
         alloc: Global,
         query: &Option<Text>,
-    ) -> Result<QueryValue, Fault>
-        ensures { Finds (OnlyQuery (form_of self).query (parameters_of query.now))
-            (IsInQuery (form_of self).query (parameters_of query.now)) result }
+    ) -> Result<ParameterValue, FormRefused>
+        ensures { Finds (OnlyParameters (form_of self).parameters (parameters_of query.now))
+            (IsInParameters (form_of self).parameters (parameters_of query.now)) result }
     {
         match self {
-            Operation::TellVersions => Ok(QueryValue::Nothing),
+            Operation::TellVersions => Ok(ParameterValue::Nothing),
             Operation::GetStatements => wanted_in(alloc, query),
             Operation::GetMoreStatements => link_in(alloc, query),
             Operation::PutStatement => id_in(alloc, query),
@@ -50,7 +50,11 @@ impl Operation {
     }
 
     /// What the body gives, by the operation's rules on it.
-    pub(crate) fn body_value(self, alloc: Global, request: &Request) -> Result<BodyValue, Fault>
+    pub(crate) fn body_value(
+        self,
+        alloc: Global,
+        request: &Request,
+    ) -> Result<BodyValue, FormRefused>
         ensures { Finds (BodyBreaks (form_of self).body request.now)
             (IsInBody (form_of self).body request.now.body) result }
     {
@@ -65,11 +69,11 @@ impl Operation {
     }
 
     /// The command of what the two give.
-    pub(crate) fn command(self, query: QueryValue, body: BodyValue) -> Command
-        requires query { OfQuery (form_of self).query query }
+    pub(crate) fn command(self, query: ParameterValue, body: BodyValue) -> Command
+        requires query { OfParameters (form_of self).parameters query }
         requires body { OfBody (form_of self).body body }
         ensures is { command_of self query body ≡ Some result }
-        ensures plain { IsPlain result }
+        ensures plain { IsNoRefusal result }
     {
         match self {
             Operation::TellVersions => {
@@ -80,14 +84,14 @@ impl Operation {
             Operation::GetStatements => {
                 drop(body);
                 match query {
-                    QueryValue::Wanted(wanted) => Command::Read(Read::Statements(wanted)),
+                    ParameterValue::Wanted(wanted) => Command::Read(Read::Statements(wanted)),
                     _ => unreachable!(),
                 }
             }
             Operation::GetMoreStatements => {
                 drop(body);
                 match query {
-                    QueryValue::Link(link) => Command::Read(Read::More(link)),
+                    ParameterValue::Link(link) => Command::Read(Read::More(link)),
                     _ => unreachable!(),
                 }
             }
@@ -99,7 +103,7 @@ impl Operation {
                 }
             }
             Operation::PutStatement => match query {
-                QueryValue::Id(id) => match body {
+                ParameterValue::Id(id) => match body {
                     BodyValue::Statement(statement) => Command::Write(Write::Put { id, statement }),
                     _ => unreachable!(),
                 },

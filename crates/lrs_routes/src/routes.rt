@@ -2,7 +2,7 @@ ghost use Rattle.std.specs.Prelude.{◌≡◌, ◌≢◌, ◌⊎◌, IfOk, Err, 
 ghost use Rattle.lrs_command.specs.Commands.{HasReadTrees};
 ghost use Rattle.lrs_record.specs.Entries.{IsLawfulCaller};
 ghost use Rattle.lrs_routes.specs.Asked.{Agree, IsAsked, IsCommandOf, IsRouteRefused, IsRouted, IsRoutedAs};
-ghost use Rattle.lrs_routes.specs.Parts.{HasFormRule};
+ghost use Rattle.lrs_routes.specs.Looks.{HasFormRule};
 ghost use Rattle.lrs_routes.specs.Paths.{Fits};
 ghost use Rattle.lrs_routes.specs.Table.{patterns, row_of};
 ghost use Rattle.lrs_routes.specs.declared.asked.Asked.{Asked as SpecAsked};
@@ -145,7 +145,7 @@ fn router(alloc: Global) -> Result<Router<Route>, InsertError>
     ensures { IfOk result (λ r. map (λ row. (row.0, row.1.value)) r ≡ patterns) }
 {
     let mut router = Router::new(alloc);
-    router.insert("/desk/callers", Route::Callers)?;
+    router.insert("/desk/callers", Route::Providers)?;
     router.insert("/xapi/about", Route::About)?;
     router.insert("/xapi/statements", Route::Statements)?;
     router.insert("/xapi/statements/more", Route::MoreStatements)?;

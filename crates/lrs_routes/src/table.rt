@@ -8,7 +8,7 @@ use lrs_http::Method;
 /// A row of the table of routes.
 #[derive(Clone, Copy, Debug, PartialEq, Eq)]
 pub(crate) enum Route {
-    Callers,
+    Providers,
     About,
     MoreStatements,
     Statements,
@@ -26,7 +26,7 @@ impl Allow {
         ensures { result.now ≡ listed (methods_of self.now) }
     {
         match self.route {
-            Route::Callers => "POST",
+            Route::Providers => "POST",
             Route::About | Route::MoreStatements => "GET",
             Route::Statements => "GET, POST, PUT",
         }
@@ -39,7 +39,7 @@ impl Route {
         ensures { result ≡ (row_of self).area }
     {
         match self {
-            Route::Callers => Area::Desk,
+            Route::Providers => Area::Desk,
             Route::About => Area::Free,
             Route::MoreStatements | Route::Statements => Area::Store,
         }
@@ -51,7 +51,7 @@ impl Route {
     {
         match self {
             Route::MoreStatements | Route::Statements => true,
-            Route::Callers | Route::About => false,
+            Route::Providers | Route::About => false,
         }
     }
 
@@ -61,7 +61,7 @@ impl Route {
             (λ allow. (operation_of (row_of self).methods method ≡ None) × (allow ≡ allow_of self)) }
     {
         match (self, method) {
-            (Route::Callers, Method::Post) => Ok(Operation::MakeProvider),
+            (Route::Providers, Method::Post) => Ok(Operation::MakeProvider),
             (Route::About, Method::Get) => Ok(Operation::TellVersions),
             (Route::MoreStatements, Method::Get) => Ok(Operation::GetMoreStatements),
             (Route::Statements, Method::Get) => Ok(Operation::GetStatements),

@@ -7,7 +7,7 @@ use xapi_query::{MoreLink, Wanted};
 
 /// What the parameters give.
 #[derive(Drop)]
-pub(crate) enum QueryValue {
+pub(crate) enum ParameterValue {
     /// They aren't looked at, or there are none.
     Nothing,
     /// What a GET of statements asks for.

@@ -69,7 +69,6 @@ fn text_of_id(id: &Id, into: &mut String) -> Result<(), Fail> {
 
 fn show_write(write: &Write, into: &mut String) -> Result<(), Fail> {
     match write {
-        Write::Found { .. } => into.push_str("found")?,
         Write::Provider { name } => {
             into.push_str("provider ")?;
             into.push_str(name.as_str())?;
@@ -79,6 +78,7 @@ fn show_write(write: &Write, into: &mut String) -> Result<(), Fail> {
             text_of_id(id, into)?;
         }
         Write::Post { statements } => write!(into, "post {}", statements.len())?,
+        _ => into.push_str(write.name())?,
     }
     Ok(())
 }

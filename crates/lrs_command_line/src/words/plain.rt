@@ -6,7 +6,7 @@ ghost use Rattle.lrs_json.specs.Names.{is_among};
 ghost use Rattle.lrs_command_line.specs.CommandLine.{is_name, options_of_command, options_of};
 ghost use Rattle.lrs_command_line.specs.Shapes.{alone, command_of, init_with, is_option, is_plain, said_by, serve_with, value_behind};
 
-use crate::words::Shape;
+use crate::words::CommandLine;
 use lrs_json::Text;
 
 // Whether the word isn't empty and doesn't begin as an option's name does.
@@ -130,11 +130,11 @@ fn value_behind<'a>(name: &str, line: &'a [Text]) -> Option<&'a str>
     None
 }
 
-fn plain_init<'a>(file: &'a str, words: &'a [Text]) -> Option<Shape<'a>>
+fn plain_init<'a>(file: &'a str, words: &'a [Text]) -> Option<CommandLine<'a>>
     ensures { option_map command_of result ≡ init_with (Some file.now) (value_behind (codes "--admin") words.now)
         (value_behind (codes "--base") words.now) (value_behind (codes "--limit") words.now) }
 {
-    Some(Shape::Init {
+    Some(CommandLine::Init {
         file,
         admin: value_behind("--admin", words)?,
         base: value_behind("--base", words),
@@ -142,11 +142,11 @@ fn plain_init<'a>(file: &'a str, words: &'a [Text]) -> Option<Shape<'a>>
     })
 }
 
-fn plain_serve<'a>(file: &'a str, address: &'a str, words: &'a [Text]) -> Option<Shape<'a>>
+fn plain_serve<'a>(file: &'a str, address: &'a str, words: &'a [Text]) -> Option<CommandLine<'a>>
     ensures { option_map command_of result ≡ serve_with (Some file.now) (Some address.now)
         (value_behind (codes "--workers") words.now) (value_behind (codes "--connections") words.now) }
 {
-    Some(Shape::Serve {
+    Some(CommandLine::Serve {
         file,
         address,
         workers: value_behind("--workers", words)?,
@@ -155,13 +155,13 @@ fn plain_serve<'a>(file: &'a str, address: &'a str, words: &'a [Text]) -> Option
 }
 
 // A plain line with one word behind the command's name.
-fn plain_with_file<'a>(command: &str, file: &'a str, words: &'a [Text]) -> Option<Shape<'a>>
+fn plain_with_file<'a>(command: &str, file: &'a str, words: &'a [Text]) -> Option<CommandLine<'a>>
     ensures { option_map command_of result ≡ said_by (command.now ∷ file.now ∷ [])
         (λ name. value_behind name words.now) }
 {
     match command {
         "init" => plain_init(file, words),
-        "intake" => Some(Shape::Intake { file }),
+        "intake" => Some(CommandLine::Intake { file }),
         _ => None,
     }
 }
@@ -172,7 +172,7 @@ fn plain_with_address<'a>(
     file: &'a str,
     address: &'a str,
     words: &'a [Text],
-) -> Option<Shape<'a>>
+) -> Option<CommandLine<'a>>
     ensures { option_map command_of result ≡ said_by (command.now ∷ file.now ∷ address.now ∷ [])
         (λ name. value_behind name words.now) }
 {
@@ -183,7 +183,7 @@ fn plain_with_address<'a>(
 }
 
 /// The command that a plain line names.
-pub(super) fn read_plain(words: &[Text]) -> Option<Shape<'_>>
+pub(super) fn read_plain(words: &[Text]) -> Option<CommandLine<'_>>
     ensures { option_map command_of result ≡ said_by (alone false words.now) (λ name. value_behind name words.now) }
 {
     let (command, rest) = next_alone(words)?;

@@ -6,7 +6,7 @@ ghost use Rattle.clap.specs.Words.{App, app_of, first_of, found_of, rows_of, rul
 ghost use Rattle.lrs_command_line.specs.CommandLine.{required, needed, optional, init_app, intake_app, serve_app, program, whole_line};
 ghost use Rattle.lrs_command_line.specs.Shapes.{IsOf, IsReadAs, command_in, command_of, init_in, intake_in, is_faulty, serve_in, taken};
 
-use crate::words::{CommandLine, Shape, test_named};
+use crate::words::{CommandLine, ProgramCommand, test_named};
 use clap::error::ErrorKind;
 use clap::{Arg, ArgMatches, Command};
 use lrs_json::{Memory, Text};
@@ -111,10 +111,10 @@ fn text_of<'a>(given: &ArgMatches<'a>, id: &str) -> Option<&'a str>
     given.get_str(id)
 }
 
-fn taken_init<'a>(given: &ArgMatches<'a>) -> Option<Shape<'a>>
+fn taken_init<'a>(given: &ArgMatches<'a>) -> Option<CommandLine<'a>>
     ensures { option_map command_of result ≡ init_in (rows_of (found_of given.now)) }
 {
-    Some(Shape::Init {
+    Some(CommandLine::Init {
         file: text_of(given, "file")?,
         admin: text_of(given, "admin")?,
         base: text_of(given, "base"),
@@ -122,18 +122,18 @@ fn taken_init<'a>(given: &ArgMatches<'a>) -> Option<Shape<'a>>
     })
 }
 
-fn taken_intake<'a>(given: &ArgMatches<'a>) -> Option<Shape<'a>>
+fn taken_intake<'a>(given: &ArgMatches<'a>) -> Option<CommandLine<'a>>
     ensures { option_map command_of result ≡ intake_in (rows_of (found_of given.now)) }
 {
-    Some(Shape::Intake {
+    Some(CommandLine::Intake {
         file: text_of(given, "file")?,
     })
 }
 
-fn taken_serve<'a>(given: &ArgMatches<'a>) -> Option<Shape<'a>>
+fn taken_serve<'a>(given: &ArgMatches<'a>) -> Option<CommandLine<'a>>
     ensures { option_map command_of result ≡ serve_in (rows_of (found_of given.now)) }
 {
-    Some(Shape::Serve {
+    Some(CommandLine::Serve {
         file: text_of(given, "file")?,
         address: text_of(given, "address")?,
         workers: text_of(given, "workers")?,
@@ -142,7 +142,7 @@ fn taken_serve<'a>(given: &ArgMatches<'a>) -> Option<Shape<'a>>
 }
 
 // The command of a name, with what was given to it.
-fn taken_as<'a>(name: &str, given: &ArgMatches<'a>) -> Option<Shape<'a>>
+fn taken_as<'a>(name: &str, given: &ArgMatches<'a>) -> Option<CommandLine<'a>>
     ensures { option_map command_of result ≡ command_in (name.now, rows_of (found_of given.now)) }
 {
     match name {
@@ -153,7 +153,7 @@ fn taken_as<'a>(name: &str, given: &ArgMatches<'a>) -> Option<Shape<'a>>
     }
 }
 
-fn taken_shape<'a>(matches: &ArgMatches<'a>) -> Option<Shape<'a>>
+fn taken_shape<'a>(matches: &ArgMatches<'a>) -> Option<CommandLine<'a>>
     ensures { option_map command_of result ≡ option_and_then command_in (subcommand_rows_of matches.now) }
 {
     match matches.subcommand() {
@@ -190,7 +190,7 @@ fn matches_of<'a>(alloc: Global, line: &'a [&'a str]) -> Result<Option<ArgMatche
 }
 
 /// Reads a line as clap takes it, its values tested.
-pub(super) fn read_taken(alloc: Global, words: &[Text]) -> Result<Option<CommandLine>, Memory>
+pub(super) fn read_taken(alloc: Global, words: &[Text]) -> Result<Option<ProgramCommand>, Memory>
     ensures { IfOk result (IsReadAs (taken words.now)) }
 {
     let texts = texts_of(alloc, words)?;

@@ -1,4 +1,4 @@
-use Rattle.xapi_equal.proofs.Laws.{same_is_sameness}
+use Rattle.xapi_alike.proofs.Laws.{same_is_sameness}
 use Rattle.lrs_history.proofs.Strangers.{told_barred}
 use Rattle.lrs_laws.proofs.Again.{batch_conflicts_are_told, conflicts_are_told, repeated_batches_are_taken, repeats_are_taken}
 use Rattle.lrs_laws.proofs.Keepers.{names_for_good, names_one, stays_voided}

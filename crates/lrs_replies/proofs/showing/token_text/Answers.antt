@@ -6,12 +6,12 @@ use Rattle.lrs_replies.specs.Texts.{token_text}
 use Rattle.lrs_replies.proofs.Ids.{IsUtf8-word_text}
 use Rattle.lrs_replies.proofs.showing.token_text.Goals as goal
 
-pub ascii-digits-requires : goal.ascii-digits-requires
-ascii-digits-requires c = rw c.digits_of-digits.ensures (IsUtf8-word_text _)
+pub utf8_text-digits-requires : goal.utf8_text-digits-requires
+utf8_text-digits-requires c = rw c.digits_of-digits.ensures (IsUtf8-word_text _)
 
 pub returns : goal.returns
 returns c =
     let text : c.as_str.result.now ≡ token_text c.args.place c.args.secret =
-    c.as_str.ensures.value ∙ (c.in_ok-text.ensures.ok ∙ (ap (λ xs. xs ++ 45 ∷ decimal c.args.place) (c.ascii-digits.ensures ∙ c.digits_of-digits.ensures)
+    c.as_str.ensures.value ∙ (c.in_ok-text.ensures.ok ∙ (ap (λ xs. xs ++ 45 ∷ decimal c.args.place) (c.utf8_text-digits.ensures ∙ c.digits_of-digits.ensures)
     ∙ sym (append_assoc (word_text c.args.secret) (45 ∷ []) (decimal c.args.place)))) in
     subst (λ x. IfOk c.of.result (λ t. t ≡ x)) text c.of.ensures.copied

@@ -1,8 +1,8 @@
 use Rattle.std.proofs.Common.{◌∙◌, ℕ, List, subst, sym}
-use Rattle.lrs_command.specs.declared.rule.Rule.TheVariants as rule
+use Rattle.lrs_rules.specs.declared.rule.Rule.TheVariants as rule
 use Rattle.lrs_routes.specs.Fields.{allows_json}
 use Rattle.lrs_routes.specs.Forms.{StatementBody}
-use Rattle.lrs_routes.specs.Parts.{Finds, IsTreeOf, OnlySpelled}
+use Rattle.lrs_routes.specs.Looks.{Finds, IsTreeOf, OnlySpelled}
 use Rattle.lrs_routes.proofs.Looks.{finds_by}
 use Rattle.lrs_routes.proofs.Stages.{test_passes}
 use Rattle.lrs_routes.proofs.bodies.statement_tree.Goals as goal

@@ -1,7 +1,7 @@
 use Rattle.std.proofs.Common.{ℕ, List, Err, map, subst}
 use Rattle.lrs_routes.specs.Forms.{BodyBreaks}
 use Rattle.lrs_routes.specs.Operations.{strings_body}
-use Rattle.lrs_routes.specs.Parts.{Finds, IsInBody, IsTreeOf, OnlySpelled}
+use Rattle.lrs_routes.specs.Looks.{Finds, IsInBody, IsTreeOf, OnlySpelled}
 use Rattle.lrs_routes.proofs.Looks.{finds_handed}
 use Rattle.lrs_routes.proofs.Strings.{spelled_stops, strings_found}
 use Rattle.lrs_routes.proofs.bodies.strings_in.Goals as goal

@@ -1,9 +1,9 @@
 use Rattle.std.proofs.Common.{Some, None}
 use Rattle.lrs_routes.specs.Forms.{BodyBreaks, FirstBroken, parameters_of}
 use Rattle.lrs_routes.specs.Operations.{form_of}
-use Rattle.lrs_routes.specs.Parts.{IsInBody, IsInQuery, IsMeant, OnlyQuery}
-use Rattle.lrs_routes.proofs.Looks.{finds_fault, finds_handed}
-use Rattle.lrs_routes.proofs.Stages.{query_passes, query_stops}
+use Rattle.lrs_routes.specs.Looks.{IsInBody, IsInParameters, IsMeant, OnlyParameters}
+use Rattle.lrs_routes.proofs.Looks.{finds_refused, finds_handed}
+use Rattle.lrs_routes.proofs.Stages.{parameters_pass, parameters_stop}
 use Rattle.lrs_routes.proofs.forms.meaning.Goals as goal
 
 pub returns-in_err-query : goal.returns-in_err-query
@@ -11,15 +11,15 @@ returns-in_err-query c =
     let request = c.args.request.now in
     let form = form_of c.args.operation in
     let pairs = parameters_of request.query in
-    finds_handed (OnlyQuery form.query pairs) (FirstBroken c.args.operation request) (IsInQuery form.query pairs) (IsMeant c.args.operation request) c.in_err-query.field-0.0 c.from_residual.result c.from_residual.ensures.1
-    (λ rule h. query_stops form.query pairs (BodyBreaks form.body request (Some rule)) rule h) c.in_err-query.ensures
+    finds_handed (OnlyParameters form.parameters pairs) (FirstBroken c.args.operation request) (IsInParameters form.parameters pairs) (IsMeant c.args.operation request) c.in_err-query.field-0.0 c.from_residual.result c.from_residual.ensures.1
+    (λ rule h. parameters_stop form.parameters pairs (BodyBreaks form.body request (Some rule)) rule h) c.in_err-query.ensures
 
 pub returns-in-Ok : goal.returns-in-Ok
 returns-in-Ok c =
     let request = c.args.request.now in
     let form = form_of c.args.operation in
     let pairs = parameters_of request.query in (
-      query_passes form.query pairs (BodyBreaks form.body request None) None c.in_ok-query.ensures.0 c.in-Ok.ensures.0,
+      parameters_pass form.parameters pairs (BodyBreaks form.body request None) None c.in_ok-query.ensures.0 c.in-Ok.ensures.0,
       record {
         means = (c.in_ok-query.query, c.in-Ok.body, c.in_ok-query.ensures.1.is, c.in-Ok.ensures.1.is, c.command.ensures.is);
         plain = c.command.ensures.plain;
@@ -31,5 +31,5 @@ returns-in-Err c =
     let request = c.args.request.now in
     let form = form_of c.args.operation in
     let pairs = parameters_of request.query in
-    finds_fault (BodyBreaks form.body request) (FirstBroken c.args.operation request) (IsInBody form.body request.body) (IsMeant c.args.operation request) c.in-Err.fault
-    (λ rule h. query_passes form.query pairs (BodyBreaks form.body request (Some rule)) (Some rule) c.in_ok-query.ensures.0 h) c.in-Err.ensures
+    finds_refused (BodyBreaks form.body request) (FirstBroken c.args.operation request) (IsInBody form.body request.body) (IsMeant c.args.operation request) c.in-Err.refused
+    (λ rule h. parameters_pass form.parameters pairs (BodyBreaks form.body request (Some rule)) (Some rule) c.in_ok-query.ensures.0 h) c.in-Err.ensures

@@ -3,9 +3,9 @@ use Rattle.xapi_parameters.specs.Links.{IsLink}
 use Rattle.xapi_parameters.specs.Parameters.{LeastOfLink}
 use Rattle.xapi_parameters.specs.declared.pair.Pair.{Pair}
 use Rattle.lrs_routes.specs.Forms.{parameters_of}
-use Rattle.lrs_routes.specs.Operations.{query_of_link}
-use Rattle.lrs_routes.specs.Parts.{IsInQuery}
-use Rattle.lrs_routes.proofs.Looks.{given_passed, given_refused}
+use Rattle.lrs_routes.specs.Operations.{parameters_of_link}
+use Rattle.lrs_routes.specs.Looks.{IsInParameters}
+use Rattle.lrs_routes.proofs.Looks.{decoded_passed, decoded_refused}
 use Rattle.lrs_routes.proofs.parameters.link_in.Goals as goal
 
 pub returns-in-Ok : goal.returns-in-Ok
@@ -13,7 +13,7 @@ returns-in-Ok c =
     let pairs = parameters_of c.args.query.now in
     let same = c.as_slice.ensures.value ∙ c.in_ok-parameters.ensures.0 in
     let is = subst (λ (ps : List Pair). IsLink ps c.in-Ok.link) same c.in-Ok.ensures.link.1 in (
-      given_passed LeastOfLink c.as_slice.result.now pairs same c.in_ok-parameters.ensures.1 c.in-Ok.ensures.link.0,
+      decoded_passed LeastOfLink c.as_slice.result.now pairs same c.in_ok-parameters.ensures.1 c.in-Ok.ensures.link.0,
       record { is = (c.in-Ok.link, is, refl); kind = tt },
     )
 
@@ -21,5 +21,5 @@ pub returns : goal.returns
 returns c =
     let pairs = parameters_of c.args.query.now in
     let same = c.as_slice.ensures.value ∙ c.in_ok-parameters.ensures.0 in
-    given_refused LeastOfLink c.as_slice.result.now pairs (IsInQuery query_of_link pairs) c.in-Err.refused c.from.result same c.in_ok-parameters.ensures.1 (λ number e. (c.in-Err.ensures.broken number (cc e)).0)
+    decoded_refused LeastOfLink c.as_slice.result.now pairs (IsInParameters parameters_of_link pairs) c.in-Err.refused c.from.result same c.in_ok-parameters.ensures.1 (λ number e. (c.in-Err.ensures.broken number (cc e)).0)
     (λ e. c.in-Err.ensures.bad (cc e)) c.from.ensures

@@ -1,6 +1,6 @@
 use Rattle.std.proofs.Common.{IfOk, subst, sym}
-use Rattle.lrs_fold.specs.Outcomes.{IsOutcome, outcome_on}
-use Rattle.lrs_history.specs.History.{entry_at, outcome}
+use Rattle.lrs_fold.specs.Outcomes.{IsOutcome}
+use Rattle.lrs_history.specs.History.{entry_at, outcome, write_outcome}
 use Rattle.lrs_parts.specs.Parts.{state_of}
 use Rattle.lrs_fold.proofs.fold.Fold.outcome.Goals as goal
 
@@ -8,4 +8,4 @@ pub returns-in-Write : goal.returns-in-Write
 returns-in-Write c =
     let st = state_of c.args.self.now.parts in
     subst (λ k. IfOk c.write_outcome.result (IsOutcome st (outcome st c.args.caller k c.args.clock c.args.draw.now))) (sym c.in-Write.is)
-    (subst (λ m. IfOk c.write_outcome.result (IsOutcome st (outcome_on st (entry_at c.args.caller c.in-Write.write m c.args.draw.now)))) c.next_moment.ensures c.write_outcome.ensures)
+    (subst (λ m. IfOk c.write_outcome.result (IsOutcome st (write_outcome st (entry_at c.args.caller c.in-Write.write m c.args.draw.now)))) c.next_moment.ensures c.write_outcome.ensures)

@@ -1,19 +1,21 @@
 -- An entry for which there is room, and one for which there is none.
-use Rattle.std.proofs.Common.{◌≡◌, ◌<◌, ◌≤◌, ◌-◌, ◌^◌, ℕ, min, refl, arith, Some, Bool, true, false, nat_lt}
+use Rattle.std.proofs.Common.{◌≡◌, ◌<◌, ◌≤◌, ℕ, refl, arith, Some, Bool, true, false, nat_lt}
 use Rattle.std.specs.Prelude.{if◌then◌else◌}
 use Rattle.std.proofs.lemmas.Grind.{common_steps}
 use Rattle.lrs_record.specs.declared.entry.Entry.{Entry}
-use Rattle.lrs_history.specs.History.{Answer, kept, only, refused, need}
+use Rattle.lrs_history.specs.History.{Answer, if_room, only, refused, need}
 use Rattle.lrs_replies.specs.declared.answered.Answered.{Answered}
 use Rattle.lrs_replies.specs.declared.answered.Refusal.TheVariants as refusal
+use Rattle.lrs_journal.specs.Store.{need_told}
+use Rattle.lrs_record.specs.Entries.{written_entry}
 
 abbrev pub no_room : ℕ → ℕ → Entry → Answer
-no_room limit place e = only (refused (refusal.Full (min (need place e) (2 ^ 64 - 1)) limit))
+no_room limit place e = only (refused (refusal.Full (need_told place (written_entry e)) limit))
 
 abbrev pub kept_answer : Answered → Entry → Answer
 kept_answer t e = record { said = t; entry = Some e }
 
-pub room_is : (limit place : ℕ) (t : Answered) (e : Entry) → need place e ≤ limit → kept limit place t e ≡ kept_answer t e
+pub room_is : (limit place : ℕ) (t : Answered) (e : Entry) → need place e ≤ limit → if_room limit place t e ≡ kept_answer t e
 room_is limit place t e fits = by_test (nat_lt limit (need place e)) refl
   where
     no : nat_lt limit (need place e) ≡ true → ⊥
@@ -23,7 +25,7 @@ room_is limit place t e fits = by_test (nat_lt limit (need place e)) refl
     by_test true is = absurd (no is)
     by_test false is = refl
 
-pub full_is : (limit place : ℕ) (t : Answered) (e : Entry) → limit < need place e → kept limit place t e ≡ no_room limit place e
+pub full_is : (limit place : ℕ) (t : Answered) (e : Entry) → limit < need place e → if_room limit place t e ≡ no_room limit place e
 full_is limit place t e exceeds = by_test (nat_lt limit (need place e)) refl
   where
     no : nat_lt limit (need place e) ≡ false → ⊥

@@ -1,7 +1,7 @@
 use Rattle.std.proofs.Common.{◌≡◌, refl}
 use Rattle.std.proofs.lemmas.Bool.{false≢true}
 use Rattle.lrs_record.proofs.EntryParts.{four_wide, member_texts}
-use Rattle.lrs_record.proofs.parts.entry_of.Goals as goal
+use Rattle.lrs_record.proofs.pieces.entry_of.Goals as goal
 
 pub returns-in_err-caller-clause-all : goal.returns-in_err-caller-clause-all
 returns-in_err-caller-clause-all c = λ entry lawful is. absurd (false≢true (c.in_err-caller.ensures.all (four_wide _ entry is)))

@@ -1,6 +1,6 @@
 use Rattle.std.proofs.Common.{◌≡◌, ◌∙◌}
 use Rattle.lrs_record.specs.Entries.{caller_text, draw_text}
-use Rattle.lrs_record.proofs.parts.heading_of.Goals as goal
+use Rattle.lrs_record.proofs.pieces.heading_of.Goals as goal
 
 pub returns-in_err-moment-clause-all : goal.returns-in_err-moment-clause-all
 returns-in_err-moment-clause-all c = λ entry lawful one two three. absurd (cc (c.in_err-moment.ensures entry.moment lawful.values.moment two))

@@ -7,7 +7,7 @@ use Rattle.lrs_record.specs.Entries.{fields, write_json}
 use Rattle.lrs_record.specs.Writes.{members_for, values_left, write_fields, write_name, write_of}
 use Rattle.lrs_record.proofs.SameParts.{one_part, value_of_member}
 use Rattle.lrs_record.proofs.Writes.{made_again}
-use Rattle.lrs_record.proofs.parts.write_of.Goals as goal
+use Rattle.lrs_record.proofs.pieces.write_of.Goals as goal
 
 pub returns-in_err-named-clause-all : goal.returns-in_err-named-clause-all
 returns-in_err-named-clause-all c = λ write lawful holds is. absurd (false≢true (c.in_err-named.ensures.all _ is))

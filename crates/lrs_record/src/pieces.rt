@@ -4,7 +4,7 @@ ghost use Rattle.lrs_json.specs.Fits.{Fits};
 ghost use Rattle.lrs_json.specs.Json.{number, string};
 ghost use Rattle.lrs_json.specs.View.{member_view, view};
 ghost use Rattle.lrs_record.specs.Entries.{HoldsWrite, IsLawful, IsLawfulCaller, IsLawfulWrite, caller_text, draw_text, entry_json, write_json};
-ghost use Rattle.lrs_record.specs.Moments.{latest};
+ghost use Rattle.lrs_time.specs.declared.moments.TheConstants.{LATEST};
 ghost use Rattle.lrs_record.specs.declared.entry.Caller.{Caller as SpecCaller};
 ghost use Rattle.lrs_record.specs.declared.entry.Write.{Write as SpecWrite};
 ghost use Rattle.lrs_record.specs.declared.entry.Entry.{Entry as SpecEntry};
@@ -68,7 +68,7 @@ fn caller_of(text: Text) -> Caller
 }
 
 fn moment_of(member: Member) -> Option<Moment>
-    ensures { (moment : ℕ) → moment ≤ latest → member_view member ≡ (codes "moment", number (decimal moment))
+    ensures { (moment : ℕ) → moment ≤ LATEST → member_view member ≡ (codes "moment", number (decimal moment))
         → result ≡ Some moment }
 {
     match named(member, "moment")? {
