@@ -9,7 +9,7 @@ use crate::Failed;
 /// Between two syncs each written range and the part past the old end may hold any bytes after a crash, and a
 /// cut tail may be there or not. Bytes outside stay. After a sync that answers `Ok` a crash leaves what a read gives.
 pub trait Disk: Drop {
-    /// What a read gives, where it is told.
+    /// What a read gives, if the disk tells it.
     ghost told: { Self → Option (List ℕ) };
 
     /// These bytes are an image that a crash at this moment may leave.
@@ -21,7 +21,7 @@ pub trait Disk: Drop {
     /// How often a call has failed.
     ghost fault_count: { Self → ℕ };
 
-    /// The moment: it rises by each call.
+    /// The moment. It rises with each call.
     ghost time: { Self → ℕ };
 
     /// The number of bytes.
@@ -33,7 +33,7 @@ pub trait Disk: Drop {
             (image self.new) }
         ensures cause { HasCause (fault_count self.old) (fault_count self.new) result };
 
-    /// Reads from a place on, and answers how many bytes there were, fewer than there is room for only at the end.
+    /// Reads from a place on, and answers how many bytes there were. They are fewer than asked for only at the end.
     fn read_at(&mut self, place: u64, into: &mut [u8]) -> Result<usize, Failed>
         ensures room { IfOk result (λ n. n ≤ length into.old) }
         ensures number { IfOk result (λ n. IfSome (told self.old) (λ b. n ≡ min (length into.old) (length b - place))) }
@@ -77,7 +77,7 @@ pub trait Disk: Drop {
     fn faults(&self) -> u64
         ensures { result ≡ fault_count self.now };
 
-    /// The moment: a number that rises by each call, and stands still at the last value of u64.
+    /// The moment: a number that rises with each call, and stands still at the last value of u64.
     fn moment(&self) -> u64
         ensures { result ≡ time self.now };
 
@@ -92,4 +92,7 @@ pub trait Disk: Drop {
 
     /// Since this moment there is no other.
     ghost only_now: { (disk : Self) (c : List ℕ) → image_since disk (time disk) c → image disk c };
+
+    /// A moment since a later one is a moment since an earlier one.
+    ghost since_later: { (disk : Self) (t u : ℕ) (c : List ℕ) → t ≤ u → image_since disk u c → image_since disk t c };
 }

@@ -8,7 +8,7 @@ use crate::Link;
 #[derive(Drop)]
 pub enum Next<L> {
     Joined(L),
-    /// None will come any more.
+    /// No more will come.
     Closed,
     /// The door's count of faults rose.
     Failed,

@@ -1,7 +1,8 @@
-//! The outside of the store, as traits: disks and the shelf that holds them, input and output, the clock.
+//! The outside of the store, as traits: disks and the shelf that gives them, input and output, connections, the doors
+//! that connections come through and the lobby that gives doors. A door and a lobby have a clock.
 //!
-//! Each object of the outside may tell what it holds, as those in memory do, or not, as a file, a socket or
-//! a terminal. Each keeps a count of its failed calls, the only cause that a fault may have anywhere above.
+//! Each object may tell what it holds, as those in memory do, or not, as a file, a socket or a terminal. Each counts
+//! its failed calls, and no fault is answered above unless such a count rose.
 #![tactic(auto)]
 
 mod disk;

@@ -5,13 +5,13 @@ use crate::Failed;
 
 /// A connection: an input and an output, each in pieces.
 pub trait Link: Drop {
-    /// The bytes that are left to read, where they are told.
+    /// The bytes that are left to read, if the link tells them.
     ghost left: { Self → Option (List ℕ) };
 
-    /// All bytes that the link brings, those that were read and those that are left, where they are told.
+    /// All bytes that the link brings, those that were read and those that are left, if it tells them.
     ghost stream: { Self → Option (List ℕ) };
 
-    /// The bytes that were taken, where they are told.
+    /// The bytes that were taken, if the link tells them.
     ghost taken: { Self → Option (List ℕ) };
 
     /// The link's name, by which its door knows it again.
@@ -32,7 +32,7 @@ pub trait Link: Drop {
         ensures name_kept { name self.new ≡ name self.old }
         ensures cause { HasCause (fault_count self.old) (fault_count self.new) result };
 
-    /// Takes the first bytes of a piece, and answers how many: of a piece that isn't empty at least one.
+    /// Takes the first bytes of a piece, and answers how many: at least one, if the piece isn't empty.
     fn write(&mut self, bytes: &[u8]) -> Result<usize, Failed>
         ensures room { IfOk result (λ n. n ≤ length bytes.now) }
         ensures some { IfOk result (λ n. 0 < length bytes.now → 0 < n) }
@@ -47,7 +47,7 @@ pub trait Link: Drop {
     fn faults(&self) -> u64
         ensures { result ≡ fault_count self.now };
 
-    /// Where the bytes left are told, the whole stream is, too, and ends in them.
+    /// If the link tells the bytes left, it also tells the whole stream, which ends in them.
     ghost tells_stream: { (link : Self) (rest : List ℕ) → left link ≡ Some rest → (before : List ℕ)
         × (stream link ≡ Some (before ++ rest)) };
 }

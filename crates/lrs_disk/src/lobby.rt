@@ -11,7 +11,7 @@ use std::alloc::Global;
 pub enum DoorsRefused {
     /// The lobby's count of faults rose.
     Failed,
-    /// Memory was wanting. Nothing was asked of the outside.
+    /// Memory ran out. Nothing was asked of the outside.
     Memory,
 }
 
@@ -19,13 +19,13 @@ pub enum DoorsRefused {
 pub trait Lobby: Drop {
     type Door: Door + Send;
 
-    /// The clock's readings so far, where they are told.
+    /// The clock's readings so far, if the lobby tells them.
     ghost readings: { Self → Option (List ℕ) };
 
-    /// What doors were asked for so far, where it is told.
+    /// Which doors were asked for so far, if the lobby tells it.
     ghost asked: { Self → Option (List DoorsAsked) };
 
-    /// What is seen of the doors that were given back last, where it is told.
+    /// What is seen of the doors that were given back last, if the lobby tells it.
     ghost returned: { Self → Option (List DoorState) };
 
     /// How often a call has failed, or doors were given back of which one had failed.
@@ -38,7 +38,7 @@ pub trait Lobby: Drop {
         ensures asked_kept { asked self.new ≡ asked self.old }
         ensures returned_kept { returned self.new ≡ returned self.old };
 
-    /// So many doors of one address, such as `127.0.0.1:8080`. Each has a clock of its own.
+    /// `count` doors of one address, such as `127.0.0.1:8080`. Each has a clock of its own.
     fn doors(
         &mut self,
         alloc: Global,
@@ -54,7 +54,7 @@ pub trait Lobby: Drop {
         ensures readings_kept { readings self.new ≡ readings self.old }
         ensures returned_kept { returned self.new ≡ returned self.old };
 
-    /// Takes the doors back. No connection comes in by them any more.
+    /// Takes the doors back. No more connections come in by them.
     fn back(&mut self, doors: Vec<Self::Door>)
         ensures returned { returned self.new ≡ option_map (λ before.
             map Self.Door.state doors.items) (returned self.old) }

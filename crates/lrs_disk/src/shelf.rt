@@ -8,7 +8,7 @@ use crate::{Disk, Failed};
 pub trait Shelf: Drop {
     type Disk: Disk;
 
-    /// What the disk of a name reads, where it is told.
+    /// What the disk of a name reads, if the shelf tells it.
     ghost holds: { Self → List ℕ → Option (List ℕ) };
 
     /// The count of faults with which the disk of a name is taken.
@@ -17,7 +17,7 @@ pub trait Shelf: Drop {
     /// The moment with which the disk of a name is taken.
     ghost starts: { Self → List ℕ → ℕ };
 
-    /// The names that were asked for so far, in their order, where they are told.
+    /// The names that were asked for so far, in their order, if the shelf tells them.
     ghost taken: { Self → Option (List (List ℕ)) };
 
     /// How often a call has failed.

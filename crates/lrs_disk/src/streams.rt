@@ -5,7 +5,7 @@ use crate::Failed;
 
 /// An input, read in pieces.
 pub trait Source: Drop {
-    /// The bytes that are left, where they are told.
+    /// The bytes that are left, if the input tells them.
     ghost left: { Self → Option (List ℕ) };
 
     /// How often a call has failed.
@@ -27,13 +27,13 @@ pub trait Source: Drop {
 
 /// An output, written in pieces.
 pub trait Sink: Drop {
-    /// The bytes that were taken, where they are told.
+    /// The bytes that were taken, if the output tells them.
     ghost taken: { Self → Option (List ℕ) };
 
     /// How often a call has failed.
     ghost fault_count: { Self → ℕ };
 
-    /// Takes the first bytes of a piece, and answers how many: of a piece that isn't empty at least one.
+    /// Takes the first bytes of a piece, and answers how many: at least one, if the piece isn't empty.
     fn write(&mut self, bytes: &[u8]) -> Result<usize, Failed>
         ensures room { IfOk result (λ n. n ≤ length bytes.now) }
         ensures some { IfOk result (λ n. 0 < length bytes.now → 0 < n) }

@@ -86,6 +86,8 @@ impl<R: Files<File = File> + Eprint + Copy> Disk for FileDisk<R> {
 
     ghost only_now = { λ d c left. left };
 
+    ghost since_later = { λ d t u c le left. left };
+
     fn len(&mut self) -> Result<u64, Failed> {
         self.tick();
         match self.content.len() {

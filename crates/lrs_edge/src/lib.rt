@@ -1,10 +1,10 @@
 //! The real outside: files, standard input and output, TCP connections, the system's clock.
 //!
-//! A few lines each. None tells what it holds, since no contract can say what a file, a terminal or a socket gives. Each
-//! keeps a count of its failed calls. That a file is an honest disk is trusted.
+//! Each object is a few lines. None tells what it holds, since no contract can say what a file, a terminal or a socket
+//! gives. Each counts its failed calls. That a file is an honest disk is trusted.
 //!
-//! The files and addresses say on standard error why a call of theirs failed, each in one line with the name of the file
-//! or the address; the lobby says there where it listens.
+//! If a call of a file or an address fails, standard error says why in one line, with the name of the file or the
+//! address. The lobby also says there where it listens.
 #![tactic(auto)]
 
 mod clock;

@@ -35,6 +35,10 @@ counts_now steps first now kept t c le left = (now, le, omega arith, subst (λ (
 pub only_now : (steps : List Step) (first : List ℕ) (now : ℕ) → length steps ≤ now → (c : List ℕ) → IsImageSince steps first now now c → IsImage steps first c
 only_now steps first now kept c left = subst (λ (l : List Step). IsImage l first c) (take_all left.0 steps (omega (arith, left.1))) left.3
 
+-- an image since a later moment is one since an earlier
+pub since_later : (steps : List Step) (first : List ℕ) (now t u : ℕ) (c : List ℕ) → t ≤ u → IsImageSince steps first now u c → IsImageSince steps first now t c
+since_later steps first now t u c le left = (left.0, omega (arith, le, left.1), left.2, left.3)
+
 -- what is told is what a read gives
 pub told_reads : (bytes b reads : List ℕ) → Some bytes ≡ Some b → bytes ≡ reads → b ≡ reads
 told_reads bytes b reads told is = cc

@@ -85,7 +85,7 @@ impl MemDisk {
 }
 
 impl Disk for MemDisk {
-    ghost use Rattle.lrs_in_memory.specs.Images.{reads_image, counts_now, only_now, told_reads};
+    ghost use Rattle.lrs_in_memory.specs.Images.{reads_image, counts_now, only_now, since_later, told_reads};
     ghost use Rattle.lrs_in_memory.specs.MemDisk.{first_of, bytes_of, steps_of as steps_made, moment_of, faults_of, Leaves, LeavesSince, Takes};
     ghost use Rattle.lrs_in_memory.specs.Kept.{kept};
 
@@ -107,6 +107,8 @@ impl Disk for MemDisk {
     ghost counts_now = { λ d t c le left. counts_now (steps_made d) (first_of d) (moment_of d) (kept d) t c le left };
 
     ghost only_now = { λ d c left. only_now (steps_made d) (first_of d) (moment_of d) (kept d) c left };
+
+    ghost since_later = { λ d t u c le left. since_later (steps_made d) (first_of d) (moment_of d) t u c le left };
 
     fn len(&mut self) -> Result<u64, Failed>
         ensures length { IfOk result (λ n. n ≡ length (bytes_of self.old)) }

@@ -1,4 +1,4 @@
-//! The outside in memory: each object tells all that it holds, and fails where it is told to. Tests run over it.
+//! The outside in memory: each object tells all that it holds, and fails on the calls that a test names.
 #![tactic(auto)]
 
 mod bytes;

@@ -6,6 +6,7 @@ use Rattle.lrs_disk.specs.Disk.{written, Torn, Cut}
 use Rattle.lrs_journal.specs.Steps.{IsBehind, AtRest, IsPlaced, IsBlank, IsShort, behind_gate}
 use Rattle.lrs_journal.specs.Store.{magic, store, header, body, frames, HasHeader}
 use Rattle.lrs_journal.specs.Create.{IsStore, IsOpenTo, IsMade}
+use Rattle.lrs_journal.specs.declared.sizes.TheConstants.{LEAST_BYTES, MOST_BYTES, FRAME_HEAD, HEADER}
 
 -- a closed gate in front
 abbrev pub IsShut : List ℕ → Type 0
@@ -33,7 +34,7 @@ torn_shut at n d c le shut torn = sym (take-take 1 at c le) ∙ ap (λ (l : List
 pub behind_shut : (at : ℕ) (old : List ℕ → Type 0) (c : List ℕ) → 1 ≤ at → ((d : List ℕ) → old d → IsShut d) → IsBehind at old c → IsShut c
 behind_shut at old c le shut behind = sym (take-take 1 at c le) ∙ ap (λ (l : List ℕ). take 1 l) behind.2 ∙ take-take 1 at behind.0 le ∙ shut behind.0 behind.1
 
--- a header is open and has 17 bytes
+-- a header is open and has more than one byte
 pub blank_made : (limit : ℕ) (first c : List ℕ) → IsBlank c → IsMade limit first c
 blank_made limit first c (inl short) = inl (λ other h. absurd (omega (arith, short, ap length h.split, length-append (header other) h.rest)))
 blank_made limit first c (inr shut) = inl (λ other h. shut (ap (λ (l : List ℕ). get_or l 0 0) h.split))
@@ -58,7 +59,7 @@ laid_is limit first = sym (ap (λ (l : List ℕ). header limit ++ l ++ 0 ∷ [])
 pub laid_rests : (limit : ℕ) (first : List ℕ) → AtRest limit (first ∷ []) (laid limit first 1)
 laid_rests limit first = ([], laid_is limit first)
 
-pub gate_made : (limit : ℕ) (first c d : List ℕ) → 512 ≤ limit → limit ≤ 2 ^ 30 → length first < 2 ^ 32 → d ≡ laid limit first 0 → drop 1 c ≡ drop 1 d → IsMade limit first c
+pub gate_made : (limit : ℕ) (first c d : List ℕ) → LEAST_BYTES ≤ limit → limit ≤ MOST_BYTES → length first < 2 ^ 32 → d ≡ laid limit first 0 → drop 1 c ≡ drop 1 d → IsMade limit first c
 gate_made limit first [] d least most small d_is same = absurd (cc (same ∙ ap (λ (l : List ℕ). drop 1 l) d_is))
 gate_made limit first (g ∷ c) d least most small d_is same = elim (cases_eq g 1) [
   | inl is_open ↦ inr (record {
@@ -96,7 +97,7 @@ pub looked_store : (x head : List ℕ) → head ≡ take 8 x → IsStore x → I
 looked_store x head is store = ap (λ (l : List ℕ). take 8 l) is ∙ take-take 8 8 x (omega arith) ∙ store
 
 -- a store of one frame
-pub one_placed : (limit : ℕ) (first : List ℕ) → 512 ≤ limit → limit ≤ 2 ^ 30 → length first < 2 ^ 32 → IsPlaced limit (length first + 22) (first ∷ [])
+pub one_placed : (limit : ℕ) (first : List ℕ) → LEAST_BYTES ≤ limit → limit ≤ MOST_BYTES → length first < 2 ^ 32 → IsPlaced limit (HEADER + FRAME_HEAD + length first) (first ∷ [])
 one_placed limit first least most small = record {
   least = least;
   most = most;

@@ -11,6 +11,7 @@ use Rattle.lrs_journal.proofs.Told.{alike_told, alike_back}
 use Rattle.lrs_journal.proofs.Doubt.{placed_push, frame_read}
 use Rattle.lrs_journal.proofs.Cutting.{closed_rests, cut_back_stands}
 use Rattle.lrs_journal.proofs.Kept.{seen, settled_read}
+use Rattle.lrs_journal.specs.declared.sizes.TheConstants.{LEAST_BYTES, MOST_BYTES, HEADER}
 
 pub at_some : (P : List ℕ → Type 0) (o : Option (List ℕ)) (x : List ℕ) → o ≡ Some x → IfSome o P → P x
 at_some P o x told holds = subst (λ (o : Option (List ℕ)). IfSome o P) told holds
@@ -23,23 +24,23 @@ same_told o b c one two = cc (one, two)
 pub head_is : (k n : ℕ) (into b : List ℕ) → n ≡ min k (length b) → take n into ≡ take n b → take (min n k) into ≡ take k b
 head_is k n into b is same = ap (λ (m : ℕ). take m into) (omega (arith, is)) ∙ same ∙ ap (λ (m : ℕ). take m b) is ∙ take_min k b
 
-pub header_front : (bytes : List ℕ) (limit : ℕ) → HasHeader bytes limit → take 17 bytes ≡ header limit
-header_front bytes limit h = ap (λ (l : List ℕ). take 17 l) h.split
+pub header_front : (bytes : List ℕ) (limit : ℕ) → HasHeader bytes limit → take HEADER bytes ≡ header limit
+header_front bytes limit h = ap (λ (l : List ℕ). take HEADER l) h.split
 
-pub has_header : (bytes : List ℕ) (limit : ℕ) → take 17 bytes ≡ header limit → 512 ≤ limit → limit ≤ 2 ^ 30 → HasHeader bytes limit
+pub has_header : (bytes : List ℕ) (limit : ℕ) → take HEADER bytes ≡ header limit → LEAST_BYTES ≤ limit → limit ≤ MOST_BYTES → HasHeader bytes limit
 has_header bytes limit front least most = record {
   least = least;
   most = most;
-  rest = drop 17 bytes;
-  split = sym (take-append-drop 17 bytes) ∙ ap (λ (l : List ℕ). l ++ drop 17 bytes) front;
+  rest = drop HEADER bytes;
+  split = sym (take-append-drop HEADER bytes) ∙ ap (λ (l : List ℕ). l ++ drop HEADER bytes) front;
 }
 
-pub read_none : (bytes : List ℕ) (limit : ℕ) → HasHeader bytes limit → HasReadTo bytes limit 17 0 []
+pub read_none : (bytes : List ℕ) (limit : ℕ) → HasHeader bytes limit → HasReadTo bytes limit HEADER 0 []
 read_none bytes limit h = record {
   least = h.least;
   most = h.most;
   sizes = tt;
-  begins = sym (take-append-drop 17 bytes) ∙ ap (λ (l : List ℕ). l ++ drop 17 bytes) (header_front bytes limit h);
+  begins = sym (take-append-drop HEADER bytes) ∙ ap (λ (l : List ℕ). l ++ drop HEADER bytes) (header_front bytes limit h);
   behind = refl;
   counts = refl;
 }

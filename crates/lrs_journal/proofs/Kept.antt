@@ -5,7 +5,7 @@ use Rattle.std.proofs.lemmas.List.{same_from_push}
 use Rattle.lrs_disk.specs.Disk.{written}
 use Rattle.lrs_journal.specs.Store.{body, Stands, IsBeforeOrAfter, payloads_in}
 use Rattle.lrs_journal.specs.Steps.{IsBehind, IsAtGate, IsSettled, IsDoubtful, IsSound, end_behind}
-use Rattle.lrs_journal.specs.Journal.{Journal, settled, frames_of, need_of, StandsFor, IsHolding, IsJournal, TellsAlike, Stores}
+use Rattle.lrs_journal.specs.Journal.{Journal, settled, frames_of, need_of, StandsForFrames, IsHolding, IsJournal, TellsAlike, Stores}
 use Rattle.lrs_journal.proofs.Told.{alike_back}
 use Rattle.lrs_journal.proofs.Doubt.{gate_within, doubt_within, behind_free, gate_keeps, gate_opens, staged_doubt, rest_stands, doubt_stands, placed_push}
 use Rattle.lrs_journal.proofs.Reading.{stands_read}
@@ -224,14 +224,14 @@ module _ {D : Type 0} (told : D → Option (List ℕ)) (image : D → List ℕ �
 
   -- what a gate that may have been opened leaves
   pub gate_leaves : (d0 : D) (limit end number size : ℕ) → IsSound (told d0) (image d0) limit end number (Some size) → (x : List (List ℕ)) → frames_of told (seen d0 limit end number (Some size)) ≡ Some x
-      → (c : List ℕ) → IsAtGate end (image d0) c → StandsFor limit true x c
+      → (c : List ℕ) → IsAtGate end (image d0) c → StandsForFrames limit true x c
   gate_leaves d0 limit end number size sound x is c now =
       let from = mapped (λ bytes. payloads_in (settled true end bytes)) (told d0) x is in
       let tied = sound.tied from.0 from.1 in
       let d = tied.3 in
       let small : length tied.1 < 2 ^ 32 = omega (arith, tied.2, sound.fits.2, sound.most) in
       let whole : x ≡ tied.0 ++ tied.1 ∷ [] = from.2 ∙ doubt_read (image d0) limit end number tied.0 tied.1 from.0 d small (reads d0 from.0 from.1) in
-      subst (λ (l : List (List ℕ)). StandsFor limit true l c) (sym whole) (
+      subst (λ (l : List (List ℕ)). StandsForFrames limit true l c) (sym whole) (
         tied.0,
         tied.1,
         refl,
@@ -258,7 +258,7 @@ no_doubt None none = refl
 no_doubt (Some size) none = cc none
 
 -- what a doubtful frame behind these leaves
-pub doubt_before_or_after : (limit : ℕ) (x : List (List ℕ)) (p c : List ℕ) → StandsFor limit true (x ++ p ∷ []) c → IsBeforeOrAfter limit x p c
+pub doubt_before_or_after : (limit : ℕ) (x : List (List ℕ)) (p c : List ℕ) → StandsForFrames limit true (x ++ p ∷ []) c → IsBeforeOrAfter limit x p c
 doubt_before_or_after limit x p c stands =
     let same : x ≡ stands.0 = (same_from_push x stands.0 p stands.1 stands.2).0 in
     ⊎_elim (λ s. inl (subst (λ (l : List (List ℕ)). Stands c limit l) (sym same) s)) (λ s. inr s) stands.3
@@ -267,4 +267,4 @@ doubt_before_or_after limit x p c stands =
 pub stored : {D : Type 0} (told : D → Option (List ℕ)) (image : D → List ℕ → Type 0) (j : Journal D) → IsJournal told image j → j.doubt ≡ false → (x : List (List ℕ)) → frames_of told j ≡ Some x → Stores told j.disk j.limit x
 stored told image j sound none x is =
     let from = mapped (λ bytes. payloads_in (settled j.doubt j.gate bytes)) (told j.disk) x is in
-    (from.0, from.1, subst (λ (b : Bool). StandsFor j.limit b x from.0) none ((sound.holds x is).reads from.0 from.1))
+    (from.0, from.1, subst (λ (b : Bool). StandsForFrames j.limit b x from.0) none ((sound.holds x is).reads from.0 from.1))

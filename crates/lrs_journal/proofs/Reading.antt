@@ -7,6 +7,7 @@ use Rattle.std.proofs.lemmas.List.{take_at, drop_at}
 use Rattle.std.proofs.lemmas.Nat.{from_be_bytes-to_be_bytes_4}
 use Rattle.lrs_journal.specs.Store.{store, header, frames, body, Stands, IsEnd, IsPayload, length_at, begins_open, payloads_within, payloads_in}
 use Rattle.lrs_journal.proofs.Doubt.{number_le}
+use Rattle.lrs_journal.specs.declared.sizes.TheConstants.{HEADER}
 
 -- no open frame begins at an end
 shut_end : (rest : List ℕ) → IsEnd rest → begins_open rest ≡ false
@@ -48,4 +49,4 @@ within_are (suc n) (p ∷ ps) rest le sizes ends =
 pub stands_read : (bytes : List ℕ) (limit : ℕ) (payloads : List (List ℕ)) → Stands bytes limit payloads → payloads_in bytes ≡ payloads
 stands_read bytes limit payloads stands =
     let long : length payloads ≤ length bytes = omega (arith, number_le payloads, ap length stands.split, length-append (store limit payloads) stands.rest, length-append (header limit) (frames payloads)) in
-    ap (λ (l : List ℕ). payloads_within (length bytes) (drop 17 l)) stands.split ∙ within_are (length bytes) payloads stands.rest long stands.sizes stands.ends
+    ap (λ (l : List ℕ). payloads_within (length bytes) (drop HEADER l)) stands.split ∙ within_are (length bytes) payloads stands.rest long stands.sizes stands.ends

@@ -5,17 +5,18 @@ use Rattle.std.proofs.lemmas.Nat.{from_be_bytes-to_be_bytes_4, from_be_bytes-to_
 use Rattle.std.specs.List.{AllByRecursion}
 use Rattle.std.specs.Int.{w32, w64, to_be_bytes, from_be_bytes}
 use Rattle.lrs_journal.specs.Store.{store, header, frames, body, HasHeader, Stands, IsDamaged, IsEnd, IsPayload}
-use Rattle.lrs_journal.specs.Replay.{Reading, HasRead, HasReadTo, IsSamePlace}
+use Rattle.lrs_journal.specs.Replay.{Replay, HasRead, HasReadTo, IsSamePlace}
+use Rattle.lrs_journal.specs.declared.sizes.TheConstants.{FRAME_HEAD, HEADER}
 
-no_end : (q : List ℕ) (qs : List (List ℕ)) (r s : List ℕ) → IsEnd r → r ≡ frames (q ∷ qs) ++ s → ⊥
+pub no_end : (q : List ℕ) (qs : List (List ℕ)) (r s : List ℕ) → IsEnd r → r ≡ frames (q ∷ qs) ++ s → ⊥
 no_end q qs r s ends is = subst IsEnd is ends refl
 
 -- the first payloads are the same, and so is what is behind them
-first_once : (p q x y : List ℕ) → length p < 2 ^ 32 → length q < 2 ^ 32 → 1 ∷ body p ++ x ≡ 1 ∷ body q ++ y → (p ≡ q) × (x ≡ y)
+pub first_once : (p q x y : List ℕ) → length p < 2 ^ 32 → length q < 2 ^ 32 → 1 ∷ body p ++ x ≡ 1 ∷ body q ++ y → (p ≡ q) × (x ≡ y)
 first_once p q x y small_p small_q e =
     let words : to_be_bytes w32 (length p) ≡ to_be_bytes w32 (length q) = ap (λ (l : List ℕ). take 4 (drop 1 l)) e in
     let same : length p ≡ length q = sym (from_be_bytes-to_be_bytes_4 (length p) small_p) ∙ ap (λ (l : List ℕ). from_be_bytes w32 l) words ∙ from_be_bytes-to_be_bytes_4 (length q) small_q in
-    let rest : p ++ x ≡ q ++ y = ap (λ (l : List ℕ). drop 5 l) e in (
+    let rest : p ++ x ≡ q ++ y = ap (λ (l : List ℕ). drop FRAME_HEAD l) e in (
       sym (take_at p x (length p) refl) ∙ ap (λ (l : List ℕ). take (length p) l) rest ∙ take_at q y (length p) (sym same),
       sym (drop_at p x (length p) refl) ∙ ap (λ (l : List ℕ). drop (length p) l) rest ∙ drop_at q y (length p) (sym same),
     )
@@ -30,7 +31,7 @@ frames_once (p ∷ ps) (q ∷ qs) r s fp fq er es e =
 
 -- a list of bytes stands for one list of payloads
 pub stands_once : (bytes : List ℕ) (l m : ℕ) (ps qs : List (List ℕ)) → Stands bytes l ps → Stands bytes m qs → ps ≡ qs
-stands_once bytes l m ps qs a b = frames_once ps qs a.rest b.rest a.sizes b.sizes a.ends b.ends (ap (λ (x : List ℕ). drop 17 x) (sym a.split ∙ b.split))
+stands_once bytes l m ps qs a b = frames_once ps qs a.rest b.rest a.sizes b.sizes a.ends b.ends (ap (λ (x : List ℕ). drop HEADER x) (sym a.split ∙ b.split))
 
 -- a store has an open header
 pub stands_header : (bytes : List ℕ) (limit : ℕ) (ps : List (List ℕ)) → Stands bytes limit ps → HasHeader bytes limit
@@ -54,10 +55,10 @@ frames_whole (p ∷ ps) (q ∷ qs) r rest fp fq er more torn e =
 
 -- a store is not damaged
 pub stands_whole : (bytes : List ℕ) (l m : ℕ) (ps qs : List (List ℕ)) → Stands bytes l ps → IsDamaged bytes m qs → ⊥
-stands_whole bytes l m ps qs s d = frames_whole ps qs s.rest d.rest s.sizes d.sizes s.ends d.more d.torn (ap (λ (x : List ℕ). drop 17 x) (sym s.split ∙ d.split))
+stands_whole bytes l m ps qs s d = frames_whole ps qs s.rest d.rest s.sizes d.sizes s.ends d.more d.torn (ap (λ (x : List ℕ). drop HEADER x) (sym s.split ∙ d.split))
 
 -- a replay that went no further has read the same
-pub same_place_read : {D : Type 0} (bytes : List ℕ) (old new : Reading D) (ps : List (List ℕ)) → IsSamePlace old new → new.limit ≡ old.limit → HasRead bytes old ps → HasRead bytes new ps
+pub same_place_read : {D : Type 0} (bytes : List ℕ) (old new : Replay D) (ps : List (List ℕ)) → IsSamePlace old new → new.limit ≡ old.limit → HasRead bytes old ps → HasRead bytes new ps
 same_place_read bytes old new ps same limit read =
     subst (λ (l : ℕ). HasReadTo bytes l new.place new.number ps) (sym limit)
     (subst (λ (p : ℕ). HasReadTo bytes old.limit p new.number ps) (sym same.0) (subst (λ (n : ℕ). HasReadTo bytes old.limit old.place n ps) (sym same.1) read))
@@ -65,10 +66,10 @@ same_place_read bytes old new ps same limit read =
 -- the bytes that these payloads take in frames
 abbrev pub frame_bytes : List (List ℕ) → ℕ
 frame_bytes [] = 0
-frame_bytes (payload ∷ payloads) = 5 + length payload + frame_bytes payloads
+frame_bytes (payload ∷ payloads) = FRAME_HEAD + length payload + frame_bytes payloads
 
 -- how long a store is
-pub store_length : (limit : ℕ) (ps : List (List ℕ)) → length (store limit ps) ≡ 17 + frame_bytes ps
+pub store_length : (limit : ℕ) (ps : List (List ℕ)) → length (store limit ps) ≡ HEADER + frame_bytes ps
 store_length limit ps = omega (arith, length-append (header limit) (frames ps), in_frames ps)
   where
     in_frames : (ps : List (List ℕ)) → length (frames ps) ≡ frame_bytes ps

@@ -1,9 +1,10 @@
 -- When a store is made on a disk.
-use Rattle.std.specs.Prelude.{◌≡◌, ◌≢◌, ◌⊎◌, ◌<◌, ◌+◌, ℕ, List, [], ◌∷◌, length, get_or, take, drop, Option}
+use Rattle.std.specs.Prelude.{◌≡◌, ◌≢◌, ◌⊎◌, ◌<◌, ℕ, List, [], ◌∷◌, length, get_or, take, drop, Option}
 use Rattle.lrs_disk.specs.Disk.{LeavesOnly}
-use Rattle.lrs_journal.specs.Store.{magic, HasHeader, Stands}
+use Rattle.lrs_journal.specs.Store.{magic, need_at, HasHeader, Stands}
 use Rattle.lrs_journal.specs.declared.create.CreateRefused.{CreateRefused}
 use Rattle.lrs_journal.specs.declared.create.CreateRefused.TheVariants as refused
+use Rattle.lrs_journal.specs.declared.sizes.TheConstants.{HEADER}
 
 -- an open gate and the magic
 abbrev pub IsStore : List ℕ → Type 0
@@ -26,7 +27,7 @@ IsCreateRefused bytes refused.Failed = Unit {0}
 
 -- what a store of this one frame needs
 abbrev pub need_of_first : List ℕ → ℕ
-need_of_first first = length first + 23
+need_of_first first = need_at HEADER first
 
 -- no open header, or the one frame
 abbrev pub IsMade : ℕ → List ℕ → List ℕ → Type 0

@@ -1,9 +1,10 @@
 -- What callers see of a journal, and what it stands for.
-use Rattle.std.specs.Prelude.{◌≡◌, ◌⊎◌, ◌≤◌, ◌+◌, ◌^◌, ℕ, List, [], ◌∷◌, ◌++◌, length, Option, Some, None, option_map, Bool, true, false, if◌then◌else◌}
+use Rattle.std.specs.Prelude.{◌≡◌, ◌⊎◌, ◌≤◌, ◌+◌, ℕ, List, [], ◌∷◌, ◌++◌, length, Option, Some, None, option_map, Bool, true, false, if◌then◌else◌}
 use Rattle.std.specs.Option.{ForSome}
 use Rattle.lrs_disk.specs.Disk.{written}
 use Rattle.lrs_disk.specs.Faults.{Rises}
-use Rattle.lrs_journal.specs.Store.{store, Stands, payloads_in}
+use Rattle.lrs_journal.specs.Store.{need_at, payloads_in, store, Stands}
+use Rattle.lrs_journal.specs.declared.sizes.TheConstants.{FRAME_HEAD, LEAST_BYTES, MOST_BYTES}
 
 -- A journal over a disk.
 pub record Journal (D : Type 0) : Type 0 where
@@ -28,21 +29,21 @@ abbrev pub frames_of : {D : Type 0} → (D → Option (List ℕ)) → Journal D 
 frames_of told journal = option_map (λ bytes. payloads_in (settled journal.doubt journal.gate bytes)) (told journal.disk)
 
 -- the bytes stand for the payloads, or in doubt for all but the last
-abbrev pub StandsFor : ℕ → Bool → List (List ℕ) → List ℕ → Type 0
-StandsFor limit false payloads bytes = Stands bytes limit payloads
-StandsFor limit true payloads bytes = (before : List (List ℕ)) × (last : List ℕ) × (payloads ≡ before ++ last ∷ []) × (Stands bytes limit before ⊎ Stands bytes limit payloads)
+abbrev pub StandsForFrames : ℕ → Bool → List (List ℕ) → List ℕ → Type 0
+StandsForFrames limit false payloads bytes = Stands bytes limit payloads
+StandsForFrames limit true payloads bytes = (before : List (List ℕ)) × (last : List ℕ) × (payloads ≡ before ++ last ∷ []) × (Stands bytes limit before ⊎ Stands bytes limit payloads)
 
 -- The journal stands for these payloads as its disk reads, and on each image that a crash now may leave.
 pub record IsHolding {D : Type 0} (told : D → Option (List ℕ)) (image : D → List ℕ → Type 0) (journal : Journal D) (payloads : List (List ℕ)) : Type 0 where
-  pub reads : (bytes : List ℕ) → told journal.disk ≡ Some bytes → StandsFor journal.limit journal.doubt payloads bytes
-  pub each : (bytes : List ℕ) → image journal.disk bytes → StandsFor journal.limit journal.doubt payloads bytes
+  pub reads : (bytes : List ℕ) → told journal.disk ≡ Some bytes → StandsForFrames journal.limit journal.doubt payloads bytes
+  pub each : (bytes : List ℕ) → image journal.disk bytes → StandsForFrames journal.limit journal.doubt payloads bytes
   pub place : journal.end ≡ length (store journal.limit payloads)
   pub counts : journal.number ≡ length payloads
 
 -- What is true of every journal.
 pub record IsJournal {D : Type 0} (told : D → Option (List ℕ)) (image : D → List ℕ → Type 0) (journal : Journal D) : Type 0 where
-  pub least : 512 ≤ journal.limit
-  pub most : journal.limit ≤ 2 ^ 30
+  pub least : LEAST_BYTES ≤ journal.limit
+  pub most : journal.limit ≤ MOST_BYTES
   pub holds : ForSome (frames_of told journal) (IsHolding told image journal)
 
 -- what is told of both or of neither
@@ -52,9 +53,13 @@ TellsAlike None (Some c) = ⊥
 TellsAlike (Some b) None = ⊥
 TellsAlike (Some b) (Some c) = Unit {0}
 
+-- what is told are bytes that stand for these payloads, or in doubt for all but the last
+abbrev pub TellsStore : Option (List ℕ) → ℕ → Bool → List (List ℕ) → Type 0
+TellsStore told limit doubt payloads = (bytes : List ℕ) × (told ≡ Some bytes) × StandsForFrames limit doubt payloads bytes
+
 -- the disk tells bytes that stand for these payloads
 abbrev pub Stores : {D : Type 0} → (D → Option (List ℕ)) → D → ℕ → List (List ℕ) → Type 0
-Stores told disk limit payloads = (bytes : List ℕ) × (told disk ≡ Some bytes) × Stands bytes limit payloads
+Stores told disk limit payloads = TellsStore (told disk) limit false payloads
 
 -- a crash now leaves what a read gives
 abbrev pub IsSynced : {D : Type 0} → (D → Option (List ℕ)) → (D → List ℕ → Type 0) → D → Type 0
@@ -68,13 +73,13 @@ pub record HasCount (before now : ℕ) (failed well : Type 0) : Type 0 where
 
 -- what an append of these bytes needs
 abbrev pub need_of : {D : Type 0} → Journal D → List ℕ → ℕ
-need_of journal payload = journal.end + 6 + length payload
+need_of journal payload = need_at journal.end payload
 
 -- The journal with one frame more.
 pub record IsAppended {D : Type 0} (told : D → Option (List ℕ)) (old new : Journal D) (payload : List ℕ) : Type 0 where
   pub frames : frames_of told new ≡ option_map (λ payloads. payloads ++ payload ∷ []) (frames_of told old)
   pub number : new.number ≡ old.number + 1
-  pub end : new.end ≡ old.end + (5 + length payload)
+  pub end : new.end ≡ old.end + (FRAME_HEAD + length payload)
   pub limit : new.limit ≡ old.limit
 
 -- The same frames.

@@ -1,13 +1,14 @@
 -- What callers see of a replay, and what it has read.
-use Rattle.std.specs.Prelude.{◌≡◌, ◌≢◌, ◌<◌, ◌≤◌, ◌^◌, ℕ, List, ◌∷◌, ◌++◌, length, drop, Bool}
+use Rattle.std.specs.Prelude.{◌≡◌, ◌≢◌, ◌<◌, ◌≤◌, ◌+◌, ℕ, List, ◌∷◌, ◌++◌, length, drop, Bool}
 use Rattle.std.specs.Int.{w32, to_be_bytes}
 use Rattle.std.specs.List.{AllByRecursion}
 use Rattle.lrs_journal.specs.Store.{store, body, IsPayload, IsEnd}
 use Rattle.lrs_journal.specs.declared.replay.Ahead.{Ahead}
 use Rattle.lrs_journal.specs.declared.replay.Ahead.TheVariants as ahead
+use Rattle.lrs_journal.specs.declared.sizes.TheConstants.{FRAME_HEAD, LEAST_BYTES, MOST_BYTES}
 
 -- A replay over a disk.
-pub record Reading (D : Type 0) : Type 0 where
+pub record Replay (D : Type 0) : Type 0 where
   pub disk : D
   -- the bytes that the header allows
   pub limit : ℕ
@@ -20,20 +21,24 @@ pub record Reading (D : Type 0) : Type 0 where
 
 -- The bytes begin with a header of this limit and the whole open frames of these payloads, and there the place is.
 pub record HasReadTo (bytes : List ℕ) (limit place number : ℕ) (payloads : List (List ℕ)) : Type 0 where
-  pub least : 512 ≤ limit
-  pub most : limit ≤ 2 ^ 30
+  pub least : LEAST_BYTES ≤ limit
+  pub most : limit ≤ MOST_BYTES
   pub sizes : AllByRecursion IsPayload payloads
   pub begins : bytes ≡ store limit payloads ++ drop place bytes
   pub behind : place ≡ length (store limit payloads)
   pub counts : number ≡ length payloads
 
 -- the replay has read these payloads of the bytes
-abbrev pub HasRead : {D : Type 0} → List ℕ → Reading D → List (List ℕ) → Type 0
+abbrev pub HasRead : {D : Type 0} → List ℕ → Replay D → List (List ℕ) → Type 0
 HasRead bytes replay payloads = HasReadTo bytes replay.limit replay.place replay.number payloads
 
 -- nothing more was read
-abbrev pub IsSamePlace : {D : Type 0} → Reading D → Reading D → Type 0
+abbrev pub IsSamePlace : {D : Type 0} → Replay D → Replay D → Type 0
 IsSamePlace old new = (new.place ≡ old.place) × (new.number ≡ old.number)
+
+-- one frame more was read, of this payload
+abbrev pub IsNextPlace : {D : Type 0} → Replay D → Replay D → List ℕ → Type 0
+IsNextPlace old new payload = (new.place ≡ old.place + (FRAME_HEAD + length payload)) × (new.number ≡ old.number + 1)
 
 -- a front of these bytes is an open gate and a whole frame with a payload of this length
 abbrev pub IsWholeFrame : List ℕ → ℕ → Type 0

@@ -1,10 +1,11 @@
 -- What a crash in a step leaves, and what a journal's fields are.
-use Rattle.std.specs.Prelude.{◌≡◌, ◌≢◌, ◌⊎◌, ◌≤◌, ◌+◌, ◌^◌, ℕ, List, [], ◌∷◌, ◌++◌, length, take, drop, get_or, Option, Some, None, Bool, true}
+use Rattle.std.specs.Prelude.{◌≡◌, ◌≢◌, ◌⊎◌, ◌≤◌, ◌+◌, ℕ, List, [], ◌∷◌, ◌++◌, length, take, drop, get_or, Option, Some, None, Bool, true}
 use Rattle.std.specs.Int.{w64, to_be_bytes}
 use Rattle.lrs_disk.specs.Disk.{Cut}
 use Rattle.std.specs.List.{AllByRecursion}
 use Rattle.lrs_journal.specs.Store.{magic, store, body, IsPayload, IsEnd}
 use Rattle.lrs_journal.specs.Replay.{HasReadTo}
+use Rattle.lrs_journal.specs.declared.sizes.TheConstants.{FRAME_HEAD, LEAST_BYTES, MOST_BYTES}
 
 -- a read of the disk gives these bytes
 abbrev pub Reads : {D : Type 0} → (D → Option (List ℕ)) → D → List ℕ → Type 0
@@ -36,8 +37,8 @@ InDoubt limit payloads payload bytes = (gate : ℕ) × (rest : List ℕ) × (byt
 
 -- the place of the first gate behind these payloads
 pub record IsPlaced (limit place : ℕ) (payloads : List (List ℕ)) : Type 0 where
-  pub least : 512 ≤ limit
-  pub most : limit ≤ 2 ^ 30
+  pub least : LEAST_BYTES ≤ limit
+  pub most : limit ≤ MOST_BYTES
   pub sizes : AllByRecursion IsPayload payloads
   pub behind : place ≡ length (store limit payloads)
 
@@ -56,7 +57,7 @@ pub record IsDoubtful (image : List ℕ → Type 0) (limit end number : ℕ) (pa
 -- where the end gate stands: at the gate, or behind the frame there whose payload of this length is in doubt
 abbrev pub end_behind : ℕ → Option ℕ → ℕ
 end_behind gate None = gate
-end_behind gate (Some size) = gate + (5 + size)
+end_behind gate (Some size) = gate + (FRAME_HEAD + size)
 
 -- what the fields say of the disk, where it tells what it holds; the doubt is the length of the doubtful payload
 abbrev pub IsTied : Option ℕ → (List ℕ → Type 0) → ℕ → ℕ → ℕ → Type 0
@@ -66,19 +67,19 @@ IsTied (Some size) image limit end number = (payloads : List (List ℕ)) × (pay
 -- a doubtful frame is counted, and fits
 abbrev pub FitsDoubt : Option ℕ → ℕ → ℕ → ℕ → Type 0
 FitsDoubt None limit end number = number ≤ end
-FitsDoubt (Some size) limit end number = (1 ≤ number) × (number ≤ end + 1) × (end + 6 + size ≤ limit)
+FitsDoubt (Some size) limit end number = (1 ≤ number) × (number ≤ end + 1) × (end + (FRAME_HEAD + 1) + size ≤ limit)
 
 -- What is true of a journal's fields.
 pub record IsSound (told : Option (List ℕ)) (image : List ℕ → Type 0) (limit end number : ℕ) (doubt : Option ℕ) : Type 0 where
-  pub least : 512 ≤ limit
-  pub most : limit ≤ 2 ^ 30
+  pub least : LEAST_BYTES ≤ limit
+  pub most : limit ≤ MOST_BYTES
   pub fits : FitsDoubt doubt limit end number
   pub tied : (b : List ℕ) → told ≡ Some b → IsTied doubt image limit end number
 
 -- What is true of a replay's fields.
 pub record IsReplay (told : Option (List ℕ)) (image : List ℕ → Type 0) (limit size place number : ℕ) (ended : Bool) : Type 0 where
-  pub least : 512 ≤ limit
-  pub most : limit ≤ 2 ^ 30
+  pub least : LEAST_BYTES ≤ limit
+  pub most : limit ≤ MOST_BYTES
   pub few : number ≤ place
   pub synced : (c : List ℕ) → image c → told ≡ Some c
   pub size_is : (b : List ℕ) → told ≡ Some b → size ≡ length b

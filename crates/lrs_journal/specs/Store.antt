@@ -1,7 +1,8 @@
 -- What the bytes of a disk stand for: a header, open frames, and an end.
-use Rattle.std.specs.Prelude.{◌≡◌, ◌≢◌, ◌⊎◌, ◌<◌, ◌≤◌, ◌+◌, ◌^◌, ℕ, zero, suc, List, [], ◌∷◌, ◌++◌, length, take, drop, get_or, Bool, ◌&&◌, ◌==◌, nat_le, if◌then◌else◌}
+use Rattle.std.specs.Prelude.{◌≡◌, ◌≢◌, ◌⊎◌, ◌<◌, ◌≤◌, ◌+◌, ◌-◌, ◌^◌, ℕ, zero, suc, List, [], ◌∷◌, ◌++◌, length, take, drop, min, get_or, Bool, ◌&&◌, ◌==◌, nat_le, if◌then◌else◌}
 use Rattle.std.specs.List.{AllByRecursion}
 use Rattle.std.specs.Int.{w32, w64, to_be_bytes, from_be_bytes}
+use Rattle.lrs_journal.specs.declared.sizes.TheConstants.{FRAME_HEAD, HEADER, LEAST_BYTES, MOST_BYTES}
 
 -- LRSJRNL
 abbrev pub magic : List ℕ
@@ -11,10 +12,14 @@ magic = 76 ∷ 82 ∷ 83 ∷ 74 ∷ 82 ∷ 78 ∷ 76 ∷ []
 abbrev pub header : ℕ → List ℕ
 header limit = 1 ∷ magic ++ 1 ∷ to_be_bytes w64 limit
 
+-- a limit that a header may allow
+abbrev pub IsLimit : ℕ → Type 0
+IsLimit limit = (LEAST_BYTES ≤ limit) × (limit ≤ MOST_BYTES)
+
 -- The bytes begin with an open header of this limit.
 pub record HasHeader (bytes : List ℕ) (limit : ℕ) : Type 0 where
-  pub least : 512 ≤ limit
-  pub most : limit ≤ 2 ^ 30
+  pub least : LEAST_BYTES ≤ limit
+  pub most : limit ≤ MOST_BYTES
   pub rest : List ℕ
   pub split : bytes ≡ header limit ++ rest
 
@@ -30,6 +35,14 @@ frames (payload ∷ payloads) = 1 ∷ body payload ++ frames payloads
 abbrev pub store : ℕ → List (List ℕ) → List ℕ
 store limit payloads = header limit ++ frames payloads
 
+-- The bytes that a store has whose end gate stands here, with one frame more: its head, its payload and the new end gate.
+abbrev pub need_at : ℕ → List ℕ → ℕ
+need_at place payload = place + (FRAME_HEAD + 1) + length payload
+
+-- the same as it is told: a number beyond 64 bits stays at their last value
+abbrev pub need_told : ℕ → List ℕ → ℕ
+need_told place payload = min (need_at place payload) (2 ^ 64 - 1)
+
 -- the list ends here: no byte, a last one, or a gate that isn't 1
 abbrev pub IsEnd : List ℕ → Type 0
 IsEnd [] = Unit {0}
@@ -41,8 +54,8 @@ IsPayload payload = length payload < 2 ^ 32
 
 -- The bytes begin with an open header of this limit, and then stand for these payloads. What is behind the end is free.
 pub record Stands (bytes : List ℕ) (limit : ℕ) (payloads : List (List ℕ)) : Type 0 where
-  pub least : 512 ≤ limit
-  pub most : limit ≤ 2 ^ 30
+  pub least : LEAST_BYTES ≤ limit
+  pub most : limit ≤ MOST_BYTES
   pub sizes : AllByRecursion IsPayload payloads
   pub rest : List ℕ
   pub split : bytes ≡ store limit payloads ++ rest
@@ -68,13 +81,13 @@ length_at bytes = from_be_bytes w32 (take 4 (drop 1 bytes))
 
 -- an open gate and a whole frame
 abbrev pub begins_open : List ℕ → Bool
-begins_open bytes = (get_or bytes 0 0 == 1) && nat_le (5 + length_at bytes) (length bytes)
+begins_open bytes = (get_or bytes 0 0 == 1) && nat_le (FRAME_HEAD + length_at bytes) (length bytes)
 
 -- the payloads of the open frames in front, at most this many
 abbrev pub payloads_within : ℕ → List ℕ → List (List ℕ)
 payloads_within zero bytes = []
-payloads_within (suc n) bytes = if begins_open bytes then take (length_at bytes) (drop 5 bytes) ∷ payloads_within n (drop (5 + length_at bytes) bytes) else []
+payloads_within (suc n) bytes = if begins_open bytes then take (length_at bytes) (drop FRAME_HEAD bytes) ∷ payloads_within n (drop (FRAME_HEAD + length_at bytes) bytes) else []
 
 -- the payloads that a store's bytes stand for
 abbrev pub payloads_in : List ℕ → List (List ℕ)
-payloads_in bytes = payloads_within (length bytes) (drop 17 bytes)
+payloads_in bytes = payloads_within (length bytes) (drop HEADER bytes)

@@ -7,8 +7,10 @@ ghost use Rattle.lrs_journal.specs.Journal.{frames_of, IsJournal, IsSynced, Tell
 ghost use Rattle.lrs_journal.specs.Steps.{Reads, IsBehind, AtRest, IsBlank, IsShort, IsCutShort, behind_gate};
 ghost use Rattle.lrs_journal.specs.Create.{IsStore, IsForeign, IsOpenTo, IsCreateRefused, IsMade, IsUntouched, need_of_first};
 ghost use Rattle.lrs_journal.specs.declared.create.CreateRefused.TheVariants as CreateRefused;
+ghost use Rattle.lrs_journal.specs.Store.{IsLimit};
 
 use crate::Journal;
+use crate::sizes::{FRAME_HEAD, HEADER};
 use crate::steps::{stage, write_gate};
 use lrs_disk::{Disk, Failed};
 
@@ -87,12 +89,13 @@ fn head<D: Disk>(disk: &mut D, limit: u64) -> Result<(), Failed>
 
 // Makes a store of one frame on a disk that has none.
 fn build<D: Disk>(disk: &mut D, size: u64, limit: u64, first: &[u8]) -> Result<(), Failed>
-    requires limit { (512 ≤ limit) × (limit ≤ 2 ^ 30) }
-    requires first { length first.now + 23 < 2 ^ 32 }
+    requires limit { IsLimit limit }
+    requires first { need_of_first first.now < 2 ^ 32 }
     requires blank { (b : List ℕ) → Reads D.told disk.old b → IsBlank b }
     requires size { (b : List ℕ) → Reads D.told disk.old b → size ≡ length b }
     ensures made { OnOk result ((c : List ℕ) → D.image disk.new c → AtRest limit (first.now ∷ []) c) }
     ensures tells { TellsAlike (D.told disk.old) (D.told disk.new) }
+    ensures later { D.time disk.old ≤ D.time disk.new }
     ensures any_moment { IsSynced D.told D.image disk.old → LeavesOnly D.time D.image_since disk.old disk.new
         (IsMade limit first.now) }
     ensures cause { HasCause (D.fault_count disk.old) (D.fault_count disk.new) result }
@@ -100,7 +103,7 @@ fn build<D: Disk>(disk: &mut D, size: u64, limit: u64, first: &[u8]) -> Result<(
     shorten(disk, size)?;
     write_gate(disk, 0, 0)?;
     head(disk, limit)?;
-    stage(disk, 17, first)?;
+    stage(disk, HEADER, first)?;
     write_gate(disk, 0, 1)
 }
 
@@ -123,7 +126,7 @@ fn inspect<D: Disk>(disk: &mut D) -> Result<u64, CreateRefused>
 
 // Makes a store of one frame on a disk, where there may be one.
 fn make<D: Disk>(disk: &mut D, limit: u64, first: &[u8]) -> Result<(), CreateRefused>
-    requires limit { (512 ≤ limit) × (limit ≤ 2 ^ 30) }
+    requires limit { IsLimit limit }
     requires first { length first.now < 2 ^ 32 }
     ensures made { IsOk result → (c : List ℕ) → D.image disk.new c → AtRest limit (first.now ∷ []) c }
     ensures free { IsOk result → ForSome (D.told disk.old) IsOpenTo }
@@ -136,13 +139,14 @@ fn make<D: Disk>(disk: &mut D, limit: u64, first: &[u8]) -> Result<(), CreateRef
     ensures store { ForSome (D.told disk.old) (λ bytes. (IsOpenTo bytes → ⊥)
         → IsUntouched D.told D.image D.time D.image_since disk.old disk.new) }
     ensures tells { TellsAlike (D.told disk.old) (D.told disk.new) }
+    ensures later { D.time disk.old ≤ D.time disk.new }
     ensures any_moment { IsSynced D.told D.image disk.old → ForSome (D.told disk.old) (λ bytes. (IsStore bytes → ⊥)
         → LeavesOnly D.time D.image_since disk.old disk.new (IsMade limit first.now)) }
     ensures cause { HasCount (D.fault_count disk.old) (D.fault_count disk.new) (IsErrOf result CreateRefused.Failed)
         (IsOk result) }
 {
     let size = inspect(disk)?;
-    let need = first.len() as u64 + 23;
+    let need = HEADER + FRAME_HEAD + 1 + first.len() as u64;
     if need > limit {
         return Err(CreateRefused::Full { need, limit });
     }
@@ -156,12 +160,12 @@ impl<D: Disk> Journal<D> {
     /// Each step is on the disk before the next, and the header's gate is opened last. Where there is a store already,
     /// nothing is written.
     pub fn create(disk: D, limit: u64, first: &[u8]) -> Result<Journal<D>, (CreateRefused, D)>
-        requires limit { (512 ≤ limit) × (limit ≤ 2 ^ 30) }
+        requires limit { IsLimit limit }
         requires first { length first.now < 2 ^ 32 }
         ensures made { IfOk result (λ journal. frames_of D.told journal ≡ option_map
             (λ _. first.now ∷ []) (D.told disk)) }
         ensures fields { IfOk result (λ journal. (journal.doubt ≡ false) × (journal.limit ≡ limit)
-            × (journal.end ≡ length first.now + 22) × (journal.number ≡ 1)) }
+            × (journal.end ≡ HEADER + FRAME_HEAD + length first.now) × (journal.number ≡ 1)) }
         ensures sound { IfOk result (IsJournal D.told D.image) }
         ensures free { IsOk result → (need_of_first first.now ≤ limit) × ForSome (D.told disk) IsOpenTo }
         ensures refused { IfErr result (λ e. ForSome (D.told disk) (λ bytes. IsCreateRefused bytes e.0)) }
@@ -173,6 +177,8 @@ impl<D: Disk> Journal<D> {
         ensures store { IfErr result (λ e. ForSome (D.told disk) (λ bytes. (IsOpenTo bytes → ⊥)
             → IsUntouched D.told D.image D.time D.image_since disk e.1)) }
         ensures tells { IfErr result (λ e. TellsAlike (D.told disk) (D.told e.1)) }
+        ensures later { IfOk result (λ journal. D.time disk ≤ D.time journal.disk) }
+        ensures later_err { IfErr result (λ e. D.time disk ≤ D.time e.1) }
         // Where nothing was pending, a crash at any moment leaves no open header or the one frame.
         ensures any_moment { IfOk result (λ journal. IsSynced D.told D.image disk → ForSome (D.told disk)
             (λ bytes. (IsStore bytes → ⊥) → LeavesOnly D.time D.image_since disk journal.disk
@@ -189,7 +195,7 @@ impl<D: Disk> Journal<D> {
             Ok(()) => Ok(Journal {
                 disk,
                 limit,
-                gate: first.len() as u64 + 22,
+                gate: HEADER + FRAME_HEAD + first.len() as u64,
                 number: 1,
                 doubt: None,
             }),

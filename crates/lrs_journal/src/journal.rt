@@ -1,17 +1,15 @@
-ghost use Rattle.std.specs.Prelude.{◌≡◌, ◌<◌, ◌≤◌, ◌+◌, ◌-◌, ◌^◌, ◌++◌, [], ◌∷◌, List, ℕ, length, Some, None, Ok, Err, IfOk, IsOk, IsErr, IsErrOf, true, false, min, IfErr};
+ghost use Rattle.std.specs.Prelude.{◌≡◌, ◌<◌, ◌≤◌, ◌+◌, ◌-◌, ◌++◌, [], ◌∷◌, List, ℕ, length, Some, None, Ok, Err, IfOk, IsOk, IsErr, IsErrOf, true, false, IfErr};
 ghost use Rattle.std.specs.Option.{ForSome};
 ghost use Rattle.lrs_disk.specs.Disk.{LeavesOnly};
 ghost use Rattle.lrs_disk.specs.Faults.{HasCause};
-ghost use Rattle.lrs_journal.specs.Store.{IsBeforeOrAfter, Stands};
-ghost use Rattle.lrs_journal.specs.Journal.{frames_of, need_of, StandsFor, IsJournal, IsAppended, IsAppendFailed, IsUnchanged, HasCount, Stores};
+ghost use Rattle.lrs_journal.specs.Store.{need_told, IsBeforeOrAfter, Stands};
+ghost use Rattle.lrs_journal.specs.Journal.{frames_of, need_of, StandsForFrames, IsJournal, IsAppended, IsAppendFailed, IsUnchanged, HasCount, Stores};
 ghost use Rattle.lrs_journal.specs.declared.journal.AppendRefused.TheVariants as AppendRefused;
 
+use crate::sizes::FRAME_HEAD;
 use crate::steps::{stage, write_gate};
 use lrs_disk::{Disk, Failed};
 use std::marker::Model;
-
-/// The most bytes that a store's file may have.
-pub const MOST_BYTES: u64 = 1_073_741_824;
 
 /// Why a frame wasn't added.
 #[derive(Clone, Copy, Debug, PartialEq, Eq)]
@@ -113,14 +111,16 @@ impl<D: Disk> Journal<D> {
     pub fn room(&self, payload: &[u8]) -> Result<(), Full>
         ensures fits { IsOk result → need_of self.now payload.now ≤ self.now.limit }
         ensures full { IsErr result → self.now.limit < need_of self.now payload.now }
-        ensures told { IfErr result (λ full. (full.need ≡ min (need_of self.now payload.now) (2 ^ 64 - 1))
+        ensures told { IfErr result (λ full. (full.need ≡ need_told self.now.end payload.now)
             × (full.limit ≡ self.now.limit)) }
     {
         let end = match self.doubt {
             None => self.gate,
-            Some(size) => self.gate + 5 + size,
+            Some(size) => self.gate + FRAME_HEAD + size,
         };
-        let need = end.saturating_add(6).saturating_add(payload.len() as u64);
+        let need = end
+            .saturating_add(FRAME_HEAD + 1)
+            .saturating_add(payload.len() as u64);
         if need > self.limit {
             return Err(Full {
                 need,
@@ -148,6 +148,9 @@ impl<D: Disk> Journal<D> {
     pub fn into_disk(self) -> D
         ensures disk { result ≡ self.disk }
         ensures stored { self.doubt ≡ false → ForSome (frames_of D.told self) (Stores D.told result self.limit) }
+        // A crash now leaves the frames, in doubt with the last one or without.
+        ensures images { ForSome (frames_of D.told self) (λ payloads. (c : List ℕ) → D.image result c
+            → StandsForFrames self.limit self.doubt payloads c) }
     {
         let Journal {
             disk,
@@ -169,16 +172,17 @@ impl<D: Disk> Journal<D> {
         ensures failed { IsErr result → self.new.doubt ≡ true }
         ensures frames { IsUnchanged D.told self.old self.new }
         ensures sound { IsJournal D.told D.image self.new }
+        ensures later { D.time self.old.disk ≤ D.time self.new.disk }
         ensures any_moment { ForSome (frames_of D.told self.old)
             (λ payloads. LeavesOnly D.time D.image_since self.old.disk self.new.disk
-            (StandsFor self.old.limit self.old.doubt payloads)) }
+            (StandsForFrames self.old.limit self.old.doubt payloads)) }
         ensures cause { HasCause (D.fault_count self.old.disk) (D.fault_count self.new.disk) result }
     {
         let Some(size) = self.doubt else {
             return Ok(None);
         };
         write_gate(&mut self.disk, self.gate, 1)?;
-        self.gate += 5 + size;
+        self.gate += FRAME_HEAD + size;
         self.doubt = None;
         Ok(Some(self.number - 1))
     }
@@ -189,7 +193,7 @@ impl<D: Disk> Journal<D> {
     pub fn append(&mut self, payload: &[u8]) -> Result<u64, AppendRefused>
         requires { self.old.doubt ≡ false }
         ensures full { self.old.limit < need_of self.old payload.now
-            → (result ≡ Err (AppendRefused.Full (min (need_of self.old payload.now) (2 ^ 64 - 1)) self.old.limit))
+            → (result ≡ Err (AppendRefused.Full (need_told self.old.end payload.now) self.old.limit))
             × (self.new ≡ self.old) }
         ensures fits { need_of self.old payload.now ≤ self.old.limit → IsErr result
             → IsErrOf result AppendRefused.Failed }
@@ -199,6 +203,7 @@ impl<D: Disk> Journal<D> {
             (λ payloads. number ≡ length payloads)) }
         ensures failed { IsErrOf result AppendRefused.Failed → IsAppendFailed D.told self.old self.new payload.now }
         ensures sound { IsJournal D.told D.image self.new }
+        ensures later { D.time self.old.disk ≤ D.time self.new.disk }
         // A crash at any moment of the call leaves the frames from before it, with the new one or without.
         ensures any_moment { ForSome (frames_of D.told self.old) (λ payloads.
             LeavesOnly D.time D.image_since self.old.disk self.new.disk

@@ -1,5 +1,5 @@
 // Reads the frames of a disk one by one, and makes its end a closed gate.
-ghost use Rattle.std.specs.Prelude.{◌≡◌, ◌≢◌, ◌⊎◌, ◌<◌, ◌≤◌, ◌+◌, ◌-◌, ◌^◌, ◌++◌, [], ◌∷◌, List, ℕ, length, IfOk, IfErr, IfSome, Err, take, drop, IsNone, IsOk, IsErr, IsErrOf, true, false, not};
+ghost use Rattle.std.specs.Prelude.{◌≡◌, ◌≢◌, ◌⊎◌, ◌<◌, ◌≤◌, ◌+◌, ◌-◌, ◌++◌, [], ◌∷◌, List, ℕ, length, IfOk, IfErr, IfSome, Err, take, drop, IsNone, IsOk, IsErr, IsErrOf, true, false, not};
 ghost use Rattle.std.specs.Int.{w32, w64, to_be_bytes};
 ghost use Rattle.std.specs.Option.{ForSome};
 ghost use Rattle.lrs_disk.specs.Disk.{LeavesOnly};
@@ -7,13 +7,14 @@ ghost use Rattle.lrs_disk.specs.Faults.{HasCause, Rises};
 ghost use Rattle.lrs_journal.specs.Store.{header, HasHeader, Stands, IsDamaged};
 ghost use Rattle.lrs_journal.specs.Journal.{frames_of, IsJournal, IsSynced, Stores, TellsAlike, HasCount};
 ghost use Rattle.lrs_journal.specs.Steps.{Reads};
-ghost use Rattle.lrs_journal.specs.Replay.{HasRead, IsAhead, IsSamePlace};
+ghost use Rattle.lrs_journal.specs.Replay.{HasRead, IsAhead, IsNextPlace, IsSamePlace};
 ghost use Rattle.lrs_journal.specs.declared.replay.RecoverRefused.TheVariants as RecoverRefused;
 ghost use Rattle.lrs_journal.specs.declared.replay.Ahead.TheVariants as Ahead;
 ghost use Rattle.lrs_journal.specs.declared.replay.ReplayRefused.TheVariants as ReplayRefused;
 
+use crate::Journal;
+use crate::sizes::{FRAME_HEAD, HEADER, LEAST_BYTES, MOST_BYTES};
 use crate::steps::close_end;
-use crate::{Journal, MOST_BYTES};
 use lrs_disk::{Disk, Failed};
 use std::alloc::AllocError;
 use std::marker::Model;
@@ -66,8 +67,9 @@ fn number_of(word: [u8; 8]) -> u64
 
 // The limit that an open header tells.
 fn limit_of(head: &[u8]) -> Option<u64>
-    requires { length head.now ≤ 17 }
-    ensures found { IfSome result (λ limit. (head.now ≡ header limit) × (512 ≤ limit) × (limit ≤ 2 ^ 30)) }
+    requires { length head.now ≤ HEADER }
+    ensures found { IfSome result (λ limit. (head.now ≡ header limit) × (LEAST_BYTES ≤ limit)
+        × (limit ≤ MOST_BYTES)) }
     ensures none { IsNone result → (limit : ℕ) → HasHeader head.now limit → ⊥ }
 {
     match head {
@@ -91,7 +93,7 @@ fn limit_of(head: &[u8]) -> Option<u64>
             h,
         ] => {
             let limit = number_of([*a, *b, *c, *d, *e, *f, *g, *h]);
-            if limit < 512 || limit > MOST_BYTES {
+            if limit < LEAST_BYTES || limit > MOST_BYTES {
                 None
             } else {
                 Some(limit)
@@ -115,7 +117,7 @@ enum Ahead {
 fn look<D: Disk>(disk: &mut D, place: u64, total: u64) -> Result<Ahead, Failed>
     requires { (b : List ℕ) → Reads D.told disk.old b → total ≡ length b }
     ensures found { IfOk result (λ ahead. ForSome (D.told disk.old) (λ bytes. IsAhead (drop place bytes) ahead)) }
-    ensures fits { IfOk result (λ ahead. (size : ℕ) → ahead ≡ Ahead.Frame size → place + 5 + size ≤ total) }
+    ensures fits { IfOk result (λ ahead. (size : ℕ) → ahead ≡ Ahead.Frame size → place + FRAME_HEAD + size ≤ total) }
     ensures still { D.told disk.new ≡ D.told disk.old }
     ensures any_moment { LeavesOnly D.time D.image_since disk.old disk.new (D.image disk.old) }
     ensures cause { HasCause (D.fault_count disk.old) (D.fault_count disk.new) result }
@@ -129,7 +131,7 @@ fn look<D: Disk>(disk: &mut D, place: u64, total: u64) -> Result<Ahead, Failed>
     }
     let size = word_of([a, b, c, d]);
     let left = total.saturating_sub(place);
-    if number < 5 || left < 5 + u64::from(size) {
+    if number < 5 || left < FRAME_HEAD + u64::from(size) {
         return Ok(Ahead::Torn);
     }
     Ok(Ahead::Frame { size })
@@ -168,10 +170,10 @@ fn fetch<D: Disk>(
 ) -> Result<Ahead, ReplayRefused>
     requires { (b : List ℕ) → Reads D.told disk.old b → total ≡ length b }
     ensures found { IfOk result (λ ahead. ForSome (D.told disk.old) (λ bytes. IsAhead (drop place bytes) ahead)) }
-    ensures fits { IfOk result (λ ahead. (size : ℕ) → ahead ≡ Ahead.Frame size → place + 5 + size ≤ total) }
+    ensures fits { IfOk result (λ ahead. (size : ℕ) → ahead ≡ Ahead.Frame size → place + FRAME_HEAD + size ≤ total) }
     ensures length { IfOk result (λ ahead. (size : ℕ) → ahead ≡ Ahead.Frame size → length into.new.items ≡ size) }
     ensures payload { IfOk result (λ ahead. (size : ℕ) → ahead ≡ Ahead.Frame size → ForSome (D.told disk.old)
-        (λ bytes. into.new.items ≡ take size (drop (place + 5) bytes))) }
+        (λ bytes. into.new.items ≡ take size (drop (place + FRAME_HEAD) bytes))) }
     ensures damaged { (k : ℕ) → result ≢ Err (ReplayRefused.Damaged k) }
     ensures still { D.told disk.new ≡ D.told disk.old }
     ensures any_moment { LeavesOnly D.time D.image_since disk.old disk.new (D.image disk.old) }
@@ -180,7 +182,7 @@ fn fetch<D: Disk>(
 {
     match look(disk, place, total)? {
         Ahead::Frame { size } => {
-            if !load(disk, place + 5, size, into)? {
+            if !load(disk, place + FRAME_HEAD, size, into)? {
                 return Ok(Ahead::Torn);
             }
             Ok(Ahead::Frame { size })
@@ -201,10 +203,10 @@ pub struct Replay<D: Disk> {
 }
 
 impl<D: Disk> Model for Replay<D> {
-    ghost use Rattle.lrs_journal.specs.Replay.{Reading};
+    ghost use Rattle.lrs_journal.specs.Replay.{Replay as SpecReplay};
     ghost use Rattle.lrs_journal.specs.Steps.{IsReplay};
 
-    ghost Value = { Reading D };
+    ghost Value = { SpecReplay D };
 
     ghost view = { λ r. record {
       disk = r.disk;
@@ -223,7 +225,8 @@ impl<D: Disk> Journal<D> {
     pub fn recover(disk: D) -> Result<Replay<D>, (RecoverRefused, D)>
         ensures opened { IfOk result (λ replay. ForSome (D.told disk)
             (λ bytes. HasHeader bytes replay.limit × HasRead bytes replay [])) }
-        ensures begun { IfOk result (λ replay. (replay.number ≡ 0) × (replay.ended ≡ false)) }
+        ensures begun { IfOk result (λ replay. (replay.place ≡ HEADER) × (replay.number ≡ 0)
+            × (replay.ended ≡ false)) }
         ensures synced { IfOk result (λ replay. IsSynced D.told D.image replay.disk) }
         ensures not_a_store { IfErr result (λ e. e.0 ≡ RecoverRefused.NotAStore → ForSome (D.told disk)
             (λ bytes. (limit : ℕ) → HasHeader bytes limit → ⊥)) }
@@ -242,17 +245,17 @@ impl<D: Disk> Journal<D> {
         let Ok(size) = disk.len() else {
             return Err((RecoverRefused::Failed, disk));
         };
-        let mut head = [0; 17];
+        let mut head = [0; HEADER as usize];
         let Ok(number) = disk.read_at(0, &mut head) else {
             return Err((RecoverRefused::Failed, disk));
         };
-        match limit_of(&head[..number.min(17)]) {
+        match limit_of(&head[..number.min(HEADER as usize)]) {
             None => Err((RecoverRefused::NotAStore, disk)),
             Some(limit) => Ok(Replay {
                 disk,
                 limit,
                 size,
-                place: 17,
+                place: HEADER,
                 number: 0,
                 ended: false,
             }),
@@ -298,6 +301,7 @@ impl<D: Disk> Replay<D> {
         ensures end { IfOk result (λ more. more ≡ false → IsSamePlace self.old self.new × ForSome (D.told self.old.disk)
             (λ bytes. (payloads : List (List ℕ)) → HasRead bytes self.old payloads → HasRead bytes self.new payloads
             × Stands bytes self.old.limit payloads)) }
+        ensures moved { IfOk result (λ more. more ≡ true → IsNextPlace self.old self.new into.new.items) }
         ensures ended { IfOk result (λ more. self.new.ended ≡ not more) }
         ensures damaged { (k : ℕ) → IsErrOf result (ReplayRefused.Damaged k) → (k ≡ self.old.number)
             × ForSome (D.told self.old.disk) (λ bytes. (payloads : List (List ℕ)) → HasRead bytes self.old payloads
@@ -318,7 +322,7 @@ impl<D: Disk> Replay<D> {
             }
             Ahead::Torn => Err(ReplayRefused::Damaged { k: self.number }),
             Ahead::Frame { size } => {
-                self.place += 5 + u64::from(size);
+                self.place += FRAME_HEAD + u64::from(size);
                 self.number += 1;
                 self.ended = false;
                 Ok(true)
@@ -340,6 +344,8 @@ impl<D: Disk> Replay<D> {
         ensures failed { IfErr result (λ e. ForSome (D.told self.disk)
             (λ bytes. (payloads : List (List ℕ)) → HasRead bytes self payloads
             → Stores D.told e.1 self.limit payloads)) }
+        ensures later { IfOk result (λ journal. D.time self.disk ≤ D.time journal.disk) }
+        ensures later_err { IfErr result (λ e. D.time self.disk ≤ D.time e.1) }
         // A crash at any moment leaves the frames that were read.
         ensures any_moment { IfOk result (λ journal. ForSome (D.told self.disk)
             (λ bytes. (payloads : List (List ℕ)) → HasRead bytes self payloads

@@ -2,15 +2,16 @@
 ghost use Rattle.std.specs.Prelude.{◌≡◌, ◌<◌, ◌≤◌, ◌+◌, ◌^◌, ◌++◌, [], ◌∷◌, List, ℕ, length, take, OnOk};
 ghost use Rattle.lrs_disk.specs.Disk.{written, LeavesOnly, Follows, Within};
 ghost use Rattle.lrs_disk.specs.Faults.{HasCause};
-ghost use Rattle.lrs_journal.specs.Store.{body};
+ghost use Rattle.lrs_journal.specs.Store.{body, need_at};
 ghost use Rattle.lrs_journal.specs.Journal.{TellsAlike};
 ghost use Rattle.lrs_journal.specs.Steps.{Reads, IsBehind, IsAtGate, IsCutBack, IsClosed};
 
+use crate::sizes::FRAME_HEAD;
 use lrs_disk::{Disk, Failed};
 
 /// Writes a frame's body and a closed gate behind the gate at this place, and syncs.
 pub(crate) fn stage<D: Disk>(disk: &mut D, place: u64, payload: &[u8]) -> Result<(), Failed>
-    requires fits { place + 6 + length payload.now < 2 ^ 32 }
+    requires fits { need_at place payload.now < 2 ^ 32 }
     requires gate { (b : List ℕ) → Reads D.told disk.old b → place < length b }
     ensures staged { OnOk result (Follows (λ b c. c ≡ written b (place + 1) (body payload.now ++ 0
         ∷ [])) (Reads D.told disk.old) (D.image disk.new)) }
@@ -20,8 +21,8 @@ pub(crate) fn stage<D: Disk>(disk: &mut D, place: u64, payload: &[u8]) -> Result
 {
     let length = payload.len() as u32;
     disk.write_at(place + 1, &length.to_be_bytes())?;
-    disk.write_at(place + 5, payload)?;
-    disk.write_at(place + 5 + payload.len() as u64, &[0])?;
+    disk.write_at(place + FRAME_HEAD, payload)?;
+    disk.write_at(place + FRAME_HEAD + payload.len() as u64, &[0])?;
     disk.sync()
 }
 

@@ -4,7 +4,7 @@ use Rattle.lrs_disk.specs.Disk.{LeavesOnly}
 use Rattle.lrs_disk.proofs.Moments.{started, now_has, weaker_run, then_run}
 use Rattle.lrs_journal.specs.Store.{IsBeforeOrAfter, Stands}
 use Rattle.lrs_journal.specs.Steps.{IsBehind, IsSound}
-use Rattle.lrs_journal.specs.Journal.{Journal, frames_of, StandsFor, IsJournal, IsAppended, IsUnchanged}
+use Rattle.lrs_journal.specs.Journal.{Journal, frames_of, StandsForFrames, IsJournal, IsAppended, IsUnchanged}
 use Rattle.lrs_journal.proofs.Kept.{seen, sound_journal, settled_journal, after_behind, after_staged, gate_there, room_behind, behind_leaves, no_doubt, doubt_before_or_after}
 use Rattle.lrs_journal.proofs.journal.Journal.append.Goals as goal
 
@@ -154,7 +154,7 @@ returns-in_err-settle-clause-any_moment g c x is =
     let fits = room_behind i.disk i.limit i.gate i.number i.doubt p _ c.self.view_is none (c.in_ok-room.ensures.fits refl) in
     let staged = after_staged told I g.met.D.Disk.reads_image i.disk d1 i.limit i.gate i.number p old fits c.stage.ensures.tells c.in_ok-stage.ensures.staged in
     let run : (x : List (List ℕ)) → frames_of told (seen i.disk i.limit i.gate i.number None) ≡ Some x → LeavesOnly T S i.disk d2 (IsBeforeOrAfter i.limit x p) = λ x is.
-    then_run T S I g.met.D.Disk.counts_now g.met.D.Disk.only_now i.disk d1 d2 (IsBeforeOrAfter i.limit x p) (StandsFor i.limit true (x ++ p ∷ []))
+    then_run T S I g.met.D.Disk.counts_now g.met.D.Disk.only_now i.disk d1 d2 (IsBeforeOrAfter i.limit x p) (StandsForFrames i.limit true (x ++ p ∷ []))
     (weaker_run T S I g.met.D.Disk.counts_now g.met.D.Disk.only_now i.disk d1 (IsBehind (i.gate + 1) (I i.disk)) (IsBeforeOrAfter i.limit x p) c.stage.ensures.any_moment
     (λ f now. inl (behind_leaves told I g.met.D.Disk.reads_image i.disk i.limit i.gate i.number old x is f now)))
     (c.settle.ensures.any_moment (x ++ p ∷ []) (staged.1 ∙ ap (λ (o : Option (List (List ℕ))). option_map (λ payloads. payloads ++ p ∷ []) o) is))
@@ -194,7 +194,7 @@ returns-clause-any_moment g c x is =
     let fits = room_behind i.disk i.limit i.gate i.number i.doubt p _ c.self.view_is none (c.in_ok-room.ensures.fits refl) in
     let staged = after_staged told I g.met.D.Disk.reads_image i.disk d1 i.limit i.gate i.number p old fits c.stage.ensures.tells c.in_ok-stage.ensures.staged in
     let run : (x : List (List ℕ)) → frames_of told (seen i.disk i.limit i.gate i.number None) ≡ Some x → LeavesOnly T S i.disk d2 (IsBeforeOrAfter i.limit x p) = λ x is.
-    then_run T S I g.met.D.Disk.counts_now g.met.D.Disk.only_now i.disk d1 d2 (IsBeforeOrAfter i.limit x p) (StandsFor i.limit true (x ++ p ∷ []))
+    then_run T S I g.met.D.Disk.counts_now g.met.D.Disk.only_now i.disk d1 d2 (IsBeforeOrAfter i.limit x p) (StandsForFrames i.limit true (x ++ p ∷ []))
     (weaker_run T S I g.met.D.Disk.counts_now g.met.D.Disk.only_now i.disk d1 (IsBehind (i.gate + 1) (I i.disk)) (IsBeforeOrAfter i.limit x p) c.stage.ensures.any_moment
     (λ f now. inl (behind_leaves told I g.met.D.Disk.reads_image i.disk i.limit i.gate i.number old x is f now)))
     (c.settle.ensures.any_moment (x ++ p ∷ []) (staged.1 ∙ ap (λ (o : Option (List (List ℕ))). option_map (λ payloads. payloads ++ p ∷ []) o) is))

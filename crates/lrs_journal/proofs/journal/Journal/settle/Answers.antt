@@ -2,7 +2,7 @@ use Rattle.std.proofs.Common.{◌≡◌, ◌+◌, ◌∙◌, List, ℕ, Option, 
 use Rattle.lrs_disk.specs.Disk.{LeavesOnly}
 use Rattle.lrs_disk.proofs.Moments.{started, now_has, weaker_run}
 use Rattle.lrs_journal.specs.Steps.{IsAtGate, IsSound}
-use Rattle.lrs_journal.specs.Journal.{Journal, frames_of, StandsFor, IsJournal, IsUnchanged}
+use Rattle.lrs_journal.specs.Journal.{Journal, frames_of, StandsForFrames, IsJournal, IsUnchanged}
 use Rattle.lrs_journal.proofs.Kept.{seen, sound_journal, doubt_journal, settled_journal, after_gate, after_opened, gate_there, gate_leaves}
 use Rattle.lrs_journal.proofs.journal.Journal.settle.Goals as goal
 
@@ -61,10 +61,10 @@ returns-in_err-write_gate-clause-any_moment g c =
     let I = g.D.Disk.image in
     let told = g.D.Disk.told in
     let old = subst (λ (o : Option ℕ). IsSound (told i.disk) (I i.disk) i.limit i.gate i.number o) c.in-Some.is c.self.invariant in
-    let run : (x : List (List ℕ)) → frames_of told (seen i.disk i.limit i.gate i.number (Some c.in-Some.size)) ≡ Some x → LeavesOnly T S i.disk d1 (StandsFor i.limit true x) = λ x is.
-    weaker_run T S I g.met.D.Disk.counts_now g.met.D.Disk.only_now i.disk d1 (IsAtGate i.gate (I i.disk)) (StandsFor i.limit true x) c.write_gate.ensures.any_moment
+    let run : (x : List (List ℕ)) → frames_of told (seen i.disk i.limit i.gate i.number (Some c.in-Some.size)) ≡ Some x → LeavesOnly T S i.disk d1 (StandsForFrames i.limit true x) = λ x is.
+    weaker_run T S I g.met.D.Disk.counts_now g.met.D.Disk.only_now i.disk d1 (IsAtGate i.gate (I i.disk)) (StandsForFrames i.limit true x) c.write_gate.ensures.any_moment
     (gate_leaves told I g.met.D.Disk.reads_image i.disk i.limit i.gate i.number c.in-Some.size old x is) in
-    subst (λ (h : Journal _). (x : List (List ℕ)) → frames_of told h ≡ Some x → LeavesOnly T S h.disk d1 (StandsFor h.limit h.doubt x)) (ap (λ (o : Option ℕ). seen i.disk i.limit i.gate i.number o) (sym c.in-Some.is) ∙ c.self.view_is) run
+    subst (λ (h : Journal _). (x : List (List ℕ)) → frames_of told h ≡ Some x → LeavesOnly T S h.disk d1 (StandsForFrames h.limit h.doubt x)) (ap (λ (o : Option ℕ). seen i.disk i.limit i.gate i.number o) (sym c.in-Some.is) ∙ c.self.view_is) run
 
 pub invariant_of-self-2 : goal.invariant_of-self-2
 invariant_of-self-2 g c =
@@ -101,7 +101,7 @@ returns-clause-any_moment g c =
     let I = g.D.Disk.image in
     let told = g.D.Disk.told in
     let old = subst (λ (o : Option ℕ). IsSound (told i.disk) (I i.disk) i.limit i.gate i.number o) c.in-Some.is c.self.invariant in
-    let run : (x : List (List ℕ)) → frames_of told (seen i.disk i.limit i.gate i.number (Some c.in-Some.size)) ≡ Some x → LeavesOnly T S i.disk d1 (StandsFor i.limit true x) = λ x is.
-    weaker_run T S I g.met.D.Disk.counts_now g.met.D.Disk.only_now i.disk d1 (IsAtGate i.gate (I i.disk)) (StandsFor i.limit true x) c.write_gate.ensures.any_moment
+    let run : (x : List (List ℕ)) → frames_of told (seen i.disk i.limit i.gate i.number (Some c.in-Some.size)) ≡ Some x → LeavesOnly T S i.disk d1 (StandsForFrames i.limit true x) = λ x is.
+    weaker_run T S I g.met.D.Disk.counts_now g.met.D.Disk.only_now i.disk d1 (IsAtGate i.gate (I i.disk)) (StandsForFrames i.limit true x) c.write_gate.ensures.any_moment
     (gate_leaves told I g.met.D.Disk.reads_image i.disk i.limit i.gate i.number c.in-Some.size old x is) in
-    subst (λ (h : Journal _). (x : List (List ℕ)) → frames_of told h ≡ Some x → LeavesOnly T S h.disk d1 (StandsFor h.limit h.doubt x)) (ap (λ (o : Option ℕ). seen i.disk i.limit i.gate i.number o) (sym c.in-Some.is) ∙ c.self.view_is) run
+    subst (λ (h : Journal _). (x : List (List ℕ)) → frames_of told h ≡ Some x → LeavesOnly T S h.disk d1 (StandsForFrames h.limit h.doubt x)) (ap (λ (o : Option ℕ). seen i.disk i.limit i.gate i.number o) (sym c.in-Some.is) ∙ c.self.view_is) run

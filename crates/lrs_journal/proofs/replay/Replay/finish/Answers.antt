@@ -2,7 +2,7 @@ use Rattle.std.proofs.Common.{◌≡◌, ◌∙◌, List, ℕ, Some, None, Bool,
 use Rattle.lrs_disk.specs.Disk.{LeavesOnly}
 use Rattle.lrs_disk.proofs.Moments.{now_has, weaker_run}
 use Rattle.lrs_journal.specs.Store.{Stands}
-use Rattle.lrs_journal.specs.Replay.{Reading, HasRead}
+use Rattle.lrs_journal.specs.Replay.{Replay, HasRead}
 use Rattle.lrs_journal.specs.Steps.{IsCutBack, IsReplay}
 use Rattle.lrs_journal.specs.Journal.{frames_of, Stores}
 use Rattle.lrs_journal.proofs.Told.{alike_told}
@@ -26,7 +26,7 @@ returns-in-Ok-clause-finished g c =
     let i = c.self.inside in
     let d1 = c.close_end.new.disk in
     let told = g.D.Disk.told in
-    subst (λ (r : Reading _). (x : List ℕ) → told r.disk ≡ Some x → (payloads : List (List ℕ)) → HasRead x r payloads → frames_of told (seen d1 i.limit i.place i.number None) ≡ Some payloads) c.self.view_is
+    subst (λ (r : Replay _). (x : List ℕ) → told r.disk ≡ Some x → (payloads : List (List ℕ)) → HasRead x r payloads → frames_of told (seen d1 i.limit i.place i.number None) ≡ Some payloads) c.self.view_is
     (λ x told_x payloads h. closed_frames told g.D.Disk.image g.met.D.Disk.reads_image i.disk d1 i.limit i.place i.number x payloads told_x h c.close_end.ensures.tells c.in-Ok.ensures.closed)
 
 pub returns-in-Ok-clause-any_moment : goal.returns-in-Ok-clause-any_moment
@@ -37,8 +37,8 @@ returns-in-Ok-clause-any_moment g c =
     let told = g.D.Disk.told in
     let i = c.self.inside in
     let d1 = c.close_end.new.disk in
-    let r = subst (λ (b : Bool). IsReplay (told i.disk) (I i.disk) i.limit i.size i.place i.number b) (ap (λ (r : Reading _). r.ended) c.self.view_is ∙ c.requires) c.self.invariant in
-    subst (λ (r : Reading _). (x : List ℕ) → told r.disk ≡ Some x → (payloads : List (List ℕ)) → HasRead x r payloads → LeavesOnly T S r.disk d1 (λ image. Stands image r.limit payloads)) c.self.view_is
+    let r = subst (λ (b : Bool). IsReplay (told i.disk) (I i.disk) i.limit i.size i.place i.number b) (ap (λ (r : Replay _). r.ended) c.self.view_is ∙ c.requires) c.self.invariant in
+    subst (λ (r : Replay _). (x : List ℕ) → told r.disk ≡ Some x → (payloads : List (List ℕ)) → HasRead x r payloads → LeavesOnly T S r.disk d1 (λ image. Stands image r.limit payloads)) c.self.view_is
     (λ x told_x payloads h. weaker_run T S I g.met.D.Disk.counts_now g.met.D.Disk.only_now i.disk d1 (IsCutBack i.place (I i.disk)) (λ image. Stands image i.limit payloads) c.close_end.ensures.any_moment
     (cut_stands told I g.met.D.Disk.reads_image i.disk d1 i.limit i.place i.number i.size r x payloads told_x h))
 
@@ -50,8 +50,8 @@ returns-in-Err-clause-any_moment_err g c =
     let told = g.D.Disk.told in
     let i = c.self.inside in
     let d1 = c.close_end.new.disk in
-    let r = subst (λ (b : Bool). IsReplay (told i.disk) (I i.disk) i.limit i.size i.place i.number b) (ap (λ (r : Reading _). r.ended) c.self.view_is ∙ c.requires) c.self.invariant in
-    subst (λ (r : Reading _). (x : List ℕ) → told r.disk ≡ Some x → (payloads : List (List ℕ)) → HasRead x r payloads → LeavesOnly T S r.disk d1 (λ image. Stands image r.limit payloads)) c.self.view_is
+    let r = subst (λ (b : Bool). IsReplay (told i.disk) (I i.disk) i.limit i.size i.place i.number b) (ap (λ (r : Replay _). r.ended) c.self.view_is ∙ c.requires) c.self.invariant in
+    subst (λ (r : Replay _). (x : List ℕ) → told r.disk ≡ Some x → (payloads : List (List ℕ)) → HasRead x r payloads → LeavesOnly T S r.disk d1 (λ image. Stands image r.limit payloads)) c.self.view_is
     (λ x told_x payloads h. weaker_run T S I g.met.D.Disk.counts_now g.met.D.Disk.only_now i.disk d1 (IsCutBack i.place (I i.disk)) (λ image. Stands image i.limit payloads) c.close_end.ensures.any_moment
     (cut_stands told I g.met.D.Disk.reads_image i.disk d1 i.limit i.place i.number i.size r x payloads told_x h))
 
@@ -63,8 +63,8 @@ returns-in-Err-clause-failed g c =
     let told = g.D.Disk.told in
     let i = c.self.inside in
     let d1 = c.close_end.new.disk in
-    let r = subst (λ (b : Bool). IsReplay (told i.disk) (I i.disk) i.limit i.size i.place i.number b) (ap (λ (r : Reading _). r.ended) c.self.view_is ∙ c.requires) c.self.invariant in
-    subst (λ (r : Reading _). (x : List ℕ) → told r.disk ≡ Some x → (payloads : List (List ℕ)) → HasRead x r payloads → Stores told d1 r.limit payloads) c.self.view_is
+    let r = subst (λ (b : Bool). IsReplay (told i.disk) (I i.disk) i.limit i.size i.place i.number b) (ap (λ (r : Replay _). r.ended) c.self.view_is ∙ c.requires) c.self.invariant in
+    subst (λ (r : Replay _). (x : List ℕ) → told r.disk ≡ Some x → (payloads : List (List ℕ)) → HasRead x r payloads → Stores told d1 r.limit payloads) c.self.view_is
     (λ x told_x payloads h.
     let new = alike_told (told i.disk) (told d1) x c.close_end.ensures.tells told_x in
     let now = now_has T S I g.met.D.Disk.counts_now g.met.D.Disk.only_now i.disk d1 (IsCutBack i.place (I i.disk)) c.close_end.ensures.any_moment new.0 (g.met.D.Disk.reads_image d1 new.0 new.1) in

@@ -1,7 +1,7 @@
 use Rattle.std.proofs.Common.{◌≡◌, ◌∙◌, ◌+◌, List, ℕ, [], ◌∷◌, ◌++◌, take, drop, Some, ap, subst, sym, arith}
 use Rattle.lrs_disk.proofs.Moments.{now_has}
 use Rattle.lrs_journal.specs.Store.{Stands, IsDamaged}
-use Rattle.lrs_journal.specs.Replay.{Reading, HasRead, HasReadTo, IsAhead, IsWholeFrame}
+use Rattle.lrs_journal.specs.Replay.{Replay, HasRead, HasReadTo, IsAhead, IsWholeFrame}
 use Rattle.lrs_journal.proofs.Frames.{damaged_behind, ended_stands, read_whole, replay_kept, replay_more}
 use Rattle.lrs_journal.proofs.replay.Replay.next.Goals as goal
 
@@ -26,7 +26,7 @@ pub returns-in-Frame-clause-frame : goal.returns-in-Frame-clause-frame
 returns-in-Frame-clause-frame g c _ =
     let told = g.D.Disk.told in
     let i = c.self.inside in
-    subst (λ (r : Reading _). (x : List ℕ) → told r.disk ≡ Some x → (payloads : List (List ℕ)) → HasRead x r payloads
+    subst (λ (r : Replay _). (x : List ℕ) → told r.disk ≡ Some x → (payloads : List (List ℕ)) → HasRead x r payloads
     → HasReadTo x i.limit (i.place + (5 + c.from.result)) (i.number + 1) (payloads ++ c.fetch.new.into.items ∷ [])) c.self.view_is
     (λ x told_x payloads h. read_whole x i.limit i.place i.number payloads c.fetch.new.into.items c.from.result h (omega (arith, c.from.ensures))
     (subst (IsWholeFrame (drop i.place x)) (sym c.from.ensures) (subst (IsAhead (drop i.place x)) c.in-Frame.is (c.in_ok-fetch.ensures.found x told_x)))
@@ -37,8 +37,8 @@ pub returns-in-End-clause-end : goal.returns-in-End-clause-end
 returns-in-End-clause-end g c _ =
     let told = g.D.Disk.told in
     let i = c.self.inside in (
-      (ap (λ (r : Reading _). r.place) c.self.view_is, ap (λ (r : Reading _). r.number) c.self.view_is),
-      subst (λ (r : Reading _). (x : List ℕ) → told r.disk ≡ Some x → (payloads : List (List ℕ)) → HasRead x r payloads
+      (ap (λ (r : Replay _). r.place) c.self.view_is, ap (λ (r : Replay _). r.number) c.self.view_is),
+      subst (λ (r : Replay _). (x : List ℕ) → told r.disk ≡ Some x → (payloads : List (List ℕ)) → HasRead x r payloads
           → HasReadTo x i.limit i.place i.number payloads × Stands x r.limit payloads) c.self.view_is
           (λ x told_x payloads h. (h, ended_stands x i.limit i.place i.number payloads h (subst (IsAhead (drop i.place x)) c.in-End.is (c.in_ok-fetch.ensures.found x told_x)))),
     )
@@ -47,7 +47,7 @@ pub returns-in-Torn-clause-damaged : goal.returns-in-Torn-clause-damaged
 returns-in-Torn-clause-damaged g c k is =
     let told = g.D.Disk.told in
     let i = c.self.inside in (
-      cc (is, ap (λ (r : Reading _). r.number) c.self.view_is),
-      subst (λ (r : Reading _). (x : List ℕ) → told r.disk ≡ Some x → (payloads : List (List ℕ)) → HasRead x r payloads → IsDamaged x r.limit payloads) c.self.view_is
+      cc (is, ap (λ (r : Replay _). r.number) c.self.view_is),
+      subst (λ (r : Replay _). (x : List ℕ) → told r.disk ≡ Some x → (payloads : List (List ℕ)) → HasRead x r payloads → IsDamaged x r.limit payloads) c.self.view_is
           (λ x told_x payloads h. damaged_behind x i.limit i.place i.number payloads h (subst (IsAhead (drop i.place x)) c.in-Torn.is (c.in_ok-fetch.ensures.found x told_x))),
     )
