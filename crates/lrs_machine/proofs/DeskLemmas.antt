@@ -1,63 +1,30 @@
 -- What the desk's methods owe, over plain data.
-use Rattle.std.proofs.Common.{◌≡◌, ◌-◌, ℕ, List, refl, sym, ◌∙◌, ap, subst, inl, inr, Option, Some, None, Bool, true, false, nat_lt, Result, Ok, Err, IfOk}
-use Rattle.std.specs.Prelude.{if◌then◌else◌}
+use Rattle.std.proofs.Common.{◌≡◌, ◌+◌, ◌-◌, ◌<◌, ℕ, List, [], ◌∷◌, ◌++◌, length, refl, sym, ◌∙◌, ap, subst, inl, inr, arith, length-append, Option, Some, None, Bool, true, false, not, ◌&&◌, nat_lt, Result, Ok, Err, IfOk}
+use Rattle.std.specs.Prelude.{◌||◌, ◌==◌, is_some, is_ok, IsSome, if◌then◌else◌}
+use Rattle.std.proofs.lemmas.Grind.{common_steps}
 use Rattle.lrs_command.specs.declared.command.Command.{Command}
-use Rattle.lrs_disk.specs.declared.failed.Failed.{Failed}
 use Rattle.lrs_fold.specs.Own.{IsOfPut, IsPut, SaysOfPut}
-use Rattle.lrs_fold.proofs.Again.{thanks_no_refusal}
+use Rattle.lrs_fold.proofs.Again.{acceptance_no_refusal}
 use Rattle.lrs_fold.proofs.Puts.{put_says}
-use Rattle.lrs_history.specs.History.{Outcome, Told, Accepted, Answer, answer, answer_of, need, end_place, state, outcome, with_entry}
-use Rattle.lrs_history.proofs.Kept.{no_room, kept_answer}
-use Rattle.lrs_journal.specs.Journal.{Journal}
-use Rattle.lrs_machine.specs.Desk.{StandsFor, Answers, HasDiskCause, Replies}
-use Rattle.lrs_machine.specs.Steps.{GrowsBy, SaysBy, Acts}
+use Rattle.lrs_history.specs.History.{Outcome, Said, Accepted, Answer, answer, answer_of, need, end_place, state, outcome}
+use Rattle.lrs_history.proofs.Room.{no_room, kept_answer}
+use Rattle.lrs_machine.specs.Acts.{Acts, HasDiskCause, Receipt, Tells, landed_among, line_behind, made_by, place_where}
+use Rattle.lrs_machine.specs.Desk.{Desk, added_place, history, landed_place, receipt_of}
+use Rattle.lrs_machine.specs.Line.{Record, entries, in_doubt}
+use Rattle.lrs_machine.specs.Steps.{Happens, Says, line_after, one_of}
+use Rattle.lrs_machine.proofs.Lines.{Goes, entries_goes, goes, none_some}
+use Rattle.lrs_machine.proofs.Tied.{entry_of_says}
 use Rattle.lrs_names.specs.declared.draw.Draw.{Draw}
 use Rattle.lrs_parts.specs.State.{State}
 use Rattle.lrs_record.specs.declared.entry.Caller.{Caller}
 use Rattle.lrs_record.specs.declared.entry.Entry.{Entry}
-use Rattle.lrs_replies.specs.Replies.{IsRefusal, IsReplyTo}
+use Rattle.lrs_replies.specs.Replies.{IsRefusal, IsReplyTo, Says as Replies, status_in}
 use Rattle.lrs_replies.specs.declared.answered.Answered.{Answered}
+use Rattle.lrs_replies.specs.declared.answered.Answered.TheVariants as said
+use Rattle.lrs_replies.specs.declared.answered.Refusal.TheVariants as refusal
 use Rattle.lrs_replies.specs.declared.reply.Reply.{Reply}
 use Rattle.lrs_replies.specs.declared.reply.Trouble.{Trouble}
 use Rattle.lrs_replies.specs.declared.reply.Trouble.TheVariants as trouble
-
--- ---- the limit stays
-
-pub act_limit : {D : Type 0} (told : D → Option (List ℕ)) (old new : Journal D) (st su : State) (v : Outcome) (r : Result Answered Trouble) → Acts told old new st su v r → new.limit ≡ old.limit
-act_limit told old new st su v r acts = by_result r acts
-  where
-    by_said : (v : Outcome) (s : Answered) → SaysBy told old new st su v s → new.limit ≡ old.limit
-    by_said (Told t) s k = k.1.0.limit
-    by_said (Accepted e t) s (inl k) = k.1.appended.limit
-    by_said (Accepted e t) s (inr k) = k.4.0.limit
-
-    by_grown : (v : Outcome) → GrowsBy told old new st su v → new.limit ≡ old.limit
-    by_grown (Told t) k = absurd k
-    by_grown (Accepted e t) k = k.appended.limit
-
-    by_result : (r : Result Answered Trouble) → Acts told old new st su v r → new.limit ≡ old.limit
-    by_result (Ok s) k = by_said v s k.1
-    by_result (Err trouble.Memory) k = k.1.0.limit
-    by_result (Err trouble.Disk) (inl k) = k.1.0.limit
-    by_result (Err trouble.Disk) (inr k) = by_grown v k.1
-
--- ---- what a put is answered
-
--- the operator's put shows no text, and is never answered as of somebody who isn't let in, or as of no command
-pub act_put : {D : Type 0} (told : D → Option (List ℕ)) (old new : Journal D) (st su : State) (caller : Caller) (c : Command) (clock : ℕ) (draw : Draw) (r : Result Answered Trouble)
-    → Acts told old new st su (outcome st caller c clock draw) r → IsPut caller c → IfOk r IsOfPut
-act_put told old new st su caller c clock draw r acts put = by_result r acts
-  where
-    by_said : (v : Outcome) (s : Answered) → SaysOfPut v → SaysBy told old new st su v s → IsOfPut s
-    by_said (Told t) s says k = subst IsOfPut (sym k.0) says
-    by_said (Accepted e t) s says (inl k) = subst IsOfPut (sym k.0) says
-    by_said (Accepted e t) s says (inr k) = subst IsOfPut (sym k.2) tt
-
-    by_result : (r : Result Answered Trouble) → Acts told old new st su (outcome st caller c clock draw) r → IfOk r IsOfPut
-    by_result (Ok s) k = by_said (outcome st caller c clock draw) s (put_says st caller c clock draw put) k.1
-    by_result (Err t) k = tt
-
--- ---- replies
 
 abbrev said_in : Answer → Answered
 said_in a = a.said
@@ -65,49 +32,174 @@ said_in a = a.said
 abbrev entry_in : Answer → Option Entry
 entry_in a = a.entry
 
+-- ---- what a put is answered
+
+put_said : (limit place : ℕ) (v : Outcome) → SaysOfPut v → IsOfPut (answer_of limit place v).said
+put_said limit place (Said s) says = says
+put_said limit place (Accepted e t) says = by_room (nat_lt limit (need place e))
+  where
+    by_room : (b : Bool) → IsOfPut (said_in (if b then no_room limit place e else kept_answer t e))
+    by_room true = tt
+    by_room false = says
+
+-- the operator's put shows no text, and is never answered as of somebody who isn't let in, or as of no command
+pub act_put : (limit place : ℕ) (st : State) (caller : Caller) (c : Command) (clock : ℕ) (draw : Draw) (d₀ d₁ : Bool) (made : Option Entry) (r : Result Answered Trouble)
+    → Says (answer_of limit place (outcome st caller c clock draw)) d₀ d₁ made r → IsPut caller c → IfOk r IsOfPut
+act_put limit place st caller c clock draw d₀ d₁ made (Ok s) says put = subst IsOfPut (sym says.0) (put_said limit place (outcome st caller c clock draw) (put_says st caller c clock draw put))
+act_put limit place st caller c clock draw d₀ d₁ made (Err t) says put = tt
+
+-- ---- receipts
+
+is_some_place : (b : Bool) (n : ℕ) → is_some (place_where b n) ≡ b
+is_some_place true n = refl
+is_some_place false n = refl
+
+added_by : (h g : List Entry) (made : Option Entry) → g ≡ h ++ one_of made → nat_lt (length h) (length g) ≡ is_some made
+added_by h g made is = by_made made (ap length is ∙ length-append h (one_of made))
+  where
+    by_made : (m : Option Entry) → length g ≡ length h + length (one_of m) → nat_lt (length h) (length g) ≡ is_some m
+    by_made None n = (let same : length g ≡ length h = omega (arith, n) in grind (arith, common_steps))
+    by_made (Some e) n = (let more : length h < length g = omega (arith, n) in grind (arith, common_steps))
+
+-- the entry's place is seen by the numbers of entries
+pub added_is : (a : Answer) (said : Result Answered Trouble) (landed : Option ℕ) (moment : ℕ) (old new : List Record) → (h : Happens a said landed moment old new) → nat_lt (length (entries old)) (length (entries new)) ≡ is_some h.made
+added_is a said landed moment old new h =
+    added_by (entries old) (entries new) h.made (entries_goes old new h.made moment (subst (λ (l : List Record). Goes old h.made moment l) (sym h.line) (goes old h.made (is_ok said) landed moment)))
+
+pub landed_is : {D : Type 0} (a : Answer) (said : Result Answered Trouble) (landed : Option ℕ) (moment : ℕ) (old new : Desk D) → Happens a said landed moment old.line new.line → landed ≡ landed_place old new
+landed_is a said landed moment old new h =
+    h.lands ∙ ap (λ (b : Bool). landed_among (length (history old)) (in_doubt old.line) (in_doubt new.line) b)
+    (sym (is_some_place (nat_lt (length (history old)) (length (history new))) (length (history old)) ∙ added_is a said landed moment old.line new.line h))
+
+pub receipt_made : {D : Type 0} (time faults : D → ℕ) (old new : Desk D) (receipt : Receipt) (status point clock was : ℕ) (landed : Option ℕ)
+    → receipt ≡ record { acted = true; status = status; point = point; entry = place_where (nat_lt point (length (history new))) point; landed = landed; clock = clock; disk = time new.disk; was = was; is = faults new.disk }
+    → point ≡ length (history old) → was ≡ faults old.disk → landed ≡ landed_place old new → receipt ≡ receipt_of time faults old new status clock
+receipt_made time faults old new receipt status point clock was landed is at count lands =
+    is ∙ ap (λ (p : ℕ). made p landed was) at ∙ ap (λ (l : Option ℕ). made (length (history old)) l was) lands ∙ ap (λ (w : ℕ). made (length (history old)) (landed_place old new) w) count
+  where
+    made : ℕ → Option ℕ → ℕ → Receipt
+    made p l w = record { acted = true; status = status; point = p; entry = place_where (nat_lt p (length (history new))) p; landed = l; clock = clock; disk = time new.disk; was = w; is = faults new.disk }
+
+-- ---- acts
+
+tells : (a : Answer) (point : ℕ) (d₀ d₁ : Bool) (made : Option Entry) (said : Result Answered Trouble) (own : Option ℕ) → own ≡ place_where (is_some made) point → Says a d₀ d₁ made said → Tells a point d₀ d₁ own said
+tells a point d₀ d₁ made (Ok s) own is says = (says.0, is ∙ ap (λ (o : Option Entry). place_where (is_some o) point) says.1, says.2)
+tells a point d₀ d₁ made (Err trouble.Memory) own is says = (is ∙ ap (λ (o : Option Entry). place_where (is_some o) point) says.0, says.1)
+tells a point d₀ d₁ made (Err trouble.Disk) own is (inl none) = inl (is ∙ ap (λ (o : Option Entry). place_where (is_some o) point) none.0, none.1)
+tells a point d₀ d₁ made (Err trouble.Disk) own is (inr doubtful) =
+    inr (doubtful.0, is ∙ ap (λ (o : Option Entry). place_where (is_some o) point) doubtful.1 ∙ some_place a.entry doubtful.0, doubtful.2)
+  where
+    some_place : (o : Option Entry) → IsSome o → place_where (is_some o) point ≡ Some point
+    some_place None some = absurd (cc some)
+    some_place (Some e) some = refl
+
+-- a status is 503 only in trouble
+ok_status : (said : Result Answered Trouble) → not (status_in said == 503) ≡ is_ok said
+ok_status (Ok said.Kept) = refl
+ok_status (Ok said.Same) = refl
+ok_status (Ok (said.Shown text through)) = refl
+ok_status (Ok (said.Refused (refusal.Conflict id))) = refl
+ok_status (Ok (said.Refused (refusal.Full n l))) = refl
+ok_status (Ok (said.Refused (refusal.Broken rule))) = refl
+ok_status (Ok (said.Refused refusal.TooLong)) = refl
+ok_status (Ok (said.Refused refusal.Unauthorized)) = refl
+ok_status (Ok (said.Refused (refusal.Forbidden rule))) = refl
+ok_status (Ok (said.Refused refusal.NotFound)) = refl
+ok_status (Err t) = refl
+
+made_is : (a : Answer) (d₀ d₁ : Bool) (made : Option Entry) (said : Result Answered Trouble) → Says a d₀ d₁ made said → (if is_some made then a.entry else None) ≡ made
+made_is a d₀ d₁ None said says = refl
+made_is a d₀ d₁ (Some e) said says = entry_of_says a d₀ d₁ e said says
+
+pub acts_of : (a : Answer) (said : Result Answered Trouble) (landed : Option ℕ) (old new : List Record) (receipt : Receipt) → Happens a said landed receipt.disk old new → receipt.acted ≡ true → receipt.status ≡ status_in said
+    → receipt.point ≡ length (entries old) → receipt.entry ≡ place_where (nat_lt receipt.point (length (entries new))) receipt.point → receipt.landed ≡ landed → HasDiskCause receipt.was receipt.is said → Acts a said receipt old new
+acts_of a said landed old new receipt h acted status point entry lands cause = record {
+  acted = acted;
+  point = point;
+  cause = cause;
+  tells = tells a receipt.point (in_doubt old) (in_doubt new) h.made said receipt.entry own h.says;
+  landed = lands ∙ h.lands ∙ ap (λ (n : ℕ). landed_among n (in_doubt old) (in_doubt new) (is_some h.made)) (sym point) ∙ ap (λ (b : Bool). landed_among receipt.point (in_doubt old) (in_doubt new) b) (sym some);
+  line = h.line ∙ sym same;
+  moments = h.moments;
+}
+  where
+    own : receipt.entry ≡ place_where (is_some h.made) receipt.point
+    own = entry ∙ ap (λ (b : Bool). place_where b receipt.point) (ap (λ (n : ℕ). nat_lt n (length (entries new))) point ∙ added_is a said landed receipt.disk old new h)
+
+    some : is_some receipt.entry ≡ is_some h.made
+    some = ap is_some own ∙ is_some_place (is_some h.made) receipt.point
+
+    acknowledged : not (receipt.status == 503) ≡ is_ok said
+    acknowledged = ap (λ (n : ℕ). not (n == 503)) status ∙ ok_status said
+
+    made : made_by a receipt ≡ h.made
+    made = ap (λ (b : Bool). if b then a.entry else None) some ∙ made_is a (in_doubt old) (in_doubt new) h.made said h.says
+
+    built : Bool → Bool → Option Entry → Option ℕ → List Record
+    built b ok m l = if b || is_some l then old ++ record { made = m; acknowledged = b && ok; landed = is_some l; moment = receipt.disk } ∷ [] else old
+
+    same : line_behind old a receipt ≡ line_after old h.made (is_ok said) landed receipt.disk
+    same =
+        ap (λ (b : Bool). built b (not (receipt.status == 503)) (made_by a receipt) receipt.landed) some ∙ ap (λ (ok : Bool). built (is_some h.made) ok (made_by a receipt) receipt.landed) acknowledged
+        ∙ ap (λ (m : Option Entry). built (is_some h.made) (is_ok said) m receipt.landed) made ∙ ap (λ (l : Option ℕ). built (is_some h.made) (is_ok said) h.made l) lands
+
+-- ---- replies
+
 unkept_entry : (v : Outcome) (limit place : ℕ) (s : Answered) → ((e : Entry) (t : Answered) → v ≡ Accepted e t → IsRefusal (Ok t) → ⊥) → s ≡ (answer_of limit place v).said → IsRefusal (Ok s) → (answer_of limit place v).entry ≡ None
-unkept_entry (Told u) limit place s keeps is refuses = refl
+unkept_entry (Said u) limit place s keeps is refuses = refl
 unkept_entry (Accepted e t) limit place s keeps is refuses = by_test (nat_lt limit (need place e)) is
   where
     by_test : (b : Bool) → s ≡ said_in (if b then no_room limit place e else kept_answer t e) → entry_in (if b then no_room limit place e else kept_answer t e) ≡ None
     by_test true q = refl
     by_test false q = absurd (keeps e t refl (subst (λ u. IsRefusal (Ok u)) q refuses))
 
-unkept_answers : {D : Type 0} (told : D → Option (List ℕ)) (old new : Journal D) (limit : ℕ) (h : List Entry) (caller : Caller) (c : Command) (clock : ℕ) (draw : Draw) (s : Answered) → IsRefusal (Ok s)
-    → Answers told (answer limit h caller c clock draw) h old new (Ok s) → Answers told (answer limit h caller c clock draw) h old new (Err trouble.Memory)
-unkept_answers told old new limit h caller c clock draw s refuses k = (k.1, subst (λ o. StandsFor told new (with_entry h o)) none k.2)
-  where
-    none : (answer limit h caller c clock draw).entry ≡ None
-    none = unkept_entry (outcome (state h) caller c clock draw) limit (end_place limit h) s (λ e t at. thanks_no_refusal (state h) caller c clock draw e t at) k.0 refuses
-
-pub act_replies : {D : Type 0} (told : D → Option (List ℕ)) (faults : D → ℕ) (old new : Journal D) (caller : Caller) (c : Command) (clock : ℕ) (draw : Draw) (r : Result Answered Trouble) (reply : Reply)
-    → ((h : List Entry) → StandsFor told old h → Answers told (answer old.limit h caller c clock draw) h old new r) → HasDiskCause (faults old.disk) (faults new.disk) r → IsReplyTo r reply
-    → Replies told faults old new (λ h. answer old.limit h caller c clock draw) reply
-act_replies told faults old new caller c clock draw r reply answers cause (inl says) = record { said = r; says = says; cause = cause; answered = answers }
-act_replies told faults old new caller c clock draw (Ok s) reply answers cause (inr k) = record {
-  said = Err trouble.Memory;
-  says = k.1;
-  cause = cause;
-  answered = λ h stands. unkept_answers told old new old.limit h caller c clock draw s k.0 (answers h stands);
+-- where memory was wanting for the body of a refusal
+wanting : (a : Answer) (s : Answered) (landed : Option ℕ) (moment : ℕ) (old new : List Record) → a.entry ≡ None → Happens a (Ok s) landed moment old new → Happens a (Err trouble.Memory) landed moment old new
+wanting a s landed moment old new none h = record {
+  made = h.made;
+  says = (h.says.1 ∙ none, h.says.2);
+  lands = h.lands;
+  line = h.line ∙ unmade h.made (h.says.1 ∙ none);
+  moments = h.moments;
 }
-act_replies told faults old new caller c clock draw (Err t) reply answers cause (inr k) = absurd k.0
-
--- ---- closing
-
-pub settled_doubt : {D : Type 0} (old new : Journal D) (r : Result (Option ℕ) Failed) (k : Option ℕ) → r ≡ Ok k → (old.doubt ≡ false → (r ≡ Ok None) × (new ≡ old))
-    → (old.doubt ≡ true → IfOk r (λ frame. (frame ≡ Some (old.number - 1)) × (new.doubt ≡ false))) → new.doubt ≡ false
-settled_doubt old new r k is none some = by_doubt old.doubt refl
   where
-    by_doubt : (b : Bool) → old.doubt ≡ b → new.doubt ≡ false
-    by_doubt false at = ap (λ j. j.doubt) (none at).1 ∙ at
-    by_doubt true at = (subst (λ q. IfOk q (λ frame. (frame ≡ Some (old.number - 1)) × (new.doubt ≡ false))) is (some at)).1
+    unmade : (m : Option Entry) → m ≡ None → line_after old m true landed moment ≡ line_after old m false landed moment
+    unmade None is = refl
+    unmade (Some e) is = absurd (none_some e (sym is))
 
-pub unsettled_doubt : {D : Type 0} (old new : Journal D) (r : Result (Option ℕ) Failed) (f : Failed) → r ≡ Err f → (old.doubt ≡ false → (r ≡ Ok None) × (new ≡ old)) → old.doubt ≡ true
-unsettled_doubt old new r f is none = by_doubt old.doubt refl
+status_says : (said : Result Answered Trouble) (reply : Reply) → Replies said reply → reply.status ≡ status_in said
+status_says (Ok s) reply says = says.0
+status_says (Err trouble.Memory) reply says = says.0
+status_says (Err trouble.Disk) reply says = says.0
+
+pub act_acts : (limit : ℕ) (caller : Caller) (c : Command) (clock : ℕ) (draw : Draw) (said : Result Answered Trouble) (reply : Reply) (landed : Option ℕ) (old new : List Record) (receipt : Receipt)
+    → Happens (answer limit (entries old) caller c clock draw) said landed receipt.disk old new → IsReplyTo said reply → receipt.acted ≡ true → receipt.status ≡ reply.status → receipt.point ≡ length (entries old)
+    → receipt.entry ≡ place_where (nat_lt receipt.point (length (entries new))) receipt.point → receipt.landed ≡ landed → HasDiskCause receipt.was receipt.is said
+    → (told : Result Answered Trouble) × Replies told reply × Acts (answer limit (entries old) caller c clock draw) told receipt old new
+act_acts limit caller c clock draw said reply landed old new receipt h (inl says) acted status point entry lands cause =
+    (said, says, acts_of (answer limit (entries old) caller c clock draw) said landed old new receipt h acted (status ∙ status_says said reply says) point entry lands cause)
+act_acts limit caller c clock draw (Ok s) reply landed old new receipt h (inr k) acted status point entry lands cause = (
+  Err trouble.Memory,
+  k.1,
+  acts_of (answer limit (entries old) caller c clock draw) (Err trouble.Memory) landed old new receipt (wanting (answer limit (entries old) caller c clock draw) s landed receipt.disk old new none h) acted (status ∙ k.1.0) point entry lands cause,
+)
   where
-    no : ◌≡◌ {A = Result (Option ℕ) Failed} (Err f) (Ok None) → ⊥
-    no e = cc
+    none : (answer limit (entries old) caller c clock draw).entry ≡ None
+    none = unkept_entry (outcome (state (entries old)) caller c clock draw) limit (end_place limit (entries old)) s (λ e t at. acceptance_no_refusal (state (entries old)) caller c clock draw e t at) h.says.0 k.0
+act_acts limit caller c clock draw (Err t) reply landed old new receipt h (inr k) acted status point entry lands cause = absurd k.0
 
-    by_doubt : (b : Bool) → old.doubt ≡ b → old.doubt ≡ true
-    by_doubt false at = absurd (no (sym is ∙ (none at).0))
-    by_doubt true at = at
+-- ---- the desk's receipts
+
+module _ {D : Type 0} (time faults : D → ℕ) (old new : Desk D) (caller : Caller) (c : Command) (clock : ℕ) (draw : Draw) (said : Result Answered Trouble) (landed : Option ℕ) where
+  abbrev a : Answer
+  a = answer old.limit (history old) caller c clock draw
+
+  pub put_told : (receipt : Receipt) → receipt ≡ receipt_of time faults old new (status_in said) clock → Happens a said landed (time new.disk) old.line new.line → HasDiskCause (faults old.disk) (faults new.disk) said
+      → Acts a said receipt old.line new.line
+  put_told receipt is h cause = subst (λ (r : Receipt). Acts a said r old.line new.line) (sym is)
+      (acts_of a said landed old.line new.line (receipt_of time faults old new (status_in said) clock) h refl refl refl refl (sym (landed_is a said landed (time new.disk) old new h)) cause)
+
+  pub act_told : (reply : Reply) (receipt : Receipt) → receipt ≡ receipt_of time faults old new reply.status clock → Happens a said landed (time new.disk) old.line new.line → HasDiskCause (faults old.disk) (faults new.disk) said
+      → IsReplyTo said reply → (told : Result Answered Trouble) × Replies told reply × Acts a told receipt old.line new.line
+  act_told reply receipt is h cause replied = subst (λ (r : Receipt). (told : Result Answered Trouble) × Replies told reply × Acts a told r old.line new.line) (sym is)
+      (act_acts old.limit caller c clock draw said reply landed old.line new.line (receipt_of time faults old new reply.status clock) h replied refl refl refl refl (sym (landed_is a said landed (time new.disk) old new h)) cause)

@@ -1,5 +1,10 @@
 pub mod Histories
+pub mod Frames
+pub mod Lines
+pub mod Prefixes
 pub mod ActLemmas
+pub mod Tied
+pub mod Following
 pub mod ReplayLemmas
 pub mod OpenLemmas
 pub mod DeskLemmas

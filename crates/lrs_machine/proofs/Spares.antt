@@ -1,12 +1,11 @@
 -- The store of a legal history is refused only for a fault or for want of memory.
-use Rattle.std.proofs.Common.{◌≡◌, ℕ, ◌<◌, ◌^◌, List, [], ◌∷◌, ◌++◌, length, map, take, drop, refl, sym, ◌∙◌, ap, subst, inl, inr, arith, append_assoc}
+use Rattle.std.proofs.Common.{◌≡◌, ℕ, ◌<◌, List, [], ◌∷◌, ◌++◌, length, map, drop, refl, sym, ◌∙◌, ap, subst, inl, inr, arith, append_assoc}
 use Rattle.std.specs.Prelude.{◌⊎◌}
 use Rattle.std.specs.List.{AllByRecursion}
-use Rattle.std.specs.Int.{w32, to_be_bytes, from_be_bytes}
-use Rattle.std.proofs.lemmas.List.{take_at, drop_at, length-map, append-nil}
-use Rattle.std.proofs.lemmas.Nat.{from_be_bytes-to_be_bytes_4}
+use Rattle.std.proofs.lemmas.List.{length-map, append-nil}
 use Rattle.lrs_journal.specs.Store.{frames, body, IsEnd, IsPayload, Stands}
-use Rattle.lrs_journal.proofs.Unique.{stands_once, stands_header, stands_whole, header_once}
+use Rattle.lrs_journal.proofs.Unique.{first_once, header_once, no_end, stands_header, stands_once, stands_whole}
+use Rattle.lrs_journal.specs.declared.sizes.TheConstants.{HEADER}
 use Rattle.lrs_record.specs.declared.entry.Entry.{Entry}
 use Rattle.lrs_record.specs.Entries.{IsLawful, written_entry}
 use Rattle.lrs_record.proofs.Told.{written_entry_injective}
@@ -14,19 +13,6 @@ use Rattle.lrs_history.specs.History.{IsLegal, IsLegalFrom, ComesNext}
 use Rattle.lrs_machine.specs.declared.opening.DeskRefused.{DeskRefused}
 use Rattle.lrs_machine.specs.declared.opening.DeskRefused.TheVariants as desk
 use Rattle.lrs_machine.specs.Desk.{IsIllegalBehind, IsDeskRefused, SparesLegal}
-
-no_end : (q : List ℕ) (qs : List (List ℕ)) (r s : List ℕ) → IsEnd r → r ≡ frames (q ∷ qs) ++ s → ⊥
-no_end q qs r s ends is = subst IsEnd is ends refl
-
--- the first payloads are the same, and so is what is behind them
-first_once : (p q x y : List ℕ) → length p < 2 ^ 32 → length q < 2 ^ 32 → 1 ∷ body p ++ x ≡ 1 ∷ body q ++ y → (p ≡ q) × (x ≡ y)
-first_once p q x y small_p small_q e =
-    let words : to_be_bytes w32 (length p) ≡ to_be_bytes w32 (length q) = ap (λ (l : List ℕ). take 4 (drop 1 l)) e in
-    let same : length p ≡ length q = sym (from_be_bytes-to_be_bytes_4 (length p) small_p) ∙ ap (λ (l : List ℕ). from_be_bytes w32 l) words ∙ from_be_bytes-to_be_bytes_4 (length q) small_q in
-    let rest : p ++ x ≡ q ++ y = ap (λ (l : List ℕ). drop 5 l) e in (
-      sym (take_at p x (length p) refl) ∙ ap (λ (l : List ℕ). take (length p) l) rest ∙ take_at q y (length p) (sym same),
-      sym (drop_at p x (length p) refl) ∙ ap (λ (l : List ℕ). drop (length p) l) rest ∙ drop_at q y (length p) (sym same),
-    )
 
 -- frames in front of a list of frames are its first ones
 first_frames : (ps qs : List (List ℕ)) (x r : List ℕ) → AllByRecursion IsPayload ps → AllByRecursion IsPayload qs → IsEnd r → frames ps ++ x ≡ frames qs ++ r → (rest : List (List ℕ)) × (qs ≡ ps ++ rest)
@@ -56,7 +42,7 @@ not_illegal : (bytes : List ℕ) (m : ℕ) (h : List Entry) (l : ℕ) (k : List 
 not_illegal bytes m h l k stands legal so_far bad =
     let limit : m ≡ l = header_once bytes m l (stands_header bytes m (map written_entry h) stands) bad.begins.0 in
     let more = first_frames (map written_entry k ++ bad.frame ∷ []) (map written_entry h) bad.begins.2.0 stands.rest bad.begins.1 stands.sizes stands.ends
-    (ap (λ (x : List ℕ). drop 17 x) (sym bad.begins.2.1 ∙ stands.split)) in
+    (ap (λ (x : List ℕ). drop HEADER x) (sym bad.begins.2.1 ∙ stands.split)) in
     let next = next_in m l [] [] h k bad.frame more.0 legal.1 so_far more.1 in
     bad.broken next.0 next.1 next.2 (subst (λ z. ComesNext z k next.0) limit next.3)
 

@@ -1,96 +1,101 @@
--- What the desk's calls promise. A desk is seen as its journal.
-use Rattle.std.specs.Prelude.{◌≡◌, ◌⊎◌, ◌<◌, ◌≤◌, ◌+◌, ◌-◌, ℕ, List, [], ◌∷◌, ◌++◌, length, map, Option, Some, None, IsSome, Bool, true, false, ◌&&◌, not, if◌then◌else◌, is_none, nat_lt, Result, Ok, Err}
-use Rattle.lrs_disk.specs.Faults.{Rises}
+-- What the desk's calls promise.
+use Rattle.std.specs.Prelude.{◌≡◌, ◌⊎◌, ◌<◌, ◌≤◌, ◌+◌, ℕ, List, [], ◌∷◌, ◌++◌, length, map, take, slice_get, Option, Some, Bool, true, false, is_some, is_none, nat_lt}
+use Rattle.std.specs.Option.{ForSome}
 use Rattle.std.specs.List.{AllByRecursion}
+use Rattle.lrs_disk.specs.Disk.{LeavesOnly}
 use Rattle.lrs_journal.specs.Store.{store, HasHeader, IsPayload, Stands, IsDamaged}
-use Rattle.lrs_journal.specs.Journal.{Journal, frames_of, StandsFor as JournalStandsFor}
+use Rattle.lrs_journal.specs.Journal.{IsSynced, StandsForFrames, TellsStore}
 use Rattle.lrs_record.specs.declared.entry.Entry.{Entry}
 use Rattle.lrs_record.specs.Entries.{IsLawful, written_entry}
-use Rattle.lrs_journal.specs.Create.{IsStore, IsForeign, IsOpenTo, need_of_first}
-use Rattle.lrs_replies.specs.declared.answered.Answered.{Answered}
-use Rattle.lrs_replies.specs.declared.reply.Reply.{Reply}
-use Rattle.lrs_replies.specs.declared.reply.Trouble.{Trouble}
-use Rattle.lrs_replies.specs.declared.reply.Trouble.TheVariants.{Memory, Disk}
-use Rattle.lrs_replies.specs.Replies.{Says}
-use Rattle.lrs_command.specs.declared.command.Area.{Area}
-use Rattle.lrs_history.specs.History.{Answer, state, with_entry, ComesNext, IsLegal, IsLegalFrom}
+use Rattle.lrs_journal.specs.Create.{IsStore, IsForeign, IsOpenTo, IsMade, need_of_first}
+use Rattle.lrs_record.specs.declared.entry.Area.{Area}
+use Rattle.lrs_history.specs.History.{state, ComesNext, IsLegal, IsLegalFrom}
 use Rattle.lrs_history.specs.Refusals.{barred}
 use Rattle.lrs_history.specs.Whose.{who_is}
 use Rattle.lrs_record.specs.declared.entry.Caller.{Caller}
+use Rattle.lrs_machine.specs.Line.{Record, entries, in_doubt, sure, opened_line, AreBefore, BeginsWith}
+use Rattle.lrs_machine.specs.Acts.{Receipt, landed_among, place_where}
 use Rattle.lrs_machine.specs.declared.opening.DeskRefused.{DeskRefused}
 use Rattle.lrs_machine.specs.declared.opening.DeskRefused.TheVariants as desk
 use Rattle.lrs_machine.specs.declared.opening.FoundRefused.{FoundRefused}
 use Rattle.lrs_machine.specs.declared.opening.FoundRefused.TheVariants as found
 
--- a desk, as clauses see it
-abbrev pub Desk : Type 0 → Type 0
-Desk D = Journal D
+-- A desk, as clauses see it.
+pub record Desk (D : Type 0) : Type 0 where
+  pub disk : D
+  -- the bytes that the journal's file may have
+  pub limit : ℕ
+  -- the disk's moment at the end of the opening, and how many entries stood then
+  pub opened_at : ℕ
+  pub opened : ℕ
+  -- the records of these entries, and one for each act since then that changed the journal
+  pub line : List Record
 
--- ---- what a desk stands for
+-- the one history of a desk, with an entry that is in doubt
+abbrev pub history : {D : Type 0} → Desk D → List Entry
+history desk = entries desk.line
 
--- The journal's frames are the written forms of this history, which can have come about. A doubtful last entry counts.
-pub record StandsFor {D : Type 0} (told : D → Option (List ℕ)) (desk : Desk D) (h : List Entry) : Type 0 where
-  pub frames : frames_of told desk ≡ Some (map written_entry h)
-  pub legal : IsLegal desk.limit h
-  pub counts : desk.number ≡ length h
+-- ---- what the disk holds
 
--- Each image that a crash now may leave stands for the history, or in doubt for it without its last entry.
-abbrev pub IsOnDisk : {D : Type 0} → (D → List ℕ → Type 0) → Desk D → List Entry → Type 0
-IsOnDisk image desk h = (bytes : List ℕ) → image desk.disk bytes → JournalStandsFor desk.limit desk.doubt (map written_entry h) bytes
+-- the bytes are those of a store with a legal history
+abbrev pub IsStoreOf : List ℕ → ℕ → List Entry → Type 0
+IsStoreOf bytes limit h = Stands bytes limit (map written_entry h) × IsLegal limit h
+
+-- what a read of the disk gives stands for the history, or in doubt for it without its last entry
+abbrev pub LeavesStore : {D : Type 0} → (D → Option (List ℕ)) → D → ℕ → Bool → List Entry → Type 0
+LeavesStore told disk limit doubt h = TellsStore (told disk) limit doubt (map written_entry h)
+
+-- ---- what a stop leaves
+
+-- the bytes are a store of the first entries of the history, at least of so many
+abbrev pub HoldsPrefix : ℕ → ℕ → List Entry → List ℕ → Type 0
+HoldsPrefix limit least h bytes = (n : ℕ) × (least ≤ n) × (n ≤ length h) × IsStoreOf bytes limit (take n h)
+
+-- A crash at any moment since old leaves the first entries of the history behind new, at least all that stood without
+-- doubt in old.
+abbrev pub StopsWithin : {D : Type 0} → (D → Option (List ℕ)) → (D → ℕ) → (D → ℕ → List ℕ → Type 0) → Desk D → Desk D → Type 0
+StopsWithin told time image_since old new =
+    ForSome (told old.disk) (λ _. LeavesOnly time image_since old.disk new.disk (HoldsPrefix old.limit (sure old.line) (history new)))
+
+-- Each image since the moment of a record holds all entries that stood without doubt behind it, whatever came later.
+abbrev pub KeepsLine : ℕ → ℕ → (ℕ → List ℕ → Type 0) → List Record → Type 0
+KeepsLine limit now since line =
+    (k : ℕ) (r : Record) → slice_get line k ≡ Some r
+    → (r.moment ≤ now) × ((bytes : List ℕ) → since r.moment bytes → HoldsPrefix limit (sure (take (k + 1) line)) (entries line) bytes)
+
+-- What is true of every desk. Its history can have come about, and goes on from that of the opening. What a read of the
+-- disk gives, and each image that a crash now may leave, stands for it, or in doubt for it without its last entry.
+pub record IsOnDisk {D : Type 0} (told : D → Option (List ℕ)) (image : D → List ℕ → Type 0) (time : D → ℕ) (image_since : D → ℕ → List ℕ → Type 0) (desk : Desk D) : Type 0 where
+  pub legal : IsLegal desk.limit (history desk)
+  pub opening : (0 < desk.opened) × BeginsWith (opened_line desk.opened_at (take desk.opened (history desk))) desk.line
+  pub moments : AreBefore (time desk.disk) desk.line
+  pub reads : (bytes : List ℕ) → told desk.disk ≡ Some bytes
+      → StandsForFrames desk.limit (in_doubt desk.line) (map written_entry (history desk)) bytes
+  pub each : (bytes : List ℕ) → image desk.disk bytes
+      → StandsForFrames desk.limit (in_doubt desk.line) (map written_entry (history desk)) bytes
+  pub kept : ForSome (told desk.disk) (λ _. KeepsLine desk.limit (time desk.disk) (image_since desk.disk) desk.line)
 
 -- ---- who is let in
 
 abbrev pub lets_in : List Entry → Caller → Area → Bool
 lets_in h caller area = is_none (barred area (who_is (state h) caller))
 
--- ---- acts
-
--- What comes of an act that answers by a over the history h. In trouble with the disk the answer's entry may be in doubt, and no other comes into doubt.
-abbrev pub Answers : {D : Type 0} → (D → Option (List ℕ)) → Answer → List Entry → Desk D → Desk D → Result Answered Trouble → Type 0
-Answers told a h old new (Ok said) = (said ≡ a.said) × (new.doubt ≡ false) × StandsFor told new (with_entry h a.entry)
-Answers told a h old new (Err Memory) = (new.doubt ≡ false) × StandsFor told new h
-Answers told a h old new (Err Disk) = ((old.doubt ≡ false → new.doubt ≡ false) × StandsFor told new h)
-    ⊎ (IsSome a.entry × (new.doubt ≡ true) × StandsFor told new (with_entry h a.entry))
-
--- the disk's trouble is told exactly where its count rose in the act
-abbrev pub HasDiskCause : ℕ → ℕ → Result Answered Trouble → Type 0
-HasDiskCause before now (Ok said) = now ≡ before
-HasDiskCause before now (Err Memory) = now ≡ before
-HasDiskCause before now (Err Disk) = (before ≤ now) × Rises before now
-
--- What a receipt tells of an act.
-pub record Receipt : Type 0 where
-  -- an act made it
-  pub acted : Bool
-  -- the reply's status
-  pub status : ℕ
-  -- how long the history was that answered
-  pub point : ℕ
-  -- where the act's own entry stands in the history, also one in doubt
-  pub entry : Option ℕ
-  -- where an earlier doubtful entry stands, whose doubt the act ended
-  pub landed : Option ℕ
-  -- the reading of the clock that the act was given
-  pub clock : ℕ
-  -- the disk's moment at the act's end
-  pub disk : ℕ
-  -- the disk's count of faults before the act and behind it
-  pub was : ℕ
-  pub is : ℕ
+-- ---- receipts
 
 -- the place of the entry that was added
 abbrev pub added_place : {D : Type 0} → Desk D → Desk D → Option ℕ
-added_place old new = if nat_lt old.number new.number then Some old.number else None
+added_place old new = place_where (nat_lt (length (history old)) (length (history new))) (length (history old))
 
--- the place of the entry whose doubt was ended: without a new entry there is no doubt any more
+-- the place of the entry whose doubt was ended
 abbrev pub landed_place : {D : Type 0} → Desk D → Desk D → Option ℕ
-landed_place old new = if old.doubt && not (new.doubt && not (nat_lt old.number new.number)) then Some (old.number - 1) else None
+landed_place old new =
+    landed_among (length (history old)) (in_doubt old.line) (in_doubt new.line) (is_some (added_place old new))
 
 abbrev pub receipt_of : {D : Type 0} → (D → ℕ) → (D → ℕ) → Desk D → Desk D → ℕ → ℕ → Receipt
 receipt_of time faults old new status clock = record {
   acted = true;
   status = status;
-  point = old.number;
+  point = length (history old);
   entry = added_place old new;
   landed = landed_place old new;
   clock = clock;
@@ -98,21 +103,6 @@ receipt_of time faults old new status clock = record {
   was = faults old.disk;
   is = faults new.disk;
 }
-
--- a response without an act
-abbrev pub plain_receipt : ℕ → Receipt
-plain_receipt status = record { acted = false; status = status; point = 0; entry = None; landed = None; clock = 0; disk = 0; was = 0; is = 0 }
-
--- What a reply tells of an act that answers h by the answer of h: what the store says, or its trouble.
-pub record Replies {D : Type 0} (told : D → Option (List ℕ)) (faults : D → ℕ) (old new : Desk D) (answer_to : List Entry → Answer) (reply : Reply) : Type 0 where
-  pub said : Result Answered Trouble
-  pub says : Says said reply
-  pub cause : HasDiskCause (faults old.disk) (faults new.disk) said
-  pub answered : (h : List Entry) → StandsFor told old h → Answers told (answer_to h) h old new said
-
--- what a read of the disk gives stands for the history, or in doubt for it without its last entry
-abbrev pub LeavesStore : {D : Type 0} → (D → Option (List ℕ)) → D → ℕ → Bool → List Entry → Type 0
-LeavesStore told disk limit doubt h = (bytes : List ℕ) × (told disk ≡ Some bytes) × JournalStandsFor limit doubt (map written_entry h) bytes
 
 -- ---- founding and opening
 
@@ -147,10 +137,6 @@ IsDeskRefused bytes (desk.IllegalEntry k) = (limit : ℕ) × (h : List Entry) ×
 IsDeskRefused bytes desk.Failed = Unit {0}
 IsDeskRefused bytes desk.Memory = Unit {0}
 
--- the bytes are those of a store with a legal history
-abbrev pub IsStoreOf : List ℕ → ℕ → List Entry → Type 0
-IsStoreOf bytes limit h = Stands bytes limit (map written_entry h) × IsLegal limit h
-
 -- a refusal that any disk may get
 abbrev pub IsFree : DeskRefused → Type 0
 IsFree desk.NotAStore = ⊥
@@ -162,3 +148,24 @@ IsFree desk.Memory = Unit {0}
 -- the store of a legal history is refused only for a fault or for want of memory
 abbrev pub SparesLegal : List ℕ → DeskRefused → Type 0
 SparesLegal bytes refused = (limit : ℕ) (h : List Entry) → IsStoreOf bytes limit h → IsFree refused
+
+-- ---- what a stop leaves of a founding and of an opening
+
+-- The disk was taken with nothing pending, and held no store: a crash at any moment since then leaves none, or the one
+-- of this entry.
+abbrev pub MakesOnly : {D : Type 0} → (D → Option (List ℕ)) → (D → List ℕ → Type 0) → (D → ℕ) → (D → ℕ → List ℕ → Type 0) → ℕ → Entry → D → D → Type 0
+MakesOnly told image time image_since limit e old new = IsSynced told image old
+    → ForSome (told old) (λ bytes. (IsStore bytes → ⊥) → LeavesOnly time image_since old new (IsMade limit (written_entry e)))
+
+-- both are stores of one legal history
+abbrev pub AreOneStore : List ℕ → List ℕ → Type 0
+AreOneStore a b = (limit : ℕ) × (h : List Entry) × IsStoreOf a limit h × IsStoreOf b limit h
+
+-- The disk was taken with nothing pending: a crash at any moment since then leaves bytes that are to these as P says.
+abbrev pub OpensOnly : {D : Type 0} → (D → Option (List ℕ)) → (D → List ℕ → Type 0) → (D → ℕ) → (D → ℕ → List ℕ → Type 0) → D → D → (List ℕ → List ℕ → Type 0) → Type 0
+OpensOnly told image time image_since old new P = IsSynced told image old
+    → ForSome (told old) (λ bytes. LeavesOnly time image_since old new (P bytes))
+
+-- what was there, or a store of the same history
+abbrev pub IsSameStore : List ℕ → List ℕ → Type 0
+IsSameStore bytes after = (after ≡ bytes) ⊎ AreOneStore bytes after

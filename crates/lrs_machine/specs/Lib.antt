@@ -1,3 +1,5 @@
+pub mod Line
+pub mod Acts
 pub mod Desk
 pub mod Steps
 pub mod Fold

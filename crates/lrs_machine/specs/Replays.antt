@@ -1,7 +1,8 @@
 -- What the desk's private functions say of reading a store's frames into the fold.
-use Rattle.std.specs.Prelude.{◌≡◌, ◌<◌, ◌==◌, ℕ, List, [], ◌∷◌, ◌++◌, length, map, Bool, true, false, Result, Ok, Err}
+use Rattle.std.specs.Prelude.{◌≡◌, ◌+◌, ◌==◌, ◌&&◌, ◌||◌, nat_lt, ℕ, List, [], ◌∷◌, ◌++◌, length, map, Option, Bool, true, false, Result, Ok, Err}
+use Rattle.std.specs.Option.{ForSome}
 use Rattle.lrs_journal.specs.Store.{Stands}
-use Rattle.lrs_journal.specs.Replay.{Reading, HasRead}
+use Rattle.lrs_journal.specs.Replay.{Replay, HasRead}
 use Rattle.lrs_journal.specs.declared.replay.ReplayRefused.{ReplayRefused}
 use Rattle.lrs_journal.specs.declared.replay.ReplayRefused.TheVariants as replay
 use Rattle.lrs_journal.specs.declared.replay.RecoverRefused.{RecoverRefused}
@@ -11,39 +12,49 @@ use Rattle.lrs_journal.specs.declared.create.CreateRefused.TheVariants as create
 use Rattle.lrs_record.specs.declared.entry.Entry.{Entry}
 use Rattle.lrs_record.specs.Entries.{IsLawful, written_entry}
 use Rattle.lrs_fold.specs.Next.{may_come}
-use Rattle.lrs_history.specs.History.{state, step, IsLegalFrom}
+use Rattle.lrs_history.specs.History.{end_place, state, step, IsLegalFrom}
 use Rattle.lrs_parts.specs.State.{State}
 use Rattle.lrs_machine.specs.declared.opening.FoundRefused.{FoundRefused}
 use Rattle.lrs_machine.specs.declared.opening.FoundRefused.TheVariants as found
 use Rattle.lrs_machine.specs.declared.opening.DeskRefused.{DeskRefused}
 use Rattle.lrs_machine.specs.declared.opening.DeskRefused.TheVariants as desk
-use Rattle.lrs_machine.specs.Desk.{IsDeskRefused}
+
+-- Whether a frame may end there, where its end gate's place is that: the first one anywhere, since founding made room for it.
+abbrev pub has_room : Bool → ℕ → ℕ → Bool
+has_room first limit place = first || nat_lt place limit
+
+-- Whether an entry comes next in a file of this limit. The flag: it is the first. The place: where the end gate stands
+-- behind its frame.
+abbrev pub may_follow : Bool → ℕ → ℕ → State → Entry → Bool
+may_follow first limit place st e = may_come first st e && has_room first limit place
 
 -- what reading a frame into the fold does, where k frames were taken in before
-abbrev pub TakesEntry : List ℕ → ℕ → ℕ → ℕ → State → State → Result Unit DeskRefused → Type 0
-TakesEntry frame k limit place st su (Ok _) = (e : Entry) × IsLawful e × (written_entry e ≡ frame) × (may_come (k == 0) limit place st e ≡ true) × (su ≡ step st e)
-TakesEntry frame k limit place st su (Err (desk.IllegalEntry j)) = (j ≡ k)
-    × ((e : Entry) → IsLawful e → written_entry e ≡ frame → may_come (k == 0) limit place st e ≡ false)
-TakesEntry frame k limit place st su (Err desk.Memory) = Unit {0}
-TakesEntry frame k limit place st su (Err other) = ⊥
+abbrev pub TakesEntry : List ℕ → ℕ → ℕ → ℕ → State → State → List Entry → List Entry → Result Unit DeskRefused → Type 0
+TakesEntry frame k limit place st su old new (Ok _) = (e : Entry) × IsLawful e × (written_entry e ≡ frame) × (may_follow (k == 0) limit place st e ≡ true) × (su ≡ step st e) × (new ≡ old ++ e ∷ [])
+TakesEntry frame k limit place st su old new (Err (desk.IllegalEntry j)) = (j ≡ k)
+    × ((e : Entry) → IsLawful e → written_entry e ≡ frame → may_follow (k == 0) limit place st e ≡ false)
+TakesEntry frame k limit place st su old new (Err desk.Memory) = Unit {0}
+TakesEntry frame k limit place st su old new (Err other) = ⊥
 
--- The replay has read the frames of these entries, each of which came next, and this is their fold.
-pub record IsReplayed {D : Type 0} (bytes : List ℕ) (replay : Reading D) (st : State) (h : List Entry) : Type 0 where
-  pub frames : HasRead bytes replay (map written_entry h)
+-- The replay has read frames of these entries, each of which came next, and this is their fold.
+pub record IsReplayed {D : Type 0} (replay : Replay D) (st : State) (h : List Entry) : Type 0 where
   pub legal : IsLegalFrom replay.limit [] h
   pub folded : st ≡ state h
+  pub counts : replay.number ≡ length h
+  pub place : replay.place ≡ end_place replay.limit h
 
--- one frame more, or the list's end, or a refusal
-abbrev pub TakesFrame : {D : Type 0} → List ℕ → Reading D → State → List Entry → Result Bool DeskRefused → Type 0
-TakesFrame bytes new su h (Ok true) = (e : Entry) × IsReplayed bytes new su (h ++ e ∷ [])
-TakesFrame bytes new su h (Ok false) = IsReplayed bytes new su h × Stands bytes new.limit (map written_entry h)
-TakesFrame bytes new su h (Err refused) = IsDeskRefused bytes refused
+-- the bytes begin with the frames of these entries
+abbrev pub HasReadEntries : {D : Type 0} → List ℕ → Replay D → List Entry → Type 0
+HasReadEntries bytes replay h = HasRead bytes replay (map written_entry h)
 
--- the replay has read a legal history to its end
-pub record HasReplayed {D : Type 0} (bytes : List ℕ) (replay : Reading D) (st : State) (h : List Entry) : Type 0 where
-  pub replayed : IsReplayed bytes replay st h
-  pub some : 0 < length h
-  pub stands : Stands bytes replay.limit (map written_entry h)
+-- the bytes are the frames of these entries, read to their end
+abbrev pub HasReadAll : {D : Type 0} → List ℕ → Replay D → List Entry → Type 0
+HasReadAll bytes replay h = HasReadEntries bytes replay h × Stands bytes replay.limit (map written_entry h)
+
+-- the next frame was taken in, or the list ended
+abbrev pub TakesFrame : {D : Type 0} → (D → Option (List ℕ)) → Replay D → State → ℕ → List Entry → Bool → Type 0
+TakesFrame told new su k h true = (length h ≡ k + 1) × IsReplayed new su h × ForSome (told new.disk) (λ bytes. HasReadEntries bytes new h)
+TakesFrame told new su k h false = (length h ≡ k) × IsReplayed new su h × ForSome (told new.disk) (λ bytes. HasReadAll bytes new h)
 
 -- a frame that isn't read
 abbrev pub refusal_of : ReplayRefused → DeskRefused

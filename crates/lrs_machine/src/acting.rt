@@ -1,11 +1,11 @@
 // An act on the journal and the fold: first a doubt is ended, then the command is answered.
-ghost use Rattle.std.specs.Prelude.{◌≡◌, false};
+ghost use Rattle.std.specs.Prelude.{◌≡◌, option_map, false};
 ghost use Rattle.lrs_command.specs.Commands.{HasReadTrees};
 ghost use Rattle.lrs_history.specs.History.{outcome};
 ghost use Rattle.lrs_journal.specs.Journal.{IsJournal};
-ghost use Rattle.lrs_machine.specs.Desk.{HasDiskCause, landed_place};
+ghost use Rattle.lrs_machine.specs.Acts.{HasDiskCause};
 ghost use Rattle.lrs_machine.specs.Fold.{state_of};
-ghost use Rattle.lrs_machine.specs.Steps.{Acts};
+ghost use Rattle.lrs_machine.specs.Steps.{Does, landed_of};
 ghost use Rattle.lrs_record.specs.Entries.{IsLawfulCaller};
 
 use crate::keeping::keep;
@@ -14,11 +14,22 @@ use lrs_disk::Disk;
 use lrs_fold::{Fold, Outcome};
 use lrs_journal::Journal;
 use lrs_names::Draw;
-use lrs_record::Caller;
+use lrs_record::{Caller, Entry};
 use lrs_replies::{Answered, Trouble};
 use std::alloc::Global;
+use std::snapshot::Snapshot;
 
-/// Answers a command, and says where an earlier entry stands whose doubt was ended.
+/// What came of an act.
+#[derive(Drop)]
+pub(crate) struct Done {
+    pub(crate) said: Result<Answered, Trouble>,
+    /// The entry that it made, also one in doubt.
+    pub(crate) made: Option<Snapshot<Entry>>,
+    /// The place of an earlier entry whose doubt it ended.
+    pub(crate) landed: Option<u64>,
+}
+
+/// Answers a command.
 pub(crate) fn act<D: Disk>(
     alloc: Global,
     journal: &mut Journal<D>,
@@ -27,30 +38,35 @@ pub(crate) fn act<D: Disk>(
     command: Command,
     clock: u64,
     draw: &Draw,
-) -> (Result<Answered, Trouble>, Option<u64>)
+) -> Done
     requires sound { IsJournal D.told D.image journal.old }
     requires caller { IsLawfulCaller caller }
     requires command { HasReadTrees command }
-    ensures acted { Acts D.told journal.old journal.new (state_of fold.old) (state_of fold.new)
-        (outcome (state_of fold.old) caller command clock draw.now) result.0 }
+    ensures does { Does D.told D.time D.image_since journal.old journal.new (state_of fold.old) (state_of fold.new)
+        (outcome (state_of fold.old) caller command clock draw.now) result.said
+        (option_map (λ s. s.value) result.made) }
     ensures sound { IsJournal D.told D.image journal.new }
-    ensures cause { HasDiskCause (D.fault_count journal.old.disk) (D.fault_count journal.new.disk) result.0 }
-    ensures landed { result.1 ≡ landed_place journal.old journal.new }
+    ensures cause { HasDiskCause (D.fault_count journal.old.disk) (D.fault_count journal.new.disk) result.said }
+    ensures landed { result.landed ≡ landed_of journal.old journal.new (option_map (λ s. s.value) result.made) }
 {
     match journal.settle() {
-        Ok(landed) => (
-            answer(alloc, journal, fold, caller, command, clock, draw),
-            landed,
-        ),
+        Ok(landed) => {
+            let (said, made) = answer(alloc, journal, fold, caller, command, clock, draw);
+            Done { said, made, landed }
+        }
         Err(_) => {
             drop(caller);
             drop(command);
-            (Err(Trouble::Disk), None)
+            Done {
+                said: Err(Trouble::Disk),
+                made: None,
+                landed: None,
+            }
         }
     }
 }
 
-// Answers a command where nothing is in doubt.
+// Answers a command when nothing is in doubt.
 fn answer<D: Disk>(
     alloc: Global,
     journal: &mut Journal<D>,
@@ -59,19 +75,19 @@ fn answer<D: Disk>(
     command: Command,
     clock: u64,
     draw: &Draw,
-) -> Result<Answered, Trouble>
+) -> (Result<Answered, Trouble>, Option<Snapshot<Entry>>)
     requires settled { journal.old.doubt ≡ false }
     requires sound { IsJournal D.told D.image journal.old }
     requires caller { IsLawfulCaller caller }
     requires command { HasReadTrees command }
-    ensures acted { Acts D.told journal.old journal.new (state_of fold.old) (state_of fold.new)
-        (outcome (state_of fold.old) caller command clock draw.now) result }
+    ensures does { Does D.told D.time D.image_since journal.old journal.new (state_of fold.old) (state_of fold.new)
+        (outcome (state_of fold.old) caller command clock draw.now) result.0 (option_map (λ s. s.value) result.1) }
     ensures sound { IsJournal D.told D.image journal.new }
-    ensures cause { HasDiskCause (D.fault_count journal.old.disk) (D.fault_count journal.new.disk) result }
+    ensures cause { HasDiskCause (D.fault_count journal.old.disk) (D.fault_count journal.new.disk) result.0 }
 {
     match fold.outcome(alloc, caller, command, clock, draw) {
-        Ok(Outcome::Told(said)) => Ok(said),
+        Ok(Outcome::Said(said)) => (Ok(said), None),
         Ok(Outcome::Accepted(accepted)) => keep(journal, fold, accepted),
-        Err(refused) => Err(Trouble::from(refused)),
+        Err(refused) => (Err(Trouble::from(refused)), None),
     }
 }

@@ -1,18 +1,26 @@
-// The desk: a journal, and the fold over its entries.
-ghost use Rattle.std.specs.Prelude.{◌≡◌, ◌≤◌, List, ℕ, Some, None, true, false, nat_lt, if◌then◌else◌, IfOk, IfErr};
+// The desk: a journal, the fold over its entries, and the line, which says what became of each act.
+ghost use Rattle.std.specs.Prelude.{◌≡◌, ◌≤◌, List, ℕ, Some, None, Result, length, map, option_map, true, false, nat_lt, if◌then◌else◌, IfOk, IfErr};
+ghost use Rattle.std.specs.Option.{ForSome};
+ghost use Rattle.lrs_disk.specs.Disk.{LeavesOnly};
 ghost use Rattle.lrs_disk.specs.Faults.{Rises};
-ghost use Rattle.lrs_record.specs.declared.entry.Entry.{Entry};
+ghost use Rattle.lrs_journal.specs.Journal.{TellsAlike};
+ghost use Rattle.lrs_journal.specs.Store.{Stands};
 ghost use Rattle.lrs_record.specs.declared.entry.Caller.TheVariants.{Operator};
 ghost use Rattle.lrs_command.specs.Commands.{HasReadTrees};
-ghost use Rattle.lrs_record.specs.Entries.{IsLawfulCaller, IsLawfulTree};
+ghost use Rattle.lrs_record.specs.Entries.{IsLawfulCaller, IsLawfulTree, written_entry};
 ghost use Rattle.lrs_json.specs.View.{view};
-ghost use Rattle.lrs_history.specs.History.{answer};
-ghost use Rattle.lrs_replies.specs.Replies.{status_in};
+ghost use Rattle.lrs_history.specs.History.{answer, IsLegal};
+ghost use Rattle.lrs_replies.specs.Replies.{Says, status_in};
+ghost use Rattle.lrs_replies.specs.declared.answered.Answered.{Answered};
+ghost use Rattle.lrs_replies.specs.declared.reply.Trouble.{Trouble};
 ghost use Rattle.lrs_fold.specs.Own.{put_of, IsOfPut, IsPut};
-ghost use Rattle.lrs_machine.specs.Desk.{StandsFor, IsOnDisk, Answers, HasDiskCause, receipt_of, landed_place, lets_in, LeavesStore, Replies};
+ghost use Rattle.lrs_machine.specs.Line.{in_doubt, sure};
+ghost use Rattle.lrs_machine.specs.Acts.{Acts, HasDiskCause};
+ghost use Rattle.lrs_machine.specs.Desk.{history, HoldsPrefix, IsOnDisk, KeepsLine, LeavesStore, StopsWithin, lets_in, receipt_of};
+ghost use Rattle.lrs_machine.specs.Steps.{Happens, line_after};
 
-use crate::Receipt;
-use crate::acting::act;
+use crate::acting::{Done, act};
+use crate::{Receipt, Record};
 use lrs_command::{Area, Command};
 use lrs_disk::{Disk, Failed};
 use lrs_fold::{Fold, put_of};
@@ -20,35 +28,76 @@ use lrs_history::barred;
 use lrs_journal::Journal;
 use lrs_json::Tree;
 use lrs_names::{Draw, Id};
-use lrs_record::Caller;
+use lrs_noted::Noted;
+use lrs_record::{Caller, Entry};
 use lrs_replies::{Answered, Reply, Trouble, reply_to, status_in};
 use std::alloc::Global;
 use std::marker::Model;
+use std::snapshot::Snapshot;
 
-/// One history of accepted commands on a disk, and what it gives. Clauses see a desk as its journal.
+/// One history of accepted writes on a disk, and the state that follows from it. Clauses see it as a line of records.
 #[derive(Drop)]
 pub struct Desk<D: Disk> {
     pub(crate) journal: Journal<D>,
     pub(crate) fold: Fold,
     pub(crate) alloc: Global,
+    /// The disk's moment at the end of the opening, and how many entries stood then.
+    pub(crate) opened_at: u64,
+    pub(crate) opened: u64,
+    pub(crate) opening: Noted<Entry>,
+    pub(crate) acts: Noted<Record>,
 }
 
 impl<D: Disk> Model for Desk<D> {
+    ghost use Rattle.std.specs.Coded.{codes};
+    ghost use Rattle.lrs_json.specs.contracts.tree.Tree as tree;
     ghost use Rattle.lrs_machine.specs.Desk.{Desk as SpecDesk};
     ghost use Rattle.lrs_machine.specs.Fold.{state_of};
-    ghost use Rattle.lrs_machine.specs.Steps.{IsDeskOf};
+    ghost use Rattle.lrs_machine.specs.Line.{line_of};
+    ghost use Rattle.lrs_machine.specs.Steps.{IsBegun, IsTied};
 
     ghost Value = { SpecDesk D };
 
-    ghost view = { λ d. d.journal };
+    ghost coded = { Prim.hlevel (codes, tree.the_row.coded, D.code) };
 
-    ghost invariant = { λ d. IsDeskOf D.told D.image d.journal (state_of d.fold) };
+    ghost view = { λ d. record {
+      disk = d.journal.disk;
+      limit = d.journal.limit;
+      opened_at = d.opened_at;
+      opened = d.opened;
+      line = line_of d.opened_at d.opening.items d.acts.items;
+    } };
+
+    ghost invariant = { λ d. IsTied D.told D.image D.time D.image_since d.journal (state_of d.fold)
+        (line_of d.opened_at d.opening.items d.acts.items) × IsBegun d.opened d.opening.items };
+}
+
+// Adds the record of an act that changed the journal. At run time nothing is done.
+fn note(
+    acts: &mut Noted<Record>,
+    made: Option<Snapshot<Entry>>,
+    acknowledged: bool,
+    landed: Option<u64>,
+    moment: u64,
+)
+    ensures { acts.new.items
+        ≡ line_after acts.old.items (option_map (λ s. s.value) made) acknowledged landed moment }
+{
+    if made.is_some() || landed.is_some() {
+        let record = Record {
+            acknowledged: made.is_some() && acknowledged,
+            made,
+            landed: landed.is_some(),
+            moment,
+        };
+        *acts = acts.and(&record);
+    }
 }
 
 impl<D: Disk> Desk<D> {
-    /// The number of entries, with one that is in doubt.
+    /// The number of entries, including one in doubt.
     pub fn length(&self) -> u64
-        ensures { result ≡ self.now.number }
+        ensures { result ≡ length (history self.now) }
     {
         self.journal.length()
     }
@@ -69,7 +118,7 @@ impl<D: Disk> Desk<D> {
 
     /// Whether a caller is let into an area. Whoever isn't is refused, whatever it asks there.
     pub fn lets_in(&self, caller: &Caller, area: Area) -> bool
-        ensures { (h : List Entry) → StandsFor D.told self.now h → result ≡ lets_in h caller.now area }
+        ensures { result ≡ lets_in (history self.now) caller.now area }
     {
         barred(area, self.fold.who(caller)).is_none()
     }
@@ -83,15 +132,18 @@ impl<D: Disk> Desk<D> {
     ) -> (Result<Answered, Trouble>, Option<u64>)
         requires caller { IsLawfulCaller caller }
         requires command { HasReadTrees command }
-        ensures answered { (h : List Entry) → StandsFor D.told self.old h
-            → Answers D.told (answer self.old.limit h caller command clock draw.now) h self.old self.new result.0 }
+        ensures happens { Happens (answer self.old.limit (history self.old) caller command clock draw.now) result.0
+            result.1 (D.time self.new.disk) self.old.line self.new.line }
         ensures cause { HasDiskCause (D.fault_count self.old.disk) (D.fault_count self.new.disk) result.0 }
         ensures known { IsPut caller command → IfOk result.0 IsOfPut }
-        ensures landed { result.1 ≡ landed_place self.old self.new }
-        ensures limit { self.new.limit ≡ self.old.limit }
-        ensures durable { (h : List Entry) → StandsFor D.told self.new h → IsOnDisk D.image self.new h }
+        ensures same { (self.new.limit ≡ self.old.limit) × (self.new.opened ≡ self.old.opened)
+            × (self.new.opened_at ≡ self.old.opened_at) }
+        ensures tells { TellsAlike (D.told self.old.disk) (D.told self.new.disk) }
+        ensures later { D.time self.old.disk ≤ D.time self.new.disk }
+        ensures stops { StopsWithin D.told D.time D.image_since self.old self.new }
+        ensures durable { IsOnDisk D.told D.image D.time D.image_since self.new }
     {
-        act(
+        let Done { said, made, landed } = act(
             self.alloc,
             &mut self.journal,
             &mut self.fold,
@@ -99,7 +151,15 @@ impl<D: Disk> Desk<D> {
             command,
             clock,
             draw,
-        )
+        );
+        note(
+            &mut self.acts,
+            made,
+            said.is_ok(),
+            landed,
+            self.journal.moment(),
+        );
+        (said, landed)
     }
 
     fn receipt(&self, status: u16, point: u64, landed: Option<u64>, clock: u64, was: u64) -> Receipt
@@ -107,7 +167,7 @@ impl<D: Disk> Desk<D> {
           acted = true;
           status = status;
           point = point;
-          entry = if nat_lt point self.now.number then Some point else None;
+          entry = if nat_lt point (length (history self.now)) then Some point else None;
           landed = landed;
           clock = clock;
           disk = D.time self.now.disk;
@@ -140,13 +200,15 @@ impl<D: Disk> Desk<D> {
         draw: &Draw,
     ) -> (Result<Answered, Trouble>, Receipt)
         requires { IsLawfulTree (view statement) }
-        ensures answered { (h : List Entry) → StandsFor D.told self.old h
-            → Answers D.told (answer self.old.limit h Operator (put_of id statement) clock draw.now) h
-            self.old self.new result.0 }
+        ensures acts { Acts (answer self.old.limit (history self.old) Operator (put_of id statement) clock draw.now)
+            result.0 result.1 self.old.line self.new.line }
         ensures known { IfOk result.0 IsOfPut }
-        ensures cause { HasDiskCause (D.fault_count self.old.disk) (D.fault_count self.new.disk) result.0 }
-        ensures limit { self.new.limit ≡ self.old.limit }
-        ensures durable { (h : List Entry) → StandsFor D.told self.new h → IsOnDisk D.image self.new h }
+        ensures same { (self.new.limit ≡ self.old.limit) × (self.new.opened ≡ self.old.opened)
+            × (self.new.opened_at ≡ self.old.opened_at) }
+        ensures tells { TellsAlike (D.told self.old.disk) (D.told self.new.disk) }
+        ensures later { D.time self.old.disk ≤ D.time self.new.disk }
+        ensures stops { StopsWithin D.told D.time D.image_since self.old self.new }
+        ensures durable { IsOnDisk D.told D.image D.time D.image_since self.new }
         ensures receipt { result.1 ≡ receipt_of D.time D.fault_count self.old self.new (status_in result.0) clock }
     {
         let was = self.faults();
@@ -158,8 +220,8 @@ impl<D: Disk> Desk<D> {
 
     /// Answers a command, with its receipt.
     ///
-    /// First a doubt about an earlier entry is ended. All memory is taken before anything is written, so behind that
-    /// the desk can only acknowledge or tell of the disk's failing.
+    /// First a doubt about an earlier entry is ended. All memory is taken before anything is written, so after that
+    /// the desk can only acknowledge the entry or report that the disk failed.
     pub fn act(
         &mut self,
         caller: Caller,
@@ -169,10 +231,16 @@ impl<D: Disk> Desk<D> {
     ) -> (Reply, Receipt)
         requires caller { IsLawfulCaller caller }
         requires command { HasReadTrees command }
-        ensures replied { Replies D.told D.fault_count self.old self.new
-            (λ h. answer self.old.limit h caller command clock draw.now) result.0 }
-        ensures limit { self.new.limit ≡ self.old.limit }
-        ensures durable { (h : List Entry) → StandsFor D.told self.new h → IsOnDisk D.image self.new h }
+        ensures acts { (said : Result Answered Trouble) × Says said result.0
+            × Acts (answer self.old.limit (history self.old) caller command clock draw.now) said result.1
+            self.old.line self.new.line }
+        ensures same { (self.new.limit ≡ self.old.limit) × (self.new.opened ≡ self.old.opened)
+            × (self.new.opened_at ≡ self.old.opened_at) }
+        ensures tells { TellsAlike (D.told self.old.disk) (D.told self.new.disk) }
+        ensures later { D.time self.old.disk ≤ D.time self.new.disk }
+        // A crash at any moment of the act leaves the first entries, at least all that stood without doubt before.
+        ensures stops { StopsWithin D.told D.time D.image_since self.old self.new }
+        ensures durable { IsOnDisk D.told D.image D.time D.image_since self.new }
         ensures receipt { result.1 ≡ receipt_of D.time D.fault_count self.old self.new result.0.status clock }
     {
         let was = self.faults();
@@ -183,12 +251,26 @@ impl<D: Disk> Desk<D> {
         (reply, receipt)
     }
 
-    /// Ends a doubt, and hands the disk back. Where that fails the disk comes back with the failure.
+    /// Ends a doubt, and hands the disk back. If that fails, the disk comes back with the failure.
     pub fn close(self) -> Result<D, (Failed, D)>
-        ensures closed { IfOk result (λ disk. (h : List Entry) → StandsFor D.told self h
-            → LeavesStore D.told disk self.limit false h) }
-        ensures failed { IfErr result (λ e. (self.doubt ≡ true)
-            × ((h : List Entry) → StandsFor D.told self h → LeavesStore D.told e.1 self.limit true h)) }
+        ensures closed { IfOk result (λ disk. ForSome (D.told self.disk)
+            (λ _. LeavesStore D.told disk self.limit false (history self))) }
+        ensures durable { IfOk result (λ disk. (bytes : List ℕ) → D.image disk bytes
+            → Stands bytes self.limit (map written_entry (history self))) }
+        ensures failed { IfErr result (λ e. (in_doubt self.line ≡ true)
+            × ForSome (D.told self.disk) (λ _. LeavesStore D.told e.1 self.limit true (history self))) }
+        ensures legal { IsLegal self.limit (history self) }
+        ensures later { IfOk result (λ disk. D.time self.disk ≤ D.time disk) }
+        ensures later_err { IfErr result (λ e. D.time self.disk ≤ D.time e.1) }
+        // A crash at any moment leaves the first entries, at least all that stood without doubt.
+        ensures stops { IfOk result (λ disk. ForSome (D.told self.disk) (λ _.
+            LeavesOnly D.time D.image_since self.disk disk (HoldsPrefix self.limit (sure self.line) (history self)))) }
+        ensures stops_err { IfErr result (λ e. ForSome (D.told self.disk) (λ _.
+            LeavesOnly D.time D.image_since self.disk e.1 (HoldsPrefix self.limit (sure self.line) (history self)))) }
+        ensures kept_line { IfOk result (λ disk. ForSome (D.told self.disk)
+            (λ _. KeepsLine self.limit (D.time disk) (D.image_since disk) self.line)) }
+        ensures kept_line_err { IfErr result (λ e. ForSome (D.told self.disk)
+            (λ _. KeepsLine self.limit (D.time e.1) (D.image_since e.1) self.line)) }
         ensures kept { IfOk result (λ disk. D.fault_count disk ≡ D.fault_count self.disk) }
         ensures cause { IfErr result (λ e. (D.fault_count self.disk ≤ D.fault_count e.1)
             × Rises (D.fault_count self.disk) (D.fault_count e.1)) }
@@ -197,6 +279,10 @@ impl<D: Disk> Desk<D> {
             mut journal,
             fold,
             alloc: _,
+            opened_at: _,
+            opened: _,
+            opening: _,
+            acts: _,
         } = self;
         drop(fold);
         match journal.settle() {

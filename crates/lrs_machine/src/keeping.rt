@@ -1,85 +1,90 @@
 // Adding an accepted entry to the journal and the fold.
-ghost use Rattle.std.specs.Prelude.{◌≡◌, ◌≤◌, false};
+ghost use Rattle.std.specs.Prelude.{◌≡◌, ◌≤◌, option_map, false};
 ghost use Rattle.lrs_fold.specs.Outcomes.{IsOutcome};
 ghost use Rattle.lrs_fold.specs.declared.outcome.Outcome.TheVariants as made;
 ghost use Rattle.lrs_history.specs.History.{Outcome};
 ghost use Rattle.lrs_journal.specs.Journal.{need_of, IsJournal};
-ghost use Rattle.lrs_machine.specs.Desk.{HasDiskCause};
+ghost use Rattle.lrs_machine.specs.Acts.{HasDiskCause};
 ghost use Rattle.lrs_machine.specs.Fold.{state_of};
-ghost use Rattle.lrs_machine.specs.Steps.{Acts};
+ghost use Rattle.lrs_machine.specs.Steps.{Does};
 ghost use Rattle.lrs_parts.specs.Parts.{IsReadyFor};
 
 use lrs_disk::Disk;
 use lrs_fold::{Accepted, Fold};
 use lrs_journal::{AppendRefused, Full, Journal};
+use lrs_record::Entry;
 use lrs_replies::{Answered, Refusal, Trouble};
+use std::snapshot::Snapshot;
 
-/// Keeps an accepted entry, where there is room. All memory is taken before the frame is written.
-#[tactic(auto, using(crate::proofs::ActLemmas::full_acts))]
+/// Keeps an accepted entry if there is room, and says whether it was made. All memory is taken before the frame is
+/// written.
 pub(crate) fn keep<D: Disk>(
     journal: &mut Journal<D>,
     fold: &mut Fold,
     accepted: Accepted,
-) -> Result<Answered, Trouble>
+) -> (Result<Answered, Trouble>, Option<Snapshot<Entry>>)
     requires settled { journal.old.doubt ≡ false }
     requires sound { IsJournal D.told D.image journal.old }
     ensures kept { (v : Outcome) → IsOutcome (state_of fold.old) v (made.Accepted accepted)
-        → Acts D.told journal.old journal.new (state_of fold.old) (state_of fold.new) v result }
+        → Does D.told D.time D.image_since journal.old journal.new (state_of fold.old) (state_of fold.new) v
+        result.0 (option_map (λ s. s.value) result.1) }
     ensures sound { IsJournal D.told D.image journal.new }
-    ensures cause { HasDiskCause (D.fault_count journal.old.disk) (D.fault_count journal.new.disk) result }
+    ensures cause { HasDiskCause (D.fault_count journal.old.disk) (D.fault_count journal.new.disk) result.0 }
 {
-    if let Err(Full { need, limit }) = journal.room(accepted.frame.as_slice()) {
+    if let Err(Full { need, limit }) = journal.room(accepted.text.as_slice()) {
         drop(accepted);
-        return Ok(Answered::Refused(Refusal::Full { need, limit }));
+        return (Ok(Answered::Refused(Refusal::Full { need, limit })), None);
     }
     match fold.ready(&accepted.effect) {
         Ok(()) => append(journal, fold, accepted),
         Err(refused) => {
             drop(accepted);
-            Err(Trouble::from(refused))
+            (Err(Trouble::from(refused)), None)
         }
     }
 }
 
 // Writes the frame of an entry for which all is ready.
-#[tactic(auto, using(crate::proofs::ActLemmas::kept_acts, crate::proofs::ActLemmas::doubtful_acts))]
 fn append<D: Disk>(
     journal: &mut Journal<D>,
     fold: &mut Fold,
     accepted: Accepted,
-) -> Result<Answered, Trouble>
+) -> (Result<Answered, Trouble>, Option<Snapshot<Entry>>)
     requires settled { journal.old.doubt ≡ false }
     requires sound { IsJournal D.told D.image journal.old }
-    requires room { need_of journal.old accepted.frame ≤ journal.old.limit }
+    requires room { need_of journal.old accepted.text ≤ journal.old.limit }
     requires ready { IsReadyFor fold.old.parts accepted.effect }
     ensures kept { (v : Outcome) → IsOutcome (state_of fold.old) v (made.Accepted accepted)
-        → Acts D.told journal.old journal.new (state_of fold.old) (state_of fold.new) v result }
+        → Does D.told D.time D.image_since journal.old journal.new (state_of fold.old) (state_of fold.new) v
+        result.0 (option_map (λ s. s.value) result.1) }
     ensures sound { IsJournal D.told D.image journal.new }
-    ensures cause { HasDiskCause (D.fault_count journal.old.disk) (D.fault_count journal.new.disk) result }
+    ensures cause { HasDiskCause (D.fault_count journal.old.disk) (D.fault_count journal.new.disk) result.0 }
 {
     let Accepted {
-        frame,
+        entry,
+        text,
         effect,
         said,
     } = accepted;
-    match journal.append(frame.as_slice()) {
+    match journal.append(text.as_slice()) {
         Ok(_) => {
             fold.install(effect);
-            Ok(said)
+            (Ok(said), Some(entry))
         }
         Err(AppendRefused::Full { need, limit }) => {
             drop(effect);
             drop(said);
-            Ok(Answered::Refused(Refusal::Full { need, limit }))
+            (Ok(Answered::Refused(Refusal::Full { need, limit })), None)
         }
         Err(AppendRefused::Failed) => {
             drop(said);
             if journal.in_doubt() {
                 fold.install(effect);
+                (Err(Trouble::Disk), Some(entry))
             } else {
                 drop(effect);
+                (Err(Trouble::Disk), None)
             }
-            Err(Trouble::Disk)
         }
     }
 }

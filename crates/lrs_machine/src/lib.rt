@@ -1,4 +1,5 @@
-//! The desk: one history of accepted writes, kept in a journal, and each answer a fold over it.
+//! The desk: it keeps a history of accepted writes in a journal, and answers each command over it. Begin with `desk`;
+//! `acting` and `keeping` are the steps of an act, `opening` and `replaying` those of a recovery.
 #![tactic(auto)]
 
 mod acting;
@@ -6,6 +7,7 @@ mod desk;
 mod keeping;
 mod opening;
 mod receipt;
+mod record;
 mod replaying;
 
 pub use desk::Desk;
@@ -13,3 +15,4 @@ pub use lrs_parts::{HeldProvider, is_base, is_token};
 pub use lrs_replies::{Answered, Body, Media, Refusal, Reply, Trouble};
 pub use opening::{DeskRefused, FoundRefused};
 pub use receipt::Receipt;
+pub use record::Record;

@@ -1,9 +1,9 @@
 ghost use Rattle.std.specs.Prelude.{◌≡◌};
-ghost use Rattle.lrs_machine.specs.Desk.{plain_receipt};
+ghost use Rattle.lrs_machine.specs.Acts.{plain_receipt};
 
 use std::marker::Model;
 
-/// What is kept of a response: of an act on the desk, the places and counts by which it can be held against the
+/// What is kept of a response. For an act on the desk: the places and counts that allow comparing it with the
 /// history. Only the desk makes the receipt of an act, and no receipt is copied.
 #[derive(Debug, Drop)]
 pub struct Receipt {
@@ -19,7 +19,7 @@ pub struct Receipt {
 }
 
 impl Model for Receipt {
-    ghost use Rattle.lrs_machine.specs.Desk.{Receipt as SpecReceipt};
+    ghost use Rattle.lrs_machine.specs.Acts.{Receipt as SpecReceipt};
 
     ghost Value = { SpecReceipt };
 
@@ -68,21 +68,21 @@ impl Receipt {
         self.status
     }
 
-    /// How many entries the history had that answered.
+    /// How many entries the history had when it answered.
     pub fn point(&self) -> u64
         ensures { result ≡ self.now.point }
     {
         self.point
     }
 
-    /// Where the act's own entry stands in the history, also one in doubt.
+    /// The place of the act's own entry in the history, also if it is in doubt.
     pub fn entry(&self) -> Option<u64>
         ensures { result ≡ self.now.entry }
     {
         self.entry
     }
 
-    /// Where an earlier doubtful entry stands, whose doubt the act ended.
+    /// The place of an earlier doubtful entry whose doubt the act ended.
     pub fn landed(&self) -> Option<u64>
         ensures { result ≡ self.now.landed }
     {
@@ -110,7 +110,7 @@ impl Receipt {
         self.was
     }
 
-    /// The disk's count of faults behind the act.
+    /// The disk's count of faults after the act.
     pub fn is(&self) -> u64
         ensures { result ≡ self.now.is }
     {

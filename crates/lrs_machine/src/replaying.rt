@@ -1,26 +1,29 @@
 // Reading a store's frames into the fold.
-ghost use Rattle.std.specs.Prelude.{◌≡◌, List, [], true, false, length, IfOk, IfErr, IsOk, IsErrOf, OnOk};
+ghost use Rattle.std.specs.Prelude.{◌≡◌, ◌<◌, List, [], true, false, length, Some, IfOk, IfErr, IsOk, IsErrOf, OnOk};
 ghost use Rattle.std.specs.Option.{ForSome};
-ghost use Rattle.lrs_journal.specs.Journal.{HasCount};
+ghost use Rattle.lrs_disk.specs.Disk.{LeavesOnly};
+ghost use Rattle.lrs_journal.specs.Journal.{HasCount, IsSynced};
 ghost use Rattle.lrs_journal.specs.Replay.{HasRead};
-ghost use Rattle.lrs_record.specs.declared.entry.Entry.{Entry};
+ghost use Rattle.lrs_journal.specs.declared.sizes.TheConstants.{HEADER};
 ghost use Rattle.lrs_parts.specs.State.{apply, nothing};
 ghost use Rattle.lrs_machine.specs.declared.opening.DeskRefused.TheVariants as refused;
 ghost use Rattle.lrs_machine.specs.Fold.{state_of};
 ghost use Rattle.lrs_machine.specs.Desk.{IsDeskRefused};
-ghost use Rattle.lrs_machine.specs.Replays.{refusal_of, IsReplayed, HasReplayed, TakesFrame, TakesEntry};
+ghost use Rattle.lrs_machine.specs.Replays.{has_room, refusal_of, IsReplayed, HasReadEntries, HasReadAll, TakesFrame, TakesEntry};
 
 use crate::DeskRefused;
 use lrs_disk::Disk;
 use lrs_fold::Fold;
 use lrs_journal::{Replay, ReplayRefused};
 use lrs_json::Memory;
+use lrs_noted::Noted;
 use lrs_parts::Effect;
-use lrs_record::{EntryRefused, read_entry};
+use lrs_record::{Entry, EntryRefused, read_entry};
 use std::alloc::Global;
 
-// Takes an entry in, of which this is the frame. Before it k frames were taken in, and behind it the end gate stands at
+// Takes in an entry, of which this is the frame. Before it k frames were taken in, and after it the end gate stands at
 // that place.
+#[tactic(auto, using(crate::proofs::Following::without_room, crate::proofs::Following::with_room, crate::proofs::Following::not_coming))]
 fn take_entry(
     alloc: Global,
     frame: &[u8],
@@ -28,22 +31,38 @@ fn take_entry(
     limit: u64,
     place: u64,
     fold: &mut Fold,
+    opening: &mut Noted<Entry>,
 ) -> Result<(), DeskRefused>
-    ensures { TakesEntry frame.now k limit place (state_of fold.old) (state_of fold.new) result }
+    ensures { TakesEntry frame.now k limit place (state_of fold.old) (state_of fold.new)
+        opening.old.items opening.new.items result }
 {
+    if !has_room(k == 0, limit, place) {
+        return Err(DeskRefused::IllegalEntry { k });
+    }
     let entry = match read_entry(alloc, frame) {
         Ok(entry) => entry,
         Err(EntryRefused::BadEntry) => return Err(DeskRefused::IllegalEntry { k }),
         Err(EntryRefused::Memory) => return Err(DeskRefused::Memory),
     };
-    match fold.next(alloc, k == 0, limit, place, entry) {
+    let longer = opening.and(&entry);
+    match fold.next(alloc, k == 0, entry) {
         Ok(Some(effect)) => match take_in(fold, effect) {
-            Ok(()) => Ok(()),
+            Ok(()) => {
+                *opening = longer;
+                Ok(())
+            }
             Err(_) => Err(DeskRefused::Memory),
         },
         Ok(None) => Err(DeskRefused::IllegalEntry { k }),
         Err(_) => Err(DeskRefused::Memory),
     }
+}
+
+// Whether a frame may end with its end gate at that place. The first may end anywhere: founding made room for it.
+fn has_room(first: bool, limit: u64, place: u64) -> bool
+    ensures { result ≡ has_room first limit place }
+{
+    first || place < limit
 }
 
 /// Takes in what an entry changes.
@@ -69,13 +88,18 @@ fn take_next<D: Disk>(
     k: u64,
     frame: &mut Vec<u8>,
     fold: &mut Fold,
+    opening: &mut Noted<Entry>,
 ) -> Result<bool, DeskRefused>
-    ensures taken { ForSome (D.told replay.old.disk) (λ bytes. (h : List Entry) → length h ≡ k
-        → IsReplayed bytes replay.old (state_of fold.old) h
-        → TakesFrame bytes replay.new (state_of fold.new) h result) }
+    requires long { length opening.old.items ≡ k }
+    requires replayed { IsReplayed replay.old (state_of fold.old) opening.old.items }
+    requires read { ForSome (D.told replay.old.disk) (λ bytes. HasReadEntries bytes replay.old opening.old.items) }
+    ensures taken { IfOk result (TakesFrame D.told replay.new (state_of fold.new) k opening.new.items) }
+    ensures refused { IfErr result (λ e. ForSome (D.told replay.old.disk) (λ bytes. IsDeskRefused bytes e)) }
     ensures ended { IfOk result (λ more. more ≡ false → replay.new.ended ≡ true) }
     ensures limit { replay.new.limit ≡ replay.old.limit }
     ensures still { D.told replay.new.disk ≡ D.told replay.old.disk }
+    ensures any_moment { LeavesOnly D.time D.image_since replay.old.disk replay.new.disk
+        (λ bytes. D.told replay.old.disk ≡ Some bytes) }
     ensures cause { HasCount (D.fault_count replay.old.disk) (D.fault_count replay.new.disk)
         (IsErrOf result refused.Failed) (IsOk result) }
 {
@@ -86,7 +110,15 @@ fn take_next<D: Disk>(
     if !more {
         return Ok(false);
     }
-    match take_entry(alloc, frame, k, replay.limit(), replay.place(), fold) {
+    match take_entry(
+        alloc,
+        frame,
+        k,
+        replay.limit(),
+        replay.place(),
+        fold,
+        opening,
+    ) {
         Ok(()) => Ok(true),
         Err(refused) => Err(refused),
     }
@@ -102,25 +134,31 @@ fn refusal_of(unread: ReplayRefused) -> DeskRefused
     }
 }
 
-/// Reads all frames into a fold.
+/// Reads all frames: their fold, and the entries.
 pub(crate) fn replay_all<D: Disk>(
     alloc: Global,
     replay: &mut Replay<D>,
-) -> Result<Fold, DeskRefused>
-    requires { replay.old.number ≡ 0 }
-    ensures replayed { IfOk result (λ fold. ForSome (D.told replay.old.disk) (λ bytes. HasRead bytes replay.old []
-        → (h : List Entry) × HasReplayed bytes replay.new (state_of fold) h)) }
+) -> Result<(Fold, Noted<Entry>), DeskRefused>
+    requires begun { (replay.old.place ≡ HEADER) × (replay.old.number ≡ 0) }
+    requires read { ForSome (D.told replay.old.disk) (λ bytes. HasRead bytes replay.old []) }
+    requires synced { IsSynced D.told D.image replay.old.disk }
+    ensures replayed { IfOk result (λ read. IsReplayed replay.new (state_of read.0) read.1.items) }
+    ensures some { IfOk result (λ read. 0 < length read.1.items) }
+    ensures read { IfOk result (λ read. ForSome (D.told replay.new.disk)
+        (λ bytes. HasReadAll bytes replay.new read.1.items)) }
     ensures ended { OnOk result (replay.new.ended ≡ true) }
-    ensures refused { IfErr result
-        (λ e. ForSome (D.told replay.old.disk) (λ bytes. HasRead bytes replay.old [] → IsDeskRefused bytes e)) }
+    ensures refused { IfErr result (λ e. ForSome (D.told replay.old.disk) (λ bytes. IsDeskRefused bytes e)) }
     ensures limit { replay.new.limit ≡ replay.old.limit }
     ensures still { D.told replay.new.disk ≡ D.told replay.old.disk }
+    ensures any_moment { LeavesOnly D.time D.image_since replay.old.disk replay.new.disk
+        (λ bytes. D.told replay.old.disk ≡ Some bytes) }
     ensures cause { HasCount (D.fault_count replay.old.disk) (D.fault_count replay.new.disk)
         (IsErrOf result refused.Failed) (IsOk result) }
 {
     let mut fold = Fold::new(alloc);
-    match take_all(alloc, replay, &mut fold) {
-        Ok(()) => Ok(fold),
+    let mut opening = Noted::new();
+    match take_all(alloc, replay, &mut fold, &mut opening) {
+        Ok(()) => Ok((fold, opening)),
         Err(refused) => {
             drop(fold);
             Err(refused)
@@ -133,21 +171,28 @@ fn take_all<D: Disk>(
     alloc: Global,
     replay: &mut Replay<D>,
     fold: &mut Fold,
+    opening: &mut Noted<Entry>,
 ) -> Result<(), DeskRefused>
-    requires { state_of fold.old ≡ nothing }
-    ensures replayed { OnOk result (ForSome (D.told replay.old.disk) (λ bytes. HasRead bytes replay.old []
-        → (h : List Entry) × HasReplayed bytes replay.new (state_of fold.new) h)) }
+    requires empty { (state_of fold.old ≡ nothing) × (opening.old.items ≡ []) }
+    requires begun { (replay.old.place ≡ HEADER) × (replay.old.number ≡ 0) }
+    requires read { ForSome (D.told replay.old.disk) (λ bytes. HasRead bytes replay.old []) }
+    requires synced { IsSynced D.told D.image replay.old.disk }
+    ensures replayed { OnOk result (IsReplayed replay.new (state_of fold.new) opening.new.items) }
+    ensures some { OnOk result (0 < length opening.new.items) }
+    ensures read { OnOk result (ForSome (D.told replay.new.disk)
+        (λ bytes. HasReadAll bytes replay.new opening.new.items)) }
     ensures ended { OnOk result (replay.new.ended ≡ true) }
-    ensures refused { IfErr result
-        (λ e. ForSome (D.told replay.old.disk) (λ bytes. HasRead bytes replay.old [] → IsDeskRefused bytes e)) }
+    ensures refused { IfErr result (λ e. ForSome (D.told replay.old.disk) (λ bytes. IsDeskRefused bytes e)) }
     ensures limit { replay.new.limit ≡ replay.old.limit }
     ensures still { D.told replay.new.disk ≡ D.told replay.old.disk }
+    ensures any_moment { LeavesOnly D.time D.image_since replay.old.disk replay.new.disk
+        (λ bytes. D.told replay.old.disk ≡ Some bytes) }
     ensures cause { HasCount (D.fault_count replay.old.disk) (D.fault_count replay.new.disk)
         (IsErrOf result refused.Failed) (IsOk result) }
 {
     let mut frame = Vec::new(alloc);
     for k in 0..u64::MAX {
-        match take_next(alloc, replay, k, &mut frame, fold) {
+        match take_next(alloc, replay, k, &mut frame, fold, opening) {
             Ok(true) => {}
             Ok(false) => {
                 if k == 0 {

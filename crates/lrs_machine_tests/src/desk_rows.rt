@@ -40,20 +40,26 @@ const PROVIDER: &str = "00000000000000000000000000000005-1";
 
 const NOW: u64 = 1_700_000_000_000;
 
-fn founded(alloc: Global) -> Result<Desk<MemDisk>, Fail> {
+/// A new desk over a disk of which the calls with these numbers fail.
+pub(crate) fn founded(alloc: Global, failing: Vec<u64>) -> Result<Desk<MemDisk>, Fail> {
     let admin = Text::of(alloc, ADMIN)?;
     let base = Text::of(alloc, "http://127.0.0.1:8080/")?;
-    founded_by(alloc, &admin, &base)
+    founded_by(alloc, failing, &admin, &base)
 }
 
-fn founded_by(alloc: Global, admin: &Text, base: &Text) -> Result<Desk<MemDisk>, Fail> {
+fn founded_by(
+    alloc: Global,
+    failing: Vec<u64>,
+    admin: &Text,
+    base: &Text,
+) -> Result<Desk<MemDisk>, Fail> {
     if !is_token(admin) {
         return Err(Fail::from("no token"));
     }
     if !is_base(alloc, base)? {
         return Err(Fail::from("no base"));
     }
-    let disk = MemDisk::new(alloc, Vec::new(alloc), Vec::new(alloc), 999, 999_999)?;
+    let disk = MemDisk::new(alloc, Vec::new(alloc), failing, 999, 999_999)?;
     match Desk::found(alloc, disk, 1_048_576, admin, base, NOW) {
         Ok(desk) => Ok(desk),
         Err(refused) => {
@@ -75,7 +81,7 @@ pub(crate) fn check_rows(alloc: Global, rows: &str) -> Result<(), Fail> {
 
 // That row, or no text.
 fn first_wrong(alloc: Global, rows: &str) -> Result<String, Fail> {
-    let mut desk = founded(alloc)?;
+    let mut desk = founded(alloc, Vec::new(alloc))?;
     let wrong = first_wrong_of(alloc, &mut desk, rows);
     drop(desk);
     wrong
@@ -91,7 +97,12 @@ fn first_wrong_of(alloc: Global, desk: &mut Desk<MemDisk>, rows: &str) -> Result
     Ok(String::new(alloc))
 }
 
-fn wrong_row(alloc: Global, desk: &mut Desk<MemDisk>, row: &str) -> Result<String, Fail> {
+/// What was asked and answered in this row, where something else was expected.
+pub(crate) fn wrong_row(
+    alloc: Global,
+    desk: &mut Desk<MemDisk>,
+    row: &str,
+) -> Result<String, Fail> {
     if row.is_empty() || row.starts_with("//") {
         return Ok(String::new(alloc));
     }
@@ -115,7 +126,12 @@ fn first_word(text: &str) -> (&str, &str) {
     text.split_once(' ').unwrap_or((text, ""))
 }
 
-fn answered(alloc: Global, desk: &mut Desk<MemDisk>, asked: &str) -> Result<String, Fail> {
+/// What a desk answers to what is asked, in short.
+pub(crate) fn answered(
+    alloc: Global,
+    desk: &mut Desk<MemDisk>,
+    asked: &str,
+) -> Result<String, Fail> {
     let (who, ask) = first_word(asked);
     let (word, behind) = first_word(ask);
     let before = desk.length();
@@ -147,11 +163,13 @@ fn reply_to(
 }
 
 fn reply_text(alloc: Global, word: &str, reply: &Reply, kept: &str) -> Result<String, Fail> {
-    let Body::Made(body) = &reply.body else {
-        return Err(Fail::from("no body"));
+    let body = match &reply.body {
+        Body::Made(body) => body.as_slice(),
+        Body::Disk => br#"{"error":"disk"}"#.as_slice(),
+        Body::Memory => br#"{"error":"memory"}"#.as_slice(),
     };
     let status = reply.status;
-    let told = told(alloc, word, body.as_slice())?;
+    let told = told(alloc, word, body)?;
     Ok(format!(in alloc; "{status}{told}{kept}")?)
 }
 

@@ -1,4 +1,5 @@
-//! The tests of lrs_machine: what one desk answers to one command after the other, as rows.
+//! The tests of lrs_machine: what one desk answers to one command after the other, as lines of a text, and what is left of
+//! that after a stop or a fault of the disk.
 #![tactic(auto)]
 
 #[cfg(test)]
@@ -7,3 +8,5 @@ mod desk_rows;
 mod listings;
 #[cfg(test)]
 mod statements;
+#[cfg(test)]
+mod stops;

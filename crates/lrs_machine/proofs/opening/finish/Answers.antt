@@ -1,24 +1,28 @@
-use Rattle.std.proofs.Common.{refl, map}
-use Rattle.lrs_journal.specs.Journal.{settled}
-use Rattle.lrs_journal.specs.Store.{payloads_in}
+use Rattle.std.proofs.Common.{◌≡◌, map, sym, subst, ap, ◌∙◌}
+use Rattle.lrs_disk.specs.Disk.{LeavesOnly}
+use Rattle.lrs_journal.specs.Journal.{TellsAlike}
+use Rattle.lrs_journal.specs.Store.{Stands}
 use Rattle.lrs_record.specs.Entries.{written_entry}
 use Rattle.lrs_machine.specs.Fold.{state_of}
-use Rattle.lrs_machine.proofs.OpenLemmas.{finish_ties, finish_opens, on_disk}
+use Rattle.lrs_machine.proofs.OpenLemmas.{finish_opened}
 use Rattle.lrs_machine.proofs.opening.finish.Goals as goal
 
-pub invariant_of-result : goal.invariant_of-result
-invariant_of-result g c =
-    finish_ties g.D.Disk.told g.D.Disk.image c.args.replay c.in-Ok.journal (state_of c.args.fold) (λ j bytes. payloads_in (settled j.doubt j.gate bytes)) (λ j. refl)
-    c.in-Ok.ensures.tells c.requires.replayed c.in-Ok.ensures.finished c.in-Ok.ensures.fields.1 c.in-Ok.ensures.sound
+pub opened-requires : goal.opened-requires
+opened-requires g c = record {
+  opened =
+      finish_opened g.D.Disk.told g.D.Disk.image c.args.replay c.in-Ok.journal (state_of c.args.fold) c.args.opening.items c.requires.replayed c.requires.some c.requires.read
+      c.in-Ok.ensures.tells c.in-Ok.ensures.finished c.in-Ok.ensures.fields c.in-Ok.ensures.sound;
+}
 
-pub returns-in-Ok-clause-opened : goal.returns-in-Ok-clause-opened
-returns-in-Ok-clause-opened g c =
-    finish_opens g.D.Disk.told c.args.replay c.in-Ok.journal (state_of c.args.fold) c.requires.replayed c.in-Ok.ensures.finished c.in-Ok.ensures.fields.1 c.in-Ok.ensures.fields.3
+pub returns-in-Ok-clause-any_moment : goal.returns-in-Ok-clause-any_moment
+returns-in-Ok-clause-any_moment g c = λ bytes there.
+    subst (λ d. LeavesOnly g.D.Disk.time g.D.Disk.image_since c.args.replay.disk d (λ image. Stands image c.args.replay.limit (map written_entry c.args.opening.items))) (sym c.opened.ensures.disk)
+    (c.in-Ok.ensures.any_moment bytes there (map written_entry c.args.opening.items) (c.requires.read bytes there).0)
 
-pub returns-in-Ok-clause-durable : goal.returns-in-Ok-clause-durable
-returns-in-Ok-clause-durable g c = λ h stands. on_disk g.D.Disk.told g.D.Disk.image c.in-Ok.journal h c.in-Ok.ensures.sound stands
+pub returns-in-Err-clause-any_moment_err : goal.returns-in-Err-clause-any_moment_err
+returns-in-Err-clause-any_moment_err g c = λ bytes there. c.in-Err.ensures.any_moment_err bytes there (map written_entry c.args.opening.items) (c.requires.read bytes there).0
 
 pub returns-in-Err-clause-left : goal.returns-in-Err-clause-left
 returns-in-Err-clause-left g c = λ bytes there.
-    let r = c.requires.replayed bytes there in
-    (c.args.replay.limit, r.0, (r.1.stands, (r.1.some, r.1.replayed.legal)), c.in-Err.ensures.failed bytes there (map written_entry r.0) r.1.replayed.frames)
+    let r = c.requires.read bytes there in
+    (c.args.replay.limit, c.args.opening.items, (r.1, (c.requires.some, c.requires.replayed.legal)), c.in-Err.ensures.failed bytes there (map written_entry c.args.opening.items) r.0)

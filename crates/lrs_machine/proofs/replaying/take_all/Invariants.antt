@@ -1,9 +1,8 @@
-use Rattle.std.proofs.Common.{◌≡◌, List, [], length}
+use Rattle.std.proofs.Common.{◌≡◌, List, ℕ, length, Some}
 use Rattle.std.specs.Option.{ForSome}
-use Rattle.lrs_journal.specs.Replay.{HasRead}
-use Rattle.lrs_record.specs.declared.entry.Entry.{Entry}
+use Rattle.lrs_disk.specs.Disk.{LeavesOnly}
 use Rattle.lrs_machine.specs.Fold.{state_of}
-use Rattle.lrs_machine.specs.Replays.{IsReplayed}
+use Rattle.lrs_machine.specs.Replays.{HasReadEntries, IsReplayed}
 use Rattle.lrs_machine.proofs.replaying.take_all.Given as goal
 
 abbrev pub invariant-loop-k : goal.invariant-loop-k
@@ -11,5 +10,8 @@ invariant-loop-k g l = record {
   still : g.D.Disk.told l.replay.disk ≡ g.D.Disk.told l.fn.replay.disk;
   limit : l.replay.limit ≡ l.fn.replay.limit;
   count : g.D.Disk.fault_count l.replay.disk ≡ g.D.Disk.fault_count l.fn.replay.disk;
-  so_far : ForSome (g.D.Disk.told l.fn.replay.disk) (λ bytes. HasRead bytes l.fn.replay [] → (h : List Entry) × (length h ≡ l.k) × IsReplayed bytes l.replay (state_of l.fold) h);
+  long : length l.opening.items ≡ l.k;
+  replayed : IsReplayed l.replay (state_of l.fold) l.opening.items;
+  read : ForSome (g.D.Disk.told l.replay.disk) (λ bytes. HasReadEntries bytes l.replay l.opening.items);
+  leaves : LeavesOnly g.D.Disk.time g.D.Disk.image_since l.fn.replay.disk l.replay.disk (λ bytes. g.D.Disk.told l.fn.replay.disk ≡ Some bytes);
 }

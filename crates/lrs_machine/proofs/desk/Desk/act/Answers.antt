@@ -1,7 +1,21 @@
-use Rattle.lrs_machine.proofs.DeskLemmas.{act_replies}
+use Rattle.std.proofs.Common.{◌≡◌}
+use Rattle.lrs_history.specs.History.{answer}
+use Rattle.lrs_machine.specs.Desk.{history}
+use Rattle.lrs_machine.proofs.DeskLemmas.{act_told, landed_is, receipt_made}
 use Rattle.lrs_machine.proofs.desk.Desk.act.Goals as goal
 
-pub returns-clause-replied : goal.returns-clause-replied
-returns-clause-replied g c =
-    act_replies g.D.Disk.told g.D.Disk.fault_count c.args.self.now c.answer-said.new.self c.args.caller c.args.command c.args.clock c.args.draw.now c.answer-said.result.0 c.reply_to-reply.result
-    c.answer-said.ensures.answered c.answer-said.ensures.cause c.reply_to-reply.ensures
+pub returns-clause-receipt : goal.returns-clause-receipt
+returns-clause-receipt g c =
+    let a = c.answer-said in
+    receipt_made g.D.Disk.time g.D.Disk.fault_count c.args.self.now a.new.self c.receipt-receipt.result c.reply_to-reply.result.status c.length-point.result c.args.clock c.faults-was.result a.result.1
+    c.receipt-receipt.ensures c.length-point.ensures c.faults-was.ensures
+    (landed_is (answer c.args.self.now.limit (history c.args.self.now) c.args.caller c.args.command c.args.clock c.args.draw.now) a.result.0 a.result.1 (g.D.Disk.time a.new.self.disk) c.args.self.now a.new.self a.ensures.happens)
+
+pub returns-clause-acts : goal.returns-clause-acts
+returns-clause-acts g c =
+    let a = c.answer-said in
+    act_told g.D.Disk.time g.D.Disk.fault_count c.args.self.now a.new.self c.args.caller c.args.command c.args.clock c.args.draw.now a.result.0 a.result.1 c.reply_to-reply.result c.receipt-receipt.result
+    (receipt_made g.D.Disk.time g.D.Disk.fault_count c.args.self.now a.new.self c.receipt-receipt.result c.reply_to-reply.result.status c.length-point.result c.args.clock c.faults-was.result a.result.1
+    c.receipt-receipt.ensures c.length-point.ensures c.faults-was.ensures
+    (landed_is (answer c.args.self.now.limit (history c.args.self.now) c.args.caller c.args.command c.args.clock c.args.draw.now) a.result.0 a.result.1 (g.D.Disk.time a.new.self.disk) c.args.self.now a.new.self a.ensures.happens))
+    a.ensures.happens a.ensures.cause c.reply_to-reply.ensures

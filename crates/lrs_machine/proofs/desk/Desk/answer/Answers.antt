@@ -1,29 +1,66 @@
-use Rattle.std.proofs.Common.{◌≡◌, subst, sym}
+use Rattle.std.proofs.Common.{◌≡◌, List, length, ap, refl, sym, subst, ◌∙◌}
+use Rattle.std.specs.Prelude.{option_map, is_ok}
 use Rattle.lrs_history.specs.History.{answer, outcome}
+use Rattle.lrs_machine.specs.Desk.{Desk}
 use Rattle.lrs_machine.specs.Fold.{state_of}
-use Rattle.lrs_machine.specs.Desk.{StandsFor, Answers}
-use Rattle.lrs_machine.proofs.ActLemmas.{act_ties, act_answers}
-use Rattle.lrs_machine.proofs.DeskLemmas.{act_limit, act_put}
-use Rattle.lrs_machine.proofs.OpenLemmas.{on_disk}
+use Rattle.lrs_machine.specs.Line.{line_of}
+use Rattle.lrs_machine.specs.Steps.{line_after}
+use Rattle.lrs_machine.proofs.DeskLemmas.{act_put}
+use Rattle.lrs_machine.proofs.Lines.{noted}
+use Rattle.lrs_machine.proofs.Tied.{acted, limit_stays, on_disk, tells_alike}
 use Rattle.lrs_machine.proofs.desk.Desk.answer.Goals as goal
 
 pub invariant_of-self : goal.invariant_of-self
 invariant_of-self g c =
-    act_ties g.D.Disk.told g.D.Disk.image c.self.inside.journal c.act.new.journal c.args.caller c.args.command c.args.clock c.args.draw.now (state_of c.self.inside.fold) (state_of c.act.new.fold) c.act.result.0
-    c.self.invariant c.act.ensures.sound c.act.ensures.acted
+    let i = c.self.inside in
+    let a = c.act-said in
+    let made = option_map (λ s. s.value) a.result.made in
+    let is = noted i.opened_at i.opening.items i.acts.items c.note.new.acts.items made c.is_ok.result (is_ok a.result.said) a.result.landed c.moment.result (g.D.Disk.time a.new.journal.disk) c.note.ensures c.is_ok.ensures.value c.moment.ensures in (
+      (acted g.D.Disk.told g.D.Disk.image g.D.Disk.time g.D.Disk.image_since g.met.D.Disk.only_now i.journal a.new.journal c.args.caller c.args.command c.args.clock c.args.draw.now (state_of i.fold) (state_of a.new.fold) a.result.said made
+          (line_of i.opened_at i.opening.items i.acts.items) (line_of i.opened_at i.opening.items c.note.new.acts.items) a.result.landed c.self.invariant.0 a.ensures.sound a.ensures.does a.ensures.landed is).0,
+      c.self.invariant.1,
+    )
 
-pub returns-clause-answered : goal.returns-clause-answered
-returns-clause-answered g c = λ h stands.
-    subst (λ o. Answers g.D.Disk.told (answer o.limit h c.args.caller c.args.command c.args.clock c.args.draw.now) h o c.act.new.journal c.act.result.0) c.self.view_is
-    (act_answers g.D.Disk.told g.D.Disk.image c.self.inside.journal c.act.new.journal c.args.caller c.args.command c.args.clock c.args.draw.now (state_of c.self.inside.fold) (state_of c.act.new.fold) c.act.result.0 h
-    c.self.invariant c.act.ensures.acted (subst (λ o. StandsFor g.D.Disk.told o h) (sym c.self.view_is) stands))
+pub returns-clause-happens : goal.returns-clause-happens
+returns-clause-happens g c =
+    let i = c.self.inside in
+    let a = c.act-said in
+    let made = option_map (λ s. s.value) a.result.made in
+    let is = noted i.opened_at i.opening.items i.acts.items c.note.new.acts.items made c.is_ok.result (is_ok a.result.said) a.result.landed c.moment.result (g.D.Disk.time a.new.journal.disk) c.note.ensures c.is_ok.ensures.value c.moment.ensures in
+    rw (sym c.self.view_is)
+    (acted g.D.Disk.told g.D.Disk.image g.D.Disk.time g.D.Disk.image_since g.met.D.Disk.only_now i.journal a.new.journal c.args.caller c.args.command c.args.clock c.args.draw.now (state_of i.fold) (state_of a.new.fold) a.result.said made
+    (line_of i.opened_at i.opening.items i.acts.items) (line_of i.opened_at i.opening.items c.note.new.acts.items) a.result.landed c.self.invariant.0 a.ensures.sound a.ensures.does a.ensures.landed is).1
 
-pub returns-clause-known : goal.returns-clause-known
-returns-clause-known g c = λ put. act_put g.D.Disk.told c.self.inside.journal c.act.new.journal (state_of c.self.inside.fold) (state_of c.act.new.fold) c.args.caller c.args.command c.args.clock c.args.draw.now c.act.result.0 c.act.ensures.acted put
-
-pub returns-clause-limit : goal.returns-clause-limit
-returns-clause-limit g c = subst (λ o. c.act.new.journal.limit ≡ o.limit) c.self.view_is
-    (act_limit g.D.Disk.told c.self.inside.journal c.act.new.journal (state_of c.self.inside.fold) (state_of c.act.new.fold) (outcome (state_of c.self.inside.fold) c.args.caller c.args.command c.args.clock c.args.draw.now) c.act.result.0 c.act.ensures.acted)
+pub returns-clause-stops : goal.returns-clause-stops
+returns-clause-stops g c =
+    let i = c.self.inside in
+    let a = c.act-said in
+    let made = option_map (λ s. s.value) a.result.made in
+    let is = noted i.opened_at i.opening.items i.acts.items c.note.new.acts.items made c.is_ok.result (is_ok a.result.said) a.result.landed c.moment.result (g.D.Disk.time a.new.journal.disk) c.note.ensures c.is_ok.ensures.value c.moment.ensures in
+    rw (sym c.self.view_is)
+    (acted g.D.Disk.told g.D.Disk.image g.D.Disk.time g.D.Disk.image_since g.met.D.Disk.only_now i.journal a.new.journal c.args.caller c.args.command c.args.clock c.args.draw.now (state_of i.fold) (state_of a.new.fold) a.result.said made
+    (line_of i.opened_at i.opening.items i.acts.items) (line_of i.opened_at i.opening.items c.note.new.acts.items) a.result.landed c.self.invariant.0 a.ensures.sound a.ensures.does a.ensures.landed is).2
 
 pub returns-clause-durable : goal.returns-clause-durable
-returns-clause-durable g c = λ h stands. on_disk g.D.Disk.told g.D.Disk.image c.act.new.journal h c.act.ensures.sound stands
+returns-clause-durable g c =
+    let i = c.self.inside in
+    let a = c.act-said in
+    let made = option_map (λ s. s.value) a.result.made in
+    let is = noted i.opened_at i.opening.items i.acts.items c.note.new.acts.items made c.is_ok.result (is_ok a.result.said) a.result.landed c.moment.result (g.D.Disk.time a.new.journal.disk) c.note.ensures c.is_ok.ensures.value c.moment.ensures in
+    on_disk g.D.Disk.told g.D.Disk.image g.D.Disk.time g.D.Disk.image_since g.met.D.Disk.only_now g.met.D.Disk.tells a.new.journal (state_of a.new.fold) i.opened_at i.opened i.opening.items c.note.new.acts.items
+    (acted g.D.Disk.told g.D.Disk.image g.D.Disk.time g.D.Disk.image_since g.met.D.Disk.only_now i.journal a.new.journal c.args.caller c.args.command c.args.clock c.args.draw.now (state_of i.fold) (state_of a.new.fold) a.result.said made
+    (line_of i.opened_at i.opening.items i.acts.items) (line_of i.opened_at i.opening.items c.note.new.acts.items) a.result.landed c.self.invariant.0 a.ensures.sound a.ensures.does a.ensures.landed is).0
+    c.self.invariant.1.0 c.self.invariant.1.1
+
+pub returns-clause-known : goal.returns-clause-known
+returns-clause-known g c = λ put.
+    act_put c.self.inside.journal.limit c.self.inside.journal.end (state_of c.self.inside.fold) c.args.caller c.args.command c.args.clock c.args.draw.now c.self.inside.journal.doubt c.act-said.new.journal.doubt
+    (option_map (λ s. s.value) c.act-said.result.made) c.act-said.result.said c.act-said.ensures.does.says put
+
+pub returns-clause-same : goal.returns-clause-same
+returns-clause-same g c =
+    rw (sym c.self.view_is) (limit_stays g.D.Disk.told (option_map (λ s. s.value) c.act-said.result.made) c.self.inside.journal c.act-said.new.journal c.act-said.ensures.does.grew, refl, refl)
+
+pub returns-clause-tells : goal.returns-clause-tells
+returns-clause-tells g c =
+    rw (sym c.self.view_is) (tells_alike g.D.Disk.told (option_map (λ s. s.value) c.act-said.result.made) c.self.inside.journal c.act-said.new.journal c.act-said.ensures.does.grew)

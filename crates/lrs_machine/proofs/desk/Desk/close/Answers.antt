@@ -1,28 +1,69 @@
-use Rattle.std.proofs.Common.{◌≡◌, sym, subst, refl, ◌∙◌, true, false}
-use Rattle.lrs_journal.specs.Journal.{settled}
-use Rattle.lrs_journal.specs.Store.{payloads_in}
-use Rattle.lrs_machine.specs.Desk.{StandsFor, LeavesStore}
-use Rattle.lrs_machine.proofs.OpenLemmas.{leaves}
-use Rattle.lrs_machine.proofs.DeskLemmas.{settled_doubt, unsettled_doubt}
+use Rattle.std.proofs.Common.{◌≡◌, None, true, false, refl, sym, ap, ◌∙◌}
+use Rattle.lrs_machine.specs.Fold.{state_of}
+use Rattle.lrs_machine.specs.Line.{line_of}
+use Rattle.lrs_machine.proofs.ActLemmas.{settled_doubt, unsettled_doubt}
+use Rattle.lrs_machine.proofs.OpenLemmas.{closed, closed_stands, settle_moves}
+use Rattle.lrs_machine.proofs.Tied.{kept_still, stops_act}
 use Rattle.lrs_machine.proofs.desk.Desk.close.Goals as goal
 
 pub returns-in-Ok-clause-closed : goal.returns-in-Ok-clause-closed
-returns-in-Ok-clause-closed g c = λ h stands.
-    let before : StandsFor g.D.Disk.told c.self.inside.journal h = subst (λ o. StandsFor g.D.Disk.told o h) (sym c.self.view_is) stands in
-    subst (λ d. LeavesStore g.D.Disk.told d c.args.self.limit false h) (sym c.into_disk.ensures.disk)
-    (subst (λ o. LeavesStore g.D.Disk.told c.settle.new.self.disk o.limit false h) c.self.view_is
-    (subst (λ l. LeavesStore g.D.Disk.told c.settle.new.self.disk l false h) c.settle.ensures.frames.limit
-    (leaves g.D.Disk.told g.D.Disk.image c.settle.new.self (λ bytes. payloads_in (settled c.settle.new.self.doubt c.settle.new.self.gate bytes)) h false c.settle.ensures.sound refl
-    (c.settle.ensures.frames.frames ∙ before.frames) (settled_doubt c.self.inside.journal c.settle.new.self c.settle.result c.in-Ok.field-0 c.in-Ok.is c.settle.ensures.none c.settle.ensures.some))))
+returns-in-Ok-clause-closed g c =
+    let i = c.self.inside in
+    let s = c.settle.ensures in
+    rw (c.into_disk.ensures.disk) (rw (sym c.self.view_is)
+    (closed g.D.Disk.told g.D.Disk.image g.D.Disk.time g.D.Disk.image_since i.journal c.settle.new.self (state_of i.fold) (line_of i.opened_at i.opening.items i.acts.items) false
+    c.self.invariant.0 s.frames s.sound (settled_doubt i.journal c.settle.new.self c.settle.result c.in-Ok.field-0 c.in-Ok.is s.none s.some)))
+
+pub returns-in-Ok-clause-durable : goal.returns-in-Ok-clause-durable
+returns-in-Ok-clause-durable g c =
+    let i = c.self.inside in
+    let s = c.settle.ensures in
+    rw (c.into_disk.ensures.disk) (rw (sym c.self.view_is)
+    (closed_stands g.D.Disk.told g.D.Disk.image g.D.Disk.time g.D.Disk.image_since g.met.D.Disk.tells i.journal c.settle.new.self (state_of i.fold) (line_of i.opened_at i.opening.items i.acts.items)
+    c.self.invariant.0 s.frames s.sound (settled_doubt i.journal c.settle.new.self c.settle.result c.in-Ok.field-0 c.in-Ok.is s.none s.some)))
+
+pub returns-in-Ok-clause-stops : goal.returns-in-Ok-clause-stops
+returns-in-Ok-clause-stops g c =
+    let i = c.self.inside in
+    let s = c.settle.ensures in
+    let line = line_of i.opened_at i.opening.items i.acts.items in
+    rw (c.into_disk.ensures.disk) (rw (sym c.self.view_is)
+    (stops_act g.D.Disk.told g.D.Disk.image g.D.Disk.time g.D.Disk.image_since g.met.D.Disk.only_now i.journal c.settle.new.self (state_of i.fold) (state_of i.fold) None line line c.self.invariant.0
+    (settle_moves g.D.Disk.told g.D.Disk.image g.D.Disk.time g.D.Disk.image_since i.journal c.settle.new.self (state_of i.fold) line c.self.invariant.0 s.frames s.later s.any_moment)))
+
+pub returns-in-Err-clause-stops_err : goal.returns-in-Err-clause-stops_err
+returns-in-Err-clause-stops_err g c =
+    let i = c.self.inside in
+    let s = c.settle.ensures in
+    let line = line_of i.opened_at i.opening.items i.acts.items in
+    rw (c.into_disk-in-Err.ensures.disk) (rw (sym c.self.view_is)
+    (stops_act g.D.Disk.told g.D.Disk.image g.D.Disk.time g.D.Disk.image_since g.met.D.Disk.only_now i.journal c.settle.new.self (state_of i.fold) (state_of i.fold) None line line c.self.invariant.0
+    (settle_moves g.D.Disk.told g.D.Disk.image g.D.Disk.time g.D.Disk.image_since i.journal c.settle.new.self (state_of i.fold) line c.self.invariant.0 s.frames s.later s.any_moment)))
+
+pub returns-in-Ok-clause-kept_line : goal.returns-in-Ok-clause-kept_line
+returns-in-Ok-clause-kept_line g c =
+    let i = c.self.inside in
+    let s = c.settle.ensures in
+    let line = line_of i.opened_at i.opening.items i.acts.items in
+    rw (c.into_disk.ensures.disk) (rw (sym c.self.view_is)
+    (λ b there. kept_still g.D.Disk.told g.D.Disk.image g.D.Disk.time g.D.Disk.image_since g.met.D.Disk.only_now i.journal c.settle.new.self (state_of i.fold) (state_of i.fold) None line line refl c.self.invariant.0
+    (settle_moves g.D.Disk.told g.D.Disk.image g.D.Disk.time g.D.Disk.image_since i.journal c.settle.new.self (state_of i.fold) line c.self.invariant.0 s.frames s.later s.any_moment) b there))
+
+pub returns-in-Err-clause-kept_line_err : goal.returns-in-Err-clause-kept_line_err
+returns-in-Err-clause-kept_line_err g c =
+    let i = c.self.inside in
+    let s = c.settle.ensures in
+    let line = line_of i.opened_at i.opening.items i.acts.items in
+    rw (c.into_disk-in-Err.ensures.disk) (rw (sym c.self.view_is)
+    (λ b there. kept_still g.D.Disk.told g.D.Disk.image g.D.Disk.time g.D.Disk.image_since g.met.D.Disk.only_now i.journal c.settle.new.self (state_of i.fold) (state_of i.fold) None line line refl c.self.invariant.0
+    (settle_moves g.D.Disk.told g.D.Disk.image g.D.Disk.time g.D.Disk.image_since i.journal c.settle.new.self (state_of i.fold) line c.self.invariant.0 s.frames s.later s.any_moment) b there))
 
 pub returns-in-Err-clause-failed : goal.returns-in-Err-clause-failed
-returns-in-Err-clause-failed g c = (
-  subst (λ o. o.doubt ≡ true) c.self.view_is (unsettled_doubt c.self.inside.journal c.settle.new.self c.settle.result c.in-Err.failed c.in-Err.is c.settle.ensures.none),
-  λ h stands.
-      let before : StandsFor g.D.Disk.told c.self.inside.journal h = subst (λ o. StandsFor g.D.Disk.told o h) (sym c.self.view_is) stands in
-      subst (λ d. LeavesStore g.D.Disk.told d c.args.self.limit true h) (sym c.into_disk-in-Err.ensures.disk)
-      (subst (λ o. LeavesStore g.D.Disk.told c.settle.new.self.disk o.limit true h) c.self.view_is
-      (subst (λ l. LeavesStore g.D.Disk.told c.settle.new.self.disk l true h) c.settle.ensures.frames.limit
-      (leaves g.D.Disk.told g.D.Disk.image c.settle.new.self (λ bytes. payloads_in (settled c.settle.new.self.doubt c.settle.new.self.gate bytes)) h true c.settle.ensures.sound refl
-      (c.settle.ensures.frames.frames ∙ before.frames) (c.in-Err.ensures.failed refl)))),
-)
+returns-in-Err-clause-failed g c =
+    let i = c.self.inside in
+    let s = c.settle.ensures in
+    rw (c.into_disk-in-Err.ensures.disk) (rw (sym c.self.view_is) (
+      sym c.self.invariant.0.doubts ∙ unsettled_doubt i.journal c.settle.new.self c.settle.result c.in-Err.failed c.in-Err.is s.none,
+      closed g.D.Disk.told g.D.Disk.image g.D.Disk.time g.D.Disk.image_since i.journal c.settle.new.self (state_of i.fold) (line_of i.opened_at i.opening.items i.acts.items) true
+          c.self.invariant.0 s.frames s.sound (c.in-Err.ensures.failed refl),
+    ))

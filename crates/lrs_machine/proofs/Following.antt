@@ -1,0 +1,132 @@
+-- Whether an entry may come next is seen by the fold and by the room that is left.
+use Rattle.std.proofs.Common.{◌≡◌, ◌<◌, ◌≤◌, ◌+◌, ◌-◌, ◌^◌, ℕ, min, max, List, [], ◌∷◌, length, refl, sym, ◌∙◌, ap, subst, arith, Option, Some, None, Bool, true, false, nat_lt, nat_le}
+use Rattle.std.specs.Prelude.{◌==◌, ◌&&◌, is_none, if◌then◌else◌}
+use Rattle.std.specs.Bool.{Decides}
+use Rattle.std.proofs.lemmas.Grind.{common_steps}
+use Rattle.lrs_command.specs.declared.command.Command.TheVariants as command
+use Rattle.lrs_fold.specs.Next.{may_come}
+use Rattle.lrs_history.specs.Answers.{write_said}
+use Rattle.lrs_history.specs.Effects.{effect}
+use Rattle.lrs_history.specs.History.{Answer, answer_of, said_at_once, entry_at, need, end_place, state, outcome, outcome_by, ComesNext, is_founding}
+use Rattle.lrs_history.proofs.Room.{no_room, kept_answer}
+use Rattle.lrs_history.proofs.Outcomes.{accepted_again}
+use Rattle.lrs_machine.specs.Replays.{has_room, may_follow}
+use Rattle.lrs_parts.specs.State.{State}
+use Rattle.lrs_record.specs.Entries.{written_entry}
+use Rattle.lrs_time.specs.Moments.{clamped}
+use Rattle.lrs_time.specs.declared.moments.TheConstants.{LATEST}
+use Rattle.lrs_record.specs.declared.entry.Entry.{Entry}
+use Rattle.lrs_replies.specs.declared.answered.Answered.{Answered}
+
+-- ---- tests
+
+both : (a b : Bool) → a ≡ true → b ≡ true → a && b ≡ true
+both true true p q = refl
+both true false p q = q
+both false b p q = cc p
+
+first : (a b : Bool) → a && b ≡ true → a ≡ true
+first true b p = refl
+first false b p = p
+
+second : (a b : Bool) → a && b ≡ true → b ≡ true
+second true b p = p
+second false b p = cc p
+
+neither : (a b : Bool) → b ≡ false → a && b ≡ false
+neither true b p = p
+neither false b p = refl
+
+none_is : (o : Option Answered) → is_none o ≡ true → o ≡ None
+none_is None is = refl
+none_is (Some s) is = cc is
+
+-- ---- the room, and what the fold says
+
+pub without_room : (b : Bool) (limit place : ℕ) (st : State) (e : Entry) → has_room b limit place ≡ false → may_follow b limit place st e ≡ false
+without_room b limit place st e full = neither (may_come b st e) (has_room b limit place) full
+
+pub with_room : (b : Bool) (limit place : ℕ) (st : State) (e : Entry) → has_room b limit place ≡ true → may_come b st e ≡ true → may_follow b limit place st e ≡ true
+with_room b limit place st e room comes = both (may_come b st e) (has_room b limit place) comes room
+
+pub not_coming : (b : Bool) (limit place : ℕ) (st : State) (e : Entry) → may_come b st e ≡ false → may_follow b limit place st e ≡ false
+not_coming b limit place st e stays = ap (λ c. c && has_room b limit place) stays
+
+-- ---- a later entry
+
+abbrev entry_of : Answer → Option Entry
+entry_of a = a.entry
+
+abbrev later : ℕ → ℕ → State → Entry → Bool
+later limit place st e = may_follow false limit place st e
+
+later_forth : (limit place : ℕ) (st : State) (e : Entry) → e.moment ≤ LATEST → later limit (place + (5 + length (written_entry e))) st e ≡ true
+    → (answer_of limit place (outcome st e.caller (command.Write e.write) e.moment e.draw)).entry ≡ Some e
+later_forth limit place st e early is =
+    ap (λ v. (answer_of limit place v).entry) (accepted_again st e (write_said (effect st e)) same at_once refl) ∙ by_test (nat_lt limit (need place e)) refl
+  where
+    two : is_none (said_at_once st e) && nat_le st.last e.moment ≡ true
+    two = first (is_none (said_at_once st e) && nat_le st.last e.moment) (nat_lt (place + (5 + length (written_entry e))) limit) is
+
+    at_once : said_at_once st e ≡ None
+    at_once = none_is (said_at_once st e) (first (is_none (said_at_once st e)) (nat_le st.last e.moment) two)
+
+    le : nat_le st.last e.moment ≡ true
+    le = second (is_none (said_at_once st e)) (nat_le st.last e.moment) two
+
+    lt : nat_lt (place + (5 + length (written_entry e))) limit ≡ true
+    lt = second (is_none (said_at_once st e) && nat_le st.last e.moment) (nat_lt (place + (5 + length (written_entry e))) limit) is
+
+    later_moment : (m n : ℕ) → m ≤ LATEST → nat_le n m ≡ true → max (min m LATEST) n ≡ m
+    later_moment m n early le = let below : n ≤ m = grind (arith, common_steps) in omega (arith, early, below)
+
+    same : max (clamped e.moment) st.last ≡ e.moment
+    same = later_moment e.moment st.last early le
+
+    roomy : (p n l : ℕ) → nat_lt (p + (5 + n)) l ≡ true → nat_lt l (p + 6 + n) ≡ true → ⊥
+    roomy p n l a b = let below : p + (5 + n) < l = grind (arith, common_steps) in let above : l < p + 6 + n = grind (arith, common_steps) in omega (arith, below, above)
+
+    by_test : (b : Bool) → nat_lt limit (need place e) ≡ b → entry_of (if b then no_room limit place e else kept_answer (write_said (effect st e)) e) ≡ Some e
+    by_test true is = absurd (roomy place (length (written_entry e)) limit lt is)
+    by_test false is = refl
+
+-- the entry that it would be now
+abbrev entry_now : State → Entry → Entry
+entry_now st e = entry_at e.caller e.write (max (clamped e.moment) st.last) e.draw
+
+later_back : (limit place : ℕ) (st : State) (e : Entry) (o : Option Answered) → said_at_once st (entry_now st e) ≡ o
+    → (answer_of limit place (outcome_by o (entry_now st e) (write_said (effect st (entry_now st e))))).entry ≡ Some e → later limit (place + (5 + length (written_entry e))) st e ≡ true
+later_back limit place st e (Some s) at is = cc is
+later_back limit place st e None at is = by_test (nat_lt limit (need place (entry_now st e))) refl is
+  where
+    order : (m n : ℕ) → max (min m LATEST) n ≡ m → nat_le n m ≡ true
+    order m n is = let below : n ≤ m = omega (arith, is) in grind (arith, common_steps)
+
+    roomy : (p n l : ℕ) → nat_lt l (p + 6 + n) ≡ false → nat_lt (p + (5 + n)) l ≡ true
+    roomy p n l a = let fits : p + 6 + n ≤ l = grind (arith, common_steps) in let below : p + (5 + n) < l = omega (arith, fits) in grind (arith, common_steps)
+
+    by_test : (b : Bool) → nat_lt limit (need place (entry_now st e)) ≡ b
+        → entry_of (if b then no_room limit place (entry_now st e) else kept_answer (write_said (effect st (entry_now st e))) (entry_now st e)) ≡ Some e
+        → later limit (place + (5 + length (written_entry e))) st e ≡ true
+    by_test true full is = cc is
+    by_test false room is =
+        let same : entry_now st e ≡ e = cc is in
+        both (is_none (said_at_once st e) && nat_le st.last e.moment) (nat_lt (place + (5 + length (written_entry e))) limit)
+        (both (is_none (said_at_once st e)) (nat_le st.last e.moment) (ap (λ o. is_none o) (ap (λ x. said_at_once st x) (sym same) ∙ at)) (order e.moment st.last (ap (λ x. x.moment) same)))
+        (roomy place (length (written_entry e)) limit (subst (λ x. nat_lt limit (need place x) ≡ false) same room))
+
+first_decides : (b : Bool) → Decides (b && true) (b ≡ true)
+first_decides true = (λ is. is, λ is. is)
+first_decides false = (λ is. is, λ is. is)
+
+-- the fold and the room say whether an entry comes next
+pub may_decides : (limit place : ℕ) (st : State) (h : List Entry) (e : Entry) (k : ℕ) → length h ≡ k → st ≡ state h → e.moment ≤ LATEST
+    → place ≡ end_place limit h + (5 + length (written_entry e)) → Decides (may_follow (k == 0) limit place st e) (ComesNext limit h e)
+may_decides limit place st [] e k long folded early behind = subst (λ n. Decides (may_follow (n == 0) limit place st e) (ComesNext limit [] e)) long (first_decides (is_founding e))
+may_decides limit place st (x ∷ h) e k long folded early behind =
+    subst (λ b. Decides (may_follow b limit place st e) (ComesNext limit (x ∷ h) e)) (sym other) (subst (λ z. Decides (may_follow false limit place z e) (ComesNext limit (x ∷ h) e)) (sym folded)
+    (subst (λ p. Decides (may_follow false limit p (state (x ∷ h)) e) (ComesNext limit (x ∷ h) e)) (sym behind)
+    (later_forth limit (end_place limit (x ∷ h)) (state (x ∷ h)) e early, later_back limit (end_place limit (x ∷ h)) (state (x ∷ h)) e (said_at_once (state (x ∷ h)) (entry_now (state (x ∷ h)) e)) refl)))
+  where
+    other : (k == 0) ≡ false
+    other = let some : 0 < k = omega (arith, long) in grind (arith, common_steps)
