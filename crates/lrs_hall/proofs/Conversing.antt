@@ -1,167 +1,26 @@
--- What a whole conversation over the desk tells of the one history, of the clock and of the disk's faults.
-use Rattle.std.proofs.Common.{arith, ◌≡◌, ◌≢◌, ◌⊎◌, ◌≤◌, ℕ, List, [], ◌∷◌, ◌++◌, Bool, false, Option, Some, None, Result, Ok, Err, subst, sym, ◌∙◌, ap, refl, inl, inr, append_assoc, append-nil}
+-- What is true of a desk, its clock and its disk behind a whole conversation, and behind all talks of a worker.
+use Rattle.std.proofs.Common.{arith, ◌≡◌, ◌≢◌, ◌⊎◌, ◌≤◌, ◌+◌, ℕ, List, [], ◌∷◌, ◌++◌, length, take, Bool, false, Option, Some, None, Result, Ok, Err, subst, sym, ◌∙◌, ap, refl, inl, inr, append_assoc, append-nil}
 use Rattle.std.specs.Prelude.{if◌then◌else◌, MatchBool}
 use Rattle.lrs_disk.specs.Readings.{AddsReading}
-use Rattle.lrs_http.specs.declared.request.Request.{Request}
-use Rattle.lrs_http.specs.declared.request.RequestRefused.{RequestRefused}
+use Rattle.lrs_journal.specs.Journal.{TellsAlike}
 use Rattle.lrs_replies.specs.declared.answered.Answered.{Answered}
 use Rattle.lrs_replies.specs.declared.reply.Reply.{Reply}
 use Rattle.lrs_replies.specs.declared.reply.Trouble.{Trouble}
 use Rattle.lrs_replies.specs.declared.reply.Trouble.TheVariants.{Memory, Disk}
-use Rattle.lrs_machine.specs.Desk.{Receipt, HasDiskCause, StandsFor}
+use Rattle.lrs_machine.specs.Line.{BeginsWith, Record, sure}
+use Rattle.lrs_machine.specs.Acts.{HasDiskCause, Receipt}
+use Rattle.lrs_machine.specs.Desk.{Desk, HoldsPrefix, IsOnDisk, KeepsLine, StopsWithin, history}
+use Rattle.lrs_machine.proofs.Prefixes.{stops_then}
 use Rattle.lrs_replies.specs.Replies.{Says}
-use Rattle.lrs_names.specs.declared.draw.Draw.{Draw}
-use Rattle.lrs_record.specs.declared.entry.Caller.{Caller}
-use Rattle.lrs_command.specs.declared.command.Command.{Command}
-use Rattle.lrs_record.specs.declared.entry.Entry.{Entry}
-use Rattle.lrs_routes.specs.declared.asked.Asked.{Asked}
-use Rattle.lrs_routes.specs.declared.asked.RouteRefused.{RouteRefused}
-use Rattle.lrs_routes.specs.declared.asked.Routed.{Routed}
-use Rattle.lrs_hall.specs.declared.talk.Finish.{Finish}
-use Rattle.lrs_hall.specs.Acts.{ActsIn, ActsOn, BeginsWith, DeskAndClock, Reach}
-use Rattle.lrs_hall.specs.Conversation.{Worker, Phase, going, over, ServesAsked, ServesRequest, closes_behind, with_command, RespondsIn, Converses}
-use Rattle.lrs_hall.specs.Draws.{draw_at}
-use Rattle.lrs_hall.specs.Responses.{Fixed, IsFraming, framing_response}
-use Rattle.lrs_hall.specs.Serving.{AddsReadings, Counts, clocks, worker_at}
-use Rattle.lrs_hall.proofs.Translating.{act_in, begins_self, begins_more}
-use Rattle.lrs_hall.proofs.Unread.{any_command, one_standing}
-
--- a worker over a desk, at a history that the desk stands for
-abbrev pub at : {D : Type 0} → Worker (DeskAndClock D) → List Entry → Worker Reach
-at w h = worker_at w.draws h w.store.held.doubt
-
--- ---- the one history
-
--- what a step over the desk is over the history
-abbrev pub Tells : {D : Type 0} → (D → Option (List ℕ)) → ℕ → List Entry → Worker (DeskAndClock D) → (List Entry → List Entry → Type 0) → Type 0
-Tells told limit h new P =
-    (later : List Entry) × BeginsWith h later × StandsFor told new.store.held later × (new.store.held.limit ≡ limit)
-    × ((history : List Entry) → BeginsWith later history → P history later)
-
-pub still : {D : Type 0} (told : D → Option (List ℕ)) (limit : ℕ) (h : List Entry) (old new : Worker (DeskAndClock D)) (P : List Entry → Worker Reach → Type 0)
-    → StandsFor told old.store.held h → old.store.held.limit ≡ limit → new ≡ old → ((history : List Entry) → P history (at old h)) → Tells told limit h new (λ history later. P history (at new later))
-still told limit h old new P stands bound same holds = (
-  h,
-  begins_self h,
-  subst (λ w. StandsFor told w.store.held h) (sym same) stands,
-  ap (λ (w : Worker (DeskAndClock _)). w.store.held.limit) same ∙ bound,
-  λ history begins. subst (λ w. P history (at w h)) (sym same) (holds history),
-)
-
-serves_in : {D : Type 0} (told : D → Option (List ℕ)) (time faults : D → ℕ) (limit : ℕ) (closes : Bool) (asked : Result Asked RouteRefused) (receipt : Receipt) (text : List ℕ) (old new : Worker (DeskAndClock D)) (h : List Entry)
-    → ServesAsked (ActsOn told time faults) closes asked receipt text old new → StandsFor told old.store.held h → old.store.held.limit ≡ limit
-    → Tells told limit h new (λ history later. ServesAsked (ActsIn limit history) closes asked receipt text (at old h) (at new later))
-serves_in told time faults limit closes (Ok asked) receipt text old new h serves stands bound =
-    let act = act_in told time faults asked.caller asked.command (draw_at old.draws) serves.0 receipt old.store new.store h serves.1 stands in (
-      act.0,
-      act.1,
-      act.2,
-      serves.1.limit ∙ bound,
-      λ history begins. (
-        serves.0,
-        subst (λ n. ActsIn n history asked.caller asked.command (draw_at old.draws) serves.0 receipt (at old h).store (at new act.0).store) bound (act.3 history begins),
-        serves.2,
-        serves.3,
-      ),
-    )
-serves_in told time faults limit closes (Err refusal) receipt text old new h serves stands bound =
-    still told limit h old new (λ history w. ServesAsked (ActsIn limit history) closes (Err refusal) receipt text (at old h) w) stands bound serves.1 (λ history. (serves.0, refl))
-
-answers_in : {D : Type 0} (told : D → Option (List ℕ)) (time faults : D → ℕ) (limit : ℕ) (closes : Bool) (heard : Result Request RequestRefused) (receipt : Receipt) (text : List ℕ) (old new : Worker (DeskAndClock D)) (h : List Entry)
-    → ServesRequest (ActsOn told time faults) closes heard receipt text old new → StandsFor told old.store.held h → old.store.held.limit ≡ limit
-    → Tells told limit h new (λ history later. ServesRequest (ActsIn limit history) closes heard receipt text (at old h) (at new later))
-answers_in told time faults limit closes (Ok request) receipt text old new h (inl answers) stands bound =
-    let served = serves_in told time faults limit closes answers.0 receipt text old new h answers.2 stands bound in
-    (served.0, served.1, served.2, served.3, λ history begins. inl (answers.0, answers.1, served.4 history begins))
-answers_in told time faults limit closes (Ok request) receipt text old new h (inr unread) stands bound =
-    let routed : Routed = unread.0 in
-    let served = serves_in told time faults limit closes (Ok (with_command routed (any_command routed))) receipt text old new h (unread.2 (any_command routed) refl) stands bound in (
-      served.0,
-      served.1,
-      served.2,
-      served.3,
-      λ history begins. inr (
-        routed,
-        unread.1,
-        λ c of.
-            let other = serves_in told time faults limit closes (Ok (with_command routed c)) receipt text old new h (unread.2 c of) stands bound in
-            let same : other.0 ≡ served.0 = one_standing told new.store.held other.0 served.0 other.2 served.2 in
-            subst (λ later. ServesAsked (ActsIn limit history) closes (Ok (with_command routed c)) receipt text (at old h) (at new later)) same
-            (other.4 history (subst (λ later. BeginsWith later history) (sym same) begins)),
-      ),
-    )
-answers_in told time faults limit closes (Err refusal) receipt text old new h answers stands bound =
-    still told limit h old new (λ history w. ServesRequest (ActsIn limit history) closes (Err refusal) receipt text (at old h) w) stands bound answers.1 (λ history. (answers.0, refl))
-
-responds_in : {D : Type 0} (told : D → Option (List ℕ)) (time faults : D → ℕ) (limit : ℕ) (phase : Phase) (receipt : Receipt) (front : List ℕ) (old new : Worker (DeskAndClock D)) (behind : Phase) (h : List Entry)
-    → RespondsIn (ActsOn told time faults) phase receipt front old new behind → StandsFor told old.store.held h → old.store.held.limit ≡ limit
-    → Tells told limit h new (λ history later. RespondsIn (ActsIn limit history) phase receipt front (at old h) (at new later) behind)
-responds_in told time faults limit (going most stream) receipt front old new behind h responds stands bound =
-    let answered = answers_in told time faults limit (closes_behind most responds.heard) responds.heard receipt responds.text old new h responds.answered stands bound in (
-      answered.0,
-      answered.1,
-      answered.2,
-      answered.3,
-      λ history begins. record {
-        heard = responds.heard;
-        after = responds.after;
-        next = responds.next;
-        text = responds.text;
-        answered = answered.4 history begins;
-        sent = responds.sent;
-      },
-    )
-responds_in told time faults limit (over f) receipt front old new behind h responds stands bound = absurd responds
-
-pub converses_in : {D : Type 0} (told : D → Option (List ℕ)) (time faults : D → ℕ) (limit : ℕ) (phase : Phase) (receipts : List Receipt) (out : List ℕ) (f : Finish) (old new : Worker (DeskAndClock D)) (h : List Entry)
-    → Converses (ActsOn told time faults) phase receipts out f old new → StandsFor told old.store.held h → old.store.held.limit ≡ limit
-    → Tells told limit h new (λ history later. Converses (ActsIn limit history) phase receipts out f (at old h) (at new later))
-converses_in told time faults limit phase [] out f old new h talks stands bound =
-    still told limit h old new (λ history w. Converses (ActsIn limit history) phase [] out f (at old h) w) stands bound talks.2 (λ history. (talks.0, talks.1, refl))
-converses_in told time faults limit phase (receipt ∷ receipts) out f old new h talks stands bound =
-    let first = responds_in told time faults limit phase receipt talks.0 old talks.3 talks.2 h talks.5 stands bound in
-    let more = converses_in told time faults limit talks.2 receipts talks.1 f talks.3 new first.0 talks.6 first.2 first.3 in (
-      more.0,
-      begins_more h first.0 more.0 first.1 more.1,
-      more.2,
-      more.3,
-      λ history begins.
-          (talks.0, talks.1, talks.2, at talks.3 first.0, talks.4, first.4 history (begins_more first.0 more.0 history more.1 begins), more.4 history begins),
-    )
-
--- ---- one response: an act, or none
-
-abbrev pub ActsOnce : {D : Type 0} → (D → Option (List ℕ)) → (D → ℕ) → (D → ℕ) → Receipt → Worker (DeskAndClock D) → Worker (DeskAndClock D) → Type 0
-ActsOnce told time faults receipt old new =
-    ((caller : Caller) × (command : Command) × (draw : Draw) × (reply : Reply) × ActsOn told time faults caller command draw reply receipt old.store new.store)
-    ⊎ ((receipt.acted ≡ false) × (new ≡ old))
-
-once_served : {D : Type 0} (told : D → Option (List ℕ)) (time faults : D → ℕ) (closes : Bool) (asked : Result Asked RouteRefused) (receipt : Receipt) (text : List ℕ) (old new : Worker (DeskAndClock D))
-    → ServesAsked (ActsOn told time faults) closes asked receipt text old new → ActsOnce told time faults receipt old new
-once_served told time faults closes (Ok asked) receipt text old new serves = inl (asked.caller, asked.command, draw_at old.draws, serves.0, serves.1)
-once_served told time faults closes (Err refusal) receipt text old new serves = inr (ap (λ (r : Receipt). r.acted) serves.0.0, serves.1)
-
-once_framed : {D : Type 0} (told : D → Option (List ℕ)) (time faults : D → ℕ) (f : Option Fixed) (receipt : Receipt) (text : List ℕ) (old new : Worker (DeskAndClock D))
-    → IsFraming f receipt text → new ≡ old → ActsOnce told time faults receipt old new
-once_framed told time faults None receipt text old new framing same = absurd framing
-once_framed told time faults (Some f) receipt text old new framing same = inr (ap (λ (r : Receipt). r.acted) framing.0, same)
-
-once_answered : {D : Type 0} (told : D → Option (List ℕ)) (time faults : D → ℕ) (closes : Bool) (heard : Result Request RequestRefused) (receipt : Receipt) (text : List ℕ) (old new : Worker (DeskAndClock D))
-    → ServesRequest (ActsOn told time faults) closes heard receipt text old new → ActsOnce told time faults receipt old new
-once_answered told time faults closes (Ok request) receipt text old new (inl answers) = once_served told time faults closes answers.0 receipt text old new answers.2
-once_answered told time faults closes (Ok request) receipt text old new (inr unread) =
-    once_served told time faults closes (Ok (with_command unread.0 (any_command unread.0))) receipt text old new (unread.2 (any_command unread.0) refl)
-once_answered told time faults closes (Err refusal) receipt text old new answers = once_framed told time faults (framing_response refusal) receipt text old new answers.0 answers.1
-
-once : {D : Type 0} (told : D → Option (List ℕ)) (time faults : D → ℕ) (phase : Phase) (receipt : Receipt) (front : List ℕ) (old new : Worker (DeskAndClock D)) (behind : Phase)
-    → RespondsIn (ActsOn told time faults) phase receipt front old new behind → ActsOnce told time faults receipt old new
-once told time faults (going most stream) receipt front old new behind responds =
-    once_answered told time faults (closes_behind most responds.heard) responds.heard receipt responds.text old new responds.answered
-once told time faults (over f) receipt front old new behind responds = absurd responds
+use Rattle.lrs_hall.specs.Acts.{ActsOn, DeskAndClock}
+use Rattle.lrs_hall.specs.Serving.{AddsReadings, AreWithin, Counts, Mark, clocks, mark_of}
+use Rattle.lrs_hall.proofs.Lines.{begins_more, begins_self, begins_take, entries_begin, get_some, has_records, last_of, sure_begins}
+use Rattle.lrs_hall.proofs.Talking.{Carries}
+use Rattle.lrs_hall.proofs.Translating.{line_later}
 
 -- ---- the clock
 
-pub reads_none : (x : Option (List ℕ)) → AddsReadings x x []
+reads_none : (x : Option (List ℕ)) → AddsReadings x x []
 reads_none None = tt
 reads_none (Some a) = sym (append-nil a)
 
@@ -170,26 +29,7 @@ reads_one x y None k ks first more = tt
 reads_one None None (Some c) k ks first more = absurd more
 reads_one None (Some b) (Some c) k ks first more = absurd first
 reads_one (Some a) None (Some c) k ks first more = absurd more
-reads_one (Some a) (Some b) (Some c) k ks first more = more ∙ ap (λ l. l ++ ks) first ∙ append_assoc a (k ∷ []) ks
-
-pub reads_join : (x y z : Option (List ℕ)) (js ks : List ℕ) → AddsReadings x y js → AddsReadings y z ks → AddsReadings x z (js ++ ks)
-reads_join x y None js ks first more = tt
-reads_join None None (Some c) js ks first more = absurd more
-reads_join None (Some b) (Some c) js ks first more = absurd first
-reads_join (Some a) None (Some c) js ks first more = absurd more
-reads_join (Some a) (Some b) (Some c) js ks first more = more ∙ ap (λ l. l ++ ks) first ∙ append_assoc a js ks
-
-pub reads_all : {D : Type 0} (told : D → Option (List ℕ)) (time faults : D → ℕ) (phase : Phase) (receipts : List Receipt) (out : List ℕ) (f : Finish) (old new : Worker (DeskAndClock D))
-    → Converses (ActsOn told time faults) phase receipts out f old new → AddsReadings old.store.readings new.store.readings (clocks receipts)
-reads_all told time faults phase [] out f old new talks = subst (λ w. AddsReadings old.store.readings w.store.readings []) (sym talks.2) (reads_none old.store.readings)
-reads_all told time faults phase (receipt ∷ receipts) out f old new talks =
-    let more = reads_all told time faults talks.2 receipts talks.1 f talks.3 new talks.6 in
-    elim (once told time faults phase receipt talks.0 old talks.3 talks.2 talks.5) [
-      | inl act ↦ subst (λ b. AddsReadings old.store.readings new.store.readings ((if b then receipt.clock ∷ [] else []) ++ clocks receipts)) (sym (ap (λ (r : Receipt). r.acted) act.4.account))
-          (reads_one old.store.readings talks.3.store.readings new.store.readings receipt.clock (clocks receipts) act.4.read more)
-      | inr none ↦ subst (λ b. AddsReadings old.store.readings new.store.readings ((if b then receipt.clock ∷ [] else []) ++ clocks receipts)) (sym none.0)
-          (subst (λ w. AddsReadings w.store.readings new.store.readings (clocks receipts)) none.1 more)
-    ]
+reads_one (Some a) (Some b) (Some c) k ks first more = more ∙ ap (λ (l : List ℕ). l ++ ks) first ∙ append_assoc a (k ∷ []) ks
 
 -- ---- the disk's faults
 
@@ -203,23 +43,170 @@ later_count before now (Ok said) cause = let e : now ≡ before = cause in omega
 later_count before now (Err Memory) cause = let e : now ≡ before = cause in omega arith
 later_count before now (Err Disk) cause = cause.0
 
-pub counts_all : {D : Type 0} (told : D → Option (List ℕ)) (time faults : D → ℕ) (phase : Phase) (receipts : List Receipt) (out : List ℕ) (f : Finish) (old new : Worker (DeskAndClock D))
-    → Converses (ActsOn told time faults) phase receipts out f old new → Counts (faults old.store.held.disk) receipts (faults new.store.held.disk)
-counts_all told time faults phase [] out f old new talks = ap (λ (w : Worker (DeskAndClock _)). faults w.store.held.disk) talks.2
-counts_all told time faults phase (receipt ∷ receipts) out f old new talks =
-    let more = counts_all told time faults talks.2 receipts talks.1 f talks.3 new talks.6 in
-    let before : ℕ = faults old.store.held.disk in
-    let now : ℕ = faults new.store.held.disk in
-    let P : Bool → Type 0 = λ b. MatchBool b ((receipt.was ≡ before) × (before ≤ receipt.is) × (receipt.status ≢ 503 → receipt.is ≡ before) × Counts receipt.is receipts now) (Counts before receipts now) in
-    elim (once told time faults phase receipt talks.0 old talks.3 talks.2 talks.5) [
-      | inl act ↦
-          let is : receipt.is ≡ faults talks.3.store.held.disk = ap (λ (r : Receipt). r.is) act.4.account in
-          let status : receipt.status ≡ act.3.status = ap (λ (r : Receipt). r.status) act.4.account in
-          subst P (sym (ap (λ (r : Receipt). r.acted) act.4.account)) (
-            ap (λ (r : Receipt). r.was) act.4.account,
-            subst (λ n. before ≤ n) (sym is) (later_count before (faults talks.3.store.held.disk) act.4.replies.said act.4.replies.cause),
-            λ well. is ∙ kept_count before (faults talks.3.store.held.disk) act.4.replies.said act.3 act.4.replies.says act.4.replies.cause (λ e. well (status ∙ e)),
-            subst (λ n. Counts n receipts now) (sym is) more,
-          )
-      | inr none ↦ subst P (sym none.0) (subst (λ w. Counts (faults w.store.held.disk) receipts now) none.1 more)
-    ]
+-- ---- what is told
+
+alike_same : (o : Option (List ℕ)) → TellsAlike o o
+alike_same None = tt
+alike_same (Some a) = tt
+
+alike_then : (a b c : Option (List ℕ)) → TellsAlike a b → TellsAlike b c → TellsAlike a c
+alike_then None None c first second = second
+alike_then None (Some y) c first second = absurd first
+alike_then (Some x) None c first second = absurd first
+alike_then (Some x) (Some y) None first second = second
+alike_then (Some x) (Some y) (Some z) first second = tt
+
+-- ---- what stays
+
+-- What is true of a desk behind a whole conversation.
+pub record Stays {D : Type 0} (told : D → Option (List ℕ)) (image : D → List ℕ → Type 0) (time : D → ℕ) (since : D → ℕ → List ℕ → Type 0) (old new : Desk D) : Type 0 where
+  pub begins : BeginsWith old.line new.line
+  pub limit : new.limit ≡ old.limit
+  pub opened : new.opened ≡ old.opened
+  pub opened_at : new.opened_at ≡ old.opened_at
+  pub tells : TellsAlike (told old.disk) (told new.disk)
+  pub stops : (new ≡ old) ⊎ StopsWithin told time since old new
+  pub durable : IsOnDisk told image time since old → IsOnDisk told image time since new
+
+module _ {D : Type 0} (told : D → Option (List ℕ)) (image : D → List ℕ → Type 0) (time : D → ℕ) (since : D → ℕ → List ℕ → Type 0) where
+  -- what a stop leaves of a desk at rest
+  pub stops_still : ((disk : D) (t u : ℕ) (c : List ℕ) → t ≤ u → since disk u c → since disk t c) → (desk : Desk D) → IsOnDisk told image time since desk → StopsWithin told time since desk desk
+  stops_still later desk is = λ bytes told_is. record {
+    later = omega arith;
+    each = λ c left. whole (is.kept bytes told_is) c left;
+    before = λ t c le left. inl left;
+  }
+    where
+      whole : KeepsLine desk.limit (time desk.disk) (since desk.disk) desk.line → (c : List ℕ) → since desk.disk (time desk.disk) c → HoldsPrefix desk.limit (sure desk.line) (history desk) c
+      whole kept c left =
+          let some = has_records desk.line is.legal.0 in
+          let l = last_of (length desk.line) some in
+          let last = l.1 in
+          let g = get_some desk.line l.0 (omega (arith, last)) in
+          let k = kept l.0 g.0 g.1 in
+          let all : take (l.0 + 1) desk.line ≡ desk.line =
+          ap (λ (n : ℕ). take n desk.line) (let e : l.0 + 1 ≡ length desk.line = omega (arith, last) in e) ∙ begins_take desk.line desk.line (begins_self desk.line) in
+          subst (λ (l : List Record). HoldsPrefix desk.limit (sure l) (history desk) c) all (k.1 c (later desk.disk g.0.moment (time desk.disk) c k.0 left))
+
+  pub stops_on : ((disk : D) (t u : ℕ) (c : List ℕ) → t ≤ u → since disk u c → since disk t c) → (old new : Desk D) → Stays told image time since old new → IsOnDisk told image time since old
+      → StopsWithin told time since old new
+  stops_on later old new stays is = elim stays.stops [
+    | inl same ↦ subst (λ (d : Desk D). StopsWithin told time since old d) (sym same) (stops_still later old is)
+    | inr stops ↦ stops
+  ]
+
+-- ---- from one act to the next
+
+module _ {D : Type 0} (told : D → Option (List ℕ)) (image : D → List ℕ → Type 0) (time : D → ℕ) (since : D → ℕ → List ℕ → Type 0) (faults : D → ℕ) where
+  abbrev pub Reads : List Receipt → DeskAndClock D → DeskAndClock D → Type 0
+  Reads receipts old new = AddsReadings old.readings new.readings (clocks receipts)
+
+  pub reads : Carries (ActsOn told image time since faults) Reads
+  reads = record {
+    none = λ x. reads_none x.readings;
+    plain = λ status receipt receipts old new none more.
+        subst (λ (b : Bool). AddsReadings old.readings new.readings ((if b then receipt.clock ∷ [] else []) ++ clocks receipts)) (sym (ap (λ (r : Receipt). r.acted) none)) more;
+    act = λ caller command draw reply receipt receipts old mid new on more.
+        subst (λ (b : Bool). AddsReadings old.readings new.readings ((if b then receipt.clock ∷ [] else []) ++ clocks receipts)) (sym on.acts.acted)
+        (reads_one old.readings mid.readings new.readings receipt.clock (clocks receipts) on.read more);
+  }
+
+  abbrev pub CountsOn : List Receipt → DeskAndClock D → DeskAndClock D → Type 0
+  CountsOn receipts old new = Counts (faults old.desk.disk) receipts (faults new.desk.disk)
+
+  abbrev CountsBy : Receipt → List Receipt → ℕ → ℕ → Bool → Type 0
+  CountsBy receipt receipts before now b =
+      MatchBool b ((receipt.was ≡ before) × (before ≤ receipt.is) × (receipt.status ≢ 503 → receipt.is ≡ before) × Counts receipt.is receipts now) (Counts before receipts now)
+
+  pub counts : Carries (ActsOn told image time since faults) CountsOn
+  counts = record {
+    none = λ x. refl;
+    plain = λ status receipt receipts old new none more. subst (CountsBy receipt receipts (faults old.desk.disk) (faults new.desk.disk)) (sym (ap (λ (r : Receipt). r.acted) none)) more;
+    act = λ caller command draw reply receipt receipts old mid new on more.
+        let was : receipt.was ≡ faults old.desk.disk = ap (λ (r : Receipt). r.was) on.receipt_is in
+        let is : receipt.is ≡ faults mid.desk.disk = ap (λ (r : Receipt). r.is) on.receipt_is in
+        let status : receipt.status ≡ reply.status = ap (λ (r : Receipt). r.status) on.receipt_is in
+        subst (CountsBy receipt receipts (faults old.desk.disk) (faults new.desk.disk)) (sym on.acts.acted) (
+          was,
+          subst (λ (n : ℕ). n ≤ receipt.is) was (later_count receipt.was receipt.is on.said on.acts.cause),
+          λ well. kept_count receipt.was receipt.is on.said reply on.says on.acts.cause (λ e. well (status ∙ e)) ∙ was,
+          subst (λ (n : ℕ). Counts n receipts (faults new.desk.disk)) (sym is) more,
+        );
+  }
+
+  -- counts and moments don't fall, and what acts tell of them lies between
+  pub record Rises (receipts : List Receipt) (old new : DeskAndClock D) : Type 0 where
+    pub faults_later : faults old.desk.disk ≤ faults new.desk.disk
+    pub later : time old.desk.disk ≤ time new.desk.disk
+    pub within : (before : Mark) → before.faults ≤ faults old.desk.disk → before.moment ≤ time old.desk.disk → AreWithin before (mark_of faults time new.desk.disk) receipts
+
+  pub rises : Carries (ActsOn told image time since faults) Rises
+  rises = record {
+    none = λ x. record { faults_later = omega arith; later = omega arith; within = λ before f m. tt };
+    plain = λ status receipt receipts old new none more. record {
+      faults_later = more.faults_later;
+      later = more.later;
+      within = λ before f m. (
+        λ acted.
+            let other : receipt.acted ≡ false = ap (λ (r : Receipt). r.acted) none in
+            let no : ⊥ = cc (acted, other) in
+            absurd no,
+        more.within before f m,
+      );
+    };
+    act = λ caller command draw reply receipt receipts old mid new on more.
+        let was : receipt.was ≡ faults old.desk.disk = ap (λ (r : Receipt). r.was) on.receipt_is in
+        let is : receipt.is ≡ faults mid.desk.disk = ap (λ (r : Receipt). r.is) on.receipt_is in
+        let at : receipt.disk ≡ time mid.desk.disk = ap (λ (r : Receipt). r.disk) on.receipt_is in
+        let rise = later_count receipt.was receipt.is on.said on.acts.cause in
+        let later = on.later in
+        let faults_on = more.faults_later in
+        let later_on = more.later in
+        record {
+          faults_later = omega (arith, was, is, rise, faults_on);
+          later = omega (arith, later, later_on);
+          within = λ before f m. (
+            λ acted. record {
+              was = omega (arith, f, was);
+              is = omega (arith, is, faults_on);
+              began = omega (arith, m, at, later);
+              ended = omega (arith, at, later_on);
+            },
+            more.within before (omega (arith, f, was, is, rise)) (omega (arith, m, later)),
+          );
+        };
+  }
+
+  abbrev pub StaysOn : List Receipt → DeskAndClock D → DeskAndClock D → Type 0
+  StaysOn receipts old new = Stays told image time since old.desk new.desk
+
+  stays_act : (old mid new : Desk D) → BeginsWith old.line mid.line → mid.limit ≡ old.limit → mid.opened ≡ old.opened → mid.opened_at ≡ old.opened_at → TellsAlike (told old.disk) (told mid.disk)
+      → StopsWithin told time since old mid → IsOnDisk told image time since mid → Stays told image time since mid new → Stays told image time since old new
+  stays_act old mid new begins limit opened opened_at alike stops durable more = record {
+    begins = begins_more old.line mid.line new.line begins more.begins;
+    limit = more.limit ∙ limit;
+    opened = more.opened ∙ opened;
+    opened_at = more.opened_at ∙ opened_at;
+    tells = alike_then (told old.disk) (told mid.disk) (told new.disk) alike more.tells;
+    stops = inr (elim more.stops [
+      | inl same ↦ subst (λ (d : Desk D). StopsWithin told time since old d) (sym same) stops
+      | inr later ↦ stops_then told time since old mid new alike limit (entries_begin mid.line new.line more.begins) (sure_begins old.line mid.line begins) stops later
+    ]);
+    durable = λ before. more.durable durable;
+  }
+
+  pub stays : Carries (ActsOn told image time since faults) StaysOn
+  stays = record {
+    none = λ x. record {
+      begins = begins_self x.desk.line;
+      limit = refl;
+      opened = refl;
+      opened_at = refl;
+      tells = alike_same (told x.desk.disk);
+      stops = inl refl;
+      durable = λ before. before;
+    };
+    plain = λ status receipt receipts old new none more. more;
+    act = λ caller command draw reply receipt receipts old mid new on more.
+        stays_act old.desk mid.desk new.desk (line_later told image time since faults caller command draw reply receipt old mid on) on.limit on.opened on.opened_at on.tells on.stops on.durable more;
+  }

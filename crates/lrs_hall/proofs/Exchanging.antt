@@ -3,7 +3,7 @@ use Rattle.std.proofs.Common.{◌≡◌, ◌≢◌, ◌-◌, ◌||◌, ℕ, List
 use Rattle.std.specs.Prelude.{◌==◌, if◌then◌else◌}
 use Rattle.lrs_http.specs.Links.{GivesNext}
 use Rattle.lrs_http.specs.declared.request.Request.{Request}
-use Rattle.lrs_machine.specs.Desk.{Receipt}
+use Rattle.lrs_machine.specs.Acts.{Receipt}
 use Rattle.lrs_hall.specs.Conversation.{ActOn, Phase, Worker, Responds, SendsResponse, ServesRequest, closes_behind, going, over, phase_behind}
 use Rattle.lrs_hall.specs.Steps.{Exchanges, Wrote, exchanged_of}
 use Rattle.lrs_hall.specs.declared.exchange.Exchanged.{Exchanged}

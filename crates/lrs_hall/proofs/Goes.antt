@@ -2,7 +2,7 @@
 use Rattle.std.proofs.Common.{◌≡◌, ◌-◌, ℕ, List, [], ◌∷◌, ◌++◌, Option, Some, None, option_map, subst, sym, ◌∙◌, ap, refl, append_assoc, append-nil}
 use Rattle.lrs_http.specs.Links.{stream_left}
 use Rattle.lrs_http.specs.Stream.{most_requests}
-use Rattle.lrs_machine.specs.Desk.{Receipt}
+use Rattle.lrs_machine.specs.Acts.{Receipt}
 use Rattle.lrs_hall.specs.declared.exchange.Exchanged.TheVariants.{Next, Last}
 use Rattle.lrs_hall.specs.declared.talk.Finish.{Finish}
 use Rattle.lrs_hall.specs.Conversation.{ActOn, Worker, going, over, Converses, EndsOpen}

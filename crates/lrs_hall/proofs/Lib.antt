@@ -4,8 +4,11 @@ pub mod Unread
 pub mod Refusing
 pub mod Exchanging
 pub mod Goes
+pub mod Lines
+pub mod Talking
 pub mod Translating
 pub mod Conversing
+pub mod Counting
+pub mod Once
 pub mod Doors
-pub mod Workers
 pub mod OneStream

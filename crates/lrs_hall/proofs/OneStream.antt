@@ -1,10 +1,7 @@
 -- One stream is answered in one way.
-use Rattle.std.proofs.Common.{arith, ◌≡◌, ◌≢◌, ◌⊎◌, ◌+◌, ◌<◌, ℕ, List, [], ◌∷◌, ◌++◌, length, take, Bool, true, false, Option, Some, None, Result, Ok, Err, subst, sym, ◌∙◌, ap, refl, inl, inr, append_assoc, append-nil, length-append}
+use Rattle.std.proofs.Common.{◌≡◌, ◌≢◌, ◌⊎◌, ℕ, List, [], ◌∷◌, ◌++◌, take, Bool, true, false, Option, Some, None, Result, Ok, Err, subst, sym, ◌∙◌, ap, refl, inl, inr, append-nil}
 use Rattle.std.specs.List.{AllByRecursion}
-use Rattle.std.specs.Prelude.{is_some, slice_get, if◌then◌else◌, ◌||◌, ◌==◌, ◌-◌}
-use Rattle.std.proofs.lemmas.List.{length_push}
-use Rattle.std.proofs.Math.Seq.{take-append_seam, get_or-append_seam}
-use Rattle.std.proofs.lemmas.Option.{slice_get_past, slice_get-get_or}
+use Rattle.std.specs.Prelude.{is_some, if◌then◌else◌, ◌||◌, ◌==◌, ◌-◌}
 use Rattle.lrs_http.proofs.ListLemmas.{one_item}
 use Rattle.lrs_http.specs.declared.request.Request.{Request}
 use Rattle.lrs_http.specs.declared.request.RequestRefused.{RequestRefused}
@@ -16,7 +13,8 @@ use Rattle.lrs_replies.specs.declared.answered.Answered.{Answered}
 use Rattle.lrs_replies.specs.declared.reply.Reply.{Reply}
 use Rattle.lrs_replies.specs.declared.reply.Trouble.{Trouble}
 use Rattle.lrs_replies.specs.declared.reply.Trouble.TheVariants.{Memory, Disk}
-use Rattle.lrs_machine.specs.Desk.{Receipt}
+use Rattle.lrs_machine.specs.Line.{BeginsWith, Record, entries, in_doubt}
+use Rattle.lrs_machine.specs.Acts.{Receipt, Tells, changed, line_behind, made_by, place_where, record_of}
 use Rattle.lrs_history.specs.History.{Answer, answer, with_entry}
 use Rattle.lrs_replies.specs.Replies.{Says, body_bytes}
 use Rattle.lrs_names.specs.declared.draw.Draw.{Draw}
@@ -30,21 +28,16 @@ use Rattle.lrs_routes.specs.declared.asked.Routed.{Routed}
 use Rattle.lrs_routes.proofs.Alone.{one_routed, routed_refused}
 use Rattle.lrs_hall.specs.declared.talk.Finish.{Finish}
 use Rattle.lrs_hall.specs.declared.talk.Finish.TheVariants as finish
-use Rattle.lrs_hall.specs.Acts.{ActsIn, BeginsWith, Reach, HasAt, TellsEntry, place_where, reach_behind}
+use Rattle.lrs_hall.specs.Acts.{ActsIn, Reach}
 use Rattle.lrs_hall.specs.Conversation.{ActOn, AnswersTo, AnswersUnread, Worker, Phase, going, over, ServesAsked, ServesRequest, with_command, closes_behind, phase_behind, Responds, Converses, EndsOpen, SendsResponse}
-use Rattle.lrs_hall.specs.Draws.{draw_at, place_behind}
-use Rattle.lrs_hall.specs.Laws.{OneAsked, OneText, IsFrontOf}
-use Rattle.lrs_hall.specs.Responses.{Fixed, IsFixed, IsFraming, IsReplyText, IsThrough, framing_response, media_text, route_response}
+use Rattle.lrs_hall.specs.Draws.{draw_at, draws_behind}
+use Rattle.lrs_hall.specs.Laws.{OneAsked, OneText}
+use Rattle.lrs_hall.specs.Responses.{FixedResponse, IsFixed, IsFraming, IsReplyText, IsThrough, framing_response, media_text, route_response}
 use Rattle.lrs_hall.specs.Serving.{clocks}
+use Rattle.lrs_machine.specs.Steps.{one_of}
+use Rattle.lrs_machine.proofs.Lines.{entries_append, entries_one}
+use Rattle.lrs_hall.proofs.Lines.{entries_take}
 use Rattle.lrs_hall.proofs.Unread.{any_command, as_asked}
-
-front_is : (h history : List Entry) → BeginsWith h history → take (length h) history ≡ h
-front_is h history begins = ap (take (length h)) (sym begins.1) ∙ take-append_seam h begins.0
-
-seam_is : (h rest : List Entry) (e : Entry) → slice_get (h ++ e ∷ rest) (length h) ≡ Some e
-seam_is h rest e =
-    let within : length h < length (h ++ e ∷ rest) = omega (arith, length-append h (e ∷ rest)) in
-    slice_get-get_or (h ++ e ∷ rest) (length h) e within ∙ ap Some (get_or-append_seam h e rest e)
 
 -- ---- what was heard
 
@@ -90,44 +83,48 @@ said_ok (Ok s) reply says calm = (s, refl)
 said_ok (Err Memory) reply says calm = absurd (calm says.0)
 said_ok (Err Disk) reply says calm = absurd (calm says.0)
 
-begins_next : (g history : List Entry) (n : ℕ) (o : Option Entry) → n ≡ length g → BeginsWith g history → HasAt history n o → BeginsWith (with_entry g o) history
-begins_next g history n None at begins has = begins
-begins_next g history n (Some e) at (([]), whole) has =
-    let none : slice_get history n ≡ None = ap (λ k. slice_get history k) at ∙ slice_get_past history (length g) (let long : length history ≡ length g = ap length (sym whole) ∙ ap length (append-nil g) in omega arith) in
-    let both : None ≡ Some e = sym none ∙ has in
+-- What an act says that had no trouble, and how the history comes out of it.
+abbrev pub Said : ℕ → List Entry → Caller → Command → ℕ → Draw → Reply → List Entry → Type 0
+Said limit g caller command clock draw reply next =
+    Says (Ok (answer limit g caller command clock draw).said) reply × (next ≡ with_entry g (answer limit g caller command clock draw).entry)
+
+with_one : (h : List Entry) (o : Option Entry) → h ++ one_of o ≡ with_entry h o
+with_one h None = append-nil h
+with_one h (Some e) = refl
+
+made_where : (o : Option Entry) (n : ℕ) → (if is_some (place_where (is_some o) n) then o else None) ≡ o
+made_where None n = refl
+made_where (Some e) n = refl
+
+none_where : (o : Option Entry) (own landed : Option ℕ) (n : ℕ) → own ≡ place_where (is_some o) n → (is_some own || is_some landed) ≡ false → o ≡ None
+none_where None own landed n told is = refl
+none_where (Some e) own landed n told is =
+    let both : true ≡ false = sym (ap (λ (w : Option ℕ). is_some w || is_some landed) told) ∙ is in
     let no : ⊥ = cc both in
     absurd no
-begins_next g history n (Some e) at ((x ∷ xs), whole) has =
-    let there : slice_get history n ≡ Some x = ap (λ k. slice_get history k) at ∙ ap (λ (l : List Entry). slice_get l (length g)) (sym whole) ∙ seam_is g xs x in
-    let both : Some x ≡ Some e = sym there ∙ has in
-    let same : x ≡ e = cc both in
-    (xs, append_assoc g (e ∷ []) xs ∙ ap (λ (z : Entry). g ++ z ∷ xs) (sym same) ∙ whole)
 
-entries_next : (g : List Entry) (n : ℕ) (o : Option Entry) (own : Option ℕ) (doubt : Bool) → n ≡ length g → own ≡ place_where (is_some o) n → (reach_behind own doubt n).entries ≡ length (with_entry g o)
-entries_next g n None own doubt at is = ap (λ (w : Option ℕ). (reach_behind w doubt n).entries) is ∙ at
-entries_next g n (Some e) own doubt at is = ap (λ (w : Option ℕ). (reach_behind w doubt n).entries) is ∙ ap (λ k. k + 1) at ∙ sym (length_push g e)
+entries_behind : (line : List Record) (a : Answer) (receipt : Receipt) (n : ℕ) → receipt.entry ≡ place_where (is_some a.entry) n → entries (line_behind line a receipt) ≡ with_entry (entries line) a.entry
+entries_behind line a receipt n own = by_change (changed receipt) refl
+  where
+    by_change : (b : Bool) → changed receipt ≡ b → entries (if b then line ++ record_of (made_by a receipt) receipt ∷ [] else line) ≡ with_entry (entries line) a.entry
+    by_change true is =
+        entries_append line (record_of (made_by a receipt) receipt ∷ []) ∙ ap (λ (l : List Entry). entries line ++ l) (entries_one (record_of (made_by a receipt) receipt))
+        ∙ ap (λ (o : Option Entry). entries line ++ one_of o) (ap (λ (o : Option ℕ). if is_some o then a.entry else None) own ∙ made_where a.entry n) ∙ with_one (entries line) a.entry
+    by_change false is = ap (λ (o : Option Entry). with_entry (entries line) o) (sym (none_where a.entry receipt.entry receipt.landed n own is))
 
--- what an act says that had no trouble, and how far the history comes by it
-abbrev pub Said : ℕ → List Entry → List Entry → Caller → Command → ℕ → Draw → Reply → Reach → Type 0
-Said limit history g caller command clock draw reply new =
-    Says (Ok (answer limit g caller command clock draw).said) reply
-    × BeginsWith (with_entry g (answer limit g caller command clock draw).entry) history
-    × (new.entries ≡ length (with_entry g (answer limit g caller command clock draw).entry))
-
-pub act_says : (limit : ℕ) (history g : List Entry) (caller : Caller) (command : Command) (draw : Draw) (reply : Reply) (r : Receipt) (old new : Reach)
-    → ActsIn limit history caller command draw reply r old new → BeginsWith g history → old.entries ≡ length g → r.status ≢ 503
-    → Said limit history g caller command r.clock draw reply new
-act_says limit history g caller command draw reply r old new act begins at calm =
-    let a : Answer = answer limit g caller command r.clock draw in
+pub act_says : (limit : ℕ) (line : List Record) (g : List Entry) (caller : Caller) (command : Command) (draw : Draw) (reply : Reply) (r : Receipt) (old new : Reach)
+    → ActsIn limit line caller command draw reply r old new → entries (take old.records line) ≡ g → r.status ≢ 503
+    → Said limit g caller command r.clock draw reply (entries (take new.records line))
+act_says limit line g caller command draw reply r old new act at calm =
     let ok = said_ok act.said reply act.says (λ e. calm (act.status ∙ e)) in
-    let front : take r.point history ≡ g = ap (λ n. take n history) (act.point ∙ at) ∙ front_is g history begins in
-    let tells : TellsEntry a history old (Ok ok.0) r.entry new.doubt =
-    subst (λ s. TellsEntry a history old s r.entry new.doubt) ok.1
-    (subst (λ l. TellsEntry (answer limit l caller command r.clock draw) history old act.said r.entry new.doubt) front act.entry) in (
-      subst (λ s. Says (Ok s) reply) tells.0 (subst (λ s. Says s reply) ok.1 act.says),
-      begins_next g history old.entries a.entry at begins tells.2,
-      ap (λ (w : Reach). w.entries) act.reach ∙ entries_next g old.entries a.entry r.entry new.doubt at tells.1,
-    )
+    let over : take r.point (entries line) ≡ g = ap (λ (n : ℕ). take n (entries line)) act.acts.point ∙ sym (entries_take line old.records) ∙ at in
+    let mine : Answer = answer limit (take r.point (entries line)) caller command r.clock draw in
+    let tells : Tells mine r.point (in_doubt (take old.records line)) (in_doubt (take new.records line)) r.entry (Ok ok.0) =
+    subst (λ (s : Result Answered Trouble). Tells mine r.point (in_doubt (take old.records line)) (in_doubt (take new.records line)) r.entry s) ok.1 act.acts.tells in
+    let behind : entries (take new.records line) ≡ with_entry g mine.entry =
+    ap entries act.acts.line ∙ entries_behind (take old.records line) mine r r.point tells.1 ∙ ap (λ (h : List Entry). with_entry h mine.entry) at in
+    subst (λ (h : List Entry). Said limit h caller command r.clock draw reply (entries (take new.records line))) over
+    (subst (λ (s : Answered). Says (Ok s) reply) tells.0 (subst (λ (s : Result Answered Trouble). Says s reply) ok.1 act.says), behind ∙ ap (λ (h : List Entry). with_entry h mine.entry) (sym over))
 
 same_reply : (p q : Reply) → p.status ≡ q.status → p.media ≡ q.media → p.body ≡ q.body → p.through ≡ q.through → p ≡ q
 same_reply p q a b c d = λ i. record { status = a i; media = b i; body = c i; through = d i }
@@ -150,63 +147,49 @@ one_reply_text one_text p q closes t u same x y =
 
 -- ---- one response of each
 
--- both went on alike, to a history with which both begin
-pub record Alike (ha hb : List Entry) (r s : Receipt) (t u : List ℕ) (new_a new_b : Worker Reach) : Type 0 where
+-- both went on alike, to one history
+pub record Alike (la lb : List Record) (r s : Receipt) (t u : List ℕ) (new_a new_b : Worker Reach) : Type 0 where
   pub text : t ≡ u
   pub acted : r.acted ≡ s.acted
   pub draws : new_a.draws ≡ new_b.draws
-  pub later : List Entry
-  pub begins_a : BeginsWith later ha
-  pub begins_b : BeginsWith later hb
-  pub at_a : new_a.store.entries ≡ length later
-  pub at_b : new_b.store.entries ≡ length later
+  pub at : entries (take new_a.store.records la) ≡ entries (take new_b.store.records lb)
 
 -- both stand at one history
-pub record Together (ha hb g : List Entry) (a b : Worker Reach) : Type 0 where
+pub record Together (la lb : List Record) (a b : Worker Reach) : Type 0 where
   pub draws : a.draws ≡ b.draws
-  pub begins_a : BeginsWith g ha
-  pub begins_b : BeginsWith g hb
-  pub at_a : a.store.entries ≡ length g
-  pub at_b : b.store.entries ≡ length g
+  pub at : entries (take a.store.records la) ≡ entries (take b.store.records lb)
 
-fixed_alike : (ha hb g : List Entry) (f : Fixed) (closes : Bool) (r s : Receipt) (t u : List ℕ) (a b new_a new_b : Worker Reach)
-    → Together ha hb g a b → IsFixed f closes r t → IsFixed f closes s u → new_a ≡ a → new_b ≡ b → Alike ha hb r s t u new_a new_b
-fixed_alike ha hb g f closes r s t u a b new_a new_b so x y same_a same_b = record {
+fixed_alike : (la lb : List Record) (f : FixedResponse) (closes : Bool) (r s : Receipt) (t u : List ℕ) (a b new_a new_b : Worker Reach)
+    → Together la lb a b → IsFixed f closes r t → IsFixed f closes s u → new_a ≡ a → new_b ≡ b → Alike la lb r s t u new_a new_b
+fixed_alike la lb f closes r s t u a b new_a new_b so x y same_a same_b = record {
   text = x.1 ∙ sym y.1;
   acted = ap (λ (z : Receipt). z.acted) x.0 ∙ sym (ap (λ (z : Receipt). z.acted) y.0);
   draws = ap (λ (w : Worker Reach). w.draws) same_a ∙ so.draws ∙ sym (ap (λ (w : Worker Reach). w.draws) same_b);
-  later = g;
-  begins_a = so.begins_a;
-  begins_b = so.begins_b;
-  at_a = ap (λ (w : Worker Reach). w.store.entries) same_a ∙ so.at_a;
-  at_b = ap (λ (w : Worker Reach). w.store.entries) same_b ∙ so.at_b;
+  at = ap (λ (w : Worker Reach). entries (take w.store.records la)) same_a ∙ so.at ∙ sym (ap (λ (w : Worker Reach). entries (take w.store.records lb)) same_b);
 }
 
-framed_alike : (ha hb g : List Entry) (f : Option Fixed) (r s : Receipt) (t u : List ℕ) (a b new_a new_b : Worker Reach)
-    → Together ha hb g a b → IsFraming f r t → IsFraming f s u → new_a ≡ a → new_b ≡ b → Alike ha hb r s t u new_a new_b
-framed_alike ha hb g None r s t u a b new_a new_b so x y same_a same_b = absurd x
-framed_alike ha hb g (Some f) r s t u a b new_a new_b so x y same_a same_b = fixed_alike ha hb g f true r s t u a b new_a new_b so x y same_a same_b
+framed_alike : (la lb : List Record) (f : Option FixedResponse) (r s : Receipt) (t u : List ℕ) (a b new_a new_b : Worker Reach)
+    → Together la lb a b → IsFraming f r t → IsFraming f s u → new_a ≡ a → new_b ≡ b → Alike la lb r s t u new_a new_b
+framed_alike la lb None r s t u a b new_a new_b so x y same_a same_b = absurd x
+framed_alike la lb (Some f) r s t u a b new_a new_b so x y same_a same_b = fixed_alike la lb f true r s t u a b new_a new_b so x y same_a same_b
 
-served_alike : OneText → (limit : ℕ) (ha hb g : List Entry) (closes : Bool) (asked : Result Asked RouteRefused) (r s : Receipt) (t u : List ℕ) (a b new_a new_b : Worker Reach)
-    → Together ha hb g a b → ServesAsked (ActsIn limit ha) closes asked r t a new_a → ServesAsked (ActsIn limit hb) closes asked s u b new_b → r.status ≢ 503 → s.status ≢ 503
-    → (r.acted ≡ true → s.acted ≡ true → r.clock ≡ s.clock) → Alike ha hb r s t u new_a new_b
-served_alike one_text limit ha hb g closes (Err e) r s t u a b new_a new_b so x y calm quiet clock = fixed_alike ha hb g (route_response e) closes r s t u a b new_a new_b so x.0 y.0 x.1 y.1
-served_alike one_text limit ha hb g closes (Ok asked) r s t u a b new_a new_b so x y calm quiet clock =
-    let says_a = act_says limit ha g asked.caller asked.command (draw_at a.draws) x.0 r a.store new_a.store x.1 so.begins_a so.at_a calm in
-    let says_b = act_says limit hb g asked.caller asked.command (draw_at b.draws) y.0 s b.store new_b.store y.1 so.begins_b so.at_b quiet in
-    let time : r.clock ≡ s.clock = clock x.1.acted y.1.acted in
-    let Q : ℕ → Draw → Type 0 = λ k d. Said limit hb g asked.caller asked.command k d y.0 new_b.store in
+served_alike : OneText → (limit : ℕ) (la lb : List Record) (closes : Bool) (asked : Result Asked RouteRefused) (r s : Receipt) (t u : List ℕ) (a b new_a new_b : Worker Reach)
+    → Together la lb a b → ServesAsked (ActsIn limit la) closes asked r t a new_a → ServesAsked (ActsIn limit lb) closes asked s u b new_b → r.status ≢ 503 → s.status ≢ 503
+    → (r.acted ≡ true → s.acted ≡ true → r.clock ≡ s.clock) → Alike la lb r s t u new_a new_b
+served_alike one_text limit la lb closes (Err e) r s t u a b new_a new_b so x y calm quiet clock = fixed_alike la lb (route_response e) closes r s t u a b new_a new_b so x.0 y.0 x.1 y.1
+served_alike one_text limit la lb closes (Ok asked) r s t u a b new_a new_b so x y calm quiet clock =
+    let g : List Entry = entries (take b.store.records lb) in
+    let says_a = act_says limit la g asked.caller asked.command (draw_at a.draws) x.0 r a.store new_a.store x.1 so.at calm in
+    let says_b = act_says limit lb g asked.caller asked.command (draw_at b.draws) y.0 s b.store new_b.store y.1 refl quiet in
+    let time : r.clock ≡ s.clock = clock x.1.acts.acted y.1.acts.acted in
+    let Q : ℕ → Draw → Type 0 = λ k d. Said limit g asked.caller asked.command k d y.0 (entries (take new_b.store.records lb)) in
     let mine : Q r.clock (draw_at a.draws) = subst (λ k. Q k (draw_at a.draws)) (sym time) (subst (λ d. Q s.clock (draw_at d)) (sym so.draws) says_b) in
     let answered : Answer = answer limit g asked.caller asked.command r.clock (draw_at a.draws) in
     record {
       text = one_reply_text one_text x.0 y.0 closes t u (one_reply answered.said x.0 y.0 says_a.0 mine.0) x.3 y.3;
-      acted = x.1.acted ∙ sym y.1.acted;
-      draws = x.2 ∙ ap place_behind so.draws ∙ sym y.2;
-      later = with_entry g answered.entry;
-      begins_a = says_a.1;
-      begins_b = mine.1;
-      at_a = says_a.2;
-      at_b = mine.2;
+      acted = x.1.acts.acted ∙ sym y.1.acts.acted;
+      draws = x.2 ∙ ap draws_behind so.draws ∙ sym y.2;
+      at = says_a.1 ∙ sym mine.1;
     }
 
 -- want of memory is answered 503
@@ -215,14 +198,14 @@ memory_calm acts closes asked r t a new_a serves calm is =
     let wanting : ServesAsked acts closes (Err refused.Memory) r t a new_a = subst (λ z. ServesAsked acts closes z r t a new_a) is serves in
     calm (ap (λ (z : Receipt). z.status) wanting.0.0)
 
-asked_alike : OneAsked → OneText → (limit : ℕ) (ha hb g : List Entry) (closes : Bool) (q : Request) (r s : Receipt) (t u : List ℕ) (a b new_a new_b : Worker Reach)
-    → Together ha hb g a b → AnswersTo (ActsIn limit ha) closes q r t a new_a → AnswersTo (ActsIn limit hb) closes q s u b new_b → r.status ≢ 503 → s.status ≢ 503
-    → (r.acted ≡ true → s.acted ≡ true → r.clock ≡ s.clock) → Alike ha hb r s t u new_a new_b
-asked_alike one_asked one_text limit ha hb g closes q r s t u a b new_a new_b so x y calm quiet clock = elim (one_asked q x.0 y.0 x.1 y.1) [
-  | inl same ↦ served_alike one_text limit ha hb g closes y.0 r s t u a b new_a new_b so (subst (λ z. ServesAsked (ActsIn limit ha) closes z r t a new_a) same x.2) y.2 calm quiet clock
+asked_alike : OneAsked → OneText → (limit : ℕ) (la lb : List Record) (closes : Bool) (q : Request) (r s : Receipt) (t u : List ℕ) (a b new_a new_b : Worker Reach)
+    → Together la lb a b → AnswersTo (ActsIn limit la) closes q r t a new_a → AnswersTo (ActsIn limit lb) closes q s u b new_b → r.status ≢ 503 → s.status ≢ 503
+    → (r.acted ≡ true → s.acted ≡ true → r.clock ≡ s.clock) → Alike la lb r s t u new_a new_b
+asked_alike one_asked one_text limit la lb closes q r s t u a b new_a new_b so x y calm quiet clock = elim (one_asked q x.0 y.0 x.1 y.1) [
+  | inl same ↦ served_alike one_text limit la lb closes y.0 r s t u a b new_a new_b so (subst (λ z. ServesAsked (ActsIn limit la) closes z r t a new_a) same x.2) y.2 calm quiet clock
   | inr wanting ↦ elim wanting [
-    | inl mine ↦ absurd (memory_calm (ActsIn limit ha) closes x.0 r t a new_a x.2 calm mine)
-    | inr other ↦ absurd (memory_calm (ActsIn limit hb) closes y.0 s u b new_b y.2 quiet other)
+    | inl mine ↦ absurd (memory_calm (ActsIn limit la) closes x.0 r t a new_a x.2 calm mine)
+    | inr other ↦ absurd (memory_calm (ActsIn limit lb) closes y.0 s u b new_b y.2 quiet other)
   ]
 ]
 
@@ -233,28 +216,28 @@ read_by_other own acts closes q r s t u a b new_a new_b (Ok asked, is, serves) c
 read_by_other own acts closes q r s t u a b new_a new_b (Err e, is, serves) calm unread =
     absurd (memory_calm own closes (Err e) r t a new_a serves calm (ap (λ (x : RouteRefused). Err x) (routed_refused q unread.0 e unread.1 is)))
 
-unread_alike : OneText → (limit : ℕ) (ha hb g : List Entry) (closes : Bool) (q : Request) (r s : Receipt) (t u : List ℕ) (a b new_a new_b : Worker Reach)
-    → Together ha hb g a b → AnswersUnread (ActsIn limit ha) closes q r t a new_a → AnswersUnread (ActsIn limit hb) closes q s u b new_b → r.status ≢ 503 → s.status ≢ 503
-    → (r.acted ≡ true → s.acted ≡ true → r.clock ≡ s.clock) → Alike ha hb r s t u new_a new_b
-unread_alike one_text limit ha hb g closes q r s t u a b new_a new_b so x y calm quiet clock =
+unread_alike : OneText → (limit : ℕ) (la lb : List Record) (closes : Bool) (q : Request) (r s : Receipt) (t u : List ℕ) (a b new_a new_b : Worker Reach)
+    → Together la lb a b → AnswersUnread (ActsIn limit la) closes q r t a new_a → AnswersUnread (ActsIn limit lb) closes q s u b new_b → r.status ≢ 503 → s.status ≢ 503
+    → (r.acted ≡ true → s.acted ≡ true → r.clock ≡ s.clock) → Alike la lb r s t u new_a new_b
+unread_alike one_text limit la lb closes q r s t u a b new_a new_b so x y calm quiet clock =
     let same : x.0 ≡ y.0 = one_routed q x.0 y.0 x.1 y.1 in
-    let mine = subst (λ (routed : Routed). ServesAsked (ActsIn limit ha) closes (Ok (with_command routed (any_command routed))) r t a new_a) same (x.2 (any_command x.0) refl) in
-    served_alike one_text limit ha hb g closes (Ok (with_command y.0 (any_command y.0))) r s t u a b new_a new_b so mine (y.2 (any_command y.0) refl) calm quiet clock
+    let mine = subst (λ (routed : Routed). ServesAsked (ActsIn limit la) closes (Ok (with_command routed (any_command routed))) r t a new_a) same (x.2 (any_command x.0) refl) in
+    served_alike one_text limit la lb closes (Ok (with_command y.0 (any_command y.0))) r s t u a b new_a new_b so mine (y.2 (any_command y.0) refl) calm quiet clock
 
-answered_alike : OneAsked → OneText → (limit : ℕ) (ha hb g : List Entry) (closes : Bool) (heard : Result Request RequestRefused) (r s : Receipt) (t u : List ℕ) (a b new_a new_b : Worker Reach)
-    → Together ha hb g a b → ServesRequest (ActsIn limit ha) closes heard r t a new_a → ServesRequest (ActsIn limit hb) closes heard s u b new_b → r.status ≢ 503 → s.status ≢ 503
-    → (r.acted ≡ true → s.acted ≡ true → r.clock ≡ s.clock) → Alike ha hb r s t u new_a new_b
-answered_alike one_asked one_text limit ha hb g closes (Ok q) r s t u a b new_a new_b so (inl x) (inl y) calm quiet clock =
-    asked_alike one_asked one_text limit ha hb g closes q r s t u a b new_a new_b so x y calm quiet clock
-answered_alike one_asked one_text limit ha hb g closes (Ok q) r s t u a b new_a new_b so (inl x) (inr y) calm quiet clock =
-    let theirs = read_by_other (ActsIn limit ha) (ActsIn limit hb) closes q r s t u a b new_a new_b x calm y in
-    asked_alike one_asked one_text limit ha hb g closes q r s t u a b new_a new_b so x theirs calm quiet clock
-answered_alike one_asked one_text limit ha hb g closes (Ok q) r s t u a b new_a new_b so (inr x) (inl y) calm quiet clock =
-    let mine = read_by_other (ActsIn limit hb) (ActsIn limit ha) closes q s r u t b a new_b new_a y quiet x in
-    asked_alike one_asked one_text limit ha hb g closes q r s t u a b new_a new_b so mine y calm quiet clock
-answered_alike one_asked one_text limit ha hb g closes (Ok q) r s t u a b new_a new_b so (inr x) (inr y) calm quiet clock =
-    unread_alike one_text limit ha hb g closes q r s t u a b new_a new_b so x y calm quiet clock
-answered_alike one_asked one_text limit ha hb g closes (Err e) r s t u a b new_a new_b so x y calm quiet clock = framed_alike ha hb g (framing_response e) r s t u a b new_a new_b so x.0 y.0 x.1 y.1
+answered_alike : OneAsked → OneText → (limit : ℕ) (la lb : List Record) (closes : Bool) (heard : Result Request RequestRefused) (r s : Receipt) (t u : List ℕ) (a b new_a new_b : Worker Reach)
+    → Together la lb a b → ServesRequest (ActsIn limit la) closes heard r t a new_a → ServesRequest (ActsIn limit lb) closes heard s u b new_b → r.status ≢ 503 → s.status ≢ 503
+    → (r.acted ≡ true → s.acted ≡ true → r.clock ≡ s.clock) → Alike la lb r s t u new_a new_b
+answered_alike one_asked one_text limit la lb closes (Ok q) r s t u a b new_a new_b so (inl x) (inl y) calm quiet clock =
+    asked_alike one_asked one_text limit la lb closes q r s t u a b new_a new_b so x y calm quiet clock
+answered_alike one_asked one_text limit la lb closes (Ok q) r s t u a b new_a new_b so (inl x) (inr y) calm quiet clock =
+    let theirs = read_by_other (ActsIn limit la) (ActsIn limit lb) closes q r s t u a b new_a new_b x calm y in
+    asked_alike one_asked one_text limit la lb closes q r s t u a b new_a new_b so x theirs calm quiet clock
+answered_alike one_asked one_text limit la lb closes (Ok q) r s t u a b new_a new_b so (inr x) (inl y) calm quiet clock =
+    let mine = read_by_other (ActsIn limit lb) (ActsIn limit la) closes q s r u t b a new_b new_a y quiet x in
+    asked_alike one_asked one_text limit la lb closes q r s t u a b new_a new_b so mine y calm quiet clock
+answered_alike one_asked one_text limit la lb closes (Ok q) r s t u a b new_a new_b so (inr x) (inr y) calm quiet clock =
+    unread_alike one_text limit la lb closes q r s t u a b new_a new_b so x y calm quiet clock
+answered_alike one_asked one_text limit la lb closes (Err e) r s t u a b new_a new_b so x y calm quiet clock = framed_alike la lb (framing_response e) r s t u a b new_a new_b so x.0 y.0 x.1 y.1
 
 -- ---- the phases
 
@@ -285,8 +268,8 @@ went_whole acts text front due phase rs out f old new (inr cut) talks smooth =
 
 -- ---- the clock
 
-clocks_step : (x y : Bool) (c d : ℕ) (xs ys readings : List ℕ) → IsFrontOf ((if x then c ∷ [] else []) ++ xs) readings → IsFrontOf ((if y then d ∷ [] else []) ++ ys) readings
-    → (x ≡ true → y ≡ true → c ≡ d) × (x ≡ y → (later : List ℕ) × IsFrontOf xs later × IsFrontOf ys later)
+clocks_step : (x y : Bool) (c d : ℕ) (xs ys readings : List ℕ) → BeginsWith ((if x then c ∷ [] else []) ++ xs) readings → BeginsWith ((if y then d ∷ [] else []) ++ ys) readings
+    → (x ≡ true → y ≡ true → c ≡ d) × (x ≡ y → (later : List ℕ) × BeginsWith xs later × BeginsWith ys later)
 clocks_step true true c d xs ys readings a b =
     let both : c ∷ (xs ++ a.0) ≡ d ∷ (ys ++ b.0) = a.1 ∙ sym b.1 in
     let first : c ≡ d = cc both in
@@ -377,36 +360,36 @@ unanswered acts stream most f r front old new phase ends calm responds quiet =
 abbrev pub AreCalm : List Receipt → Type 0
 AreCalm receipts = AllByRecursion (λ (receipt : Receipt). receipt.status ≢ 503) receipts
 
-pub agree : OneAsked → OneText → (limit : ℕ) (ha hb g : List Entry) (phase : Phase) (xs ys : List Receipt) (out_x out_y : List ℕ) (f k : Finish) (a b end_a end_b : Worker Reach) (readings : List ℕ)
-    → Together ha hb g a b → IsKnown phase → IsFrontOf (clocks xs) readings → IsFrontOf (clocks ys) readings
-    → Converses (ActsIn limit ha) phase xs out_x f a end_a → Converses (ActsIn limit hb) phase ys out_y k b end_b
+pub agree : OneAsked → OneText → (limit : ℕ) (la lb : List Record) (phase : Phase) (xs ys : List Receipt) (out_x out_y : List ℕ) (f k : Finish) (a b end_a end_b : Worker Reach) (readings : List ℕ)
+    → Together la lb a b → IsKnown phase → BeginsWith (clocks xs) readings → BeginsWith (clocks ys) readings
+    → Converses (ActsIn limit la) phase xs out_x f a end_a → Converses (ActsIn limit lb) phase ys out_y k b end_b
     → AreCalm xs → AreCalm ys → IsCalm f → IsCalm k → (out_x ≡ out_y) × (f ≡ k)
-agree one_asked one_text limit ha hb g (going most None) xs ys out_x out_y f k a b end_a end_b readings so told fx fy x y cx cy calm quiet = absurd told
-agree one_asked one_text limit ha hb g (over h) [] [] out_x out_y f k a b end_a end_b readings so told fx fy x y cx cy calm quiet = (x.0 ∙ sym y.0, x.1 ∙ sym y.1)
-agree one_asked one_text limit ha hb g (over h) (r ∷ rs) ys out_x out_y f k a b end_a end_b readings so told fx fy x y cx cy calm quiet = absurd x.5
-agree one_asked one_text limit ha hb g (over h) [] (s ∷ ss) out_x out_y f k a b end_a end_b readings so told fx fy x y cx cy calm quiet = absurd y.5
-agree one_asked one_text limit ha hb g (going most (Some stream)) [] [] out_x out_y f k a b end_a end_b readings so told fx fy x y cx cy calm quiet =
+agree one_asked one_text limit la lb (going most None) xs ys out_x out_y f k a b end_a end_b readings so told fx fy x y cx cy calm quiet = absurd told
+agree one_asked one_text limit la lb (over h) [] [] out_x out_y f k a b end_a end_b readings so told fx fy x y cx cy calm quiet = (x.0 ∙ sym y.0, x.1 ∙ sym y.1)
+agree one_asked one_text limit la lb (over h) (r ∷ rs) ys out_x out_y f k a b end_a end_b readings so told fx fy x y cx cy calm quiet = absurd x.5
+agree one_asked one_text limit la lb (over h) [] (s ∷ ss) out_x out_y f k a b end_a end_b readings so told fx fy x y cx cy calm quiet = absurd y.5
+agree one_asked one_text limit la lb (going most (Some stream)) [] [] out_x out_y f k a b end_a end_b readings so told fx fy x y cx cy calm quiet =
     (x.0 ∙ sym y.0, ends_alike stream f k x.1 y.1 calm quiet)
-agree one_asked one_text limit ha hb g (going most (Some stream)) [] (s ∷ ss) out_x out_y f k a b end_a end_b readings so told fx fy x y cx cy calm quiet =
-    absurd (unanswered (ActsIn limit hb) stream most f s y.0 b y.3 y.2 x.1 calm y.5 cy.0)
-agree one_asked one_text limit ha hb g (going most (Some stream)) (r ∷ rs) [] out_x out_y f k a b end_a end_b readings so told fx fy x y cx cy calm quiet =
-    absurd (unanswered (ActsIn limit ha) stream most k r x.0 a x.3 x.2 y.1 quiet x.5 cx.0)
-agree one_asked one_text limit ha hb g (going most (Some stream)) (r ∷ rs) (s ∷ ss) out_x out_y f k a b end_a end_b readings so told fx fy x y cx cy calm quiet =
+agree one_asked one_text limit la lb (going most (Some stream)) [] (s ∷ ss) out_x out_y f k a b end_a end_b readings so told fx fy x y cx cy calm quiet =
+    absurd (unanswered (ActsIn limit lb) stream most f s y.0 b y.3 y.2 x.1 calm y.5 cy.0)
+agree one_asked one_text limit la lb (going most (Some stream)) (r ∷ rs) [] out_x out_y f k a b end_a end_b readings so told fx fy x y cx cy calm quiet =
+    absurd (unanswered (ActsIn limit la) stream most k r x.0 a x.3 x.2 y.1 quiet x.5 cx.0)
+agree one_asked one_text limit la lb (going most (Some stream)) (r ∷ rs) (s ∷ ss) out_x out_y f k a b end_a end_b readings so told fx fy x y cx cy calm quiet =
     let p = x.5 in
     let q = y.5 in
-    let known_x = known (ActsIn limit ha) stream p.heard p.after (closes_behind most p.heard) r p.text a x.3 p.next p.answered cx.0 in
-    let known_y = known (ActsIn limit hb) stream q.heard q.after (closes_behind most q.heard) s q.text b y.3 q.next q.answered cy.0 in
+    let known_x = known (ActsIn limit la) stream p.heard p.after (closes_behind most p.heard) r p.text a x.3 p.next p.answered cx.0 in
+    let known_y = known (ActsIn limit lb) stream q.heard q.after (closes_behind most q.heard) s q.text b y.3 q.next q.answered cy.0 in
     let same = same_heard stream most p.heard q.heard p.after q.after known_x known_y in
     let clock = clocks_step r.acted s.acted r.clock s.clock (clocks rs) (clocks ss) readings fx fy in
-    let alike = answered_alike one_asked one_text limit ha hb g (closes_behind most q.heard) q.heard r s p.text q.text a b x.3 y.3 so
-    (subst (λ h. ServesRequest (ActsIn limit ha) (closes_behind most h) h r p.text a x.3) same.0 p.answered) q.answered cx.0 cy.0 clock.0 in
-    let whole_x = went_whole (ActsIn limit ha) p.text x.0 (phase_behind most p.heard p.after) x.2 rs x.1 f x.3 end_a p.sent x.6 calm.1 in
-    let whole_y = went_whole (ActsIn limit hb) q.text y.0 (phase_behind most q.heard q.after) y.2 ss y.1 k y.3 end_b q.sent y.6 quiet.1 in
+    let alike = answered_alike one_asked one_text limit la lb (closes_behind most q.heard) q.heard r s p.text q.text a b x.3 y.3 so
+    (subst (λ h. ServesRequest (ActsIn limit la) (closes_behind most h) h r p.text a x.3) same.0 p.answered) q.answered cx.0 cy.0 clock.0 in
+    let whole_x = went_whole (ActsIn limit la) p.text x.0 (phase_behind most p.heard p.after) x.2 rs x.1 f x.3 end_a p.sent x.6 calm.1 in
+    let whole_y = went_whole (ActsIn limit lb) q.text y.0 (phase_behind most q.heard q.after) y.2 ss y.1 k y.3 end_b q.sent y.6 quiet.1 in
     let fronts = clock.1 alike.acted in
-    let so_on : Together ha hb alike.later x.3 y.3 = record { draws = alike.draws; begins_a = alike.begins_a; begins_b = alike.begins_b; at_a = alike.at_a; at_b = alike.at_b } in
-    let more = agree one_asked one_text limit ha hb alike.later (phase_behind most q.heard q.after) rs ss x.1 y.1 f k x.3 y.3 end_a end_b fronts.0 so_on
+    let so_on : Together la lb x.3 y.3 = record { draws = alike.draws; at = alike.at } in
+    let more = agree one_asked one_text limit la lb (phase_behind most q.heard q.after) rs ss x.1 y.1 f k x.3 y.3 end_a end_b fronts.0 so_on
     (known_behind stream most q.heard q.after known_y) fronts.1 fronts.2
-    (subst (λ z. Converses (ActsIn limit ha) z rs x.1 f x.3 end_a) (whole_x.1 ∙ same.1) x.6)
-    (subst (λ z. Converses (ActsIn limit hb) z ss y.1 k y.3 end_b) whole_y.1 y.6)
+    (subst (λ z. Converses (ActsIn limit la) z rs x.1 f x.3 end_a) (whole_x.1 ∙ same.1) x.6)
+    (subst (λ z. Converses (ActsIn limit lb) z ss y.1 k y.3 end_b) whole_y.1 y.6)
     cx.1 cy.1 calm quiet in
     (x.4 ∙ ap (λ l. l ++ x.1) (whole_x.0 ∙ alike.text ∙ sym whole_y.0) ∙ ap (λ l. y.0 ++ l) more.0 ∙ sym y.4, more.1)

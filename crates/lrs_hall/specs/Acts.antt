@@ -1,79 +1,69 @@
--- What an act of a conversation tells of the one history that the store has in the end.
-use Rattle.std.specs.Prelude.{◌≡◌, ◌⊎◌, ◌≤◌, ◌+◌, ◌-◌, ◌&&◌, ℕ, List, ◌++◌, length, take, slice_get, Bool, true, false, not, Option, Some, None, IsSome, is_some, Result, Ok, Err, if◌then◌else◌}
+-- What an act of a conversation tells: of the desk, and of the one line that the desk has in the end.
+use Rattle.std.specs.Prelude.{◌≡◌, ◌≤◌, ◌+◌, ℕ, List, length, take, Option, Result, if◌then◌else◌}
 use Rattle.lrs_disk.specs.Readings.{AddsReading}
-use Rattle.lrs_machine.specs.Desk.{Desk}
+use Rattle.lrs_journal.specs.Journal.{TellsAlike}
+use Rattle.lrs_machine.specs.Line.{Record, entries}
+use Rattle.lrs_machine.specs.Acts.{Acts, Receipt, changed}
+use Rattle.lrs_machine.specs.Desk.{Desk, IsOnDisk, StopsWithin, history, receipt_of}
+use Rattle.lrs_history.specs.History.{answer}
+use Rattle.lrs_replies.specs.Replies.{Says}
 use Rattle.lrs_replies.specs.declared.answered.Answered.{Answered}
 use Rattle.lrs_replies.specs.declared.reply.Reply.{Reply}
 use Rattle.lrs_replies.specs.declared.reply.Trouble.{Trouble}
-use Rattle.lrs_replies.specs.declared.reply.Trouble.TheVariants.{Memory, Disk}
-use Rattle.lrs_machine.specs.Desk.{Receipt, receipt_of, Replies, HasDiskCause}
-use Rattle.lrs_history.specs.History.{Answer, answer}
-use Rattle.lrs_replies.specs.Replies.{Says}
 use Rattle.lrs_names.specs.declared.draw.Draw.{Draw}
 use Rattle.lrs_record.specs.declared.entry.Caller.{Caller}
 use Rattle.lrs_command.specs.declared.command.Command.{Command}
-use Rattle.lrs_record.specs.declared.entry.Entry.{Entry}
 
--- ---- the abstract store
+-- ---- over the one line
 
--- How far a history has come: how many of its entries there are, and whether the last one is in doubt.
+-- How much of the one line a worker has seen, and until which moment of its disk.
 pub record Reach : Type 0 where
-  pub entries : ℕ
-  pub doubt : Bool
+  pub records : ℕ
+  pub moment : ℕ
 
--- the history begins so
-abbrev pub BeginsWith : List Entry → List Entry → Type 0
-BeginsWith before history = (rest : List Entry) × (before ++ rest ≡ history)
+-- an act that changed the journal has made the next record
+abbrev pub reach_behind : Receipt → Reach → Reach
+reach_behind receipt old = record {
+  records = if changed receipt then old.records + 1 else old.records;
+  moment = receipt.disk;
+}
 
--- the history has this entry there, if it is one
-abbrev pub HasAt : List Entry → ℕ → Option Entry → Type 0
-HasAt history place None = Unit {0}
-HasAt history place (Some entry) = slice_get history place ≡ Some entry
-
-abbrev pub place_where : Bool → ℕ → Option ℕ
-place_where stands place = if stands then Some place else None
-
-abbrev pub reach_behind : Option ℕ → Bool → ℕ → Reach
-reach_behind None doubt place = record { entries = place; doubt = doubt }
-reach_behind (Some own) doubt place = record { entries = place + 1; doubt = doubt }
-
--- The act's own entry, by what was said over the answer: without trouble it is the answer's, and none is in doubt. In trouble with the disk it may be
--- the answer's, in doubt; without it nothing comes into doubt.
-abbrev pub TellsEntry : Answer → List Entry → Reach → Result Answered Trouble → Option ℕ → Bool → Type 0
-TellsEntry a history old (Ok said) own doubt =
-    (said ≡ a.said) × (own ≡ place_where (is_some a.entry) old.entries) × HasAt history old.entries a.entry × (doubt ≡ false)
-TellsEntry a history old (Err Memory) own doubt = (own ≡ None) × (doubt ≡ false)
-TellsEntry a history old (Err Disk) own doubt =
-    ((own ≡ None) × (old.doubt ≡ false → doubt ≡ false))
-    ⊎ (IsSome a.entry × (own ≡ Some old.entries) × HasAt history old.entries a.entry × (doubt ≡ true))
-
--- the place of the entry whose doubt the act ended, where there was one
-abbrev pub landed_of : Reach → Option ℕ → Bool → Option ℕ
-landed_of old own doubt = if old.doubt && not (doubt && not (is_some own)) then Some (old.entries - 1) else None
-
--- An act over the history: the answer is that of the entries before its point. So points never fall, and the next act's point is behind its own entry.
-pub record ActsIn (limit : ℕ) (history : List Entry) (caller : Caller) (command : Command) (draw : Draw) (reply : Reply) (receipt : Receipt) (old new : Reach) : Type 0 where
-  pub acted : receipt.acted ≡ true
+-- An act on the records of the one line that the worker has seen, after which it has seen those behind the act. The
+-- abstract store answers it over the entries before its point.
+pub record ActsIn (limit : ℕ) (line : List Record) (caller : Caller) (command : Command) (draw : Draw) (reply : Reply)
+    (receipt : Receipt) (old new : Reach) : Type 0 where
   pub status : receipt.status ≡ reply.status
-  pub point : receipt.point ≡ old.entries
-  pub within : receipt.point ≤ length history
   pub said : Result Answered Trouble
   pub says : Says said reply
-  pub cause : HasDiskCause receipt.was receipt.is said
-  pub entry : TellsEntry (answer limit (take receipt.point history) caller command receipt.clock draw) history old said receipt.entry new.doubt
-  pub landed : receipt.landed ≡ landed_of old receipt.entry new.doubt
-  pub reach : new ≡ reach_behind receipt.entry new.doubt old.entries
+  pub acts : Acts (answer limit (take receipt.point (entries line)) caller command receipt.clock draw) said receipt
+      (take old.records line) (take new.records line)
+  pub within : new.records ≤ length line
+  -- moments don't fall
+  pub began : old.moment ≤ receipt.disk
+  pub reach : new ≡ reach_behind receipt old
 
--- ---- the desk
+-- ---- over the desk
 
 -- what an act changes: the desk, and what its door tells of the clock
 pub record DeskAndClock (D : Type 0) : Type 0 where
-  pub held : Desk D
+  pub desk : Desk D
   pub readings : Option (List ℕ)
 
 -- An act of the desk, with one reading of the clock.
-pub record ActsOn {D : Type 0} (told : D → Option (List ℕ)) (time faults : D → ℕ) (caller : Caller) (command : Command) (draw : Draw) (reply : Reply) (receipt : Receipt) (old new : DeskAndClock D) : Type 0 where
-  pub account : receipt ≡ receipt_of time faults old.held new.held reply.status receipt.clock
-  pub replies : Replies told faults old.held new.held (λ h. answer old.held.limit h caller command receipt.clock draw) reply
-  pub limit : new.held.limit ≡ old.held.limit
+pub record ActsOn {D : Type 0} (told : D → Option (List ℕ)) (image : D → List ℕ → Type 0) (time : D → ℕ)
+    (since : D → ℕ → List ℕ → Type 0) (faults : D → ℕ) (caller : Caller) (command : Command) (draw : Draw)
+    (reply : Reply) (receipt : Receipt) (old new : DeskAndClock D) : Type 0 where
+  pub receipt_is : receipt ≡ receipt_of time faults old.desk new.desk reply.status receipt.clock
+  pub said : Result Answered Trouble
+  pub says : Says said reply
+  pub acts : Acts (answer old.desk.limit (history old.desk) caller command receipt.clock draw) said receipt
+      old.desk.line new.desk.line
+  pub limit : new.desk.limit ≡ old.desk.limit
+  pub opened : new.desk.opened ≡ old.desk.opened
+  pub opened_at : new.desk.opened_at ≡ old.desk.opened_at
+  pub later : time old.desk.disk ≤ time new.desk.disk
+  pub tells : TellsAlike (told old.desk.disk) (told new.desk.disk)
+  -- what a stop leaves at any moment of it, and behind it
+  pub stops : StopsWithin told time since old.desk new.desk
+  pub durable : IsOnDisk told image time since new.desk
   pub read : AddsReading old.readings new.readings receipt.clock

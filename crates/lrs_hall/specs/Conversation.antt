@@ -6,8 +6,8 @@ use Rattle.lrs_http.specs.declared.request.RequestRefused.TheVariants as request
 use Rattle.lrs_http.specs.Links.{GivesNext}
 use Rattle.lrs_http.specs.Stream.{IsItem}
 use Rattle.lrs_replies.specs.declared.reply.Reply.{Reply}
-use Rattle.lrs_machine.specs.Desk.{Receipt}
-use Rattle.lrs_history.specs.Refusals.{command_area}
+use Rattle.lrs_machine.specs.Acts.{Receipt}
+use Rattle.lrs_command.specs.Areas.{command_area}
 use Rattle.lrs_names.specs.declared.draw.Draw.{Draw}
 use Rattle.lrs_record.specs.declared.entry.Caller.{Caller}
 use Rattle.lrs_command.specs.declared.command.Command.{Command}
@@ -15,14 +15,15 @@ use Rattle.lrs_routes.specs.declared.asked.Asked.{Asked}
 use Rattle.lrs_routes.specs.declared.asked.RouteRefused.{RouteRefused}
 use Rattle.lrs_routes.specs.declared.asked.Routed.{Routed}
 use Rattle.lrs_routes.specs.Asked.{IsAsked, IsRoutedAs}
-use Rattle.lrs_hall.specs.Draws.{Place, draw_at, place_behind}
+use Rattle.lrs_machine.specs.Line.{BeginsWith}
+use Rattle.lrs_hall.specs.Draws.{Draws, draw_at, draws_behind}
 use Rattle.lrs_hall.specs.Responses.{IsReplyText, IsFixed, IsFraming, route_response, framing_response}
 use Rattle.lrs_hall.specs.declared.talk.Finish.{Finish}
 use Rattle.lrs_hall.specs.declared.talk.Finish.TheVariants as finish
 
 -- What is known of a worker between two acts: the place of its next draw, and what acts have made of X.
 pub record Worker (X : Type 0) : Type 0 where
-  pub draws : Place
+  pub draws : Draws
   pub store : X
 
 -- Where a conversation stands.
@@ -40,7 +41,7 @@ ActOn X = Caller → Command → Draw → Reply → Receipt → X → X → Type
 abbrev pub ServesAsked : {X : Type 0} → ActOn X → Bool → Result Asked RouteRefused → Receipt → List ℕ → Worker X → Worker X → Type 0
 ServesAsked acts closes (Ok asked) receipt text old new =
     (reply : Reply) × acts asked.caller asked.command (draw_at old.draws) reply receipt old.store new.store
-    × (new.draws ≡ place_behind old.draws) × IsReplyText reply closes text
+    × (new.draws ≡ draws_behind old.draws) × IsReplyText reply closes text
 ServesAsked acts closes (Err refusal) receipt text old new = IsFixed (route_response refusal) closes receipt text × (new ≡ old)
 
 -- A request is answered as what it asks.
@@ -75,7 +76,7 @@ phase_behind most (Err refusal) after = over finish.Closed
 -- the response went out whole, or the link failed behind a front of it
 abbrev pub SendsResponse : List ℕ → Phase → List ℕ → Phase → Type 0
 SendsResponse text due front phase =
-    ((front ≡ text) × (phase ≡ due)) ⊎ (((rest : List ℕ) × (front ++ rest ≡ text)) × (phase ≡ over finish.LinkFault))
+    ((front ≡ text) × (phase ≡ due)) ⊎ (BeginsWith front text × (phase ≡ over finish.LinkFault))
 
 -- One response: what was heard before it, its receipt, and what went out of it.
 pub record Responds {X : Type 0} (acts : ActOn X) (most : ℕ) (stream : Option (List ℕ)) (receipt : Receipt) (front : List ℕ) (old new : Worker X) (phase : Phase) : Type 0 where
@@ -91,8 +92,8 @@ abbrev pub RespondsIn : {X : Type 0} → ActOn X → Phase → Receipt → List 
 RespondsIn acts (going most stream) receipt front old new phase = Responds acts most stream receipt front old new phase
 RespondsIn acts (over f) receipt front old new phase = ⊥
 
--- How a conversation ends without a further response: the stream ends so, or it can't be gone on with. A fault of the link has its cause elsewhere,
--- want of memory is free.
+-- How a conversation ends without a further response: the stream ends so, or it can't be gone on with. A fault of the
+-- link has its cause elsewhere, want of memory is free.
 abbrev pub EndsOpen : Option (List ℕ) → Finish → Type 0
 EndsOpen stream finish.Ended = IfSome stream (λ bytes. IsItem bytes (Err request.End))
 EndsOpen stream finish.Cut = IfSome stream (λ bytes. IsItem bytes (Err request.Cut))

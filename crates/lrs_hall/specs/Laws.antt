@@ -1,26 +1,119 @@
--- One stream is answered in one way, however the links cut it.
-use Rattle.std.specs.Prelude.{◌≡◌, ◌≢◌, ℕ, List, ◌++◌, Bool, false, Some, Result, Ok}
+-- Laws of acts over one line, and of one stream, which is answered in one way, however the links cut it.
+use Rattle.std.specs.Prelude.{◌≡◌, ◌≢◌, ◌≤◌, ◌<◌, ◌+◌, ◌==◌, ℕ, List, [], ◌∷◌, length, take, slice_get, Bool, true, false, if◌then◌else◌, Option, Some, None, IsSome, Result, Ok}
 use Rattle.std.specs.List.{AllByRecursion}
+use Rattle.lrs_disk.specs.Door.{Returned}
+use Rattle.lrs_history.specs.History.{answer}
 use Rattle.lrs_http.specs.declared.request.Request.{Request}
-use Rattle.lrs_machine.specs.Desk.{Receipt}
-use Rattle.lrs_record.specs.declared.entry.Entry.{Entry}
+use Rattle.lrs_machine.specs.Line.{BeginsWith, Record, entries}
+use Rattle.lrs_machine.specs.Acts.{Receipt}
+use Rattle.lrs_machine.specs.Desk.{HoldsPrefix, KeepsLine}
+use Rattle.lrs_names.specs.declared.draw.Draw.{Draw}
+use Rattle.lrs_record.specs.declared.entry.Caller.{Caller}
+use Rattle.lrs_command.specs.declared.command.Command.{Command}
+use Rattle.lrs_replies.specs.declared.reply.Reply.{Reply}
 use Rattle.lrs_routes.specs.Asked.{Agree, IsAsked}
 use Rattle.lrs_routes.specs.declared.asked.Asked.{Asked}
 use Rattle.lrs_routes.specs.declared.asked.RouteRefused.{RouteRefused}
 use Rattle.lrs_time.specs.Timestamp.{IsMomentText}
-use Rattle.lrs_hall.specs.Acts.{ActsIn, BeginsWith, Reach}
+use Rattle.lrs_hall.specs.Acts.{ActsIn, Reach}
 use Rattle.lrs_hall.specs.Conversation.{AnswersTo, ServesRequest, Worker}
-use Rattle.lrs_hall.specs.Draws.{Place}
-use Rattle.lrs_hall.specs.Serving.{IsWholeTalk, clocks, worker_at}
+use Rattle.lrs_hall.specs.Draws.{Draws}
+use Rattle.lrs_hall.specs.Serving.{AreOver, IsWholeTalk, all_receipts, clocks, worker_at}
 use Rattle.lrs_hall.specs.Talks.{Talk}
 use Rattle.lrs_hall.specs.declared.talk.Finish.TheVariants as finish
+
+-- ---- the history of a line
+
+-- how many entries the first records made
+abbrev pub entries_in : ℕ → List Record → ℕ
+entries_in n line = length (entries (take n line))
+
+-- The entries of the first records are the first entries.
+abbrev pub Points : Type 0
+Points = (line : List Record) (n : ℕ) → entries (take n line) ≡ take (entries_in n line) (entries line)
+
+-- An act's own entry is the answer's, and stands at its point in the one history.
+abbrev pub OwnEntries : Type 0
+OwnEntries =
+    (limit : ℕ) (line : List Record) (caller : Caller) (command : Command) (draw : Draw) (reply : Reply)
+    (receipt : Receipt) (old new : Reach) (place : ℕ)
+    → ActsIn limit line caller command draw reply receipt old new → receipt.entry ≡ Some place
+    → (place ≡ receipt.point)
+    × (slice_get (entries line) place
+    ≡ (answer limit (take receipt.point (entries line)) caller command receipt.clock draw).entry)
+
+-- ---- each entry once
+
+abbrev pub is_at : Option ℕ → ℕ → Bool
+is_at None place = false
+is_at (Some own) place = own == place
+
+-- how many receipts have their own entry at this place
+abbrev pub entries_at : ℕ → List Receipt → ℕ
+entries_at place [] = 0
+entries_at place (receipt ∷ receipts) = (if is_at receipt.entry place then 1 else 0) + entries_at place receipts
+
+-- Where a worker's talks go from a records of the line to b, each entry that these made is that of just one receipt.
+abbrev pub EntriesOnce : Type 0
+EntriesOnce =
+    (limit : ℕ) (line : List Record) (talks : List Talk) (links : List Returned) (draws behind : Draws)
+    (a b start end place : ℕ)
+    → AreOver (ActsIn limit line) talks links (worker_at draws a start) (worker_at behind b end)
+    → entries_in a line ≤ place → place < entries_in b line → entries_at place (all_receipts talks) ≡ 1
+
+-- ---- in order
+
+-- The second act was answered over no fewer entries than the first, and over the first one's own.
+abbrev pub GoesOn : Receipt → Receipt → Type 0
+GoesOn first second =
+    first.acted ≡ true → second.acted ≡ true
+    → (first.point ≤ second.point) × (IsSome first.entry → first.point < second.point)
+
+-- each goes on from all before it
+abbrev pub AreInOrder : List Receipt → Type 0
+AreInOrder [] = Unit {0}
+AreInOrder (receipt ∷ receipts) = AllByRecursion (GoesOn receipt) receipts × AreInOrder receipts
+
+-- All acts of a worker go on, each from those before it.
+abbrev pub InOrder : Type 0
+InOrder =
+    (limit : ℕ) (line : List Record) (talks : List Talk) (links : List Returned) (old new : Worker Reach)
+    → AreOver (ActsIn limit line) talks links old new → AreInOrder (all_receipts talks)
+
+-- ---- what was acknowledged is kept
+
+abbrev pub least_of : Option ℕ → ℕ → ℕ
+least_of None point = point
+least_of (Some own) point = own + 1
+
+-- how many entries a response without trouble promises: those that it was answered over, and its own
+abbrev pub promised : Receipt → ℕ
+promised receipt = least_of receipt.entry receipt.point
+
+-- each image since the moment of an act without trouble holds what its response promises
+abbrev pub IsKept : ℕ → (ℕ → List ℕ → Type 0) → List Record → Receipt → Type 0
+IsKept limit since line receipt =
+    receipt.acted ≡ true → receipt.status ≢ 503
+    → (bytes : List ℕ) → since receipt.disk bytes → HoldsPrefix limit (promised receipt) (entries line) bytes
+
+-- Over a line that is kept, what all talks of a worker promise is kept.
+abbrev pub KeepsPromises : ℕ → (ℕ → List ℕ → Type 0) → Type 0
+KeepsPromises now since =
+    (limit : ℕ) (line : List Record) (talks : List Talk) (links : List Returned) (draws behind : Draws)
+    (a b start end : ℕ)
+    → KeepsLine limit now since line → 1 ≤ a
+    → AreOver (ActsIn limit line) talks links (worker_at draws a start) (worker_at behind b end)
+    → AllByRecursion (IsKept limit since line) (all_receipts talks)
+
+-- ---- one stream
 
 -- Where a request asks something, it is answered as that, whether or not it is read behind its head.
 abbrev pub AnswersAsAsked : Type 0
 AnswersAsAsked =
-    (limit : ℕ) (history : List Entry) (closes : Bool) (request : Request) (asked : Asked) (receipt : Receipt) (text : List ℕ) (old new : Worker Reach)
-    → IsAsked request (Ok asked) → ServesRequest (ActsIn limit history) closes (Ok request) receipt text old new
-    → AnswersTo (ActsIn limit history) closes request receipt text old new
+    (limit : ℕ) (line : List Record) (closes : Bool) (request : Request) (asked : Asked) (receipt : Receipt)
+    (text : List ℕ) (old new : Worker Reach)
+    → IsAsked request (Ok asked) → ServesRequest (ActsIn limit line) closes (Ok request) receipt text old new
+    → AnswersTo (ActsIn limit line) closes request receipt text old new
 
 -- a moment has one text
 abbrev pub OneText : Type 0
@@ -36,15 +129,13 @@ pub record IsSmooth (talk : Talk) : Type 0 where
   pub memory : talk.finish ≢ finish.Memory
   pub link : talk.finish ≢ finish.LinkFault
 
--- the readings were these, as far as they were asked for
-abbrev pub IsFrontOf : List ℕ → List ℕ → Type 0
-IsFrontOf front readings = (rest : List ℕ) × (front ++ rest ≡ readings)
-
 -- Two smooth talks over one stream, from one history, with one clock and one draw after the other, send the same bytes and end alike.
 abbrev pub OneStream : Type 0
 OneStream =
-    (limit : ℕ) (h ha hb : List Entry) (stream : List ℕ) (draws : Place) (readings : List ℕ) (a b : Talk) (out_a out_b : List ℕ) (end_a end_b : Worker Reach)
-    → BeginsWith h ha → BeginsWith h hb → IsFrontOf (clocks a.receipts) readings → IsFrontOf (clocks b.receipts) readings
-    → IsWholeTalk (ActsIn limit ha) (Some stream) a out_a (worker_at draws h false) end_a
-    → IsWholeTalk (ActsIn limit hb) (Some stream) b out_b (worker_at draws h false) end_b
+    (limit : ℕ) (line_a line_b : List Record) (records_a records_b start_a start_b : ℕ) (stream : List ℕ)
+    (draws : Draws) (readings : List ℕ) (a b : Talk) (out_a out_b : List ℕ) (end_a end_b : Worker Reach)
+    → entries (take records_a line_a) ≡ entries (take records_b line_b)
+    → BeginsWith (clocks a.receipts) readings → BeginsWith (clocks b.receipts) readings
+    → IsWholeTalk (ActsIn limit line_a) (Some stream) a out_a (worker_at draws records_a start_a) end_a
+    → IsWholeTalk (ActsIn limit line_b) (Some stream) b out_b (worker_at draws records_b start_b) end_b
     → IsSmooth a → IsSmooth b → (out_a ≡ out_b) × (a.finish ≡ b.finish)

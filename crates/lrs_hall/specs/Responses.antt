@@ -6,7 +6,7 @@ use Rattle.lrs_http.specs.Response.{response_of}
 use Rattle.lrs_replies.specs.declared.reply.Media.{Media}
 use Rattle.lrs_replies.specs.declared.reply.Media.TheVariants.{Json, Own, Empty}
 use Rattle.lrs_replies.specs.declared.reply.Reply.{Reply}
-use Rattle.lrs_machine.specs.Desk.{Receipt, plain_receipt}
+use Rattle.lrs_machine.specs.Acts.{Receipt, plain_receipt}
 use Rattle.lrs_replies.specs.Replies.{body_bytes, error_body}
 use Rattle.lrs_routes.specs.declared.asked.RouteRefused.{RouteRefused}
 use Rattle.lrs_routes.specs.declared.asked.RouteRefused.TheVariants as route
@@ -32,23 +32,23 @@ IsReplyText reply closes text =
     × (text ≡ response_of reply.status (media_text reply.media) (body_bytes reply.body) through [] closes)
 
 -- A response without an act: its status, the error that its body names, and the methods that it allows.
-pub record Fixed : Type 0 where
+pub record FixedResponse : Type 0 where
   pub status : ℕ
   pub error : List ℕ
   pub allow : List ℕ
 
-abbrev pub fixed : ℕ → List ℕ → Fixed
+abbrev pub fixed : ℕ → List ℕ → FixedResponse
 fixed status error = record { status = status; error = error; allow = [] }
 
-abbrev pub fixed_text : Fixed → Bool → List ℕ
+abbrev pub fixed_text : FixedResponse → Bool → List ℕ
 fixed_text f closes = response_of f.status (codes "application/json") (error_body f.error []) None f.allow closes
 
 -- want of memory
-abbrev pub memory_response : Fixed
+abbrev pub memory_response : FixedResponse
 memory_response = fixed 503 (codes "memory")
 
 -- what a request is answered that the routes refuse
-abbrev pub route_response : RouteRefused → Fixed
+abbrev pub route_response : RouteRefused → FixedResponse
 route_response route.NoRoute = fixed 404 (codes "404")
 route_response (route.NoMethod allow) = record { status = 405; error = codes "405"; allow = listed (methods_of allow) }
 route_response route.NoVersion = fixed 400 (codes "V1")
@@ -59,7 +59,7 @@ abbrev pub form_error : ℕ → List ℕ
 form_error rule = if rule == 1 then codes "F1" else codes "F2"
 
 -- what is answered where no request is read; the end of the input gets no response
-abbrev pub framing_response : RequestRefused → Option Fixed
+abbrev pub framing_response : RequestRefused → Option FixedResponse
 framing_response request.End = None
 framing_response request.Cut = None
 framing_response request.LinkFault = None
@@ -71,10 +71,10 @@ framing_response request.BodyTooLong = Some (fixed 413 (codes "413"))
 framing_response request.Memory = Some memory_response
 
 -- the text and the receipt of a response without an act
-abbrev pub IsFixed : Fixed → Bool → Receipt → List ℕ → Type 0
+abbrev pub IsFixed : FixedResponse → Bool → Receipt → List ℕ → Type 0
 IsFixed f closes receipt text = (receipt ≡ plain_receipt f.status) × (text ≡ fixed_text f closes)
 
 -- where no request is read, the response says that the connection ends
-abbrev pub IsFraming : Option Fixed → Receipt → List ℕ → Type 0
+abbrev pub IsFraming : Option FixedResponse → Receipt → List ℕ → Type 0
 IsFraming None receipt text = ⊥
 IsFraming (Some f) receipt text = IsFixed f true receipt text

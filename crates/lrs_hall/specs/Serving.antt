@@ -1,14 +1,15 @@
--- What `converse` and `serve_all` promise: whole conversations over one history, and how they end.
+-- What `converse` and `serve_all` promise: whole conversations over one line, and how they end.
 use Rattle.std.specs.Prelude.{◌≡◌, ◌≢◌, ◌⊎◌, ◌≤◌, ◌<◌, ℕ, List, [], ◌∷◌, ◌++◌, length, Bool, true, false, Option, Some, None, IfSome, option_map, if◌then◌else◌, MatchBool}
+use Rattle.std.specs.List.{AllByRecursion}
 use Rattle.lrs_disk.specs.Door.{DoorState, Returned}
 use Rattle.lrs_disk.specs.Faults.{Rises}
 use Rattle.lrs_http.specs.Stream.{most_requests}
+use Rattle.lrs_machine.specs.Line.{BeginsWith}
+use Rattle.lrs_machine.specs.Acts.{Receipt}
 use Rattle.lrs_machine.specs.Desk.{Desk}
-use Rattle.lrs_machine.specs.Desk.{Receipt, StandsFor, IsOnDisk}
-use Rattle.lrs_record.specs.declared.entry.Entry.{Entry}
-use Rattle.lrs_hall.specs.Acts.{ActsIn, BeginsWith, Reach}
+use Rattle.lrs_hall.specs.Acts.{ActsIn, Reach}
 use Rattle.lrs_hall.specs.Conversation.{ActOn, Worker, going, Converses}
-use Rattle.lrs_hall.specs.Draws.{Place}
+use Rattle.lrs_hall.specs.Draws.{Draws}
 use Rattle.lrs_hall.specs.Talks.{Talk}
 use Rattle.lrs_hall.specs.declared.talk.Finish.{Finish}
 use Rattle.lrs_hall.specs.declared.talk.Finish.TheVariants as finish
@@ -36,25 +37,46 @@ Counts before (receipt ∷ receipts) now =
     ((receipt.was ≡ before) × (before ≤ receipt.is) × (receipt.status ≢ 503 → receipt.is ≡ before) × Counts receipt.is receipts now)
     (Counts before receipts now)
 
--- a worker over a history: the place of its next draw, how many entries there are, and whether the last one is in doubt
-abbrev pub worker_at : Place → List Entry → Bool → Worker Reach
-worker_at draws history doubt = record { draws = draws; store = record { entries = length history; doubt = doubt } }
+-- the disk's count of faults, and its moment
+pub record Mark : Type 0 where
+  pub faults : ℕ
+  pub moment : ℕ
+
+abbrev pub mark_of : {D : Type 0} → (D → ℕ) → (D → ℕ) → D → Mark
+mark_of faults time disk = record { faults = faults disk; moment = time disk }
+
+-- What an act tells of its disk's count and moment lies between two marks.
+pub record IsWithin (before now : Mark) (receipt : Receipt) : Type 0 where
+  pub was : before.faults ≤ receipt.was
+  pub is : receipt.is ≤ now.faults
+  pub began : before.moment ≤ receipt.disk
+  pub ended : receipt.disk ≤ now.moment
+
+-- all acts of these receipts lie between two marks
+abbrev pub AreWithin : Mark → Mark → List Receipt → Type 0
+AreWithin before now receipts =
+    AllByRecursion (λ (receipt : Receipt). receipt.acted ≡ true → IsWithin before now receipt) receipts
+
+-- a worker over the one line: the place of its next draw, how many records it has seen, and until which moment
+abbrev pub worker_at : Draws → ℕ → ℕ → Worker Reach
+worker_at draws records moment = record { draws = draws; store = record { records = records; moment = moment } }
+
+-- a worker that has seen all of a desk
+abbrev pub worker_of : {D : Type 0} → (D → ℕ) → Draws → Desk D → Worker Reach
+worker_of time draws desk = worker_at draws (length desk.line) (time desk.disk)
 
 -- a whole conversation over the stream of a link
 abbrev pub IsWholeTalk : {X : Type 0} → ActOn X → Option (List ℕ) → Talk → List ℕ → Worker X → Worker X → Type 0
 IsWholeTalk acts stream talk out old new = Converses acts (going most_requests stream) talk.receipts out talk.finish old new
 
--- A talk over a desk: what went out, and, over each history that the desk stood for, the one that it stands for now, which begins with that and which all acts told of.
-pub record IsConversation {D : Type 0} (told : D → Option (List ℕ)) (old new : Desk D) (draws behind : Place) (stream before now : Option (List ℕ)) (talk : Talk) : Type 0 where
+-- A talk over a desk: what went out, and its acts over the desk's line in the end, which begins with the line before.
+pub record IsConversation {D : Type 0} (time : D → ℕ) (old new : Desk D) (draws behind : Draws)
+    (stream before now : Option (List ℕ)) (talk : Talk) : Type 0 where
   pub out : List ℕ
   pub sent : now ≡ option_map (λ taken. taken ++ out) before
-  pub held : (h : List Entry) → StandsFor told old h
-      → (history : List Entry) × BeginsWith h history × StandsFor told new history
-      × IsWholeTalk (ActsIn old.limit history) stream talk out (worker_at draws h old.doubt) (worker_at behind history new.doubt)
-
--- what a desk stands for is on its disk
-abbrev pub IsDurable : {D : Type 0} → (D → Option (List ℕ)) → (D → List ℕ → Type 0) → Desk D → Type 0
-IsDurable told image desk = (h : List Entry) → StandsFor told desk h → IsOnDisk image desk h
+  pub begins : BeginsWith old.line new.line
+  pub talks : IsWholeTalk (ActsIn old.limit new.line) stream talk out (worker_of time draws old)
+      (worker_of time behind new)
 
 -- ---- the conversations of a door
 
@@ -106,8 +128,9 @@ EndsServing connections talks old new serve.Done =
 EndsServing connections talks old new serve.DoorFault = (talks < connections) × (old.faults ≤ new.faults) × Rises old.faults new.faults
 EndsServing connections talks old new serve.Memory = (talks ≤ connections) × (new.faults ≡ old.faults)
 
--- All talks of a worker over one history: the one that the desk stands for in the end.
-pub record AreConversations {D : Type 0} (told : D → Option (List ℕ)) (old new : Desk D) (draws : Place) (links : List Returned) (talks : List Talk) : Type 0 where
-  pub held : (h : List Entry) → StandsFor told old h
-      → (history : List Entry) × (behind : Place) × BeginsWith h history × StandsFor told new history
-      × AreOver (ActsIn old.limit history) talks links (worker_at draws h old.doubt) (worker_at behind history new.doubt)
+-- All talks of a worker, over the desk's line in the end, which begins with the line before.
+pub record AreConversations {D : Type 0} (time : D → ℕ) (old new : Desk D) (draws : Draws) (links : List Returned)
+    (talks : List Talk) : Type 0 where
+  pub begins : BeginsWith old.line new.line
+  pub behind : Draws
+  pub over : AreOver (ActsIn old.limit new.line) talks links (worker_of time draws old) (worker_of time behind new)

@@ -3,48 +3,48 @@ use Rattle.std.specs.Prelude.{◌≡◌, ◌≢◌, ◌⊎◌, ◌≤◌, ◌-�
 use Rattle.lrs_disk.specs.Door.{DoorState, Returned}
 use Rattle.lrs_disk.specs.Faults.{Rises}
 use Rattle.lrs_command.specs.declared.command.Command.{Command}
-use Rattle.lrs_history.specs.Refusals.{command_area}
+use Rattle.lrs_command.specs.Areas.{command_area}
 use Rattle.lrs_http.specs.declared.request.Request.{Request}
 use Rattle.lrs_http.specs.declared.request.RequestRefused.{RequestRefused}
 use Rattle.lrs_http.specs.declared.request.RequestRefused.TheVariants as request
 use Rattle.lrs_http.specs.Response.{IsStatus}
-use Rattle.lrs_machine.specs.Desk.{Desk, StandsFor, lets_in}
+use Rattle.lrs_machine.specs.Desk.{Desk, lets_in}
 use Rattle.lrs_record.specs.declared.entry.Entry.{Entry}
 use Rattle.lrs_routes.specs.Asked.{IsCommandOf}
 use Rattle.lrs_routes.specs.declared.asked.Routed.{Routed}
 use Rattle.lrs_replies.specs.Replies.{error_body}
+use Rattle.lrs_machine.specs.Line.{BeginsWith}
 use Rattle.lrs_hall.specs.Acts.{DeskAndClock}
-use Rattle.lrs_hall.specs.Conversation.{ActOn, Worker, going, over, Responds, EndsOpen}
-use Rattle.lrs_hall.specs.Conversation.{SendsResponse as SendsIn}
-use Rattle.lrs_machine.specs.Desk.{Receipt}
-use Rattle.lrs_hall.specs.Draws.{Place}
+use Rattle.lrs_hall.specs.Conversation.{ActOn, Worker, going, over, Responds, EndsOpen, SendsResponse}
+use Rattle.lrs_machine.specs.Acts.{Receipt}
+use Rattle.lrs_hall.specs.Draws.{Draws}
 use Rattle.lrs_hall.specs.Serving.{AreOver, BringsOne, EndsServing, Passes}
 use Rattle.lrs_hall.specs.Talks.{Talk}
 use Rattle.lrs_hall.specs.declared.serving.ServeEnd.{ServeEnd}
 use Rattle.lrs_hall.specs.declared.serving.ServeEnd.TheVariants as serve
-use Rattle.lrs_hall.specs.Responses.{Fixed, IsFraming, framing_response}
-use Rattle.lrs_hall.specs.declared.answering.FixedResponse.{FixedResponse}
+use Rattle.lrs_hall.specs.Responses.{FixedResponse, IsFraming, framing_response}
+use Rattle.lrs_hall.specs.declared.answering.FixedResponse as code
 use Rattle.lrs_hall.specs.declared.exchange.Exchanged.{Exchanged}
 use Rattle.lrs_hall.specs.declared.exchange.Exchanged.TheVariants.{Next, Last, Silent}
 use Rattle.lrs_hall.specs.declared.talk.Finish.{Finish}
 use Rattle.lrs_hall.specs.declared.talk.Finish.TheVariants as finish
 
 -- a worker whose acts are those of a desk
-abbrev pub worker : {D : Type 0} → Place → Desk D → Option (List ℕ) → Worker (DeskAndClock D)
-worker draws held readings = record { draws = draws; store = record { held = held; readings = readings } }
+abbrev pub worker : {D : Type 0} → Draws → Desk D → Option (List ℕ) → Worker (DeskAndClock D)
+worker draws desk readings = record { draws = draws; store = record { desk = desk; readings = readings } }
 
 -- a response with a body may have this status, and allow these methods
 abbrev pub IsSayable : ℕ → List ℕ → Type 0
 IsSayable status allow = IsStatus status × (status ≢ 204) × (status ≢ 405 → allow ≡ [])
 
 -- the response can be written, and is the one that is fixed
-pub record IsResponse (response : FixedResponse) (f : Fixed) : Type 0 where
+pub record IsResponse (response : code.FixedResponse) (f : FixedResponse) : Type 0 where
   pub status : response.status ≡ f.status
   pub body : response.body.now ≡ error_body f.error []
   pub allow : response.allow.now ≡ f.allow
   pub sayable : IsSayable response.status response.allow.now
 
-abbrev pub AreResponses : Option FixedResponse → Option Fixed → Type 0
+abbrev pub AreResponses : Option code.FixedResponse → Option FixedResponse → Type 0
 AreResponses None None = Unit {0}
 AreResponses None (Some f) = ⊥
 AreResponses (Some response) None = ⊥
@@ -54,15 +54,13 @@ AreResponses (Some response) (Some f) = IsResponse response f
 abbrev pub Wrote : {T E : Type 0} → List ℕ → Result T E → Option (List ℕ) → Option (List ℕ) → Type 0
 Wrote text (Ok value) before now = now ≡ option_map (λ taken. taken ++ text) before
 Wrote text (Err fault) before now =
-    (front : List ℕ) × ((rest : List ℕ) × (front ++ rest ≡ text)) × (now ≡ option_map (λ taken. taken ++ front) before)
-
--- no history for which the desk stands lets the caller into the area
-abbrev pub IsShutOut : {D : Type 0} → (D → Option (List ℕ)) → Desk D → Routed → Type 0
-IsShutOut told desk routed = (h : List Entry) → StandsFor told desk h → lets_in h routed.caller routed.area ≡ false
+    (front : List ℕ) × BeginsWith front text × (now ≡ option_map (λ taken. taken ++ front) before)
 
 -- the request's command, or any of its route's area where the caller isn't let in there
-abbrev pub IsCommandFor : {D : Type 0} → (D → Option (List ℕ)) → Desk D → Request → Routed → Command → Type 0
-IsCommandFor told desk request routed command = IsCommandOf request routed command ⊎ ((command_area command ≡ routed.area) × IsShutOut told desk routed)
+abbrev pub IsCommandFor : List Entry → Request → Routed → Command → Type 0
+IsCommandFor h request routed command =
+    IsCommandOf request routed command
+    ⊎ ((command_area command ≡ routed.area) × (lets_in h routed.caller routed.area ≡ false))
 
 -- how a conversation ends behind a response to what is no request, or without one
 abbrev pub finish_behind : RequestRefused → Finish
@@ -100,7 +98,7 @@ exchanged_of receipt (Ok value) false due = Next receipt
 abbrev pub RefusesRequest : RequestRefused → Option (List ℕ) → Option (List ℕ) → Exchanged → Type 0
 RefusesRequest refusal before now (Next receipt) = ⊥
 RefusesRequest refusal before now (Last receipt f) =
-    (front : List ℕ) × (text : List ℕ) × IsFraming (framing_response refusal) receipt text × SendsIn text (over (finish_behind refusal)) front (over f)
+    (front : List ℕ) × (text : List ℕ) × IsFraming (framing_response refusal) receipt text × SendsResponse text (over (finish_behind refusal)) front (over f)
     × (now ≡ option_map (λ taken. taken ++ front) before)
 RefusesRequest refusal before now (Silent f) = (f ≡ finish_behind refusal) × IsNone (framing_response refusal) × (now ≡ before)
 

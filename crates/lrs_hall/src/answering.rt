@@ -4,13 +4,13 @@ ghost use Rattle.lrs_http.specs.Links.{HasWriteCause};
 ghost use Rattle.lrs_replies.specs.declared.answered.Answered.{Answered};
 ghost use Rattle.lrs_replies.specs.declared.reply.Trouble.{Trouble};
 ghost use Rattle.lrs_replies.specs.Replies.{Says, body_bytes};
-ghost use Rattle.lrs_hall.specs.Responses.{Fixed, fixed, fixed_text, media_text, IsThrough, IsReplyText, route_response, framing_response, form_error};
+ghost use Rattle.lrs_hall.specs.Responses.{FixedResponse as SpecResponse, fixed, fixed_text, media_text, IsThrough, IsReplyText, route_response, framing_response, form_error};
 ghost use Rattle.lrs_hall.specs.Steps.{IsResponse, AreResponses, Wrote, IsSayable};
 
 use lrs_disk::Link;
 use lrs_http::{LinkFault, Reply2, RequestRefused, write_response};
-use lrs_machine::{Body, Media, Reply};
 use lrs_record::Moment;
+use lrs_replies::{Body, Media, Reply};
 use lrs_routes::RouteRefused;
 use lrs_time::moment_text;
 
@@ -42,7 +42,7 @@ fn plain(status: u16, body: &'static str) -> FixedResponse
     }
 }
 
-/// What a request is answered that the routes refuse.
+/// The response to a request that the routes refuse.
 pub(crate) fn route_response(refused: RouteRefused) -> FixedResponse
     ensures { IsResponse result (route_response refused) }
 {
@@ -58,7 +58,7 @@ pub(crate) fn route_response(refused: RouteRefused) -> FixedResponse
     }
 }
 
-// What is answered to a head or a length that is out of form.
+// The response to a malformed head or length.
 fn form_response(rule: u8) -> FixedResponse
     ensures { IsResponse result (fixed 400 (form_error rule)) }
 {
@@ -69,7 +69,7 @@ fn form_response(rule: u8) -> FixedResponse
     }
 }
 
-/// What is answered where no request is read. The end of the input gets no response.
+/// The response when no request could be read. The end of the input gets none.
 pub(crate) fn framing_response(refused: RequestRefused) -> Option<FixedResponse>
     ensures { AreResponses result (framing_response refused) }
 {
@@ -91,7 +91,8 @@ pub(crate) fn write_fixed<L: Link>(
     closes: bool,
 ) -> Result<(), LinkFault>
     requires { IsSayable response.now.status response.now.allow.now }
-    ensures wrote { (f : Fixed) → IsResponse response.now f → Wrote (fixed_text f closes) result (L.taken link.old)
+    ensures wrote { (f : SpecResponse) → IsResponse response.now f
+        → Wrote (fixed_text f closes) result (L.taken link.old)
         (L.taken link.new) }
     ensures left_kept { L.left link.new ≡ L.left link.old }
     ensures stream_kept { L.stream link.new ≡ L.stream link.old }

@@ -1,20 +1,20 @@
 //! Conversations: one connection is served from its first request to its end.
-ghost use Rattle.std.specs.Prelude.{◌≡◌, ◌<◌, ◌++◌, List, ℕ, Some, IsTrue, option_map, vec_len, vec_capacity};
+ghost use Rattle.std.specs.Prelude.{◌≡◌, ◌≤◌, ◌<◌, ◌++◌, List, ℕ, Some, IsTrue, option_map, vec_len, vec_capacity};
+ghost use Rattle.lrs_journal.specs.Journal.{TellsAlike};
+ghost use Rattle.lrs_machine.specs.Desk.{IsOnDisk, StopsWithin};
 ghost use Rattle.lrs_hall.specs.Acts.{ActsOn};
-ghost use Rattle.lrs_hall.specs.Serving.{AddsReadings, Counts, IsConversation, IsDurable, IsWholeTalk, clocks};
+ghost use Rattle.lrs_hall.specs.Serving.{AddsReadings, AreWithin, Counts, IsConversation, IsWholeTalk, clocks, mark_of};
 ghost use Rattle.lrs_hall.specs.Steps.{HasFinishCause, worker};
 
 use crate::exchange::{Exchanged, exchange};
 use crate::{Draws, Finish, Talk};
 use lrs_disk::{Disk, Door, Link};
+use lrs_http::MOST_REQUESTS;
 use lrs_machine::Desk;
 use lrs_routes::Routes;
 use std::alloc::Global;
 
-// The most requests of a connection.
-const MOST_REQUESTS: u16 = 1_000;
-
-/// Takes room for one item more, where there is memory for it.
+/// Takes room for one item more, if there is memory for it.
 pub(crate) fn has_room<T: Drop>(items: &mut Vec<T>) -> bool
     ensures items { items.new.items ≡ items.old.items }
     ensures len { vec_len items.new ≡ vec_len items.old }
@@ -26,7 +26,7 @@ pub(crate) fn has_room<T: Drop>(items: &mut Vec<T>) -> bool
     }
 }
 
-/// Serves one connection: its talk is told by what the acts of the desk did.
+/// Serves one connection. Its talk is described by the acts of the desk.
 pub(crate) fn hold<D: Disk, O: Door>(
     alloc: Global,
     desk: &mut Desk<D>,
@@ -36,11 +36,9 @@ pub(crate) fn hold<D: Disk, O: Door>(
     draws: &mut Draws,
 ) -> Talk
     ensures talk { (out : List ℕ) × (O.Link.taken link.new ≡ option_map (λ taken. taken ++ out) (O.Link.taken link.old))
-        × IsWholeTalk (ActsOn D.told D.time D.fault_count) (O.Link.left link.old) result out
+        × IsWholeTalk (ActsOn D.told D.image D.time D.image_since D.fault_count) (O.Link.left link.old) result out
         (worker draws.old desk.old (O.state door.old).readings)
         (worker draws.new desk.new (O.state door.new).readings) }
-    ensures durable { IsDurable D.told D.image desk.old → IsDurable D.told D.image desk.new }
-    ensures limit { desk.new.limit ≡ desk.old.limit }
     ensures door { O.state door.new ≡ record (O.state door.old) { readings = (O.state door.new).readings } }
     ensures stream_kept { O.Link.stream link.new ≡ O.Link.stream link.old }
     ensures name_kept { O.Link.name link.new ≡ O.Link.name link.old }
@@ -67,12 +65,12 @@ pub(crate) fn hold<D: Disk, O: Door>(
     }
 }
 
-/// Serves one connection, that of the link which is out of the door: at most 1,000 requests, one behind the other.
+/// Serves one connection, that of the link which is out of the door: at most 1,000 requests, one after the other.
 /// Each request is read whole, asked of the routes, answered by the desk with one reading of the door's clock and one
-/// draw, and its response is written before the next one is read. Where its caller isn't let in, its parameters and its
-/// body aren't looked at.
+/// draw, and its response is written before the next one is read. If its caller isn't let in, its parameters and its
+/// body aren't read.
 ///
-/// A response says that the connection ends where its request asks for that, where no request could be read, and at
+/// A response says that the connection ends if its request asks for that, if no request could be read, and at
 /// the last request. Memory for a receipt is taken before its request is read, so no response goes without one.
 pub fn converse<D: Disk, O: Door>(
     alloc: Global,
@@ -83,13 +81,25 @@ pub fn converse<D: Disk, O: Door>(
     draws: &mut Draws,
 ) -> Talk
     requires { (O.state door.old).out ≡ Some (O.Link.name link.old) }
-    ensures talk { IsConversation D.told desk.old desk.new draws.old draws.new (O.Link.left link.old)
+    ensures talk { IsConversation D.time desk.old desk.new draws.old draws.new (O.Link.left link.old)
         (O.Link.taken link.old) (O.Link.taken link.new) result }
     ensures readings { AddsReadings (O.state door.old).readings (O.state door.new).readings (clocks result.receipts) }
     ensures counts { Counts (D.fault_count desk.old.disk) result.receipts (D.fault_count desk.new.disk) }
+    ensures marks { AreWithin (mark_of D.fault_count D.time desk.old.disk) (mark_of D.fault_count D.time desk.new.disk)
+        result.receipts }
+    ensures later { D.time desk.old.disk ≤ D.time desk.new.disk }
     ensures cause { HasFinishCause (O.Link.fault_count link.old) (O.Link.fault_count link.new) result.finish }
-    ensures durable { IsDurable D.told D.image desk.old → IsDurable D.told D.image desk.new }
+    ensures tells { TellsAlike (D.told desk.old.disk) (D.told desk.new.disk) }
+
+    // A crash at any moment since the beginning leaves the first entries of the history, at least all that then stood
+    // without doubt.
+    ensures stops { IsOnDisk D.told D.image D.time D.image_since desk.old
+        → StopsWithin D.told D.time D.image_since desk.old desk.new }
+    ensures durable { IsOnDisk D.told D.image D.time D.image_since desk.old
+        → IsOnDisk D.told D.image D.time D.image_since desk.new }
     ensures limit { desk.new.limit ≡ desk.old.limit }
+    ensures opened { desk.new.opened ≡ desk.old.opened }
+    ensures opened_at { desk.new.opened_at ≡ desk.old.opened_at }
 
     // Of all that the door tells only the readings change, and the link is still out of it.
     ensures door { O.state door.new ≡ record (O.state door.old) { readings = (O.state door.new).readings } }

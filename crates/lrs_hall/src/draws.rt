@@ -1,5 +1,5 @@
 ghost use Rattle.std.specs.Prelude.{◌≡◌, ◌+◌, ◌*◌, ◌/◌, ◌%◌, ◌^◌, ◌<◌};
-ghost use Rattle.lrs_hall.specs.Draws.{draw_at, four_words, Place, place_behind, start_of};
+ghost use Rattle.lrs_hall.specs.Draws.{draw_at, four_words, Draws as SpecDraws, draws_behind, start_of};
 
 use lrs_names::Draw;
 use rand_chacha::ChaCha20Rng;
@@ -10,14 +10,14 @@ use std::marker::Model;
 /// The draws of one stream, seen as the place before the next one: the seed's key, the stream and the draw's number.
 ///
 /// A stream is that of the ChaCha20 cipher with a counter and a stream number of 64 bits each. It has 2^65 draws,
-/// and begins again behind the last.
+/// and begins again after the last.
 #[derive(Drop)]
 pub struct Draws {
     words: ChaCha20Rng,
 }
 
 impl Model for Draws {
-    ghost Value = { Place };
+    ghost Value = { SpecDraws };
 
     ghost view = { λ d. record { key = d.words.key; stream = d.words.stream; number = d.words.word_pos / 8 } };
 
@@ -39,7 +39,7 @@ impl Draws {
     #[allow(clippy::should_implement_trait)]
     pub fn next(&mut self) -> Draw
         ensures drawn { result ≡ draw_at self.old }
-        ensures moved { self.new ≡ place_behind self.old }
+        ensures moved { self.new ≡ draws_behind self.old }
     {
         let name = number(&mut self.words);
         let secret = number(&mut self.words);

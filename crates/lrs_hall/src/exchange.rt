@@ -2,22 +2,23 @@
 ghost use Rattle.std.specs.Prelude.{◌≡◌, List, ℕ, Ok, IfOk};
 ghost use Rattle.lrs_command.specs.Commands.{HasReadTrees};
 ghost use Rattle.lrs_http.specs.Links.{stream_left, HasWriteCause};
+ghost use Rattle.lrs_machine.specs.Desk.{history};
 ghost use Rattle.lrs_record.specs.Entries.{IsLawfulCaller};
 ghost use Rattle.lrs_routes.specs.Asked.{IsRoutedAs};
 ghost use Rattle.lrs_hall.specs.Acts.{ActsOn};
 ghost use Rattle.lrs_hall.specs.Conversation.{ServesRequest, closes_behind};
 ghost use Rattle.lrs_hall.specs.Responses.{IsFixed, route_response};
-ghost use Rattle.lrs_hall.specs.Serving.{IsDurable};
 ghost use Rattle.lrs_hall.specs.Steps.{worker, Wrote, Exchanges, HasExchangeCause, finish_behind, exchanged_of, RefusesRequest, IsCommandFor, IsRefusalCause};
 
 use crate::answering::{framing_response, route_response, write_fixed, write_reply};
 use crate::{Draws, Finish};
-use lrs_command::{Command, Rule};
+use lrs_command::Command;
 use lrs_disk::{Disk, Door, Link};
 use lrs_http::{LinkFault, Request, RequestRefused, read_request};
 use lrs_json::Memory;
 use lrs_machine::{Desk, Receipt};
 use lrs_routes::{RouteRefused, Routed, Routes};
+use lrs_rules::Rule;
 use std::alloc::Global;
 
 /// What came of one turn of a conversation.
@@ -27,19 +28,19 @@ pub(crate) enum Exchanged {
     Next(Receipt),
     /// The last response.
     Last(Receipt, Finish),
-    /// There is no response any more.
+    /// There are no more responses.
     Silent(Finish),
 }
 
-// The command of a request. Where its caller isn't let in each command is answered alike, so that neither the parameters
-// nor the body need be read.
+// The command of a request. If its caller isn't let in, each command is answered alike, so neither the parameters
+// nor the body need to be read.
 fn command_for<D: Disk>(
     alloc: Global,
     desk: &Desk<D>,
     routed: &Routed,
     request: &Request,
 ) -> Result<Command, Memory>
-    ensures is { IfOk result (IsCommandFor D.told desk.now request.now routed.now) }
+    ensures is { IfOk result (IsCommandFor (history desk.now) request.now routed.now) }
     ensures trees { IfOk result HasReadTrees }
 {
     if desk.lets_in(&routed.caller, routed.area) {
@@ -84,12 +85,10 @@ fn serve_routed<D: Disk, O: Door>(
 ) -> (Receipt, Result<(), LinkFault>)
     requires routed { IsRoutedAs request.now routed }
     requires lawful { IsLawfulCaller routed.caller }
-    ensures served { (text : List ℕ) × ServesRequest (ActsOn D.told D.time D.fault_count) closes (Ok request.now)
-        result.0 text
+    ensures served { (text : List ℕ) × ServesRequest (ActsOn D.told D.image D.time D.image_since D.fault_count) closes
+        (Ok request.now) result.0 text
         (worker draws.old desk.old (O.state door.old).readings) (worker draws.new desk.new (O.state door.new).readings)
         × Wrote text result.1 (O.Link.taken link.old) (O.Link.taken link.new) }
-    ensures durable { IsDurable D.told D.image desk.old → IsDurable D.told D.image desk.new }
-    ensures limit { desk.new.limit ≡ desk.old.limit }
     ensures door { O.state door.new ≡ record (O.state door.old) { readings = (O.state door.new).readings } }
     ensures left_kept { O.Link.left link.new ≡ O.Link.left link.old }
     ensures stream_kept { O.Link.stream link.new ≡ O.Link.stream link.old }
@@ -123,12 +122,10 @@ fn serve<D: Disk, O: Door>(
     request: Request,
     closes: bool,
 ) -> (Receipt, Result<(), LinkFault>)
-    ensures served { (text : List ℕ) × ServesRequest (ActsOn D.told D.time D.fault_count) closes (Ok request)
-        result.0 text
+    ensures served { (text : List ℕ) × ServesRequest (ActsOn D.told D.image D.time D.image_since D.fault_count) closes
+        (Ok request) result.0 text
         (worker draws.old desk.old (O.state door.old).readings) (worker draws.new desk.new (O.state door.new).readings)
         × Wrote text result.1 (O.Link.taken link.old) (O.Link.taken link.new) }
-    ensures durable { IsDurable D.told D.image desk.old → IsDurable D.told D.image desk.new }
-    ensures limit { desk.new.limit ≡ desk.old.limit }
     ensures door { O.state door.new ≡ record (O.state door.old) { readings = (O.state door.new).readings } }
     ensures left_kept { O.Link.left link.new ≡ O.Link.left link.old }
     ensures stream_kept { O.Link.stream link.new ≡ O.Link.stream link.old }
@@ -164,7 +161,7 @@ fn answered(receipt: Receipt, sent: Result<(), LinkFault>, closes: bool, due: Fi
     }
 }
 
-// How a conversation ends where no request is read.
+// How a conversation ends when no request could be read.
 fn finish_behind(refused: RequestRefused) -> Finish
     ensures { result ≡ finish_behind refused }
 {
@@ -181,7 +178,7 @@ fn finish_behind(refused: RequestRefused) -> Finish
     }
 }
 
-// Answers what is no request, where it gets a response.
+// Answers what is no request, if it gets a response.
 fn refuse<L: Link>(link: &mut L, refused: RequestRefused) -> Exchanged
     ensures refused { RefusesRequest refused (L.taken link.old) (L.taken link.new) result }
     ensures left_kept { L.left link.new ≡ L.left link.old }
@@ -199,14 +196,14 @@ fn refuse<L: Link>(link: &mut L, refused: RequestRefused) -> Exchanged
     }
 }
 
-// Whether the connection ends behind the response to a request.
+// Whether the connection ends after the response to a request.
 fn closes_behind(most: u16, request: &Request) -> bool
     ensures { result ≡ closes_behind most (Ok request.now) }
 {
     request.closes || most == 1
 }
 
-/// Reads one request and answers it, or ends the conversation. `most` is how many requests may still come.
+/// Reads one request and answers it, or ends the conversation. At most `most` requests may still come.
 pub(crate) fn exchange<D: Disk, O: Door>(
     alloc: Global,
     desk: &mut Desk<D>,
@@ -217,13 +214,11 @@ pub(crate) fn exchange<D: Disk, O: Door>(
     draws: &mut Draws,
     most: u16,
 ) -> Exchanged
-    ensures exchanged { Exchanges (ActsOn D.told D.time D.fault_count) most
+    ensures exchanged { Exchanges (ActsOn D.told D.image D.time D.image_since D.fault_count) most
         (stream_left kept.old.items (O.Link.left link.old)) (stream_left kept.new.items (O.Link.left link.new))
         (O.Link.taken link.old) (O.Link.taken link.new)
         (worker draws.old desk.old (O.state door.old).readings)
         (worker draws.new desk.new (O.state door.new).readings) result }
-    ensures durable { IsDurable D.told D.image desk.old → IsDurable D.told D.image desk.new }
-    ensures limit { desk.new.limit ≡ desk.old.limit }
     ensures door { O.state door.new ≡ record (O.state door.old) { readings = (O.state door.new).readings } }
     ensures stream_kept { O.Link.stream link.new ≡ O.Link.stream link.old }
     ensures name_kept { O.Link.name link.new ≡ O.Link.name link.old }

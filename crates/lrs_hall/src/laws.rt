@@ -1,13 +1,45 @@
-ghost use Rattle.lrs_hall.specs.Laws.{AnswersAsAsked, OneStream};
+ghost use Rattle.lrs_hall.specs.Laws.{AnswersAsAsked, EntriesOnce, InOrder, KeepsPromises, OneStream, OwnEntries, Points};
 
-/// A request is answered as what it asks. Where its caller isn't let in, neither its parameters nor its body need be looked at
-/// for that. It is a law of the definitions.
+use lrs_disk::Disk;
+
+/// The entries of the first records of a line are the first entries of its history. So each act is answered over the
+/// first entries of the one history, up to its point. It is a law of the definitions.
+pub fn law_of_points()
+    ensures { Points }
+{}
+
+/// An act's own entry is the answer's, and stands at its point in the one history. It is a law of the definitions.
+pub fn law_of_own_entries()
+    ensures { OwnEntries }
+{}
+
+/// Each entry that came while a worker served is that of exactly one receipt. It is a law of the definitions.
+pub fn law_of_entries()
+    ensures { EntriesOnce }
+{}
+
+/// The points of a worker's acts never fall, and each comes after the own entries of earlier acts. It is a law of the
+/// definitions.
+pub fn law_of_order()
+    ensures { InOrder }
+{}
+
+/// What the responses of a worker promise is kept, whenever the machine stops: if each image of the disk holds what
+/// stood without doubt after each record, it holds what each act without trouble was answered over, and its own entry.
+pub fn law_of_receipts<D: Disk>(disk: &D)
+    ensures { KeepsPromises (D.time disk.now) (D.image_since disk.now) }
+{
+    let _moment = disk.moment();
+}
+
+/// A request is answered as what it asks. If its caller isn't let in, neither its parameters nor its body need to be
+/// read for that. It is a law of the definitions.
 pub fn law_of_unread_requests()
     ensures { AnswersAsAsked }
 {}
 
 /// Two links with one stream, cut differently, get the same bytes: from one history, with the same readings of the
-/// clock and the same draws, where memory isn't wanting and nothing fails. It is a law of the definitions.
+/// clock and the same draws, if memory suffices and nothing fails. It is a law of the definitions.
 pub fn law_of_one_stream()
     ensures { OneStream }
 {}

@@ -1,4 +1,5 @@
-//! Conversations: the requests of a connection are answered by the desk, one connection after the other.
+//! Conversations: the desk answers the requests of a connection, one connection after the other. Begin with `exchange`,
+//! one request and its response; `conversation` and `serving` repeat it.
 #![tactic(auto)]
 
 mod answering;
@@ -11,6 +12,9 @@ mod talk;
 
 pub use conversation::converse;
 pub use draws::Draws;
-pub use laws::{law_of_one_stream, law_of_unread_requests};
+pub use laws::{
+    law_of_entries, law_of_one_stream, law_of_order, law_of_own_entries, law_of_points,
+    law_of_receipts, law_of_unread_requests,
+};
 pub use serving::{ServeEnd, serve_all};
 pub use talk::{Finish, Talk};

@@ -5,7 +5,7 @@ use std::marker::Model;
 /// How a conversation ended.
 #[derive(Clone, Copy, Debug, PartialEq, Eq)]
 pub enum Finish {
-    /// The input ended behind a whole request.
+    /// The input ended after a whole request.
     Ended,
     /// The last response said that the connection ends: its request asked for that, was the last one that may come, or
     /// was none.
@@ -14,12 +14,12 @@ pub enum Finish {
     Cut,
     /// A call of the link failed.
     LinkFault,
-    /// Memory was wanting for a request, or for a further receipt.
+    /// Memory ran out for a request, or for a further receipt.
     Memory,
 }
 
-/// What is kept of a conversation: a receipt for each response, in their order, and how it ended. Only `converse`
-/// makes one, and none is copied.
+/// What is kept of a conversation: a receipt for each response, in their order, and how it ended. `converse` and
+/// `serve_all` make them, and none is copied.
 #[derive(Debug, Drop)]
 pub struct Talk {
     receipts: Items<Receipt>,

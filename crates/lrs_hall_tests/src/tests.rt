@@ -31,11 +31,14 @@ fn founded(alloc: Global) -> Result<Desk<MemDisk>, Fail> {
     }
 }
 
-// A door that gives one connection, which brings one request and takes so many bytes.
-fn door_of(alloc: Global, room: usize) -> Result<MemDoor, Fail>
+// A door that gives one connection, which brings so many requests and takes so many bytes.
+fn door_of(alloc: Global, requests: usize, room: usize) -> Result<MemDoor, Fail>
     ensures { IfOk result (λ door. out_of door ≡ None) }
 {
-    let stream = "GET /none HTTP/1.1\r\n\r\n".as_bytes().to_vec(alloc)?;
+    let stream = "GET /none HTTP/1.1\r\n\r\n"
+        .repeat(alloc, requests)?
+        .as_bytes()
+        .to_vec(alloc)?;
     let link = MemLink::new(alloc, stream, Vec::new(alloc), room, Vec::new(alloc))?;
     let links = vec![in alloc; link]?;
     Ok(MemDoor::new(alloc, links, Vec::new(alloc), Vec::new(alloc))?)
@@ -79,9 +82,14 @@ fn conversed_over(
     }
 }
 
-fn conversed_of(alloc: Global, desk: &mut Desk<MemDisk>, room: usize) -> Result<String, Fail> {
+fn conversed_of(
+    alloc: Global,
+    desk: &mut Desk<MemDisk>,
+    requests: usize,
+    room: usize,
+) -> Result<String, Fail> {
     let routes = Routes::new(alloc)?;
-    match door_of(alloc, room) {
+    match door_of(alloc, requests, room) {
         Ok(mut door) => {
             let held = conversed_over(alloc, desk, &mut door, &routes);
             drop(door);
@@ -95,9 +103,9 @@ fn conversed_of(alloc: Global, desk: &mut Desk<MemDisk>, room: usize) -> Result<
     }
 }
 
-fn conversed(alloc: Global, room: usize) -> Result<String, Fail> {
+fn conversed(alloc: Global, requests: usize, room: usize) -> Result<String, Fail> {
     let mut desk = founded(alloc)?;
-    let held = conversed_of(alloc, &mut desk, room);
+    let held = conversed_of(alloc, &mut desk, requests, room);
     drop(desk);
     held
 }
@@ -123,7 +131,19 @@ fn check_front(found: String, expected: &str) -> Result<(), Fail> {
 // There is room for half of the response.
 #[test]
 fn a_link_that_fails_ends_its_conversation(rt: HostRuntime) -> Result<(), Fail> {
-    check(conversed(rt.alloc(), 12)?, "fault 1 HTTP/1.1 404")
+    check(conversed(rt.alloc(), 1, 12)?, "fault 1 HTTP/1.1 404")
+}
+
+#[test]
+fn a_conversation_has_a_thousand_requests(rt: HostRuntime) -> Result<(), Fail> {
+    check_front(
+        conversed(rt.alloc(), 1_001, 999_999)?,
+        "closed 1000 HTTP/1.1 404",
+    )?;
+    check_front(
+        conversed(rt.alloc(), 999, 999_999)?,
+        "ended 999 HTTP/1.1 404",
+    )
 }
 
 // What came of the first connection of a door, where serving ended well.
@@ -148,7 +168,7 @@ fn served_over(alloc: Global, desk: Desk<MemDisk>, door: MemDoor) -> Result<Stri
 }
 
 fn served(alloc: Global) -> Result<String, Fail> {
-    let door = door_of(alloc, 999)?;
+    let door = door_of(alloc, 1, 999)?;
     match founded(alloc) {
         Ok(desk) => served_over(alloc, desk, door),
         Err(fail) => {

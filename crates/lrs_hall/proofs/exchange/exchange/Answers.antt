@@ -11,5 +11,5 @@ returns-in-Ok-clause-exchanged g c =
     let next = subst (λ left. GivesNext (stream_left c.args.kept.now.items (g.O.Link.Link.left c.args.link.now)) (Ok c.in-Ok.request) (stream_left c.read_request.new.kept.items left))
     (sym c.serve-receipt.ensures.left_kept) c.in-Ok.ensures.next in
     let wrote = subst (λ before. Wrote served.0 c.serve-receipt.result.1 before (g.O.Link.Link.taken c.serve-receipt.new.link)) c.in-Ok.ensures.taken_kept served.2 in
-    exchanges (ActsOn g.D.Disk.told g.D.Disk.time g.D.Disk.fault_count) c.args.most _ _ _ _ c.in-Ok.request c.serve-receipt.result.0 served.0 _ _
+    exchanges (ActsOn g.D.Disk.told g.D.Disk.image g.D.Disk.time g.D.Disk.image_since g.D.Disk.fault_count) c.args.most _ _ _ _ c.in-Ok.request c.serve-receipt.result.0 served.0 _ _
     next c.closes_behind-closes.result c.serve-receipt.result.1 c.answered.result c.closes_behind-closes.ensures served.1 wrote c.answered.ensures

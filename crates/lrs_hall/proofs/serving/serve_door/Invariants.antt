@@ -1,6 +1,5 @@
 use Rattle.std.proofs.Common.{◌≡◌, ◌+◌, length}
 use Rattle.lrs_hall.specs.Acts.{ActsOn}
-use Rattle.lrs_hall.specs.Serving.{IsDurable}
 use Rattle.lrs_hall.specs.Steps.{worker}
 use Rattle.lrs_hall.proofs.Doors.{ServedSoFar}
 use Rattle.lrs_hall.proofs.serving.serve_door.Given as goal
@@ -8,10 +7,8 @@ use Rattle.lrs_hall.proofs.serving.serve_door.Given as goal
 abbrev pub invariant-loop-left : goal.invariant-loop-left
 invariant-loop-left g l = record {
   count : length l.talks.items + l.left ≡ l.fn.connections;
-  served : ServedSoFar (ActsOn g.D.Disk.told g.D.Disk.time g.D.Disk.fault_count) (worker l.fn.draws l.fn.desk (g.O.Door.state l.fn.door).readings) (worker l.draws l.desk (g.O.Door.state l.door).readings)
+  served : ServedSoFar (ActsOn g.D.Disk.told g.D.Disk.image g.D.Disk.time g.D.Disk.image_since g.D.Disk.fault_count) (worker l.fn.draws l.fn.desk (g.O.Door.state l.fn.door).readings) (worker l.draws l.desk (g.O.Door.state l.door).readings)
       (g.O.Door.state l.fn.door) (g.O.Door.state l.door) l.talks.items;
-  durable : IsDurable g.D.Disk.told g.D.Disk.image l.fn.desk → IsDurable g.D.Disk.told g.D.Disk.image l.desk;
-  limit : l.desk.limit ≡ l.fn.desk.limit;
 }
 
 abbrev pub decreases-loop-left : goal.decreases-loop-left
