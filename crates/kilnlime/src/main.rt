@@ -1,4 +1,4 @@
-//! Kilnlime's program: its words, the real outside and a seed, handed to `run`.
+//! The `kilnlime` program: it hands its words, the real outside and a random seed to `run`.
 #![tactic(auto)]
 
 use lrs_app::run;
@@ -22,7 +22,7 @@ const USAGE: &str = "usage: kilnlime init FILE --admin TOKEN [--base URL] [--lim
 see `bin/kilnlime --help`, or docs/FORMATS.md, section \"Words and statuses\"";
 
 // The words behind the program's name. One that is no UTF-8 makes them no command.
-fn read_words(rt: &(impl Env + AllocGlobal)) -> Result<Vec<Text>, Ending> {
+fn arguments(rt: &(impl Env + AllocGlobal)) -> Result<Vec<Text>, Ending> {
     let mut words = match env::args(rt) {
         Ok(words) => words,
         Err(error) if error.kind() == ErrorKind::InvalidData => return Err(Ending::Usage),
@@ -51,7 +51,7 @@ fn exit(rt: &impl Eprint, status: u8) -> ExitCode {
 
 fn main(rt: HostRuntime) -> ExitCode {
     let mut out = StdSink::new(rt.stdout());
-    let words = match read_words(&rt) {
+    let words = match arguments(&rt) {
         Ok(words) => words,
         Err(ending) => return exit(&rt, finish(&mut out, ending)),
     };

@@ -1,125 +1,220 @@
 -- How intake ends on an open desk.
-use Rattle.std.proofs.Common.{◌≡◌, ◌⊎◌, ℕ, true, false, List, [], ◌∷◌, ◌++◌, map, Option, Some, None, IfSome, IsSome, Err, refl, sym, ap, ◌∙◌, subst, inl, inr, ⊎_elim}
-use Rattle.std.proofs.lemmas.List.{length_push}
+use Rattle.std.proofs.Common.{◌≡◌, ◌⊎◌, ◌≤◌, ◌-◌, ◌&&◌, ◌||◌, ℕ, true, false, Bool, List, [], ◌∷◌, ◌++◌, length, map, Option, Some, None, IfSome, IsSome, Ok, Err, append-nil, refl, sym, ap, ◌∙◌, subst, inl, inr, ⊎_elim}
+use Rattle.std.specs.Prelude.{not, is_some, if◌then◌else◌}
+use Rattle.std.specs.Option.{ForSome}
+use Rattle.lrs_disk.specs.Disk.{LeavesOnly}
+use Rattle.lrs_disk.specs.declared.disk.Disk as disks
 use Rattle.lrs_names.specs.declared.draw.Draw.{Draw}
 use Rattle.lrs_journal.specs.Store.{Stands}
-use Rattle.lrs_machine.specs.Desk.{Desk}
 use Rattle.lrs_json.specs.declared.tree.Tree.{Tree}
 use Rattle.lrs_record.specs.Entries.{written_entry}
 use Rattle.lrs_record.specs.declared.entry.Entry.{Entry}
 use Rattle.lrs_history.specs.History.{Answer, IsLegal, with_entry}
-use Rattle.lrs_machine.specs.Desk.{StandsFor, Answers, HasDiskCause, LeavesStore}
+use Rattle.lrs_machine.specs.Acts.{Acts, HasDiskCause, Receipt, line_behind, made_by, place_where, record_of}
+use Rattle.lrs_machine.specs.Desk.{Desk, HoldsPrefix, LeavesStore, history}
+use Rattle.lrs_machine.specs.Line.{BeginsWith, Record, entries, in_doubt, sure}
 use Rattle.lrs_replies.specs.declared.answered.Answered.{Answered}
 use Rattle.lrs_replies.specs.declared.answered.Answered.TheVariants as said
 use Rattle.lrs_replies.specs.declared.answered.Refusal.{Refusal}
 use Rattle.lrs_replies.specs.declared.answered.Refusal.TheVariants as refusal
 use Rattle.lrs_replies.specs.declared.reply.Trouble.{Trouble}
 use Rattle.lrs_replies.specs.declared.reply.Trouble.TheVariants as trouble
-use Rattle.lrs_console.specs.Asking.{named, IsTakenFor, EndsSaying, EndsRefused, put_answer, entry_asked}
-use Rattle.lrs_app.specs.Run.{Leaves, LeavesDoubt, EndsOpened}
-use Rattle.lrs_app.specs.Service.{Holds}
-use Rattle.lrs_app.specs.Steps.{IsSure, IsLeft, Submits, TakesIn, HasPutCause, ending_of_trouble}
+use Rattle.lrs_machine.proofs.Lines.{entries_append, entries_one, none_some}
+use Rattle.lrs_machine.specs.Steps.{one_of}
+use Rattle.lrs_hall.proofs.Lines.{entries_begin}
+use Rattle.lrs_console.specs.Asking.{with_id, HasInputCause, IsNotTaken, IsTakenFor, EndsSaying, EndsRefused, put_answer, entry_of_input}
+use Rattle.lrs_app.specs.ClosingSteps.{ClosesTaken, StopsFrom}
+use Rattle.lrs_app.specs.Disks.{Holds, HoldsIn, LeavesFinal, taken_now}
+use Rattle.lrs_app.specs.Run.{EndsOpened}
+use Rattle.lrs_app.specs.Steps.{DoubtsOnly, GoesOn, IsOpened, Submits, HasPutCause, ending_of_trouble}
+use Rattle.lrs_app.proofs.Openings.{stops_from, told_on}
 use Rattle.lrs_console.specs.declared.ending.Ending.{Ending}
 use Rattle.lrs_console.specs.declared.ending.Ending.TheVariants as ending
 
--- ---- a put that meets a fault
+-- ---- the line behind an act
 
-in_doubt : {D : Type 0} (told : D → Option (List ℕ)) (h : List Entry) (entry : Option Entry) (new : Desk D)
-    → IsSome entry × (new.doubt ≡ true) × StandsFor told new (with_entry h entry) → IsLeft told h entry new
-in_doubt told h None new left = absurd (let none : IsSome {T = Entry} None = left.0 in cc)
-in_doubt told h (Some e) new left = inr (e, refl, left.2)
+by_none : (own landed : Option ℕ) (x old : List Record) → own ≡ None → landed ≡ None → (if is_some own || is_some landed then x else old) ≡ old
+by_none None None x old own landed = refl
+by_none None (Some p) x old own landed = absurd (none_some p (sym landed))
+by_none (Some p) landed x old own none = absurd (none_some p (sym own))
 
--- how a put that meets trouble ends
-pub troubled : {D : Type 0} (told : D → Option (List ℕ)) (id : List ℕ) (a : Answer) (h : List Entry) (old new : Desk D) (t : Trouble)
-    → Answers told a h old new (Err t) → old.doubt ≡ false → Submits told h id a new (ending_of_trouble t)
-troubled told id a h old new trouble.Memory answers settled = answers
-troubled told id a h old new trouble.Disk answers settled = ⊎_elim (λ kept. inl (kept.0 settled, kept.1)) (in_doubt told h a.entry new) answers
+by_change : (r : Record) (old new : List Record) (b : Bool) → new ≡ (if b then old ++ r ∷ [] else old) → BeginsWith old new
+by_change r old new true is = (r ∷ [], sym is)
+by_change r old new false is = ([], append-nil old ∙ sym is)
 
-pub trouble_cause : (before now : ℕ) (t : Trouble) → HasDiskCause before now (Err t) → HasPutCause before now (ending_of_trouble t)
-trouble_cause before now trouble.Memory cause = cause
-trouble_cause before now trouble.Disk cause = cause
+-- the line goes on
+pub acts_begin : (a : Answer) (receipt : Receipt) (old new : List Record) → new ≡ line_behind old a receipt → BeginsWith old new
+acts_begin a receipt old new line = by_change (record_of (made_by a receipt) receipt) old new (is_some receipt.entry || is_some receipt.landed) line
+
+module _ (a : Answer) (receipt : Receipt) (old new : List Record) (settled : in_doubt old ≡ false) (line : new ≡ line_behind old a receipt)
+    (landed : receipt.landed ≡ place_where (in_doubt old && not (in_doubt new && not (is_some receipt.entry))) (receipt.point - 1)) where
+  none_landed : receipt.landed ≡ None
+  none_landed = landed ∙ ap (λ (b : Bool). place_where (b && not (in_doubt new && not (is_some receipt.entry))) (receipt.point - 1)) settled
+
+  unchanged : receipt.entry ≡ None → entries new ≡ entries old
+  unchanged none = ap entries (line ∙ by_none receipt.entry receipt.landed (old ++ record_of (made_by a receipt) receipt ∷ []) old none none_landed)
+
+  added : (place : ℕ) (e : Entry) → receipt.entry ≡ Some place → a.entry ≡ Some e → entries new ≡ entries old ++ e ∷ []
+  added place e own is =
+      let r = record_of (made_by a receipt) receipt in
+      let made : r.made ≡ Some e = ap (λ (o : Option ℕ). if is_some o then a.entry else None) own ∙ is in
+      ap entries (line ∙ ap (λ (o : Option ℕ). if is_some o || is_some receipt.landed then old ++ r ∷ [] else old) own) ∙ entries_append old (r ∷ [])
+      ∙ ap (λ (l : List Entry). entries old ++ l) (entries_one r ∙ ap one_of made)
+
+  kept : receipt.entry ≡ place_where (is_some a.entry) receipt.point → entries new ≡ with_entry (entries old) a.entry
+  kept own = by_entry a.entry refl own
+    where
+      by_entry : (o : Option Entry) → a.entry ≡ o → receipt.entry ≡ place_where (is_some o) receipt.point → entries new ≡ with_entry (entries old) o
+      by_entry None is own = unchanged own
+      by_entry (Some e) is own = added receipt.point e own is
+
+  doubtful_one : (place : ℕ) → receipt.entry ≡ Some place → IsSome a.entry → (e : Entry) × (a.entry ≡ Some e) × (entries new ≡ entries old ++ e ∷ [])
+  doubtful_one place own some = by_entry a.entry refl some
+    where
+      by_entry : (o : Option Entry) → a.entry ≡ o → IsSome o → (e : Entry) × (a.entry ≡ Some e) × (entries new ≡ entries old ++ e ∷ [])
+      by_entry None is some = absurd (cc)
+      by_entry (Some e) is some = (e, is, added place e own is)
+
+-- ---- what a put is answered
+
+-- no answer of the store ends so
+abbrev is_trouble : Ending → Bool
+is_trouble ending.Memory = true
+is_trouble ending.DiskFault = true
+is_trouble ending.InputFault = true
+is_trouble other = false
+
+refused_calm : (r : Refusal) (end : Ending) → EndsRefused r end → is_trouble end ≡ false
+refused_calm (refusal.Conflict held) end e = ap is_trouble e
+refused_calm (refusal.Full need limit) end e = ap is_trouble e
+refused_calm (refusal.Broken r) end e = ap is_trouble e
+refused_calm refusal.TooLong end e = ap is_trouble e
+refused_calm refusal.Unauthorized end e = absurd e
+refused_calm (refusal.Forbidden rule) end e = absurd e
+refused_calm refusal.NotFound end e = absurd e
+
+saying_calm : (id : List ℕ) (s : Answered) (end : Ending) → EndsSaying id s end → is_trouble end ≡ false
+saying_calm id said.Kept end e = ap is_trouble e
+saying_calm id said.Same end e = ap is_trouble e
+saying_calm id (said.Shown text through) end e = absurd e
+saying_calm id (said.Refused r) end e = refused_calm r end e
+
+true_false : true ≡ false → ⊥
+true_false e = cc
+
+submits_kept : (id : List ℕ) (a : Answer) (h final : List Entry) (s : Answered) (end : Ending) → EndsSaying id s end → s ≡ a.said → final ≡ with_entry h a.entry → Submits h id a final end
+submits_kept id a h final s end says same is = by_end end (subst (λ (x : Answered). EndsSaying id x end) same says) (saying_calm id s end says)
+  where
+    by_end : (end : Ending) → EndsSaying id a.said end → is_trouble end ≡ false → Submits h id a final end
+    by_end ending.Memory says calm = absurd (true_false calm)
+    by_end ending.DiskFault says calm = absurd (true_false calm)
+    by_end ending.InputFault says calm = absurd (true_false calm)
+    by_end ending.Founded says calm = (says, is)
+    by_end (ending.Kept k) says calm = (says, is)
+    by_end ending.Usage says calm = (says, is)
+    by_end (ending.Served responses) says calm = (says, is)
+    by_end ending.LobbyFault says calm = (says, is)
+    by_end ending.NotAStore says calm = (says, is)
+    by_end (ending.Damaged k) says calm = (says, is)
+    by_end ending.AlreadyStore says calm = (says, is)
+    by_end (ending.Refused r) says calm = (says, is)
+    by_end ending.NoId says calm = (says, is)
+    by_end ending.TooLong says calm = (says, is)
+    by_end (ending.Conflict k) says calm = (says, is)
+    by_end (ending.Full need most) says calm = (says, is)
+
+-- a put that meets no trouble
+pub answered_ends : (id : List ℕ) (a : Answer) (receipt : Receipt) (old new : List Record) (s : Answered) (end : Ending)
+    → Acts a (Ok s) receipt old new → in_doubt old ≡ false → EndsSaying id s end → Submits (entries old) id a (entries new) end
+answered_ends id a receipt old new s end acts settled says =
+    submits_kept id a (entries old) (entries new) s end says acts.tells.0 (kept a receipt old new settled acts.line acts.landed acts.tells.1)
+
+-- a put that meets trouble
+pub troubled_ends : (id : List ℕ) (a : Answer) (receipt : Receipt) (old new : List Record) (t : Trouble)
+    → Acts a (Err t) receipt old new → in_doubt old ≡ false → Submits (entries old) id a (entries new) (ending_of_trouble t)
+troubled_ends id a receipt old new trouble.Memory acts settled = unchanged a receipt old new settled acts.line acts.landed acts.tells.0
+troubled_ends id a receipt old new trouble.Disk acts settled =
+    ⊎_elim (λ none. inl (unchanged a receipt old new settled acts.line acts.landed none.0))
+    (λ some. inr (doubtful_one a receipt old new settled acts.line acts.landed receipt.point some.1 some.0)) acts.tells
+
+pub answered_doubts : {D : Type 0} (a : Answer) (receipt : Receipt) (old new : Desk D) (s : Answered) (end : Ending) → Acts a (Ok s) receipt old.line new.line → DoubtsOnly old new end
+answered_doubts a receipt old new s end acts doubt = absurd (true_false (sym doubt ∙ acts.tells.2))
+
+pub troubled_doubts : {D : Type 0} (a : Answer) (receipt : Receipt) (old new : Desk D) (t : Trouble)
+    → Acts a (Err t) receipt old.line new.line → in_doubt old.line ≡ false → DoubtsOnly old new (ending_of_trouble t)
+troubled_doubts a receipt old new trouble.Memory acts settled doubt = absurd (true_false (sym doubt ∙ acts.tells.1))
+troubled_doubts a receipt old new trouble.Disk acts settled doubt =
+    ⊎_elim (λ none. absurd (true_false (sym doubt ∙ none.1 settled)))
+    (λ some. let one = doubtful_one a receipt old.line new.line settled acts.line acts.landed receipt.point some.1 some.0 in (refl, (one.0, one.2))) acts.tells
+
+-- the counts of a receipt are those of the disk
+pub answered_cause : (receipt : Receipt) (s : Answered) (before now : ℕ) (end : Ending) → receipt.was ≡ before → receipt.is ≡ now
+    → HasDiskCause receipt.was receipt.is (Ok s) → ((count : ℕ) → HasPutCause count count end) → HasPutCause before now end
+answered_cause receipt s before now end was is cause same =
+    let kept : before ≡ now = sym was ∙ sym cause ∙ is in
+    subst (λ (n : ℕ). HasPutCause before n end) kept (same before)
+
+pub trouble_cause : (receipt : Receipt) (t : Trouble) (before now : ℕ) → receipt.was ≡ before → receipt.is ≡ now
+    → HasDiskCause receipt.was receipt.is (Err t) → HasPutCause before now (ending_of_trouble t)
+trouble_cause receipt t before now was is cause = by_trouble t
+    (subst (λ (n : ℕ). HasDiskCause before n (Err t)) is (subst (λ (b : ℕ). HasDiskCause b receipt.is (Err t)) was cause))
+  where
+    by_trouble : (t : Trouble) → HasDiskCause before now (Err t) → HasPutCause before now (ending_of_trouble t)
+    by_trouble trouble.Memory cause = cause
+    by_trouble trouble.Disk cause = cause
 
 -- ---- what is taken in
 
-refused_no_input_fault : (r : Refusal) → EndsRefused r ending.InputFault → ⊥
-refused_no_input_fault (refusal.Conflict held) e = cc
-refused_no_input_fault (refusal.Full need limit) e = cc
-refused_no_input_fault (refusal.Broken rule) e = cc
-refused_no_input_fault refusal.TooLong e = cc
-refused_no_input_fault refusal.Unauthorized e = absurd e
-refused_no_input_fault (refusal.Forbidden rule) e = absurd e
-refused_no_input_fault refusal.NotFound e = absurd e
+module _ (limit : ℕ) (h : List Entry) (clock : ℕ) (draw : Draw) where
+  taken : (id : List ℕ) (t : Tree) (final : List Entry) (end : Ending) (input : List ℕ) → IsTakenFor input (with_id id t)
+      → Submits h id (put_answer limit h clock draw id t) final end → EndsOpened limit h final input clock draw end
+  taken id t final ending.Memory input asks s = s
+  taken id t final ending.DiskFault input asks s = (with_id id t, asks, s)
+  taken id t final ending.InputFault input asks s = absurd (true_false (saying_calm id (put_answer limit h clock draw id t).said ending.InputFault s.0))
+  taken id t final ending.Founded input asks s = (with_id id t, asks, s.0, s.1)
+  taken id t final (ending.Kept k) input asks s = (with_id id t, asks, s.0, s.1)
+  taken id t final ending.Usage input asks s = (with_id id t, asks, s.0, s.1)
+  taken id t final (ending.Served responses) input asks s = (with_id id t, asks, s.0, s.1)
+  taken id t final ending.LobbyFault input asks s = (with_id id t, asks, s.0, s.1)
+  taken id t final ending.NotAStore input asks s = (with_id id t, asks, s.0, s.1)
+  taken id t final (ending.Damaged k) input asks s = (with_id id t, asks, s.0, s.1)
+  taken id t final ending.AlreadyStore input asks s = (with_id id t, asks, s.0, s.1)
+  taken id t final (ending.Refused r) input asks s = (with_id id t, asks, s.0, s.1)
+  taken id t final ending.NoId input asks s = (with_id id t, asks, s.0, s.1)
+  taken id t final ending.TooLong input asks s = (with_id id t, asks, s.0, s.1)
+  taken id t final (ending.Conflict k) input asks s = (with_id id t, asks, s.0, s.1)
+  taken id t final (ending.Full need most) input asks s = (with_id id t, asks, s.0, s.1)
 
-no_input_fault : (id : List ℕ) (s : Answered) → EndsSaying id s ending.InputFault → ⊥
-no_input_fault id said.Kept e = cc
-no_input_fault id said.Same e = cc
-no_input_fault id (said.Shown text through) e = absurd e
-no_input_fault id (said.Refused r) e = refused_no_input_fault r e
+  pub takes_in : (id : List ℕ) (t : Tree) (final : List Entry) (end : Ending) (left : Option (List ℕ)) → IfSome left (λ input. IsTakenFor input (with_id id t))
+      → Submits h id (put_answer limit h clock draw id t) final end → IfSome left (λ input. EndsOpened limit h final input clock draw end)
+  takes_in id t final end None asks s = tt
+  takes_in id t final end (Some input) asks s = taken id t final end input asks s
 
-module _ {D : Type 0} (told : D → Option (List ℕ)) (limit : ℕ) (h : List Entry) (clock : ℕ) (draw : Draw) where
-  taken : (id : List ℕ) (t : Tree) (new : Desk D) (end : Ending) (input : List ℕ) → IsTakenFor input (named id t)
-      → Submits told h id (put_answer limit h clock draw id t) new end → TakesIn told limit h input clock draw new end
-  taken id t new ending.Memory input asks s = s
-  taken id t new ending.DiskFault input asks s = (named id t, asks, s)
-  taken id t new ending.InputFault input asks s = absurd (no_input_fault id (put_answer limit h clock draw id t).said s.0)
-  taken id t new ending.Founded input asks s = (named id t, asks, s.0, s.1)
-  taken id t new (ending.Kept k) input asks s = (named id t, asks, s.0, s.1)
-  taken id t new ending.Usage input asks s = (named id t, asks, s.0, s.1)
-  taken id t new (ending.Served responses) input asks s = (named id t, asks, s.0, s.1)
-  taken id t new ending.LobbyFault input asks s = (named id t, asks, s.0, s.1)
-  taken id t new ending.NotAStore input asks s = (named id t, asks, s.0, s.1)
-  taken id t new (ending.Damaged k) input asks s = (named id t, asks, s.0, s.1)
-  taken id t new ending.AlreadyStore input asks s = (named id t, asks, s.0, s.1)
-  taken id t new (ending.Refused r) input asks s = (named id t, asks, s.0, s.1)
-  taken id t new ending.NoId input asks s = (named id t, asks, s.0, s.1)
-  taken id t new ending.TooLong input asks s = (named id t, asks, s.0, s.1)
-  taken id t new (ending.Conflict k) input asks s = (named id t, asks, s.0, s.1)
-  taken id t new (ending.Full need most) input asks s = (named id t, asks, s.0, s.1)
+  -- what is no statement changes nothing
+  not_taken : (end : Ending) (input : List ℕ) (before now : ℕ) → IsNotTaken input end → HasInputCause before now end → EndsOpened limit h h input clock draw end
+  not_taken ending.Memory input before now why cause = refl
+  not_taken ending.InputFault input before now why cause = refl
+  not_taken ending.DiskFault input before now why cause = absurd cause
+  not_taken ending.Founded input before now (kind, is, over) cause = let o = over limit h clock draw in (kind, is, o.0, ap (with_entry h) (sym o.1))
+  not_taken (ending.Kept k) input before now (kind, is, over) cause = let o = over limit h clock draw in (kind, is, o.0, ap (with_entry h) (sym o.1))
+  not_taken ending.Usage input before now (kind, is, over) cause = let o = over limit h clock draw in (kind, is, o.0, ap (with_entry h) (sym o.1))
+  not_taken (ending.Served responses) input before now (kind, is, over) cause = let o = over limit h clock draw in (kind, is, o.0, ap (with_entry h) (sym o.1))
+  not_taken ending.LobbyFault input before now (kind, is, over) cause = let o = over limit h clock draw in (kind, is, o.0, ap (with_entry h) (sym o.1))
+  not_taken ending.NotAStore input before now (kind, is, over) cause = let o = over limit h clock draw in (kind, is, o.0, ap (with_entry h) (sym o.1))
+  not_taken (ending.Damaged k) input before now (kind, is, over) cause = let o = over limit h clock draw in (kind, is, o.0, ap (with_entry h) (sym o.1))
+  not_taken ending.AlreadyStore input before now (kind, is, over) cause = let o = over limit h clock draw in (kind, is, o.0, ap (with_entry h) (sym o.1))
+  not_taken (ending.Refused r) input before now (kind, is, over) cause = let o = over limit h clock draw in (kind, is, o.0, ap (with_entry h) (sym o.1))
+  not_taken ending.NoId input before now (kind, is, over) cause = let o = over limit h clock draw in (kind, is, o.0, ap (with_entry h) (sym o.1))
+  not_taken ending.TooLong input before now (kind, is, over) cause = let o = over limit h clock draw in (kind, is, o.0, ap (with_entry h) (sym o.1))
+  not_taken (ending.Conflict k) input before now (kind, is, over) cause = let o = over limit h clock draw in (kind, is, o.0, ap (with_entry h) (sym o.1))
+  not_taken (ending.Full need most) input before now (kind, is, over) cause = let o = over limit h clock draw in (kind, is, o.0, ap (with_entry h) (sym o.1))
 
-  pub takes_in : (id : List ℕ) (t : Tree) (new : Desk D) (end : Ending) (left : Option (List ℕ)) → IfSome left (λ input. IsTakenFor input (named id t))
-      → Submits told h id (put_answer limit h clock draw id t) new end → IfSome left (λ input. TakesIn told limit h input clock draw new end)
-  takes_in id t new end None asks s = tt
-  takes_in id t new end (Some input) asks s = taken id t new end input asks s
+  pub takes_none : (end : Ending) (left : Option (List ℕ)) (before now : ℕ) → IfSome left (λ input. IsNotTaken input end) → HasInputCause before now end
+      → IfSome left (λ input. EndsOpened limit h h input clock draw end)
+  takes_none end None before now why cause = tt
+  takes_none end (Some input) before now why cause = not_taken end input before now why cause
 
-  -- ---- closing
-
-  -- what a closed desk leaves of the history that it stood for
-  left_whole : (mid : Desk D) (disk : D) (n : ℕ) → mid.limit ≡ limit → n ≡ mid.number
-      → ((k : List Entry) → StandsFor told mid k → LeavesStore told disk mid.limit false k) → (k : List Entry) → StandsFor told mid k → Leaves limit k (told disk) n
-  left_whole mid disk n same count closed k stands =
-      (subst (λ (l : ℕ). Holds (told disk) l k) same (closed k stands), subst (λ (l : ℕ). IsLegal l k) same stands.legal, count ∙ stands.counts)
-
-  left_doubt : (mid : Desk D) (disk : D) (n : ℕ) (entry : Option Entry) → ((k : List Entry) → StandsFor told mid k → Leaves limit k (told disk) n)
-      → IsLeft told h entry mid → LeavesDoubt limit h entry (told disk) n
-  left_doubt mid disk n entry leaves left = ⊎_elim (λ sure. inl (leaves h sure.1))
-      (λ doubt. let whole = leaves (h ++ doubt.0 ∷ []) doubt.2 in inr (doubt.0, doubt.1, whole.1, whole.2 ∙ length_push h doubt.0, inr whole.0)) left
-
-  closed_one : (mid : Desk D) (disk : D) (n : ℕ) (end : Ending) (input : List ℕ) → ((k : List Entry) → StandsFor told mid k → Leaves limit k (told disk) n)
-      → TakesIn told limit h input clock draw mid end → EndsOpened limit h input clock draw (told disk) n end
-  closed_one mid disk n ending.Memory input leaves s = leaves h s.1
-  closed_one mid disk n ending.InputFault input leaves s = leaves h s.1
-  closed_one mid disk n ending.DiskFault input leaves s = (s.0, s.1, left_doubt mid disk n (entry_asked limit h clock draw s.0) leaves s.2)
-  closed_one mid disk n ending.Founded input leaves s = (s.0, s.1, s.2, leaves _ s.3.1)
-  closed_one mid disk n (ending.Kept k) input leaves s = (s.0, s.1, s.2, leaves _ s.3.1)
-  closed_one mid disk n ending.Usage input leaves s = (s.0, s.1, s.2, leaves _ s.3.1)
-  closed_one mid disk n (ending.Served responses) input leaves s = (s.0, s.1, s.2, leaves _ s.3.1)
-  closed_one mid disk n ending.LobbyFault input leaves s = (s.0, s.1, s.2, leaves _ s.3.1)
-  closed_one mid disk n ending.NotAStore input leaves s = (s.0, s.1, s.2, leaves _ s.3.1)
-  closed_one mid disk n (ending.Damaged k) input leaves s = (s.0, s.1, s.2, leaves _ s.3.1)
-  closed_one mid disk n ending.AlreadyStore input leaves s = (s.0, s.1, s.2, leaves _ s.3.1)
-  closed_one mid disk n (ending.Refused r) input leaves s = (s.0, s.1, s.2, leaves _ s.3.1)
-  closed_one mid disk n ending.NoId input leaves s = (s.0, s.1, s.2, leaves _ s.3.1)
-  closed_one mid disk n ending.TooLong input leaves s = (s.0, s.1, s.2, leaves _ s.3.1)
-  closed_one mid disk n (ending.Conflict k) input leaves s = (s.0, s.1, s.2, leaves _ s.3.1)
-  closed_one mid disk n (ending.Full need most) input leaves s = (s.0, s.1, s.2, leaves _ s.3.1)
-
-  pub closes : (mid : Desk D) (disk : D) (n : ℕ) (end : Ending) (left : Option (List ℕ)) → mid.limit ≡ limit → n ≡ mid.number
-      → ((k : List Entry) → StandsFor told mid k → LeavesStore told disk mid.limit false k)
-      → IfSome left (λ input. TakesIn told limit h input clock draw mid end) → IfSome left (λ input. EndsOpened limit h input clock draw (told disk) n end)
-  closes mid disk n end None same count closed takes = tt
-  closes mid disk n end (Some input) same count closed takes = closed_one mid disk n end input (left_whole mid disk n same count closed) takes
-
--- ---- a closing that fails
+-- ---- closing
 
 no_snoc : {X : Type 0} (xs : List X) (x : X) → [] ≡ xs ++ x ∷ [] → ⊥
 no_snoc [] x e = cc
@@ -137,47 +232,73 @@ map_snoc : (h : List Entry) (e : Entry) → map written_entry (h ++ e ∷ []) �
 map_snoc [] e = refl
 map_snoc (k ∷ h) e = ap (λ r. written_entry k ∷ r) (map_snoc h e)
 
-doubtful : {D : Type 0} (told : D → Option (List ℕ)) (disk : D) (limit : ℕ) (h : List Entry) (e : Entry) → LeavesStore told disk limit true (h ++ e ∷ [])
-    → Holds (told disk) limit h ⊎ Holds (told disk) limit (h ++ e ∷ [])
-doubtful told disk limit h e (bytes, tells, (before, last, split, stands)) =
+doubtful : (told : Option (List ℕ)) (limit : ℕ) (h : List Entry) (e : Entry) → HoldsIn true told limit (h ++ e ∷ [])
+    → Holds told limit h ⊎ Holds told limit (h ++ e ∷ [])
+doubtful told limit h e (bytes, tells, (before, last, split, stands)) =
     let fronts : map written_entry h ≡ before = front_of (map written_entry h) before (written_entry e) last (sym (map_snoc h e) ∙ split) in
     ⊎_elim (λ s. inl (bytes, tells, subst (λ (p : List (List ℕ)). Stands bytes limit p) (sym fronts) s)) (λ s. inr (bytes, tells, s)) stands
 
-module _ {D : Type 0} (told : D → Option (List ℕ)) (limit : ℕ) (h : List Entry) (clock : ℕ) (draw : Draw) (mid : Desk D) (disk : D) (n : ℕ)
-    (same : mid.limit ≡ limit) (count : n ≡ mid.number) (doubt : mid.doubt ≡ true) (left : (k : List Entry) → StandsFor told mid k → LeavesStore told disk mid.limit true k) where
-  unsure : {X : Type 0} (k : List Entry) → IsSure told mid k → X
-  unsure k sure = let settled : mid.doubt ≡ false = sure.0 in cc
+module _ {D : Type 0} (d : disks.Ghosts D) (counts_now : (x : D) (t : ℕ) (c : List ℕ) → t ≤ d.time x → d.image x c → d.image_since x t c)
+    (only_now : (x : D) (c : List ℕ) → d.image_since x (d.time x) c → d.image x c) (desk mid : Desk D) (disk : D) (opened : IsOpened d desk) (on : GoesOn d desk mid)
+    (n : ℕ) (count : n ≡ length (history mid)) (legal : IsLegal mid.limit (history mid))
+    (stops : ForSome (d.told mid.disk) (λ _. LeavesOnly d.time d.image_since mid.disk disk (HoldsPrefix mid.limit (sure mid.line) (history mid)))) where
+  legal_here : IsLegal desk.limit (history mid)
+  legal_here = subst (λ (l : ℕ). IsLegal l (history mid)) on.limit legal
 
-  failed_one : (end : Ending) (input : List ℕ) → TakesIn told limit h input clock draw mid end → EndsOpened limit h input clock draw (told disk) n ending.DiskFault
-  failed_one ending.Memory input s = unsure h s
-  failed_one ending.InputFault input s = unsure h s
-  failed_one ending.DiskFault input s = (
-    s.0,
-    s.1,
-    ⊎_elim (λ sure. unsure h sure)
-        (λ d. inr (
-          d.0,
-          d.1,
-          subst (λ (l : ℕ). IsLegal l (h ++ d.0 ∷ [])) same d.2.legal,
-          count ∙ d.2.counts ∙ length_push h d.0,
-          doubtful told disk limit h d.0 (subst (λ (l : ℕ). LeavesStore told disk l true (h ++ d.0 ∷ [])) same (left (h ++ d.0 ∷ []) d.2)),
-        )) s.2,
-  )
-  failed_one ending.Founded input s = unsure _ s.3
-  failed_one (ending.Kept k) input s = unsure _ s.3
-  failed_one ending.Usage input s = unsure _ s.3
-  failed_one (ending.Served responses) input s = unsure _ s.3
-  failed_one ending.LobbyFault input s = unsure _ s.3
-  failed_one ending.NotAStore input s = unsure _ s.3
-  failed_one (ending.Damaged k) input s = unsure _ s.3
-  failed_one ending.AlreadyStore input s = unsure _ s.3
-  failed_one (ending.Refused r) input s = unsure _ s.3
-  failed_one ending.NoId input s = unsure _ s.3
-  failed_one ending.TooLong input s = unsure _ s.3
-  failed_one (ending.Conflict k) input s = unsure _ s.3
-  failed_one (ending.Full need most) input s = unsure _ s.3
+  stops_here : StopsFrom d desk disk (history mid)
+  stops_here = stops_from d counts_now only_now desk mid disk opened on stops
 
-  pub fails : (end : Ending) (given : Option (List ℕ)) → IfSome given (λ input. TakesIn told limit h input clock draw mid end)
-      → IfSome given (λ input. EndsOpened limit h input clock draw (told disk) n ending.DiskFault)
-  fails end None takes = tt
-  fails end (Some input) takes = failed_one end input takes
+  -- the closing went well
+  pub closed_final : (end : Ending) → ForSome (d.told mid.disk) (λ _. LeavesStore d.told disk mid.limit false (history mid))
+      → ((c : List ℕ) → d.image disk c → Stands c mid.limit (map written_entry (history mid)))
+      → LeavesFinal d (taken_now d desk.disk) disk desk.limit (history desk) (history mid) n end
+  closed_final end holds durable = record {
+    legal = legal_here;
+    counts = count;
+    holds = λ told is.
+        let t = told_on (d.told desk.disk) (d.told mid.disk) told on.tells is in
+        inl (subst (λ (l : ℕ). Holds (d.told disk) l (history mid)) on.limit (holds t.0 t.1));
+    stops = λ told is. (stops_here told is).each;
+    closed = λ well told is image left. (subst (λ (l : ℕ). Stands image l (map written_entry (history mid))) on.limit (durable image left), legal_here);
+  }
+
+  -- the disk failed, and the entry of the one act was in doubt
+  failed_final : (e : Entry) → history mid ≡ history desk ++ e ∷ [] → ForSome (d.told mid.disk) (λ _. LeavesStore d.told disk mid.limit true (history mid))
+      → LeavesFinal d (taken_now d desk.disk) disk desk.limit (history desk) (history mid) n ending.DiskFault
+  failed_final e one holds = record {
+    legal = legal_here;
+    counts = count;
+    holds = λ told is.
+        let t = told_on (d.told desk.disk) (d.told mid.disk) told on.tells is in
+        let there : HoldsIn true (d.told disk) desk.limit (history desk ++ e ∷ []) =
+        subst (λ (h : List Entry). HoldsIn true (d.told disk) desk.limit h) one (subst (λ (l : ℕ). HoldsIn true (d.told disk) l (history mid)) on.limit (holds t.0 t.1)) in
+        ⊎_elim (λ before. inr (refl, before)) (λ after. inl (subst (λ (h : List Entry). Holds (d.told disk) desk.limit h) (sym one) after))
+        (doubtful (d.told disk) desk.limit (history desk) e there);
+    stops = λ told is. (stops_here told is).each;
+    closed = λ well. absurd (well refl);
+  }
+
+  pub closes : (left : Option (List ℕ)) (clock : ℕ) (draw : Draw) (end : Ending) → IfSome left (λ input. EndsOpened desk.limit (history desk) (history mid) input clock draw end)
+      → ForSome (d.told mid.disk) (λ _. LeavesStore d.told disk mid.limit false (history mid))
+      → ((c : List ℕ) → d.image disk c → Stands c mid.limit (map written_entry (history mid)))
+      → ClosesTaken d desk disk left clock draw n end
+  closes left clock draw end ends holds durable = record {
+    final = history mid;
+    begins = entries_begin desk.line mid.line on.begins;
+    ends = ends;
+    leaves = closed_final end holds durable;
+    stops = stops_here;
+  }
+
+  pub fails : (left : Option (List ℕ)) (clock : ℕ) (draw : Draw) (end : Ending) → IfSome left (λ input. EndsOpened desk.limit (history desk) (history mid) input clock draw end)
+      → DoubtsOnly desk mid end → in_doubt mid.line ≡ true → ForSome (d.told mid.disk) (λ _. LeavesStore d.told disk mid.limit true (history mid))
+      → ClosesTaken d desk disk left clock draw n ending.DiskFault
+  fails left clock draw end ends doubts doubt holds =
+      let lost = doubts doubt in
+      record {
+        final = history mid;
+        begins = entries_begin desk.line mid.line on.begins;
+        ends = subst (λ (x : Ending). IfSome left (λ input. EndsOpened desk.limit (history desk) (history mid) input clock draw x)) lost.0 ends;
+        leaves = failed_final lost.1.0 lost.1.1 holds;
+        stops = stops_here;
+      }

@@ -1,29 +1,42 @@
 -- From the conversations of a door to what serve does.
-use Rattle.std.proofs.Common.{◌≡◌, ◌≢◌, ◌⊎◌, ◌<◌, ◌≤◌, ◌+◌, ◌-◌, ◌^◌, min, ◌++◌, ◌∷◌, [], ℕ, List, drop, length, map, Bool, true, false, MatchBool, Option, Some, None, IfSome, option_map, refl, sym, ap, ◌∙◌, subst, inl, inr, ⊎_elim, arith, All}
-use Rattle.std.specs.List.{Any}
+use Rattle.std.proofs.Common.{◌≡◌, ◌≢◌, ◌⊎◌, ◌<◌, ◌≤◌, ◌+◌, ◌-◌, ◌^◌, min, ◌++◌, ◌∷◌, [], ℕ, List, drop, length, map, take, Bool, true, false, MatchBool, Option, Some, None, IfSome, option_map, refl, sym, ap, ◌∙◌, subst, inl, inr, ⊎_elim, arith, All}
+use Rattle.std.specs.List.{AllByRecursion, Any}
 use Rattle.std.specs.Option.{ForSome}
 use Rattle.std.proofs.lemmas.List.{drop_all}
 use Rattle.std.proofs.lemmas.List.Elements.{All-pop}
 use Rattle.std.proofs.Math.Nat.{min-eq_left}
+use Rattle.lrs_disk.specs.Disk.{LeavesOnly}
 use Rattle.lrs_disk.specs.Door.{DoorState, IsFresh, Returned}
 use Rattle.lrs_disk.specs.Faults.{Rises}
 use Rattle.lrs_disk.specs.Lobby.{DoorsAsked, CountsFaults}
-use Rattle.lrs_machine.specs.Desk.{Desk}
+use Rattle.lrs_disk.specs.declared.disk.Disk as disks
+use Rattle.lrs_journal.specs.Journal.{IsSynced, TellsAlike}
+use Rattle.lrs_journal.specs.Store.{Stands}
+use Rattle.lrs_record.specs.Entries.{written_entry}
 use Rattle.lrs_record.specs.declared.entry.Entry.{Entry}
 use Rattle.lrs_history.specs.History.{IsLegal}
-use Rattle.lrs_machine.specs.Desk.{Receipt, StandsFor, LeavesStore, IsStoreOf, IsDeskRefused}
+use Rattle.lrs_machine.specs.Acts.{Receipt}
+use Rattle.lrs_machine.specs.Desk.{Desk, HoldsPrefix, IsStoreOf, KeepsLine, LeavesStore, OpensOnly, history}
+use Rattle.lrs_machine.specs.Line.{BeginsWith, Record, entries, in_doubt, opened_line, sure}
 use Rattle.lrs_machine.specs.declared.opening.DeskRefused.{DeskRefused}
 use Rattle.lrs_machine.specs.declared.opening.DeskRefused.TheVariants as refused
 use Rattle.lrs_hall.specs.Acts.{ActsIn}
 use Rattle.lrs_hall.specs.Draws.{start_of}
-use Rattle.lrs_hall.specs.Serving.{AreConversations, AreOver, Counts, EndsServing, all_receipts, worker_at}
+use Rattle.lrs_hall.specs.Laws.{entries_in}
+use Rattle.lrs_hall.specs.Serving.{AreConversations, AreOver, AreWithin, Counts, EndsServing, IsWithin, Mark, all_receipts, mark_of, worker_at}
 use Rattle.lrs_hall.specs.Talks.{Talk}
 use Rattle.lrs_hall.specs.declared.serving.ServeEnd.{ServeEnd}
 use Rattle.lrs_hall.specs.declared.serving.ServeEnd.TheVariants as serve
-use Rattle.lrs_app.specs.Service.{Doors, HasNoDoor, GivesBack, IsBehind, CountsOn, Holds, HoldsBehind, HoldsIn, HoldsServed, ending_of_serving, responses_of}
+use Rattle.lrs_hall.proofs.Lines.{begins_self, begins_take, entries_begin}
+use Rattle.lrs_hall.proofs.Once.{entries_once, keeps_promises}
+use Rattle.lrs_app.specs.ClosingSteps.{StopsFrom}
+use Rattle.lrs_app.specs.Disks.{Holds, HoldsIn, LeavesFinal, LeavesUnopened, Taken, taken_now}
+use Rattle.lrs_app.specs.Service.{Doors, HasNoDoor, GivesBack, IsBehind, CountsOn, HoldsBehind, HoldsServed, ending_of_serving, responses_of}
 use Rattle.lrs_app.specs.ServeSteps.{ServesHad, ServesDesk, ServesOpened, ClosesDoorless, ClosesServed}
-use Rattle.lrs_app.specs.Run.{EndsUnopened, HasEndingCause, HasLobbyCause, Leaves, Seen, ServesDisk}
-use Rattle.lrs_app.specs.Steps.{ending_of}
+use Rattle.lrs_app.specs.Run.{HasEndingCause, HasLobbyCause, ServesDisk}
+use Rattle.lrs_app.specs.Steps.{GoesOn, IsOpened, ending_of}
+use Rattle.lrs_app.proofs.Opened.{closed_final}
+use Rattle.lrs_app.proofs.Openings.{leaves_since, opened_records, opened_settled, still_goes, still_told, stops_from, stops_since, told_on}
 use Rattle.lrs_console.specs.declared.ending.Ending.{Ending}
 use Rattle.lrs_console.specs.declared.ending.Ending.TheVariants as ending
 
@@ -139,45 +152,136 @@ served_cause serve.DoorFault talks connections address opening closing before af
       any_one : (door : DoorState) → 0 < door.faults → Any (λ (d : DoorState). 0 < d.faults) (door ∷ [])
       any_one door faults = (0, door, omega arith, refl, faults)
 
+true_false : true ≡ false → ⊥
+true_false e = cc
+
+well_served : (why : ServeEnd) (talks : List Talk) → ending_of_serving why talks ≢ ending.DiskFault
+well_served serve.Done talks e = cc
+well_served serve.DoorFault talks e = cc
+well_served serve.Memory talks e = cc
+
 holds_whole : (why : ServeEnd) (talks : List Talk) (doubt : Bool) (told : Option (List ℕ)) (limit : ℕ) (h : List Entry)
     → Holds told limit h → HoldsBehind (ending_of_serving why talks) doubt told limit h
 holds_whole serve.Done talks doubt told limit h holds = holds
 holds_whole serve.DoorFault talks doubt told limit h holds = holds
 holds_whole serve.Memory talks doubt told limit h holds = holds
 
+-- ---- marks
+
+-- what lies between two marks lies between wider ones
+pub within_wider : (a b x y : Mark) (receipts : List Receipt) → x.faults ≤ a.faults → x.moment ≤ a.moment → b.faults ≤ y.faults → b.moment ≤ y.moment
+    → AreWithin a b receipts → AreWithin x y receipts
+within_wider a b x y [] f m g n all = tt
+within_wider a b x y (r ∷ receipts) f m g n all = (
+  λ acted.
+      let w = all.0 acted in
+      let was = w.was in
+      let is = w.is in
+      let began = w.began in
+      let ended = w.ended in
+      record {
+        was = omega (arith, f, was);
+        is = omega (arith, g, is);
+        began = omega (arith, m, began);
+        ended = omega (arith, n, ended);
+      },
+  within_wider a b x y receipts f m g n all.1,
+)
+
+-- without a talk there is nothing between them
+pub no_marks : (a b : Mark) (talks : List Talk) → talks ≡ [] → AreWithin a b (all_receipts talks)
+no_marks a b talks silent = subst (λ (t : List Talk). AreWithin a b (all_receipts t)) (sym silent) tt
+
 -- ---- closing
 
-module _ {D : Type 0} (told : D → Option (List ℕ)) (faults : D → ℕ) (desk mid : Desk D) (disk : D) (address : List ℕ) (connections : ℕ) (seed : List ℕ)
-    (before after : Doors) (talks : List Talk) (n : ℕ) (end : Ending) (settled : desk.doubt ≡ false) (limit : mid.limit ≡ desk.limit) (count : n ≡ mid.number) where
-  doorless : ((k : List Entry) → StandsFor told mid k → LeavesStore told disk mid.limit false k) → HasNoDoor address before after end × (talks ≡ []) × (mid ≡ desk)
-      → ClosesDoorless told desk address before after disk talks n end
-  doorless left none = record {
-    none = none.0;
-    silent = none.1;
-    left = λ h stands.
-        let same : StandsFor told mid h = subst (λ (m : Desk D). StandsFor told m h) (sym none.2) stands in
-        (subst (λ (l : ℕ). LeavesStore told disk l false h) limit (left h same), subst (λ (l : ℕ). IsLegal l h) limit same.legal, count ∙ same.counts);
-  }
+module _ {D : Type 0} (d : disks.Ghosts D) (counts_now : (x : D) (t : ℕ) (c : List ℕ) → t ≤ d.time x → d.image x c → d.image_since x t c)
+    (only_now : (x : D) (c : List ℕ) → d.image_since x (d.time x) c → d.image x c) (since_later : (x : D) (t u : ℕ) (c : List ℕ) → t ≤ u → d.image_since x u c → d.image_since x t c)
+    (desk mid : Desk D) (disk : D) (address : List ℕ) (connections : ℕ) (seed : List ℕ) (before after : Doors) (talks : List Talk) (n : ℕ) (end : Ending)
+    (opened : IsOpened d desk) (on : GoesOn d desk mid) (count : n ≡ length (history mid)) (legal : IsLegal mid.limit (history mid))
+    (marks : AreWithin (mark_of d.fault_count d.time desk.disk) (mark_of d.fault_count d.time mid.disk) (all_receipts talks))
+    (risen : d.fault_count mid.disk ≤ d.fault_count disk) (passed : d.time mid.disk ≤ d.time disk)
+    (stops : ForSome (d.told mid.disk) (λ _. LeavesOnly d.time d.image_since mid.disk disk (HoldsPrefix mid.limit (sure mid.line) (history mid))))
+    (keeps : ForSome (d.told mid.disk) (λ _. KeepsLine mid.limit (d.time disk) (d.image_since disk) mid.line)) where
+  opened_entries : length (history desk) ≡ entries_in (length desk.line) mid.line
+  opened_entries = ap (λ (l : List Record). length (entries l)) (sym (begins_take desk.line mid.line on.begins))
 
-  history_of : (links : List Returned) (last : Ending) → AreConversations told desk mid (start_of seed 1) links talks
-      → ((k : List Entry) → StandsFor told mid k → HoldsBehind last mid.doubt (told disk) desk.limit k) → (h : List Entry) → StandsFor told desk h
-      → HoldsServed desk.limit h seed links talks (told disk) n last
-  history_of links last over left h stands =
-      let r = over.held h stands in
+  some_records : 1 ≤ length desk.line
+  some_records =
+      let some = opened.legal.0 in
+      let all = opened_records d desk opened in
+      omega (arith, some, all)
+
+  -- what is the same however the closing ends
+  served_with : (links : List Returned) (last : Ending) → AreConversations d.time desk mid (start_of seed 1) links talks
+      → (last ≡ ending.DiskFault → in_doubt mid.line ≡ true)
+      → ForSome (d.told mid.disk) (λ _. HoldsBehind last (in_doubt mid.line) (d.told disk) desk.limit (history mid))
+      → (last ≢ ending.DiskFault → (c : List ℕ) → d.image disk c → Stands c mid.limit (map written_entry (history mid)))
+      → HoldsServed d (taken_now d desk.disk) disk desk.limit (history desk) seed links talks n last
+  served_with links last over doubtful holds durable =
+      let all = opened_records d desk opened in
+      let here : IsLegal desk.limit (history mid) = subst (λ (l : ℕ). IsLegal l (history mid)) on.limit legal in
+      let same = opened.moment in
+      let on_later = on.later in
       record {
-        history = r.0;
-        legal = subst (λ (l : ℕ). IsLegal l r.0) limit r.3.legal;
-        begins = r.2;
-        behind = r.1;
-        doubt = mid.doubt;
-        over = subst (λ (b : Bool). AreOver (ActsIn desk.limit r.0) talks links (worker_at (start_of seed 1) h b) (worker_at r.1 r.0 mid.doubt)) settled r.4;
-        counts = count ∙ r.3.counts;
-        holds = left r.0 r.3;
+        line = mid.line;
+        legal = here;
+        counts = count;
+        opened_at = desk.opened_at;
+        served_at = d.time mid.disk;
+        moments = (omega (arith, same), omega (arith, same, on_later), passed);
+        begins = subst (λ (l : List Record). BeginsWith l mid.line) opened.line on.begins;
+        behind = over.behind;
+        replies = subst (λ (t : ℕ). AreOver (ActsIn desk.limit mid.line) talks links (worker_at (start_of seed 1) (length (history desk)) t)
+            (worker_at over.behind (length mid.line) (d.time mid.disk))) (sym same)
+            (subst (λ (k : ℕ). AreOver (ActsIn desk.limit mid.line) talks links (worker_at (start_of seed 1) k (d.time desk.disk))
+            (worker_at over.behind (length mid.line) (d.time mid.disk))) all over.over);
+        once = λ place low high.
+            let whole : entries_in (length mid.line) mid.line ≡ length (history mid) = ap (λ (l : List Record). length (entries l)) (begins_take mid.line mid.line (begins_self mid.line)) in
+            let front = opened_entries in
+            entries_once desk.limit mid.line talks links (start_of seed 1) over.behind (length desk.line) (length mid.line) (d.time desk.disk) (d.time mid.disk) place over.over
+            (omega (arith, low, front)) (omega (arith, high, whole));
+        marks = within_wider (mark_of d.fault_count d.time desk.disk) (mark_of d.fault_count d.time mid.disk) (mark_of d.fault_count d.time desk.disk)
+            (mark_of d.fault_count d.time disk) (all_receipts talks) (omega arith) (omega arith) risen passed marks;
+        doubtful = doubtful;
+        holds = still_told (d.told desk.disk) (d.told mid.disk) _ on.tells holds;
+        stops = λ told is. (stops_from d counts_now only_now desk mid disk opened on stops told is).each;
+        kept = λ told is.
+            let t = told_on (d.told desk.disk) (d.told mid.disk) told on.tells is in
+            keeps_promises (d.time disk) (d.image_since disk) (λ t u c le left. since_later disk t u c le left) desk.limit mid.line talks links (start_of seed 1) over.behind
+            (length desk.line) (length mid.line) (d.time desk.disk) (d.time mid.disk)
+            (subst (λ (l : ℕ). KeepsLine l (d.time disk) (d.image_since disk) mid.line) on.limit (keeps t.0 t.1)) some_records over.over;
+        rests = λ told is image left.
+            let t = told_on (d.told desk.disk) (d.told mid.disk) told on.tells is in
+            subst (λ (l : ℕ). HoldsPrefix l (sure mid.line) (history mid) image) on.limit
+            ((stops t.0 t.1).each image (counts_now disk (d.time mid.disk) image passed left));
+        closed = λ well told is image left. (
+          subst (λ (l : ℕ). Stands image l (map written_entry (history mid))) on.limit (durable well image left),
+          here,
+        );
       }
 
-  served : ((k : List Entry) → StandsFor told mid k → LeavesStore told disk mid.limit false k) → ServesHad told desk mid address connections seed before after talks end
-      → HasLobbyCause before after end × ClosesServed told faults desk address connections seed before after disk talks n end
-  served left had =
+  stops_here : StopsFrom d desk disk (history mid)
+  stops_here = stops_from d counts_now only_now desk mid disk opened on stops
+
+  doorless : ForSome (d.told mid.disk) (λ _. LeavesStore d.told disk mid.limit false (history mid))
+      → ((c : List ℕ) → d.image disk c → Stands c mid.limit (map written_entry (history mid)))
+      → HasNoDoor address before after end × (talks ≡ []) × (mid ≡ desk) → ClosesDoorless d desk disk address before after talks n end
+  doorless holds durable none =
+      let same : history mid ≡ history desk = ap (λ (m : Desk D). history m) none.2 in
+      record {
+        none = none.0;
+        silent = none.1;
+        leaves = subst (λ (h : List Entry). LeavesFinal d (taken_now d desk.disk) disk desk.limit (history desk) h n end) same
+            (closed_final d counts_now only_now desk mid disk opened on n count legal stops end holds durable);
+        stops = subst (λ (h : List Entry). StopsFrom d desk disk h) same stops_here;
+      }
+
+  served : ForSome (d.told mid.disk) (λ _. LeavesStore d.told disk mid.limit false (history mid))
+      → ((c : List ℕ) → d.image disk c → Stands c mid.limit (map written_entry (history mid)))
+      → ServesHad d desk mid address connections seed before after talks end
+      → HasLobbyCause before after end × ClosesServed d desk disk address connections seed before after talks n end
+  unfolding served_with
+  served holds durable had =
       let one = had.one in
       let back = had.back one.closing one.one in (
         subst (λ (e : Ending). HasLobbyCause before after e) (sym had.ended) (served_cause had.why talks connections address one.opening one.closing before after one.fresh one.ends back),
@@ -194,25 +298,31 @@ module _ {D : Type 0} (told : D → Option (List ℕ)) (faults : D → ℕ) (des
             ends = one.ends;
             ended = inl had.ended;
           };
-          history = history_of one.links end one.over (λ k stands.
-              subst (λ (e : Ending). HoldsBehind e mid.doubt (told disk) desk.limit k) (sym had.ended)
-              (holds_whole had.why talks mid.doubt (told disk) desk.limit k (subst (λ (l : ℕ). Holds (told disk) l k) limit (left k stands))));
+          served = served_with one.links end one.over (λ is. absurd (well_served had.why talks (sym had.ended ∙ is)))
+              (λ told is. subst (λ (e : Ending). HoldsBehind e (in_doubt mid.line) (d.told disk) desk.limit (history mid)) (sym had.ended)
+              (holds_whole had.why talks (in_doubt mid.line) (d.told disk) desk.limit (history mid)
+              (subst (λ (l : ℕ). Holds (d.told disk) l (history mid)) on.limit (holds told is)))) (λ well. durable);
+          begins = entries_begin desk.line mid.line on.begins;
+          stops = stops_here;
         },
       )
 
   -- the store was closed
-  pub closed : ((k : List Entry) → StandsFor told mid k → LeavesStore told disk mid.limit false k) → ServesDesk told desk mid address connections seed before after talks end
-      → ServesOpened told faults desk address connections seed before after disk talks n end
-  closed left serves =
-      ⊎_elim (λ none. (doorless_cause address before after end none.0, inl (doorless left none))) (λ had. let s = served left had in (s.0, inr s.1)) serves
+  pub closed : ForSome (d.told mid.disk) (λ _. LeavesStore d.told disk mid.limit false (history mid))
+      → ((c : List ℕ) → d.image disk c → Stands c mid.limit (map written_entry (history mid)))
+      → ServesDesk d desk mid address connections seed before after talks end → ServesOpened d desk disk address connections seed before after talks n end
+  closed holds durable serves =
+      ⊎_elim (λ none. (doorless_cause address before after end none.0, inl (doorless holds durable none)))
+      (λ had. let s = served holds durable had in (s.0, inr s.1)) serves
 
   -- the store failed at the closing
-  pub failed : (mid.doubt ≡ true) × ((k : List Entry) → StandsFor told mid k → LeavesStore told disk mid.limit true k)
-      → Counts (faults desk.disk) (all_receipts talks) (faults mid.disk) → Rises (faults mid.disk) (faults disk)
-      → ServesDesk told desk mid address connections seed before after talks end
-      → ServesOpened told faults desk address connections seed before after disk talks n ending.DiskFault
-  failed left counts rises serves = ⊎_elim (λ none. absurd (let d : mid.doubt ≡ desk.doubt = ap (λ (m : Desk D). m.doubt) none.2 in
-      let t : mid.doubt ≡ true = left.0 in let f : desk.doubt ≡ false = settled in cc))
+  pub failed : in_doubt mid.line ≡ true → ForSome (d.told mid.disk) (λ _. LeavesStore d.told disk mid.limit true (history mid))
+      → Counts (d.fault_count desk.disk) (all_receipts talks) (d.fault_count mid.disk) → Rises (d.fault_count mid.disk) (d.fault_count disk)
+      → ServesDesk d desk mid address connections seed before after talks end
+      → ServesOpened d desk disk address connections seed before after talks n ending.DiskFault
+  unfolding served_with
+  failed doubt holds counts rises serves = ⊎_elim
+      (λ none. absurd (true_false (sym doubt ∙ ap (λ (m : Desk D). in_doubt m.line) none.2 ∙ opened_settled d desk opened)))
       (λ had. let one = had.one in (
         (λ e. cc),
         inr (record {
@@ -226,52 +336,72 @@ module _ {D : Type 0} (told : D → Option (List ℕ)) (faults : D → ℕ) (des
             readings = one.readings;
             why = had.why;
             ends = one.ends;
-            ended = inr (refl, behind (faults desk.disk) (all_receipts talks) (faults mid.disk) (faults disk) counts rises);
+            ended = inr (refl, behind (d.fault_count desk.disk) (all_receipts talks) (d.fault_count mid.disk) (d.fault_count disk) counts rises);
           };
-          history = history_of one.links ending.DiskFault one.over (λ k stands. (left.0, subst (λ (l : ℕ). HoldsIn true (told disk) l k) limit (left.1 k stands)));
+          served = served_with one.links ending.DiskFault one.over (λ is. doubt)
+              (λ told is. (doubt, subst (λ (l : ℕ). HoldsIn true (d.told disk) l (history mid)) on.limit (holds told is))) (λ well. absurd (well refl));
+          begins = entries_begin desk.line mid.line on.begins;
+          stops = stops_here;
         }),
       )) serves
 
-  pub closed_cause : (m k : ℕ) → ServesDesk told desk mid address connections seed before after talks end → HasEndingCause m k 0 0 end
-  closed_cause m k serves = ⊎_elim (λ none. doorless_disk address before after end m k none.0)
-      (λ had. subst (λ (e : Ending). HasEndingCause m k 0 0 e) (sym had.ended) (served_disk had.why talks m k)) serves
+pub closed_cause : {D : Type 0} (d : disks.Ghosts D) (desk mid : Desk D) (address : List ℕ) (connections : ℕ) (seed : List ℕ) (before after : Doors) (talks : List Talk) (end : Ending) (m k : ℕ)
+    → ServesDesk d desk mid address connections seed before after talks end → HasEndingCause m k 0 0 end
+closed_cause d desk mid address connections seed before after talks end m k serves = ⊎_elim (λ none. doorless_disk address before after end m k none.0)
+    (λ had. subst (λ (e : Ending). HasEndingCause m k 0 0 e) (sym had.ended) (served_disk had.why talks m k)) serves
 
 -- ---- opening
 
-with_history : {D : Type 0} (told : D → Option (List ℕ)) (desk : Desk D) (held : Option (List ℕ)) (P : ℕ → List Entry → Type 0)
-    → ForSome held (λ bytes. (h : List Entry) × IsStoreOf bytes desk.limit h × StandsFor told desk h) → ((h : List Entry) → StandsFor told desk h → P desk.limit h)
-    → IfSome held (λ bytes. (limit : ℕ) × (h : List Entry) × IsStoreOf bytes limit h × P limit h)
-with_history told desk None P opened p = tt
-with_history told desk (Some bytes) P opened p = let r = opened bytes refl in (desk.limit, r.0, r.1, p r.0 r.2)
-
 -- what serve does over a store that was opened
-pub opened_serves : {D : Type 0} (told : D → Option (List ℕ)) (faults : D → ℕ) (desk : Desk D) (held : Option (List ℕ)) (disk : D) (address : List ℕ) (connections : ℕ)
+pub opened_serves : {D : Type 0} (d : disks.Ghosts D) (counts_now : (x : D) (t : ℕ) (c : List ℕ) → t ≤ d.time x → d.image x c → d.image_since x t c)
+    (only_now : (x : D) (c : List ℕ) → d.image_since x (d.time x) c → d.image x c) (first : D) (desk : Desk D) (disk : D) (address : List ℕ) (connections : ℕ)
     (seed : List ℕ) (before after : Doors) (talks : List Talk) (n : ℕ) (end : Ending)
-    → ForSome held (λ bytes. (h : List Entry) × IsStoreOf bytes desk.limit h × StandsFor told desk h)
-    → ServesOpened told faults desk address connections seed before after disk talks n end
-    → ServesDisk held address connections seed before after (record { told = told disk; faults = faults disk }) talks n end
-opened_serves told faults desk held disk address connections seed before after talks n end opened serves = (
+    → IfSome (d.told first) (λ bytes. IsStoreOf bytes desk.limit (history desk)) → IsSynced d.told d.image first
+    → OpensOnly d.told d.image d.time d.image_since first desk.disk (λ bytes after. IsStoreOf after desk.limit (history desk))
+    → TellsAlike (d.told first) (d.told desk.disk) → d.fault_count desk.disk ≡ d.fault_count first → d.time first ≤ d.time desk.disk
+    → ServesOpened d desk disk address connections seed before after talks n end
+    → ServesDisk d (taken_now d first) disk address connections seed before after talks n end
+opened_serves d counts_now only_now first desk disk address connections seed before after talks n end store synced opens alike kept moment serves = (
   serves.0,
   inr (⊎_elim (λ none. inl (record {
+    limit = desk.limit;
+    opened = history desk;
+    store = store;
     none = none.none;
-    left = with_history told desk held (λ limit h. Leaves limit h (told disk) n) opened none.left;
+    leaves = leaves_since d counts_now only_now first desk disk (history desk) n end (begins_self (history desk)) synced opens alike none.stops none.leaves;
     silent = none.silent;
-  })) (λ served. inr (record {
-    links = served.links;
-    door = served.door;
-    history = with_history told desk held (λ limit h. HoldsServed limit h seed served.links talks (told disk) n end) opened served.history;
-  })) serves.1),
+  })) (λ had.
+      let s = had.served in
+      let moments = s.moments in
+      let early = moments.0 in
+      inr (record {
+        limit = desk.limit;
+        opened = history desk;
+        store = store;
+        links = had.links;
+        door = had.door;
+        served = record {
+          line = s.line;
+          legal = s.legal;
+          counts = s.counts;
+          opened_at = s.opened_at;
+          served_at = s.served_at;
+          moments = (omega (arith, moment, early), moments.1, moments.2);
+          begins = s.begins;
+          behind = s.behind;
+          replies = s.replies;
+          once = s.once;
+          marks = within_wider (mark_of d.fault_count d.time desk.disk) (mark_of d.fault_count d.time disk) (mark_of d.fault_count d.time first)
+              (mark_of d.fault_count d.time disk) (all_receipts talks) (omega (arith, kept)) moment (omega arith) (omega arith) s.marks;
+          doubtful = s.doubtful;
+          holds = still_told (d.told first) (d.told desk.disk) _ alike s.holds;
+          stops = stops_since d counts_now only_now first desk disk (entries s.line) had.begins synced opens alike had.stops;
+          kept = still_told (d.told first) (d.told desk.disk) _ alike s.kept;
+          rests = still_told (d.told first) (d.told desk.disk) _ alike s.rests;
+          closed = λ well. still_told (d.told first) (d.told desk.disk) _ alike (s.closed well);
+        };
+      })) serves.1),
 )
-
-unopened_left : (held new : Option (List ℕ)) (why : DeskRefused) → ForSome held (λ bytes. IsDeskRefused bytes why) → (why ≢ refused.Failed → new ≡ held)
-    → ForSome held (λ bytes. (new ≡ Some bytes) ⊎ ((limit : ℕ) × (h : List Entry) × IsStoreOf bytes limit h × Holds new limit h))
-    → IfSome held (λ bytes. EndsUnopened bytes new (ending_of why))
-unopened_left None new why is same left = tt
-unopened_left (Some bytes) new refused.NotAStore is same left = (is bytes refl, same (λ e. cc))
-unopened_left (Some bytes) new (refused.Damaged k) is same left = (inl (is bytes refl), same (λ e. cc))
-unopened_left (Some bytes) new (refused.IllegalEntry k) is same left = (inr (is bytes refl), same (λ e. cc))
-unopened_left (Some bytes) new refused.Failed is same left = left bytes refl
-unopened_left (Some bytes) new refused.Memory is same left = same (λ e. cc)
 
 unopened_cause : (why : DeskRefused) (before after : Doors) → HasLobbyCause before after (ending_of why)
 unopened_cause refused.NotAStore before after = λ e. cc
@@ -281,32 +411,11 @@ unopened_cause refused.Failed before after = λ e. cc
 unopened_cause refused.Memory before after = λ e. cc
 
 -- what serve does where no store is opened
-pub unopened_serves : (held : Option (List ℕ)) (address : List ℕ) (connections : ℕ) (seed : List ℕ) (doors : Doors) (disk : Seen) (talks : List Talk) (why : DeskRefused) (end : Ending)
-    → end ≡ ending_of why → talks ≡ [] → ForSome held (λ bytes. IsDeskRefused bytes why) → (why ≢ refused.Failed → disk.told ≡ held)
-    → ForSome held (λ bytes. (disk.told ≡ Some bytes) ⊎ ((limit : ℕ) × (h : List Entry) × IsStoreOf bytes limit h × Holds disk.told limit h))
-    → ServesDisk held address connections seed doors doors disk talks 0 end
-unopened_serves held address connections seed doors disk talks why end ended silent is same left = (
+pub unopened_serves : {D : Type 0} (d : disks.Ghosts D) (taken : Taken) (disk : D) (address : List ℕ) (connections : ℕ) (seed : List ℕ) (doors : Doors) (talks : List Talk) (why : DeskRefused) (end : Ending)
+    → end ≡ ending_of why → talks ≡ [] → LeavesUnopened d taken disk 0 end → ServesDisk d taken disk address connections seed doors doors talks 0 end
+unopened_serves d taken disk address connections seed doors talks why end ended silent leaves = (
   subst (λ (e : Ending). HasLobbyCause doors doors e) (sym ended) (unopened_cause why doors doors),
-  inl (record {
-    why = why;
-    ended = ended;
-    left = subst (λ (e : Ending). IfSome held (λ bytes. EndsUnopened bytes disk.told e)) (sym ended) (unopened_left held disk.told why is same left);
-    lobby = refl;
-    silent = silent;
-    counts = refl;
-  }),
-)
-
--- what serve leaves on the disk that the shelf gave under a name
-pub serve_leaves : (holds : List ℕ → Option (List ℕ)) (begins : List ℕ → ℕ) (file name address : List ℕ) (connections : ℕ) (seed : List ℕ) (before after : Doors)
-    (told : Option (List ℕ)) (count : ℕ) (disk : Seen) (talks : List Talk) (n : ℕ) (end : Ending)
-    → name ≡ file → told ≡ holds name → count ≡ begins name
-    → ServesDisk told address connections seed before after disk talks n end → HasEndingCause count disk.faults 0 0 end → CountsOn count talks disk.faults
-    → HasEndingCause (begins file) disk.faults 0 0 end × CountsOn (begins file) talks disk.faults × ServesDisk (holds file) address connections seed before after disk talks n end
-serve_leaves holds begins file name address connections seed before after told count disk talks n end same tells begun serves cause counts = (
-  subst (λ (f : ℕ). HasEndingCause f disk.faults 0 0 end) (begun ∙ ap begins same) cause,
-  subst (λ (f : ℕ). CountsOn f talks disk.faults) (begun ∙ ap begins same) counts,
-  subst (λ (t : Option (List ℕ)). ServesDisk t address connections seed before after disk talks n end) (tells ∙ ap holds same) serves,
+  inl (record { leaves = leaves; lobby = refl; silent = silent }),
 )
 
 -- ---- responses

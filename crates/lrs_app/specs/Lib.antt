@@ -1,3 +1,5 @@
+pub mod ClosingSteps
+pub mod Disks
 pub mod Run
 pub mod Steps
 pub mod Service

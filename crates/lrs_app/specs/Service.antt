@@ -1,27 +1,32 @@
 -- What serve does: it asks for a door of the address, serves its connections, and gives the door back.
-use Rattle.std.specs.Prelude.{◌≡◌, ◌⊎◌, ◌≤◌, ◌++◌, ◌∷◌, [], ◌-◌, ◌^◌, ℕ, min, List, Option, Some, option_map, length, map, Bool, true, false}
+use Rattle.std.specs.Prelude.{◌≡◌, ◌≢◌, ◌⊎◌, ◌<◌, ◌≤◌, ◌++◌, ◌∷◌, [], ◌-◌, ◌^◌, ℕ, min, List, Option, Some, option_map, length, Bool, true, false}
 use Rattle.std.specs.List.{AllByRecursion}
+use Rattle.std.specs.Option.{ForSome}
 use Rattle.lrs_disk.specs.Door.{DoorState, IsFresh, Returned}
 use Rattle.lrs_disk.specs.Faults.{Rises}
 use Rattle.lrs_disk.specs.Lobby.{DoorsAsked, CountsFaults}
+use Rattle.lrs_disk.specs.declared.disk.Disk as disks
 use Rattle.lrs_disk.specs.declared.lobby.Lobby as lobbies
-use Rattle.lrs_journal.specs.Journal.{StandsFor}
-use Rattle.lrs_record.specs.Entries.{written_entry}
 use Rattle.lrs_record.specs.declared.entry.Entry.{Entry}
 use Rattle.lrs_history.specs.History.{IsLegal}
-use Rattle.lrs_machine.specs.Desk.{Receipt}
-use Rattle.lrs_hall.specs.Acts.{ActsIn, BeginsWith}
-use Rattle.lrs_hall.specs.Draws.{Place, start_of}
-use Rattle.lrs_hall.specs.Serving.{AddsReadings, AreOver, Counts, EndsServing, Passes, all_receipts, clocks, worker_at}
+use Rattle.lrs_machine.specs.Acts.{Receipt}
+use Rattle.lrs_machine.specs.Desk.{HoldsPrefix, IsStoreOf}
+use Rattle.lrs_machine.specs.Line.{BeginsWith, Record, entries, in_doubt, opened_line, sure}
+use Rattle.lrs_hall.specs.Acts.{ActsIn}
+use Rattle.lrs_hall.specs.Draws.{Draws, start_of}
+use Rattle.lrs_hall.specs.Laws.{IsKept, entries_at}
+use Rattle.lrs_hall.specs.Serving.{AddsReadings, AreOver, AreWithin, Counts, EndsServing, Passes, all_receipts, clocks, mark_of, worker_at}
 use Rattle.lrs_hall.specs.Talks.{Talk}
 use Rattle.lrs_hall.specs.declared.serving.ServeEnd.{ServeEnd}
 use Rattle.lrs_hall.specs.declared.serving.ServeEnd.TheVariants as serve
+use Rattle.lrs_app.specs.Disks.{AnyStopLeaves, Holds, HoldsIn, StopNowLeaves, Taken}
 use Rattle.lrs_console.specs.declared.ending.Ending.{Ending}
 use Rattle.lrs_console.specs.declared.ending.Ending.TheVariants as ending
 
 -- ---- the doors
 
--- What a lobby tells of its doors: what was asked for so far, the doors that were given back last, and its count of faults.
+-- What a lobby tells of its doors: what was asked for so far, the doors that were given back last, and its count of
+-- faults.
 pub record Doors : Type 0 where
   pub asked : Option (List DoorsAsked)
   pub returned : Option (List DoorState)
@@ -33,11 +38,14 @@ doors b lobby = record { asked = b.asked lobby; returned = b.returned lobby; fau
 
 -- one door of this address was asked for
 abbrev pub AsksDoor : List ℕ → Doors → Doors → Type 0
-AsksDoor address before after = after.asked ≡ option_map (λ (asked : List DoorsAsked). asked ++ record { address = address; count = 1 } ∷ []) before.asked
+AsksDoor address before after =
+    after.asked ≡ option_map
+    (λ (asked : List DoorsAsked). asked ++ record { address = address; count = 1 } ∷ []) before.asked
 
 -- No door was had, so no connection is served.
 abbrev pub HasNoDoor : List ℕ → Doors → Doors → Ending → Type 0
-HasNoDoor address before after ending.LobbyFault = AsksDoor address before after × (after.returned ≡ before.returned) × Rises before.faults after.faults
+HasNoDoor address before after ending.LobbyFault = AsksDoor address before after × (after.returned ≡ before.returned)
+    × Rises before.faults after.faults
 HasNoDoor address before after ending.Memory = after ≡ before
 HasNoDoor address before after other = ⊥
 
@@ -58,8 +66,8 @@ ending_of_serving serve.Done talks = ending.Served (responses_of talks)
 ending_of_serving serve.DoorFault talks = ending.LobbyFault
 ending_of_serving serve.Memory talks = ending.Memory
 
--- The disk's count of faults from its taking to its return: what the acts told of it goes on from one to the next, and the closing ends no lower. So a
--- fault that an act tells is one of this disk's.
+-- The disk's count of faults from its taking to its return: what the acts told of it goes on from one to the next, and
+-- the closing ends no lower. So a fault that an act tells is one of this disk's.
 abbrev pub CountsOn : ℕ → List Talk → ℕ → Type 0
 CountsOn begins talks now = (last : ℕ) × Counts begins (all_receipts talks) last × (last ≤ now)
 
@@ -67,9 +75,10 @@ CountsOn begins talks now = (last : ℕ) × Counts begins (all_receipts talks) l
 abbrev pub IsBehind : List Receipt → ℕ → Type 0
 IsBehind receipts now = AllByRecursion (λ (receipt : Receipt). receipt.acted ≡ true → Rises receipt.is now) receipts
 
--- A fresh door was had, these links passed through it, each with its talk and each act with a reading of the door's clock, and it was given back.
--- The disk that fails at the closing goes before what the door and want of memory say.
-pub record ServesDoor (address : List ℕ) (connections : ℕ) (before after : Doors) (links : List Returned) (talks : List Talk) (disk_faults : ℕ) (end : Ending) : Type 0 where
+-- A fresh door was had, these links passed through it, each with its talk and each act with a reading of the door's
+-- clock, and it was given back. The disk that fails at the closing goes before what the door and want of memory say.
+pub record ServesDoor (address : List ℕ) (connections : ℕ) (before after : Doors) (links : List Returned)
+    (talks : List Talk) (disk_faults : ℕ) (end : Ending) : Type 0 where
   pub opening : DoorState
   pub closing : DoorState
   pub fresh : IsFresh opening
@@ -78,17 +87,10 @@ pub record ServesDoor (address : List ℕ) (connections : ℕ) (before after : D
   pub readings : AddsReadings opening.readings closing.readings (clocks (all_receipts talks))
   pub why : ServeEnd
   pub ends : EndsServing connections (length talks) opening closing why
-  pub ended : (end ≡ ending_of_serving why talks) ⊎ ((end ≡ ending.DiskFault) × IsBehind (all_receipts talks) disk_faults)
+  pub ended : (end ≡ ending_of_serving why talks)
+      ⊎ ((end ≡ ending.DiskFault) × IsBehind (all_receipts talks) disk_faults)
 
 -- ---- what the store holds then
-
--- the disk tells bytes that stand for the history, or in doubt for it without its last entry
-abbrev pub HoldsIn : Bool → Option (List ℕ) → ℕ → List Entry → Type 0
-HoldsIn doubt told limit h = (bytes : List ℕ) × (told ≡ Some bytes) × StandsFor limit doubt (map written_entry h) bytes
-
--- the same without doubt
-abbrev pub Holds : Option (List ℕ) → ℕ → List Entry → Type 0
-Holds told limit h = HoldsIn false told limit h
 
 -- The disk holds the history. Only where it failed at the closing, and the last act left its entry in doubt, it may
 -- lack that entry.
@@ -96,14 +98,38 @@ abbrev pub HoldsBehind : Ending → Bool → Option (List ℕ) → ℕ → List 
 HoldsBehind ending.DiskFault doubt told limit h = (doubt ≡ true) × HoldsIn true told limit h
 HoldsBehind other doubt told limit h = Holds told limit h
 
--- The one history in the end, which can have come about and begins with the one at the opening. Over it each response
--- is the abstract store's reply, and each further entry is that of one act. The disk holds it.
-pub record HoldsServed (limit : ℕ) (opened : List Entry) (seed : List ℕ) (links : List Returned) (talks : List Talk) (told : Option (List ℕ)) (n : ℕ) (end : Ending) : Type 0 where
-  pub history : List Entry
-  pub legal : IsLegal limit history
-  pub begins : BeginsWith opened history
-  pub behind : Place
-  pub doubt : Bool
-  pub over : AreOver (ActsIn limit history) talks links (worker_at (start_of seed 1) opened false) (worker_at behind history doubt)
-  pub counts : n ≡ length history
-  pub holds : HoldsBehind end doubt told limit history
+-- What serving a store leaves that was opened with a history: one line of records, whose entries are the one history
+-- in the end.
+pub record HoldsServed {D : Type 0} (d : disks.Ghosts D) (taken : Taken) (disk : D) (limit : ℕ) (opened : List Entry)
+    (seed : List ℕ) (links : List Returned) (talks : List Talk) (n : ℕ) (end : Ending) : Type 0 where
+  pub line : List Record
+  -- the history can have come about
+  pub legal : IsLegal limit (entries line)
+  pub counts : n ≡ length (entries line)
+  -- it goes on from the one at the opening; the opening ended at this moment, and serving at that
+  pub opened_at : ℕ
+  pub served_at : ℕ
+  pub moments : (taken.mark.moment ≤ opened_at) × (opened_at ≤ served_at) × (served_at ≤ d.time disk)
+  pub begins : BeginsWith (opened_line opened_at opened) line
+  -- each response of an act is the abstract store's reply over the entries before its point
+  pub behind : Draws
+  pub replies : AreOver (ActsIn limit line) talks links (worker_at (start_of seed 1) (length opened) opened_at)
+      (worker_at behind (length line) served_at)
+  -- each further entry is that of just one response
+  pub once : (place : ℕ) → length opened ≤ place → place < length (entries line)
+      → entries_at place (all_receipts talks) ≡ 1
+  -- what acts tell of the disk's count and moment lies between its taking and its return
+  pub marks : AreWithin taken.mark (mark_of d.fault_count d.time disk) (all_receipts talks)
+  -- the disk fails at the closing only where the last entry is in doubt
+  pub doubtful : end ≡ ending.DiskFault → in_doubt line ≡ true
+  -- the disk holds the history
+  pub holds : ForSome taken.held (λ _. HoldsBehind end (in_doubt line) (d.told disk) limit (entries line))
+  -- a stop at any moment leaves its first entries, at least those at the opening
+  pub stops : ForSome taken.held (λ _. AnyStopLeaves d taken disk (HoldsPrefix limit (length opened) (entries line)))
+  -- a stop at any moment since a response without trouble leaves what it was answered over, and its own entry
+  pub kept : ForSome taken.held (λ _. AllByRecursion (IsKept limit (d.image_since disk) line) (all_receipts talks))
+  -- a stop now leaves what stands without doubt
+  pub rests : ForSome taken.held (λ _. StopNowLeaves d disk (HoldsPrefix limit (sure line) (entries line)))
+  -- behind a good closing a stop leaves all of it
+  pub closed : end ≢ ending.DiskFault
+      → ForSome taken.held (λ _. StopNowLeaves d disk (λ image. IsStoreOf image limit (entries line)))

@@ -1,11 +1,12 @@
 -- What the private steps of a command say.
-use Rattle.std.specs.Prelude.{◌≡◌, ◌⊎◌, ◌≤◌, ℕ, List, [], ◌∷◌, ◌++◌, Option, Some, false}
+use Rattle.std.specs.Prelude.{◌≡◌, ◌≢◌, ◌⊎◌, ◌≤◌, ℕ, List, [], ◌∷◌, ◌++◌, Option, Some, true}
 use Rattle.lrs_disk.specs.Faults.{Rises}
-use Rattle.lrs_names.specs.declared.draw.Draw.{Draw}
-use Rattle.lrs_machine.specs.Desk.{Desk}
+use Rattle.lrs_disk.specs.declared.disk.Disk as disks
+use Rattle.lrs_journal.specs.Journal.{TellsAlike}
 use Rattle.lrs_record.specs.declared.entry.Entry.{Entry}
-use Rattle.lrs_history.specs.History.{Answer, with_entry}
-use Rattle.lrs_machine.specs.Desk.{StandsFor}
+use Rattle.lrs_history.specs.History.{Answer, IsLegal, with_entry}
+use Rattle.lrs_machine.specs.Desk.{Desk, IsOnDisk, StopsWithin, history}
+use Rattle.lrs_machine.specs.Line.{BeginsWith, in_doubt, opened_line}
 use Rattle.lrs_machine.specs.declared.opening.FoundRefused.{FoundRefused}
 use Rattle.lrs_machine.specs.declared.opening.FoundRefused.TheVariants as found
 use Rattle.lrs_machine.specs.declared.opening.DeskRefused.{DeskRefused}
@@ -14,29 +15,41 @@ use Rattle.lrs_replies.specs.declared.reply.Trouble.{Trouble}
 use Rattle.lrs_replies.specs.declared.reply.Trouble.TheVariants as trouble
 use Rattle.lrs_command_line.specs.CommandLine.{CommandLine, IsInRange}
 use Rattle.lrs_command_line.specs.Shapes.{Denotes}
-use Rattle.lrs_command_line.specs.declared.words.CommandLine as code
-use Rattle.lrs_console.specs.Asking.{Asked, IsTakenFor, EndsSaying, EndsAsking, entry_asked}
+use Rattle.lrs_command_line.specs.declared.words.ProgramCommand.{ProgramCommand}
+use Rattle.lrs_console.specs.Asking.{EndsSaying}
 use Rattle.lrs_console.specs.declared.ending.Ending.{Ending}
 use Rattle.lrs_console.specs.declared.ending.Ending.TheVariants as ending
 
--- the desk stands for the history, without doubt
-abbrev pub IsSure : {D : Type 0} → (D → Option (List ℕ)) → Desk D → List Entry → Type 0
-IsSure told desk h = (desk.doubt ≡ false) × StandsFor told desk h
+-- A desk as it was opened: all of its history stands without doubt.
+pub record IsOpened {D : Type 0} (d : disks.Ghosts D) (desk : Desk D) : Type 0 where
+  pub line : desk.line ≡ opened_line desk.opened_at (history desk)
+  pub moment : desk.opened_at ≡ d.time desk.disk
+  pub legal : IsLegal desk.limit (history desk)
+  pub durable : IsOnDisk d.told d.image d.time d.image_since desk
 
--- the desk stands for the history, or the entry is in doubt
-abbrev pub IsLeft : {D : Type 0} → (D → Option (List ℕ)) → List Entry → Option Entry → Desk D → Type 0
-IsLeft told h entry new = IsSure told new h ⊎ ((e : Entry) × (entry ≡ Some e) × StandsFor told new (h ++ e ∷ []))
+-- What acts make of a desk: its line goes on, and a stop at any moment leaves what stood without doubt before them.
+pub record GoesOn {D : Type 0} (d : disks.Ghosts D) (old new : Desk D) : Type 0 where
+  pub limit : new.limit ≡ old.limit
+  pub begins : BeginsWith old.line new.line
+  pub tells : TellsAlike (d.told old.disk) (d.told new.disk)
+  pub later : d.time old.disk ≤ d.time new.disk
+  pub stops : StopsWithin d.told d.time d.image_since old new
 
--- a desk for the history h was asked to put a statement of this id, which the abstract store answers by a
-abbrev pub Submits : {D : Type 0} → (D → Option (List ℕ)) → List Entry → List ℕ → Answer → Desk D → Ending → Type 0
-Submits told h id a new ending.Memory = IsSure told new h
-Submits told h id a new ending.DiskFault = IsLeft told h a.entry new
-Submits told h id a new end = EndsSaying id a.said end × IsSure told new (with_entry h a.entry)
+-- An entry is in doubt only where the disk failed, and then it is the one that was added.
+abbrev pub DoubtsOnly : {D : Type 0} → Desk D → Desk D → Ending → Type 0
+DoubtsOnly old new end = in_doubt new.line ≡ true → (end ≡ ending.DiskFault)
+    × ((e : Entry) × (history new ≡ history old ++ e ∷ []))
+
+-- a put of this id over a history, which the abstract store answers by a, ends so and leaves this one
+abbrev pub Submits : List Entry → List ℕ → Answer → List Entry → Ending → Type 0
+Submits h id a final ending.Memory = final ≡ h
+Submits h id a final ending.DiskFault = (final ≡ h) ⊎ ((e : Entry) × (a.entry ≡ Some e) × (final ≡ h ++ e ∷ []))
+Submits h id a final end = EndsSaying id a.said end × (final ≡ with_entry h a.entry)
 
 -- a fault of the disk has its cause
-abbrev pub HasDiskCause : ℕ → ℕ → Ending → Type 0
-HasDiskCause before now ending.DiskFault = (before ≤ now) × Rises before now
-HasDiskCause before now other = now ≡ before
+abbrev pub HasDiskEndingCause : ℕ → ℕ → Ending → Type 0
+HasDiskEndingCause before now ending.DiskFault = (before ≤ now) × Rises before now
+HasDiskEndingCause before now other = now ≡ before
 
 -- the same where no input was read
 abbrev pub HasPutCause : ℕ → ℕ → Ending → Type 0
@@ -44,18 +57,9 @@ HasPutCause before now ending.InputFault = ⊥
 HasPutCause before now ending.DiskFault = (before ≤ now) × Rises before now
 HasPutCause before now other = now ≡ before
 
--- what comes of an input over a desk of this limit and history
-abbrev pub TakesIn : {D : Type 0} → (D → Option (List ℕ)) → ℕ → List Entry → List ℕ → ℕ → Draw → Desk D → Ending → Type 0
-TakesIn told limit h input clock draw new ending.Memory = IsSure told new h
-TakesIn told limit h input clock draw new ending.InputFault = IsSure told new h
-TakesIn told limit h input clock draw new ending.DiskFault = (asked : Asked) × IsTakenFor input asked
-    × IsLeft told h (entry_asked limit h clock draw asked) new
-TakesIn told limit h input clock draw new other = (asked : Asked) × IsTakenFor input asked × EndsAsking limit h clock draw asked other
-    × IsSure told new (with_entry h (entry_asked limit h clock draw asked))
-
 -- each fault has its cause
 pub record HasCauses (disk_before disk_now input_before input_now : ℕ) (end : Ending) : Type 0 where
-  pub disk : HasDiskCause disk_before disk_now end
+  pub disk : HasDiskEndingCause disk_before disk_now end
   pub input : end ≡ ending.InputFault → Rises input_before input_now
 
 abbrev pub ending_of_trouble : Trouble → Ending
@@ -77,5 +81,5 @@ ending_of_found found.Failed = ending.DiskFault
 ending_of_found found.Memory = ending.Memory
 
 -- the words as they were read mean a command whose values are in their ranges
-abbrev pub IsMeant : code.CommandLine → Type 0
+abbrev pub IsMeant : ProgramCommand → Type 0
 IsMeant read = (c : CommandLine) × IsInRange c × Denotes read c

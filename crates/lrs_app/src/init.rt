@@ -1,8 +1,12 @@
 // A store is made.
-ghost use Rattle.std.specs.Prelude.{◌≡◌, ◌≤◌, ◌^◌, IfSome};
+ghost use Rattle.std.specs.Prelude.{◌≡◌};
 ghost use Rattle.lrs_parts.specs.Founding.{IsToken, IsBase};
 ghost use Rattle.lrs_app.specs.Steps.{ending_of_found};
-ghost use Rattle.lrs_app.specs.Run.{InitEnds, HasEndingCause};
+ghost use Rattle.lrs_app.specs.Disks.{taken_now};
+ghost use Rattle.lrs_app.specs.Run.{InitOver, HasEndingCause};
+ghost use Rattle.lrs_fold.specs.Own.{founding_entry};
+ghost use Rattle.lrs_journal.specs.Journal.{IsSynced};
+ghost use Rattle.lrs_journal.specs.Store.{IsLimit};
 
 use lrs_console::Ending;
 use lrs_disk::Disk;
@@ -10,7 +14,7 @@ use lrs_json::Text;
 use lrs_machine::{Desk, FoundRefused};
 use std::alloc::Global;
 
-// How a command ends where no store is made.
+// How a command ends if no store is made.
 fn unfounded(refused: FoundRefused) -> Ending
     ensures { result ≡ ending_of_found refused }
 {
@@ -23,7 +27,7 @@ fn unfounded(refused: FoundRefused) -> Ending
     }
 }
 
-/// Makes a store on a disk. The number is that of the history's entries, or 0 where no store was made.
+/// Makes a store on a disk. The number is that of the history's entries, or 0 if no store was made.
 pub(crate) fn init_disk<D: Disk>(
     alloc: Global,
     disk: D,
@@ -32,15 +36,16 @@ pub(crate) fn init_disk<D: Disk>(
     limit: u64,
     clock: u64,
 ) -> (Ending, D, u64)
-    requires limit { (512 ≤ limit) × (limit ≤ 2 ^ 30) }
+    requires settled { IsSynced D.told D.image disk }
+    requires limit { IsLimit limit }
     requires admin { IsToken admin.now }
     requires base { IsBase base.now }
-    ensures ends { IfSome (D.told disk)
-        (λ bytes. InitEnds bytes admin.now base.now limit clock (D.told result.1) result.2 result.0) }
+    ensures ends { InitOver D.Disk (taken_now D.Disk disk) result.1 limit (founding_entry admin.now base.now clock)
+        result.2 result.0 }
     ensures cause { HasEndingCause (D.fault_count disk) (D.fault_count result.1) 0 0 result.0 }
 {
     match Desk::found(alloc, disk, limit, admin, base, clock) {
-        // A new store is in no doubt, so there is nothing to be written at its closing.
+        // A new store has nothing in doubt, so closing it writes nothing.
         Ok(desk) => match desk.close() {
             Ok(disk) => (Ending::Founded, disk, 1),
             Err(_) => unreachable!(),

@@ -1,12 +1,16 @@
 // One statement of the input, kept in a store.
 ghost use Rattle.std.specs.Prelude.{◌≡◌, List, ℕ, IfSome, false};
+ghost use Rattle.lrs_journal.specs.Journal.{IsSynced};
 ghost use Rattle.lrs_json.specs.Fits.{IsReadable};
 ghost use Rattle.lrs_json.specs.View.{view};
-ghost use Rattle.lrs_record.specs.declared.entry.Entry.{Entry};
+ghost use Rattle.lrs_json.specs.declared.limits.TheConstants.{DEPTH};
 ghost use Rattle.lrs_fold.specs.Own.{IsOfPut, MayRefusePut};
-ghost use Rattle.lrs_machine.specs.Desk.{StandsFor};
+ghost use Rattle.lrs_machine.specs.Desk.{history};
+ghost use Rattle.lrs_machine.specs.Line.{in_doubt};
 ghost use Rattle.lrs_console.specs.Asking.{EndsSaying, EndsRefused, put_answer};
-ghost use Rattle.lrs_app.specs.Steps.{Submits, TakesIn, HasPutCause, HasCauses, ending_of, ending_of_trouble};
+ghost use Rattle.lrs_app.specs.Disks.{taken_now};
+ghost use Rattle.lrs_app.specs.ClosingSteps.{ClosesTaken};
+ghost use Rattle.lrs_app.specs.Steps.{DoubtsOnly, GoesOn, IsOpened, Submits, HasPutCause, HasCauses, ending_of, ending_of_trouble};
 ghost use Rattle.lrs_app.specs.Run.{EndsOpened, IntakeEnds, HasEndingCause};
 
 use lrs_console::{Ending, take_statement};
@@ -51,11 +55,12 @@ fn ending_refused(refusal: Refusal) -> Ending
 
 // Puts a statement as the operator.
 fn submit<D: Disk>(desk: &mut Desk<D>, id: &Id, statement: Tree, clock: u64, draw: &Draw) -> Ending
-    requires settled { desk.old.doubt ≡ false }
-    requires readable { IsReadable 64 (view statement) }
-    ensures ends { (h : List Entry) → StandsFor D.told desk.old h
-        → Submits D.told h id.now (put_answer desk.old.limit h clock draw.now id.now statement) desk.new result }
-    ensures limit { desk.new.limit ≡ desk.old.limit }
+    requires settled { in_doubt desk.old.line ≡ false }
+    requires readable { IsReadable DEPTH (view statement) }
+    ensures ends { Submits (history desk.old) id.now
+        (put_answer desk.old.limit (history desk.old) clock draw.now id.now statement) (history desk.new) result }
+    ensures doubts { DoubtsOnly desk.old desk.new result }
+    ensures goes_on { GoesOn D.Disk desk.old desk.new }
     ensures cause { HasPutCause (D.fault_count desk.old.disk) (D.fault_count desk.new.disk) result }
 {
     match desk.put(*id, statement, clock, draw).0 {
@@ -81,10 +86,11 @@ fn take_in<D: Disk, I: Source>(
     clock: u64,
     draw: &Draw,
 ) -> Ending
-    requires { desk.old.doubt ≡ false }
-    ensures ends { (h : List Entry) → StandsFor D.told desk.old h
-        → IfSome (I.left input.old) (λ input. TakesIn D.told desk.old.limit h input clock draw.now desk.new result) }
-    ensures limit { desk.new.limit ≡ desk.old.limit }
+    requires opened { IsOpened D.Disk desk.old }
+    ensures ends { IfSome (I.left input.old) (λ input. EndsOpened desk.old.limit (history desk.old) (history desk.new)
+        input clock draw.now result) }
+    ensures doubts { DoubtsOnly desk.old desk.new result }
+    ensures goes_on { GoesOn D.Disk desk.old desk.new }
     ensures cause { HasCauses (D.fault_count desk.old.disk) (D.fault_count desk.new.disk) (I.fault_count input.old)
         (I.fault_count input.new) result }
 {
@@ -102,10 +108,8 @@ fn intake_opened<D: Disk, I: Source>(
     clock: u64,
     draw: &Draw,
 ) -> (Ending, D, u64)
-    requires { desk.doubt ≡ false }
-    ensures ends { (h : List Entry) → StandsFor D.told desk h
-        → IfSome (I.left input.old)
-        (λ input. EndsOpened desk.limit h input clock draw.now (D.told result.1) result.2 result.0) }
+    requires opened { IsOpened D.Disk desk }
+    ensures ends { ClosesTaken D.Disk desk result.1 (I.left input.old) clock draw.now result.2 result.0 }
     ensures cause { HasEndingCause (D.fault_count desk.disk) (D.fault_count result.1) (I.fault_count input.old)
         (I.fault_count input.new) result.0 }
 {
@@ -139,8 +143,9 @@ pub(crate) fn intake_disk<D: Disk, I: Source>(
     clock: u64,
     draw: &Draw,
 ) -> (Ending, D, u64)
-    ensures ends { IfSome (D.told disk) (λ bytes. IfSome (I.left input.old)
-        (λ input. IntakeEnds bytes input clock draw.now (D.told result.1) result.2 result.0)) }
+    requires settled { IsSynced D.told D.image disk }
+    ensures ends { IntakeEnds D.Disk (taken_now D.Disk disk) result.1 (I.left input.old) clock draw.now result.2
+        result.0 }
     ensures cause { HasEndingCause (D.fault_count disk) (D.fault_count result.1) (I.fault_count input.old)
         (I.fault_count input.new) result.0 }
 {

@@ -1,4 +1,5 @@
-//! All that the program does, as one call over the outside: its commands, and what comes of each.
+//! All that the program does, as one call over the outside: `run` carries out a command and reports how it ended. Begin
+//! with `program`; `init`, `intake` and `serve` are its commands.
 #![tactic(auto)]
 
 mod init;

@@ -1,14 +1,15 @@
-ghost use Rattle.std.specs.Prelude.{◌≡◌, ◌≤◌, ◌^◌, ℕ, [], List, Option, None};
+ghost use Rattle.std.specs.Prelude.{◌≡◌, ℕ, [], List, Option, None};
 ghost use Rattle.lrs_parts.specs.Founding.{IsToken, IsBase};
-ghost use Rattle.lrs_command_line.specs.CommandLine.{CommandLine as SpecCommandLine, IsInRange};
+ghost use Rattle.lrs_command_line.specs.CommandLine.{CommandLine, IsInRange};
 ghost use Rattle.lrs_command_line.specs.Shapes.{Denotes};
-ghost use Rattle.lrs_app.specs.Run.{CommandRuns, Runs, IntakeRuns, InitRuns, ServeRuns, PrintsLine, ended_seen, outside};
+ghost use Rattle.lrs_app.specs.Run.{CommandRuns, Runs, IntakeRuns, InitRuns, ServeRuns, PrintsLine, outside};
 ghost use Rattle.lrs_app.specs.Steps.{IsMeant};
+ghost use Rattle.lrs_journal.specs.Store.{IsLimit};
 
 use crate::init::init_disk;
 use crate::intake::intake_disk;
 use crate::serve::{count_responses, serve_disk};
-use lrs_command_line::{CommandLine, read_words};
+use lrs_command_line::{ProgramCommand, read_words};
 use lrs_console::{Ending, finish};
 use lrs_disk::{Lobby, Shelf, Sink, Source};
 use lrs_hall::{Draws, Talk};
@@ -76,10 +77,10 @@ fn intake<S: Shelf, B: Lobby, I: Source, O: Sink>(
     out: &mut O,
     draw: &Draw,
 ) -> Ended<S::Disk>
-    ensures { IntakeRuns file.now draw.now
+    ensures { IntakeRuns S.Disk.Disk file.now draw.now
         (outside S.Shelf B.Lobby O.Sink shelf.old lobby.old out.old (I.left input.old) (I.fault_count input.old))
         (outside S.Shelf B.Lobby O.Sink shelf.new lobby.new out.new (I.left input.new) (I.fault_count input.new))
-        (ended_seen S.Disk.told S.Disk.fault_count result) }
+        result }
 {
     let clock = lobby.now();
     match shelf.take(file.as_str()) {
@@ -106,13 +107,13 @@ fn init<S: Shelf, B: Lobby, O: Sink>(
     lobby: &mut B,
     out: &mut O,
 ) -> Ended<S::Disk>
-    requires limit { (512 ≤ limit) × (limit ≤ 2 ^ 30) }
+    requires limit { IsLimit limit }
     requires admin { IsToken admin.now }
     requires base { IsBase base.now }
-    ensures { (left : Option (List ℕ)) (count : ℕ) → InitRuns file.now admin.now base.now limit
+    ensures { (left : Option (List ℕ)) (count : ℕ) → InitRuns S.Disk.Disk file.now admin.now base.now limit
         (outside S.Shelf B.Lobby O.Sink shelf.old lobby.old out.old left count)
         (outside S.Shelf B.Lobby O.Sink shelf.new lobby.new out.new left count)
-        (ended_seen S.Disk.told S.Disk.fault_count result) }
+        result }
 {
     let clock = lobby.now();
     match shelf.take(file.as_str()) {
@@ -139,10 +140,10 @@ fn serve<S: Shelf, B: Lobby, O: Sink>(
     out: &mut O,
     seed: [u8; 32],
 ) -> Ended<S::Disk>
-    ensures { (left : Option (List ℕ)) (count : ℕ) → ServeRuns file.now address.now connections seed
+    ensures { (left : Option (List ℕ)) (count : ℕ) → ServeRuns S.Disk.Disk file.now address.now connections seed
         (outside S.Shelf B.Lobby O.Sink shelf.old lobby.old out.old left count)
         (outside S.Shelf B.Lobby O.Sink shelf.new lobby.new out.new left count)
-        (ended_seen S.Disk.told S.Disk.fault_count result) }
+        result }
 {
     match shelf.take(file.as_str()) {
         Ok(disk) => {
@@ -165,7 +166,7 @@ fn serve<S: Shelf, B: Lobby, O: Sink>(
 // Does what a command line asks.
 fn obey<S: Shelf, B: Lobby, I: Source, O: Sink>(
     alloc: Global,
-    command: &CommandLine,
+    command: &ProgramCommand,
     shelf: &mut S,
     lobby: &mut B,
     input: &mut I,
@@ -173,23 +174,23 @@ fn obey<S: Shelf, B: Lobby, I: Source, O: Sink>(
     seed: [u8; 32],
 ) -> Ended<S::Disk>
     requires { IsMeant command.now }
-    ensures { (c : SpecCommandLine) → IsInRange c → Denotes command.now c → CommandRuns c seed
+    ensures { (c : CommandLine) → IsInRange c → Denotes command.now c → CommandRuns S.Disk.Disk c seed
         (outside S.Shelf B.Lobby O.Sink shelf.old lobby.old out.old (I.left input.old) (I.fault_count input.old))
         (outside S.Shelf B.Lobby O.Sink shelf.new lobby.new out.new (I.left input.new) (I.fault_count input.new))
-        (ended_seen S.Disk.told S.Disk.fault_count result) }
+        result }
 {
     match command {
-        CommandLine::Init {
+        ProgramCommand::Init {
             file,
             admin,
             base,
             limit,
         } => init(alloc, file, admin, base, *limit, shelf, lobby, out),
-        CommandLine::Intake { file } => {
+        ProgramCommand::Intake { file } => {
             let draw = Draws::new(seed, 0).next();
             intake(alloc, file, shelf, lobby, input, out, &draw)
         }
-        CommandLine::Serve {
+        ProgramCommand::Serve {
             file,
             address,
             connections,
@@ -203,6 +204,9 @@ fn obey<S: Shelf, B: Lobby, I: Source, O: Sink>(
 /// store. `intake FILE` keeps one statement of the input and prints its id. `serve FILE ADDRESS --workers 1
 /// --connections N` serves N connections over HTTP and prints the number of their responses. Every line is printed to
 /// `out`. The one draw of an intake is the first of stream 0 under the seed; serving has those of stream 1.
+///
+/// It may be stopped at any moment. Then the file holds the first entries of the final history: at least those from
+/// before the run, and whatever a response without trouble promised. A stopped `init` leaves no store, or the new one.
 pub fn run<S: Shelf, B: Lobby, I: Source, O: Sink>(
     alloc: Global,
     words: &[Text],
@@ -212,10 +216,10 @@ pub fn run<S: Shelf, B: Lobby, I: Source, O: Sink>(
     out: &mut O,
     seed: [u8; 32],
 ) -> Ended<S::Disk>
-    ensures { Runs words.now seed
+    ensures { Runs S.Disk.Disk words.now seed
         (outside S.Shelf B.Lobby O.Sink shelf.old lobby.old out.old (I.left input.old) (I.fault_count input.old))
         (outside S.Shelf B.Lobby O.Sink shelf.new lobby.new out.new (I.left input.new) (I.fault_count input.new))
-        (ended_seen S.Disk.told S.Disk.fault_count result) }
+        result }
 {
     match read_words(alloc, words) {
         Ok(Some(command)) => {

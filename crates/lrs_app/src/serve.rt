@@ -1,8 +1,11 @@
 // The connections of a door, served over a store.
-ghost use Rattle.std.specs.Prelude.{◌≡◌, All, map, length, false};
+ghost use Rattle.std.specs.Prelude.{◌≡◌, All, map, length};
 ghost use Rattle.lrs_disk.specs.Door.{IsFresh};
-ghost use Rattle.lrs_hall.specs.Serving.{Counts, all_receipts};
+ghost use Rattle.lrs_hall.specs.Serving.{AreWithin, Counts, all_receipts, mark_of};
+ghost use Rattle.lrs_journal.specs.Journal.{IsSynced};
+ghost use Rattle.lrs_app.specs.Disks.{taken_now};
 ghost use Rattle.lrs_app.specs.Service.{CountsOn, doors, responses_of, ending_of_serving};
+ghost use Rattle.lrs_app.specs.Steps.{GoesOn, IsOpened};
 ghost use Rattle.lrs_app.specs.ServeSteps.{ServesOne, ServesDesk, ServesOpened, ending_of_refusal};
 ghost use Rattle.lrs_app.specs.Run.{HasEndingCause, ServesDisk};
 
@@ -46,9 +49,12 @@ fn serve_door<D: Disk, O: Door>(
 ) -> (Desk<D>, Vec<O>, Items<Talk>, ServeEnd)
     requires one { length doors.items ≡ 1 }
     requires fresh { All (λ door. IsFresh (O.state door)) doors.items }
-    ensures served { ServesOne D.told desk result.0 connections seed (map O.state result.1.items) result.2 result.3 }
+    requires opened { IsOpened D.Disk desk }
+    ensures served { ServesOne D.Disk desk result.0 connections seed (map O.state result.1.items) result.2 result.3 }
     ensures counts { Counts (D.fault_count desk.disk) (all_receipts result.2) (D.fault_count result.0.disk) }
-    ensures limit { result.0.limit ≡ desk.limit }
+    ensures marks { AreWithin (mark_of D.fault_count D.time desk.disk) (mark_of D.fault_count D.time result.0.disk)
+        (all_receipts result.2) }
+    ensures goes_on { GoesOn D.Disk desk result.0 }
 {
     let mut doors = doors;
     let Some(door) = doors.pop() else {
@@ -79,11 +85,14 @@ fn serve_desk<D: Disk, B: Lobby>(
     connections: u32,
     seed: [u8; 32],
 ) -> (Desk<D>, Items<Talk>, Ending)
-    ensures served { ServesDesk D.told desk result.0 address.now connections seed
+    requires opened { IsOpened D.Disk desk }
+    ensures served { ServesDesk D.Disk desk result.0 address.now connections seed
         (doors B.Lobby lobby.old)
         (doors B.Lobby lobby.new) result.1 result.2 }
     ensures counts { Counts (D.fault_count desk.disk) (all_receipts result.1) (D.fault_count result.0.disk) }
-    ensures limit { result.0.limit ≡ desk.limit }
+    ensures marks { AreWithin (mark_of D.fault_count D.time desk.disk) (mark_of D.fault_count D.time result.0.disk)
+        (all_receipts result.1) }
+    ensures goes_on { GoesOn D.Disk desk result.0 }
     ensures readings { B.readings lobby.new ≡ B.readings lobby.old }
 {
     match lobby.doors(alloc, address.as_str(), 1) {
@@ -116,11 +125,11 @@ fn serve_opened<D: Disk, B: Lobby>(
     connections: u32,
     seed: [u8; 32],
 ) -> Service<D>
-    requires { desk.doubt ≡ false }
-    ensures served { ServesOpened D.told D.fault_count desk address.now connections seed
+    requires opened { IsOpened D.Disk desk }
+    ensures served { ServesOpened D.Disk desk result.disk address.now connections seed
         (doors B.Lobby lobby.old)
         (doors B.Lobby lobby.new)
-        result.disk result.talks result.length result.ending }
+        result.talks result.length result.ending }
     ensures cause { HasEndingCause (D.fault_count desk.disk) (D.fault_count result.disk) 0 0 result.ending }
     ensures counts { CountsOn (D.fault_count desk.disk) result.talks (D.fault_count result.disk) }
     ensures readings { B.readings lobby.new ≡ B.readings lobby.old }
@@ -152,11 +161,11 @@ pub(crate) fn serve_disk<D: Disk, B: Lobby>(
     connections: u32,
     seed: [u8; 32],
 ) -> Service<D>
-    ensures served { ServesDisk (D.told disk) address.now connections seed
+    requires settled { IsSynced D.told D.image disk }
+    ensures served { ServesDisk D.Disk (taken_now D.Disk disk) result.disk address.now connections seed
         (doors B.Lobby lobby.old)
         (doors B.Lobby lobby.new)
-        (record { told = D.told result.disk; faults = D.fault_count result.disk }) result.talks result.length
-        result.ending }
+        result.talks result.length result.ending }
     ensures cause { HasEndingCause (D.fault_count disk) (D.fault_count result.disk) 0 0 result.ending }
     ensures counts { CountsOn (D.fault_count disk) result.talks (D.fault_count result.disk) }
     ensures readings { B.readings lobby.new ≡ B.readings lobby.old }

@@ -69,146 +69,57 @@ fn a_store_file_that_was_cut_opens_or_says_where(rt: HostRuntime) -> Result<(), 
     Ok(())
 }
 
-// No statement's least broken rule is 9: an `openid` that is no IRI breaks rule 6.
-const REFUSED: [(&str, &str); 32] = [
-    (
-        "refused S1\n",
-        r#"{"id":"22222222-2222-4222-8222-222222222222","actor":{"mbox":"mailto:a@b"},"object":{"id":"http://a/1"}}"#,
-    ),
-    (
-        "refused S2\n",
-        r#"{"id":"22222222-2222-4222-8222-222222222222","actor":{"mbox":"mailto:a@b"},"verb":{"id":"http://v/1"},"object":{"id":"http://a/1"},"note":"x"}"#,
-    ),
-    (
-        "refused S3\n",
-        r#"{"id":"22222222-2222-4222-8222-222222222222","actor":{"mbox":"mailto:a@b"},"verb":{"id":"http://v/1"},"object":{"id":"http://a/1"},"result":null}"#,
-    ),
-    (
-        "refused S4\n",
-        r#"{"id":"2222","actor":{"mbox":"mailto:a@b"},"verb":{"id":"http://v/1"},"object":{"id":"http://a/1"}}"#,
-    ),
-    (
-        "refused S5\n",
-        r#"{"id":"22222222-2222-4222-8222-222222222222","actor":{"mbox":"mailto:a@b"},"verb":{"id":"http://v/1"},"object":{"id":"http://a/1"},"version":"2.0.0"}"#,
-    ),
-    (
-        "refused S6\n",
-        r#"{"id":"22222222-2222-4222-8222-222222222222","actor":{"mbox":"mailto:a@b"},"verb":{"id":"no iri"},"object":{"id":"http://a/1"}}"#,
-    ),
-    (
-        "refused S7\n",
-        r#"{"id":"22222222-2222-4222-8222-222222222222","actor":{"mbox":"mailto:a"},"verb":{"id":"http://v/1"},"object":{"id":"http://a/1"}}"#,
-    ),
-    (
-        "refused S8\n",
-        r#"{"id":"22222222-2222-4222-8222-222222222222","actor":{"mbox_sha1sum":"abc"},"verb":{"id":"http://v/1"},"object":{"id":"http://a/1"}}"#,
-    ),
-    (
-        "refused S6\n",
-        r#"{"id":"22222222-2222-4222-8222-222222222222","actor":{"openid":"no iri"},"verb":{"id":"http://v/1"},"object":{"id":"http://a/1"}}"#,
-    ),
-    (
-        "refused S10\n",
-        r#"{"id":"22222222-2222-4222-8222-222222222222","actor":{"account":{"homePage":"http://h/"}},"verb":{"id":"http://v/1"},"object":{"id":"http://a/1"}}"#,
-    ),
-    (
-        "refused S11\n",
-        r#"{"id":"22222222-2222-4222-8222-222222222222","actor":{"mbox":"mailto:a@b","openid":"http://o/1"},"verb":{"id":"http://v/1"},"object":{"id":"http://a/1"}}"#,
-    ),
-    (
-        "refused S12\n",
-        r#"{"id":"22222222-2222-4222-8222-222222222222","actor":{"objectType":"Group"},"verb":{"id":"http://v/1"},"object":{"id":"http://a/1"}}"#,
-    ),
-    (
-        "refused S13\n",
-        r#"{"id":"22222222-2222-4222-8222-222222222222","actor":{"objectType":"Group","member":{}},"verb":{"id":"http://v/1"},"object":{"id":"http://a/1"}}"#,
-    ),
-    (
-        "refused S14\n",
-        r#"{"id":"22222222-2222-4222-8222-222222222222","actor":{"mbox":"mailto:a@b"},"verb":{"id":"http://v/1","display":{"en":1}},"object":{"id":"http://a/1"}}"#,
-    ),
-    (
-        "refused S15\n",
-        r#"{"id":"22222222-2222-4222-8222-222222222222","actor":{"objectType":"Activity","id":"http://a/1"},"verb":{"id":"http://v/1"},"object":{"id":"http://a/1"}}"#,
-    ),
-    (
-        "refused S16\n",
-        r#"{"id":"22222222-2222-4222-8222-222222222222","actor":{"mbox":"mailto:a@b"},"verb":{"id":"http://v/1","name":"x"},"object":{"id":"http://a/1"}}"#,
-    ),
-    (
-        "refused S17\n",
-        r#"{"id":"22222222-2222-4222-8222-222222222222","actor":{"mbox":"mailto:a@b"},"verb":{"id":"http://v/1"},"object":{"objectType":"Thing"}}"#,
-    ),
-    (
-        "refused S18\n",
-        r#"{"id":"22222222-2222-4222-8222-222222222222","actor":{"mbox":"mailto:a@b"},"verb":{"id":"http://v/1"},"object":{"objectType":"Activity"}}"#,
-    ),
-    (
-        "refused S19\n",
-        r#"{"id":"22222222-2222-4222-8222-222222222222","actor":{"mbox":"mailto:a@b"},"verb":{"id":"http://v/1"},"object":{"id":"http://a/1","definition":{"title":"x"}}}"#,
-    ),
-    (
-        "refused S20\n",
-        r#"{"id":"22222222-2222-4222-8222-222222222222","actor":{"mbox":"mailto:a@b"},"verb":{"id":"http://v/1"},"object":{"id":"http://a/1","definition":{"interactionType":"guess"}}}"#,
-    ),
-    (
-        "refused S21\n",
-        r#"{"id":"22222222-2222-4222-8222-222222222222","actor":{"mbox":"mailto:a@b"},"verb":{"id":"http://v/1"},"object":{"id":"http://a/1","definition":{"interactionType":"choice","choices":[{"id":"x"},{"id":"x"}]}}}"#,
-    ),
-    (
-        "refused S22\n",
-        r#"{"id":"22222222-2222-4222-8222-222222222222","actor":{"mbox":"mailto:a@b"},"verb":{"id":"http://adlnet.gov/expapi/verbs/voided"},"object":{"id":"http://a/1"}}"#,
-    ),
-    (
-        "refused S23\n",
-        r#"{"id":"22222222-2222-4222-8222-222222222222","actor":{"mbox":"mailto:a@b"},"verb":{"id":"http://v/1"},"object":{"objectType":"SubStatement","actor":{"mbox":"mailto:a@b"},"verb":{"id":"http://v/1"}}}"#,
-    ),
-    (
-        "refused S24\n",
-        r#"{"id":"22222222-2222-4222-8222-222222222222","actor":{"mbox":"mailto:a@b"},"verb":{"id":"http://v/1"},"object":{"id":"http://a/1"},"result":{"success":"yes"}}"#,
-    ),
-    (
-        "refused S25\n",
-        r#"{"id":"22222222-2222-4222-8222-222222222222","actor":{"mbox":"mailto:a@b"},"verb":{"id":"http://v/1"},"object":{"id":"http://a/1"},"result":{"duration":"one hour"}}"#,
-    ),
-    (
-        "refused S26\n",
-        r#"{"id":"22222222-2222-4222-8222-222222222222","actor":{"mbox":"mailto:a@b"},"verb":{"id":"http://v/1"},"object":{"id":"http://a/1"},"result":{"score":{"scaled":1.01}}}"#,
-    ),
-    (
-        "refused S27\n",
-        r#"{"id":"22222222-2222-4222-8222-222222222222","actor":{"mbox":"mailto:a@b"},"verb":{"id":"http://v/1"},"object":{"id":"http://a/1"},"context":{"registration":"2222"}}"#,
-    ),
-    (
-        "refused S28\n",
-        r#"{"id":"22222222-2222-4222-8222-222222222222","actor":{"mbox":"mailto:a@b"},"verb":{"id":"http://v/1"},"object":{"id":"http://a/1"},"context":{"contextActivities":{"parent":1}}}"#,
-    ),
-    (
-        "refused S29\n",
-        r#"{"id":"22222222-2222-4222-8222-222222222222","actor":{"mbox":"mailto:a@b"},"verb":{"id":"http://v/1"},"object":{"objectType":"Agent","mbox":"mailto:c@d"},"context":{"platform":"x"}}"#,
-    ),
-    (
-        "refused S30\n",
-        r#"{"id":"22222222-2222-4222-8222-222222222222","actor":{"mbox":"mailto:a@b"},"verb":{"id":"http://v/1"},"object":{"id":"http://a/1"},"timestamp":"yesterday"}"#,
-    ),
-    (
-        "refused S31\n",
-        r#"{"id":"22222222-2222-4222-8222-222222222222","actor":{"mbox":"mailto:a@b"},"verb":{"id":"http://v/1"},"object":{"id":"http://a/1"},"authority":{"objectType":"Group","member":[{"mbox":"mailto:a@b"}]}}"#,
-    ),
-    (
-        "refused S32\n",
-        r#"{"id":"22222222-2222-4222-8222-222222222222","actor":{"mbox":"mailto:a@b"},"verb":{"id":"http://v/1"},"object":{"id":"http://a/1"},"attachments":[{"usageType":"http://u/1"}]}"#,
-    ),
-];
+// Rules, and statements that break them. No statement's least broken rule is 9: an `openid` that is no IRI breaks rule 6.
+const REFUSED: &str =
+    r#"S1 {"id":"22222222-2222-4222-8222-222222222222","actor":{"mbox":"mailto:a@b"},"object":{"id":"http://a/1"}}
+S2 {"id":"22222222-2222-4222-8222-222222222222","actor":{"mbox":"mailto:a@b"},"verb":{"id":"http://v/1"},"object":{"id":"http://a/1"},"note":"x"}
+S3 {"id":"22222222-2222-4222-8222-222222222222","actor":{"mbox":"mailto:a@b"},"verb":{"id":"http://v/1"},"object":{"id":"http://a/1"},"result":null}
+S4 {"id":"2222","actor":{"mbox":"mailto:a@b"},"verb":{"id":"http://v/1"},"object":{"id":"http://a/1"}}
+S5 {"id":"22222222-2222-4222-8222-222222222222","actor":{"mbox":"mailto:a@b"},"verb":{"id":"http://v/1"},"object":{"id":"http://a/1"},"version":"2.0.0"}
+S6 {"id":"22222222-2222-4222-8222-222222222222","actor":{"mbox":"mailto:a@b"},"verb":{"id":"no iri"},"object":{"id":"http://a/1"}}
+S7 {"id":"22222222-2222-4222-8222-222222222222","actor":{"mbox":"mailto:a"},"verb":{"id":"http://v/1"},"object":{"id":"http://a/1"}}
+S8 {"id":"22222222-2222-4222-8222-222222222222","actor":{"mbox_sha1sum":"abc"},"verb":{"id":"http://v/1"},"object":{"id":"http://a/1"}}
+S6 {"id":"22222222-2222-4222-8222-222222222222","actor":{"openid":"no iri"},"verb":{"id":"http://v/1"},"object":{"id":"http://a/1"}}
+S10 {"id":"22222222-2222-4222-8222-222222222222","actor":{"account":{"homePage":"http://h/"}},"verb":{"id":"http://v/1"},"object":{"id":"http://a/1"}}
+S11 {"id":"22222222-2222-4222-8222-222222222222","actor":{"mbox":"mailto:a@b","openid":"http://o/1"},"verb":{"id":"http://v/1"},"object":{"id":"http://a/1"}}
+S12 {"id":"22222222-2222-4222-8222-222222222222","actor":{"objectType":"Group"},"verb":{"id":"http://v/1"},"object":{"id":"http://a/1"}}
+S13 {"id":"22222222-2222-4222-8222-222222222222","actor":{"objectType":"Group","member":{}},"verb":{"id":"http://v/1"},"object":{"id":"http://a/1"}}
+S14 {"id":"22222222-2222-4222-8222-222222222222","actor":{"mbox":"mailto:a@b"},"verb":{"id":"http://v/1","display":{"en":1}},"object":{"id":"http://a/1"}}
+S15 {"id":"22222222-2222-4222-8222-222222222222","actor":{"objectType":"Activity","id":"http://a/1"},"verb":{"id":"http://v/1"},"object":{"id":"http://a/1"}}
+S16 {"id":"22222222-2222-4222-8222-222222222222","actor":{"mbox":"mailto:a@b"},"verb":{"id":"http://v/1","name":"x"},"object":{"id":"http://a/1"}}
+S17 {"id":"22222222-2222-4222-8222-222222222222","actor":{"mbox":"mailto:a@b"},"verb":{"id":"http://v/1"},"object":{"objectType":"Thing"}}
+S18 {"id":"22222222-2222-4222-8222-222222222222","actor":{"mbox":"mailto:a@b"},"verb":{"id":"http://v/1"},"object":{"objectType":"Activity"}}
+S19 {"id":"22222222-2222-4222-8222-222222222222","actor":{"mbox":"mailto:a@b"},"verb":{"id":"http://v/1"},"object":{"id":"http://a/1","definition":{"title":"x"}}}
+S20 {"id":"22222222-2222-4222-8222-222222222222","actor":{"mbox":"mailto:a@b"},"verb":{"id":"http://v/1"},"object":{"id":"http://a/1","definition":{"interactionType":"guess"}}}
+S21 {"id":"22222222-2222-4222-8222-222222222222","actor":{"mbox":"mailto:a@b"},"verb":{"id":"http://v/1"},"object":{"id":"http://a/1","definition":{"interactionType":"choice","choices":[{"id":"x"},{"id":"x"}]}}}
+S22 {"id":"22222222-2222-4222-8222-222222222222","actor":{"mbox":"mailto:a@b"},"verb":{"id":"http://adlnet.gov/expapi/verbs/voided"},"object":{"id":"http://a/1"}}
+S23 {"id":"22222222-2222-4222-8222-222222222222","actor":{"mbox":"mailto:a@b"},"verb":{"id":"http://v/1"},"object":{"objectType":"SubStatement","actor":{"mbox":"mailto:a@b"},"verb":{"id":"http://v/1"}}}
+S24 {"id":"22222222-2222-4222-8222-222222222222","actor":{"mbox":"mailto:a@b"},"verb":{"id":"http://v/1"},"object":{"id":"http://a/1"},"result":{"success":"yes"}}
+S25 {"id":"22222222-2222-4222-8222-222222222222","actor":{"mbox":"mailto:a@b"},"verb":{"id":"http://v/1"},"object":{"id":"http://a/1"},"result":{"duration":"one hour"}}
+S26 {"id":"22222222-2222-4222-8222-222222222222","actor":{"mbox":"mailto:a@b"},"verb":{"id":"http://v/1"},"object":{"id":"http://a/1"},"result":{"score":{"scaled":1.01}}}
+S27 {"id":"22222222-2222-4222-8222-222222222222","actor":{"mbox":"mailto:a@b"},"verb":{"id":"http://v/1"},"object":{"id":"http://a/1"},"context":{"registration":"2222"}}
+S28 {"id":"22222222-2222-4222-8222-222222222222","actor":{"mbox":"mailto:a@b"},"verb":{"id":"http://v/1"},"object":{"id":"http://a/1"},"context":{"contextActivities":{"parent":1}}}
+S29 {"id":"22222222-2222-4222-8222-222222222222","actor":{"mbox":"mailto:a@b"},"verb":{"id":"http://v/1"},"object":{"objectType":"Agent","mbox":"mailto:c@d"},"context":{"platform":"x"}}
+S30 {"id":"22222222-2222-4222-8222-222222222222","actor":{"mbox":"mailto:a@b"},"verb":{"id":"http://v/1"},"object":{"id":"http://a/1"},"timestamp":"yesterday"}
+S31 {"id":"22222222-2222-4222-8222-222222222222","actor":{"mbox":"mailto:a@b"},"verb":{"id":"http://v/1"},"object":{"id":"http://a/1"},"authority":{"objectType":"Group","member":[{"mbox":"mailto:a@b"}]}}
+S32 {"id":"22222222-2222-4222-8222-222222222222","actor":{"mbox":"mailto:a@b"},"verb":{"id":"http://v/1"},"object":{"id":"http://a/1"},"attachments":[{"usageType":"http://u/1"}]}
+"#;
 
-// The place of the first statement that is refused otherwise.
-fn first_wrong_rule(rt: HostRuntime, file: &str) -> Result<usize, Fail> {
-    for (place, (line, statement)) in REFUSED.iter().enumerate() {
-        if printed(rt, &["intake", file], statement)?.as_slice() != line.as_bytes() {
-            return Ok(place);
+// Whether the statement of a row is refused by the rule before it.
+fn is_refused(rt: HostRuntime, file: &str, row: &str) -> Result<bool, Fail> {
+    let (rule, statement) = row.split_once(' ').ok_or("no statement")?;
+    let line = format!(in rt.alloc(); "refused {rule}\n")?;
+    Ok(printed(rt, &["intake", file], statement)?.as_slice() == line.as_bytes())
+}
+
+// The first row that is refused otherwise, or none.
+fn first_wrong_rule(rt: HostRuntime, file: &str) -> Result<&'static str, Fail> {
+    for row in REFUSED.lines() {
+        if !is_refused(rt, file, row)? {
+            return Ok(row);
         }
     }
-    Ok(REFUSED.len())
+    Ok("none")
 }
 
 #[test]
@@ -217,7 +128,7 @@ fn intake_names_the_least_broken_rule(rt: HostRuntime) -> Result<(), Fail> {
     let file = path.as_str();
     printed(rt, &["init", file, "--admin", "adminadmin"], "")?;
     let founded = fs::read(&rt, file)?;
-    assert_eq!(rt; first_wrong_rule(rt, file)?, REFUSED.len());
+    assert_eq!(rt; first_wrong_rule(rt, file)?, "none");
     assert_eq!(rt; fs::read(&rt, file)?, founded);
     fs::remove_file(&rt, file)?;
     Ok(())

@@ -1,4 +1,4 @@
-//! The tests of lrs_app and of the program, which does nothing but call `run`: over the outside in memory, and over real files.
+//! The tests of lrs_app, and of the program, which only calls `run`: over the outside in memory, and over real files.
 #![tactic(auto)]
 
 #[cfg(test)]
@@ -9,5 +9,7 @@ mod files;
 mod outside;
 #[cfg(test)]
 mod serving;
+#[cfg(test)]
+mod stops;
 #[cfg(test)]
 mod words;

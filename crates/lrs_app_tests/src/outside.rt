@@ -166,8 +166,8 @@ fn seen(alloc: Global, ended: &Ended<MemDisk>, outside: &World) -> Result<Ran, F
     })
 }
 
-fn run_in(alloc: Global, words: &[Text], outside: &mut World) -> Result<Ran, Fail> {
-    let ended = run(
+fn end_in(alloc: Global, words: &[Text], outside: &mut World) -> Ended<MemDisk> {
+    run(
         alloc,
         words,
         &mut outside.shelf,
@@ -175,7 +175,11 @@ fn run_in(alloc: Global, words: &[Text], outside: &mut World) -> Result<Ran, Fai
         &mut outside.input,
         &mut outside.out,
         [7; 32],
-    );
+    )
+}
+
+fn run_in(alloc: Global, words: &[Text], outside: &mut World) -> Result<Ran, Fail> {
+    let ended = end_in(alloc, words, outside);
     let ran = seen(alloc, &ended, outside);
     drop(ended);
     ran
@@ -188,6 +192,19 @@ pub fn run_over(alloc: Global, words: &[&str], around: &Around<'_>) -> Result<Ra
     let ran = run_in(alloc, words.as_slice(), &mut outside);
     drop(outside);
     ran
+}
+
+/// The end of a run of these words with this around them.
+pub fn end_over(
+    alloc: Global,
+    words: &[&str],
+    around: &Around<'_>,
+) -> Result<Ended<MemDisk>, Fail> {
+    let words = texts(alloc, words)?;
+    let mut outside = outside(alloc, around)?;
+    let ended = end_in(alloc, words.as_slice(), &mut outside);
+    drop(outside);
+    Ok(ended)
 }
 
 /// The bytes of a new store with this limit.

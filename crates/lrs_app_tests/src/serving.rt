@@ -4,7 +4,7 @@ use lrs_hall::Finish;
 use std::alloc::Global;
 use std::test::Fail;
 
-const SERVE: &[&str] = &[
+pub(crate) const SERVE: &[&str] = &[
     "serve",
     "s",
     "127.0.0.1:8080",
@@ -14,10 +14,10 @@ const SERVE: &[&str] = &[
     "2",
 ];
 
-const PUT: &str =
+pub(crate) const PUT: &str =
     "PUT /xapi/statements?statementId=11111111-1111-4111-8111-111111111111 HTTP/1.1\r\nX-Experience-API-Version: 1.0.3\r\nAuthorization: Basic adminadmin\r\nContent-Length: 131\r\n\r\n{\"id\":\"11111111-1111-4111-8111-111111111111\",\"actor\":{\"mbox\":\"mailto:a@b\"},\"verb\":{\"id\":\"http://v/1\"},\"object\":{\"id\":\"http://a/1\"}}";
 
-const GET: &str =
+pub(crate) const GET: &str =
     "GET /xapi/statements?statementId=11111111-1111-4111-8111-111111111111 HTTP/1.1\r\nX-Experience-API-Version: 1.0.3\r\nAuthorization: Basic adminadmin\r\n\r\n";
 
 const NO_CONTENT: &str = "HTTP/1.1 204 No Content\r\nX-Experience-API-Version: 1.0.3\r\n\r\n";
@@ -230,7 +230,7 @@ fn a_part_of_a_put_is_not_answered(rt: HostRuntime) -> Result<(), Fail> {
 // The token's digits were computed by an independent program: the secret of the first draw of stream 1.
 const PROVIDER: &str = "d8968f3a519aade770c5c943b8f94a2b-1";
 
-const MAKE: &str =
+pub(crate) const MAKE: &str =
     "POST /desk/callers HTTP/1.1\r\nAuthorization: Basic adminadmin\r\nContent-Length: 14\r\n\r\n{\"name\":\"p.1\"}";
 
 const FORBIDDEN: &str =
@@ -252,7 +252,7 @@ fn a_provider_is_made_and_keeps_to_its_area(rt: HostRuntime) -> Result<(), Fail>
     Ok(())
 }
 
-const POST: &str =
+pub(crate) const POST: &str =
     "POST /xapi/statements HTTP/1.1\r\nX-Experience-API-Version: 1.0.3\r\nAuthorization: Basic adminadmin\r\nContent-Length: 131\r\n\r\n{\"id\":\"11111111-1111-4111-8111-111111111111\",\"actor\":{\"mbox\":\"mailto:a@b\"},\"verb\":{\"id\":\"http://v/1\"},\"object\":{\"id\":\"http://a/1\"}}";
 
 const POST_NONE: &str =
@@ -356,7 +356,7 @@ fn a_server_ends_by_what_fails_first(rt: HostRuntime) -> Result<(), Fail> {
     Ok(())
 }
 
-const DISK: &str =
+pub(crate) const DISK: &str =
     "HTTP/1.1 503 Service Unavailable\r\nContent-Type: application/json\r\nContent-Length: 16\r\nX-Experience-API-Version: 1.0.3\r\n\r\n{\"error\":\"disk\"}";
 
 // What a PUT is sent and what is printed where the disk fails for good: while the store is opened, before the entry's

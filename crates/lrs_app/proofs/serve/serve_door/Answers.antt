@@ -16,3 +16,12 @@ returns-clause-served g c =
       over = c.serve_all-desk.ensures.served.1;
       ends = c.serve_all-desk.ensures.end;
     }
+
+pub returns-clause-goes_on : goal.returns-clause-goes_on
+returns-clause-goes_on g c = record {
+  limit = c.serve_all-desk.ensures.limit;
+  begins = c.serve_all-desk.ensures.served.1.begins;
+  tells = c.serve_all-desk.ensures.tells;
+  later = c.serve_all-desk.ensures.moment;
+  stops = c.serve_all-desk.ensures.stops c.requires.opened.durable;
+}
