@@ -1,4 +1,4 @@
--- What stands before and behind the last at sign of a text.
+-- What stands before and after the last at sign of a text.
 use Rattle.std.proofs.Common.{◌≡◌, ℕ, ◌+◌, ◌-◌, ◌<◌, ◌≤◌, ◌≢◌, List, [], ◌∷◌, length, get_or, true, false, not, ◌&&◌, nat_lt, refl, ◌∙◌, arith}
 use Rattle.std.specs.List.{before_last, after_last, suffix_len}
 use Rattle.std.proofs.lemmas.Grind.{common_steps}

@@ -1,12 +1,14 @@
 -- Agents and groups, and the rules 6 to 13 on them (xAPI 1.0.3, part two, section 2.4.2).
-use Rattle.std.specs.Prelude.{ℕ, nat_le, List, [], ◌∷◌, ◌++◌, length, drop, Bool, not, ◌&&◌, ◌||◌, ◌==◌, nat_eq, Option, Some, None, codes, count_by, if◌then◌else◌}
+use Rattle.std.specs.Prelude.{ℕ, nat_le, List, [], ◌∷◌, ◌++◌, length, drop, Bool, not, ◌&&◌, ◌||◌, ◌==◌, nat_eq, Option}
+use Rattle.std.specs.Prelude.{Some, None, codes, count_by, if◌then◌else◌}
 use Rattle.std.specs.Char.{is_ascii_hexdigit}
 use Rattle.std.specs.List.{list_all, starts_with, before_last, after_last}
 use Rattle.std.specs.Str.{chars}
 use Rattle.lrs_json.specs.Json.{Json, null, boolean, number, string, array, object, Elements, no_elements, element}
 use Rattle.lrs_json.specs.Find.{find}
 use Rattle.lrs_names.specs.Iris.{has_some, is_control_or_space, is_iri, iri_faults}
-use Rattle.lrs_names.specs.Members.{is_string_that, is_string, is_word, has_member, has_member_that, if_member, faults_of_member, has_only}
+use Rattle.lrs_names.specs.Members.{is_string_that, is_string, is_word, has_member, has_member_that, if_member}
+use Rattle.lrs_names.specs.Members.{faults_of_member, has_only}
 use Rattle.lrs_names.specs.Rules.{unless}
 
 -- ---- identifiers (section 2.4.2.3)
@@ -66,7 +68,8 @@ identifier_faults j =
 -- what rule 11 says, but for what the identifiers hold
 abbrev pub is_agent : Json → Bool
 is_agent j =
-    has_only (codes "objectType" ∷ codes "name" ∷ identifiers) j && if_member (codes "objectType") (is_word (codes "Agent")) j
+    has_only (codes "objectType" ∷ codes "name" ∷ identifiers) j
+    && if_member (codes "objectType") (is_word (codes "Agent")) j
     && if_member (codes "name") is_string j && (identifier_count j == 1)
 
 -- The rules that a value breaks where an agent is asked for. No object is one.
@@ -91,7 +94,8 @@ faults_of_members (object ms) = 13 ∷ []
 -- what rule 12 says, but for what identifiers and `member` hold
 abbrev pub is_group : Json → Bool
 is_group j =
-    has_only (codes "objectType" ∷ codes "name" ∷ codes "member" ∷ identifiers) j && has_member_that (codes "objectType") (is_word (codes "Group")) j
+    has_only (codes "objectType" ∷ codes "name" ∷ codes "member" ∷ identifiers) j
+    && has_member_that (codes "objectType") (is_word (codes "Group")) j
     && if_member (codes "name") is_string j && nat_le (identifier_count j) 1
     && ((identifier_count j == 1) || has_member (codes "member") j)
 
@@ -102,11 +106,12 @@ group_faults j = unless (is_group j) 12 ++ identifier_faults j ++ faults_of_memb
 -- ---- either of them
 
 -- The rules that a value breaks where an agent or a group is asked for: its `objectType` says which it is, an agent
--- where it is missing. A value of another kind breaks this rule of its place, and is looked at no further.
+-- if it is missing. A value of another kind breaks this rule of its place, and is looked at no further.
 abbrev pub faults_of_kind : ℕ → Option Json → Json → List ℕ
 faults_of_kind rule None j = agent_faults j
 faults_of_kind rule (Some kind) j =
-    if is_word (codes "Agent") kind then agent_faults j else (if is_word (codes "Group") kind then group_faults j else rule ∷ [])
+    if is_word (codes "Agent") kind then agent_faults j
+    else (if is_word (codes "Group") kind then group_faults j else rule ∷ [])
 
 unfoldable pub agent_or_group_faults : ℕ → Json → List ℕ
 agent_or_group_faults rule j = faults_of_kind rule (find (codes "objectType") j) j

@@ -19,7 +19,7 @@ AreAgentsOf no_elements (agent ∷ agents) = ⊥
 AreAgentsOf (element j js) [] = ⊥
 AreAgentsOf (element j js) (agent ∷ agents) = IsAgentOf j agent × AreAgentsOf js agents
 
--- the values of `member`, none where it is missing
+-- the values of `member`, none if it is missing
 abbrev pub member_items : Json → Elements
 member_items j = option_map_or items_of (find (codes "member") j) no_elements
 

@@ -4,19 +4,20 @@ ghost use Rattle.std.specs.List.{list_all, before_last, after_last};
 ghost use Rattle.std.specs.Str.{chars};
 ghost use Rattle.lrs_json.specs.View.{view};
 ghost use Rattle.lrs_agents.specs.Agents.{is_at_sign, is_address, is_mailbox, is_sha1, mailbox_faults, sha1_faults, openid_faults, is_account, account_faults, identifier_faults, identifier_count};
-ghost use Rattle.lrs_agents.specs.Identifiers.{account_of, identifier_of, lent};
+ghost use Rattle.lrs_agents.specs.Identifiers.{account_of, identifier_of, is_identifier, lent};
 ghost use Rattle.lrs_names.specs.Iris.{has_some, is_control_or_space, iri_faults};
 ghost use Rattle.lrs_names.specs.Members.{is_string_that, faults_of_member};
 ghost use Rattle.lrs_names.specs.Rules.{least};
 
 use lrs_json::{Memory, Text, Tree};
 use lrs_names::{
-    broken_iri, has_member, has_only, has_string, is_control_or_space, lesser, text_under, unless,
+    Iri, broken_iri, has_member, has_only, has_string, is_control_or_space, lesser, text_under,
+    unless,
 };
 use std::alloc::Global;
 
 /// What identifies an agent or a group: its inverse functional identifier (xAPI 1.0.3, part two, section 2.4.2.3).
-#[derive(Drop)]
+#[derive(PartialEq, Eq, PartialOrd, Ord, Drop)]
 pub enum Ifi {
     /// `mailto:` and a mail address.
     Mbox(Text),
@@ -43,6 +44,34 @@ impl Ifi {
         match identifier_in(tree) {
             Some(found) => is_same(&self.lend(), &found),
             None => false,
+        }
+    }
+
+    /// A copy of its own.
+    pub fn copy(&self) -> Result<Ifi, Memory>
+        ensures { IfOk result (λ ifi. ifi ≡ self.now) }
+    {
+        match self {
+            Ifi::Mbox(text) => Ok(Ifi::Mbox(text.clone()?)),
+            Ifi::MboxSha1(text) => Ok(Ifi::MboxSha1(text.clone()?)),
+            Ifi::OpenId(text) => Ok(Ifi::OpenId(text.clone()?)),
+            Ifi::Account { home, name } => {
+                let home = home.clone()?;
+                let name = name.clone()?;
+                Ok(Ifi::Account { home, name })
+            }
+        }
+    }
+
+    /// Whether its text is such as an identifier of its kind has, of an account its home page.
+    pub fn is_identifier(&self) -> bool
+        ensures { result ≡ is_identifier self.now }
+    {
+        match self {
+            Ifi::Mbox(text) => is_mailbox(text.as_str()),
+            Ifi::MboxSha1(text) => is_sha1(text.as_bytes()),
+            Ifi::OpenId(text) => Iri::is(text),
+            Ifi::Account { home, name: _ } => Iri::is(home),
         }
     }
 
@@ -144,7 +173,7 @@ pub fn identifier_count(tree: &Tree) -> usize
         + usize::from(has_member(tree, "account"))
 }
 
-/// The least rule that the members that identify break, each where it stands.
+/// The least rule that the members that identify break, each if it is there.
 #[tactic(auto, using(lrs_names::proofs::RuleLemmas::joined))]
 pub fn broken_identifiers(tree: &Tree) -> Option<u8>
     ensures { result ≡ least (identifier_faults (view tree.now)) }
@@ -248,7 +277,7 @@ fn is_address(text: &str) -> bool
     stands_around_at_sign(text) && has_no_control_or_space(text)
 }
 
-// Whether something stands before and behind the last at sign.
+// Whether something stands before and after the last at sign.
 fn stands_around_at_sign(text: &str) -> bool
     ensures { result ≡ (has_some (before_last is_at_sign text.now) && has_some (after_last is_at_sign text.now)) }
 {

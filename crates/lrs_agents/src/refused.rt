@@ -5,7 +5,7 @@ use lrs_json::Memory;
 pub enum NameRefused {
     /// It breaks this rule of S6 to S13, and no lesser one.
     Broken { rule: u8 },
-    /// Want of memory.
+    /// Out of memory.
     Memory,
 }
 

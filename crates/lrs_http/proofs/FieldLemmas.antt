@@ -15,20 +15,13 @@ use Rattle.httparse.specs.Spans.{header_bytes}
 use Rattle.httparse.specs.Grammar.{skip_ows, is_ows}
 use Rattle.lrs_http.specs.declared.request.RequestRefused.{RequestRefused}
 use Rattle.lrs_http.specs.declared.request.RequestRefused.TheVariants as refused
-use Rattle.lrs_http.specs.Fields.{NameAndValue, is_named, first_value, count_named, is_length, is_close, trims_to, is_comma, asks_to_close}
+use Rattle.lrs_http.specs.Fields.{NameAndValue, is_named, first_value, count_named, is_length, is_close, is_comma, asks_to_close}
 use Rattle.lrs_http.specs.Head.{HeadParts, most_fields, announced, has_texts, body_length, method_of}
 use Rattle.lrs_http.specs.Reading.{IsNoText}
-use Rattle.lrs_http.proofs.FrontLemmas.{take_min, drop_min}
+use Rattle.lrs_media.proofs.Trimming.{named_is}
 use Rattle.std.specs.Prelude.{nat_le, ◌⊎◌, min}
 use Rattle.std.specs.List.{fold}
 use Rattle.std.proofs.lemmas.List.{length-map, length-take, take_all}
-
--- the comparison of names in any case, as a test
-pub named_is : (r : Bool) (a b : List ℕ) → (IsTrue r ↔ (map to_ascii_lowercase a ≡ map to_ascii_lowercase b)) → r ≡ str_eq_ignore_ascii_case a b
-named_is r a b same = test (map to_ascii_lowercase a) (map to_ascii_lowercase b) same
-  where
-    test : (xs ys : List ℕ) → (IsTrue r ↔ (xs ≡ ys)) → r ≡ bytes_eq xs ys
-    test xs ys h = search (rules, bytes_eq-Decides)
 
 pub first_here : (name : List ℕ) (field : NameAndValue) (fields : List NameAndValue) → is_named name field ≡ true → first_value name (field ∷ fields) ≡ Some field.1
 unfolding first_value
@@ -94,19 +87,6 @@ length_parts value is =
     let two = and_parts (nat_le (length value) 10) (list_all is_ascii_digit value) one.1 in
     let few : length value ≤ 10 = grind (arith, nat_tests, two.0) in
     (few, digits_from_test value two.1)
-
-pub trimmed_is : (text word rest front : List ℕ) (end : ℕ) (r : Bool) → rest ≡ skip_ows text → end ≡ min (length rest) (length word) → front ≡ take end rest
-    → (IsTrue r ↔ (map to_ascii_lowercase front ≡ map to_ascii_lowercase word)) → (r && list_all is_ows (drop end rest)) ≡ trims_to text word
-unfolding trims_to
-trimmed_is text word rest front end r is bound part same =
-    let n = length word in
-    let fronts : take end rest ≡ take n rest = take_min n end rest bound in
-    let backs : drop end rest ≡ drop n rest = drop_min n end rest bound in
-    let test : r ≡ str_eq_ignore_ascii_case front word = named_is r front word same in
-    let front_is : front ≡ take n (skip_ows text) = part ∙ fronts ∙ ap (take n) is in
-    ap (λ (b : Bool). b && list_all is_ows (drop end rest)) test
-    ∙ ap (λ (l : List ℕ). str_eq_ignore_ascii_case l word && list_all is_ows (drop end rest)) front_is
-    ∙ ap (λ (l : List ℕ). str_eq_ignore_ascii_case (take n (skip_ows text)) word && list_all is_ows l) (backs ∙ ap (drop n) is)
 
 -- ---- what a head announces
 

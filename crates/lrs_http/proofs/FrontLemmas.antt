@@ -91,7 +91,7 @@ hopeless bytes more never filled =
 
 -- ---- the last look
 
--- for a stream that goes on behind a full window
+-- for a stream that goes on after a full window
 item_long : (bytes more : List ℕ) (may : Bool) → longest_head ≤ length bytes → HasNoRequest (window bytes)
     → MatchBool may (MayBecomeRequest (window bytes)) (¬ (MayBecomeRequest (window bytes)))
     → IsItem (bytes ++ more) (Err (refusal_for false (list_all is_line_end bytes) may))
@@ -139,18 +139,6 @@ pub judged : (bytes : List ℕ) (may : Bool) → HasNoRequest (window bytes) →
 judged bytes may none m = judged_by bytes (nat_lt (length bytes) longest_head) (list_all is_line_end bytes) may (answer bytes may none m)
 
 -- ---- what a look says of the window
-
-pub take_min : (n m : ℕ) (xs : List ℕ) → m ≡ min (length xs) n → take m xs ≡ take n xs
-take_min n m xs is = ⊎_elim
-    (λ small. take_all m xs (omega arith) ∙ sym (take_all n xs (omega arith)))
-    (λ large. let same : m ≡ n = omega arith in ap (λ k. take k xs) same)
-    (cases_lt (length xs) n)
-
-pub drop_min : (n m : ℕ) (xs : List ℕ) → m ≡ min (length xs) n → drop m xs ≡ drop n xs
-drop_min n m xs is = ⊎_elim
-    (λ small. drop_all m xs (omega arith) ∙ sym (drop_all n xs (omega arith)))
-    (λ large. let same : m ≡ n = omega arith in ap (λ k. drop k xs) same)
-    (cases_lt (length xs) n)
 
 pub seen : (bytes w : List ℕ) (fields : List HeaderSpan) (p q : Prospect) → w ≡ window bytes → p ≡ q → IsProspect w fields p → IsProspect (window bytes) fields q
 seen bytes w fields p q is same known =

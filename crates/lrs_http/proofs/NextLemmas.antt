@@ -145,7 +145,7 @@ request_next kept (Some rest) after fields spans size request body at is read sa
 
 -- ---- reads in pieces
 
--- what came stands behind what was held
+-- what came stands after what was held
 pub came_behind : (front came : List ℕ) (before after : Option (List ℕ)) → before ≡ option_map (λ rest. came ++ rest) after
     → stream_left (front ++ came) after ≡ stream_left front before
 came_behind front came before None is = sym (ap (λ o. stream_left front o) is)

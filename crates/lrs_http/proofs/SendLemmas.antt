@@ -30,7 +30,7 @@ sends_on a r q t u v first second = (
   second.2 ∙ ap (λ o. option_map (λ taken. taken ++ second.0) o) first.2 ∙ both first.0 second.0 t,
 )
 
--- the same with more text behind
+-- the same with more text after
 pub sends_more : (a b r : List ℕ) (t u : Option (List ℕ)) → Sends a r t u → Sends (a ++ b) (r ++ b) t u
 sends_more a b r t u first = (first.0, sym (append_assoc first.0 r b) ∙ ap (λ l. l ++ b) first.1, first.2)
 
@@ -55,10 +55,6 @@ part_on a r t u v first part = (part.0, sends_on a r part.0 t u v first part.1)
 pub part_more : (a b : List ℕ) (t u : Option (List ℕ)) → SendsPart a t u → SendsPart (a ++ b) t u
 part_more a b t u part = (part.0 ++ b, sends_more a b part.0 t u part.1)
 
--- the rest of a text as a slice
-pub rest_of : (done : ℕ) (text : List ℕ) → take (length text - done) (drop done text) ≡ drop done text
-rest_of done text = take_all _ _ (omega (arith, length-drop done text))
-
 -- ---- what was written, piece by piece
 
 pub written_none : (start : LinkView) → IsWritten [] [] false start start
@@ -80,7 +76,7 @@ written_more text waiting piece failed start now w = record {
   part = λ is. (part_more text piece start.taken now.taken (w.part is).0, (w.part is).1, (w.part is).2);
 }
 
--- behind a fault nothing waits
+-- after a fault nothing waits
 pub written_failed : (text waiting : List ℕ) (start now : LinkView) → IsWritten text waiting true start now → IsWritten text [] true start now
 written_failed text waiting start now w = record {
   left = w.left;

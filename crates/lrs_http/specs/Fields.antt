@@ -1,9 +1,11 @@
--- The fields of a head (RFC 9110, section 5): names, which are compared in any case, and values without the white space around them.
-use Rattle.std.specs.Prelude.{ℕ, nat_le, nat_lt, ◌==◌, ◌&&◌, Bool, true, List, take, drop, find, count_by, length, Option, Some, None, option_map, codes}
+-- The fields of a head (RFC 9110, section 5): names, which are compared in any case, and values without the white space
+-- around them.
+use Rattle.std.specs.Prelude.{ℕ, nat_le, nat_lt, ◌==◌, ◌&&◌, Bool, true, List, take, drop, find, count_by, length}
+use Rattle.std.specs.Prelude.{Option, Some, None, option_map, codes}
 use Rattle.std.specs.List.{list_all, list_any, slice_split}
 use Rattle.std.specs.Char.{is_ascii_digit}
 use Rattle.std.specs.Str.{str_eq_ignore_ascii_case, is_utf8}
-use Rattle.httparse.specs.Grammar.{is_ows, skip_ows}
+use Rattle.lrs_media.specs.Media.{trims_to}
 
 -- a name and its value
 abbrev pub NameAndValue : Type 0
@@ -19,11 +21,6 @@ first_value name fields = option_map (λ (field : NameAndValue). field.1) (find 
 -- how many fields have a name
 unfoldable pub count_named : List ℕ → List NameAndValue → ℕ
 count_named name fields = count_by (is_named name) fields
-
--- white space, the word in any case, white space
-unfoldable pub trims_to : List ℕ → List ℕ → Bool
-trims_to text word =
-    str_eq_ignore_ascii_case (take (length word) (skip_ows text)) word && list_all is_ows (drop (length word) (skip_ows text))
 
 -- an element of a list
 unfoldable pub is_close : List ℕ → Bool

@@ -3,7 +3,7 @@ use Rattle.std.specs.Prelude.{ℕ, List, ◌++◌}
 use Rattle.lrs_http.specs.Links.{LinkView, IsWritten}
 use Rattle.lrs_http.specs.declared.response.Output.{Output}
 
--- behind whatever text was written before, this piece is written, too
+-- after whatever text was written before, this piece is written, too
 abbrev pub Puts : {L : Type 0} → List ℕ → (L → LinkView) → Output → L → Output → L → Type 0
 Puts piece seen old before new after =
     (text : List ℕ) (start : LinkView)

@@ -1,27 +1,29 @@
 -- What a call reads of a link and writes to it.
-use Rattle.std.specs.Prelude.{◌≡◌, ◌≤◌, ℕ, List, ◌++◌, Option, Some, option_map, IfSome, Result, Ok, Err, ⊤, Bool, true, false}
+use Rattle.std.specs.Prelude.{◌≡◌, ◌≤◌, ℕ, List, ◌++◌, Option, Some, option_map, IfSome, Result, Ok, Err, ⊤, Bool, true}
+use Rattle.std.specs.Prelude.{false}
 use Rattle.lrs_disk.specs.Faults.{Rises}
 use Rattle.lrs_http.specs.declared.request.Request.{Request}
 use Rattle.lrs_http.specs.declared.request.RequestRefused.{RequestRefused}
 use Rattle.lrs_http.specs.declared.request.RequestRefused.TheVariants as refused
 use Rattle.lrs_http.specs.Stream.{IsItem}
 
--- what is left of a connection's stream: what is kept of it, and what the link has left, where that is told
+-- what is left of a connection's stream: what is kept of it, and what the link has left, if that is told
 abbrev pub stream_left : List ℕ → Option (List ℕ) → Option (List ℕ)
 stream_left kept left = option_map (λ bytes. kept ++ bytes) left
 
--- why no request is given: want of memory is free
+-- why no request is given: running out of memory is free
 abbrev pub GivesRefusal : Option (List ℕ) → RequestRefused → Type 0
 GivesRefusal before refused.LinkFault = ⊤
 GivesRefusal before refused.Memory = ⊤
 GivesRefusal before refusal = IfSome before (λ stream. IsItem stream (Err refusal))
 
--- the next item of the stream is given, and behind a request the rest is left
+-- the next item of the stream is given, and after a request the rest is left
 abbrev pub GivesNext : Option (List ℕ) → Result Request RequestRefused → Option (List ℕ) → Type 0
-GivesNext before (Ok request) after = IfSome before (λ stream. (rest : List ℕ) × IsItem stream (Ok (request, rest)) × (after ≡ Some rest))
+GivesNext before (Ok request) after =
+    IfSome before (λ stream. (rest : List ℕ) × IsItem stream (Ok (request, rest)) × (after ≡ Some rest))
 GivesNext before (Err refusal) after = GivesRefusal before refusal
 
--- a fault is answered only where the count rose, and any other answer leaves it as it was
+-- a fault is answered only if the count rose, and any other answer leaves it as it was
 abbrev pub IsCause : ℕ → ℕ → RequestRefused → Type 0
 IsCause before now refused.LinkFault = Rises before now × (before ≤ now)
 IsCause before now refusal = now ≡ before
@@ -35,11 +37,12 @@ abbrev pub HasWriteCause : {T E : Type 0} → ℕ → ℕ → Result T E → Typ
 HasWriteCause before now (Ok value) = now ≡ before
 HasWriteCause before now (Err fault) = Rises before now × (before ≤ now)
 
--- of the text a front went out, and this rest not yet
+-- the first part of the text went out, and this rest not yet
 abbrev pub Sends : List ℕ → List ℕ → Option (List ℕ) → Option (List ℕ) → Type 0
-Sends text rest before now = (front : List ℕ) × (front ++ rest ≡ text) × (now ≡ option_map (λ taken. taken ++ front) before)
+Sends text rest before now =
+    (front : List ℕ) × (front ++ rest ≡ text) × (now ≡ option_map (λ taken. taken ++ front) before)
 
--- a front of the text went out
+-- the first part of the text went out
 abbrev pub SendsPart : List ℕ → Option (List ℕ) → Option (List ℕ) → Type 0
 SendsPart text before now = (rest : List ℕ) × Sends text rest before now
 
@@ -52,7 +55,8 @@ pub record LinkView : Type 0 where
   pub faults : ℕ
 
 abbrev pub view : Option (List ℕ) → Option (List ℕ) → Option (List ℕ) → ℕ → ℕ → LinkView
-view taken left stream name faults = record { taken = taken; left = left; stream = stream; name = name; faults = faults }
+view taken left stream name faults =
+    record { taken = taken; left = left; stream = stream; name = name; faults = faults }
 
 -- since the start a text was written, the end of which waits; or the link failed
 pub record IsWritten (text waiting : List ℕ) (failed : Bool) (start now : LinkView) : Type 0 where
@@ -60,4 +64,5 @@ pub record IsWritten (text waiting : List ℕ) (failed : Bool) (start now : Link
   pub stream : now.stream ≡ start.stream
   pub name : now.name ≡ start.name
   pub whole : failed ≡ false → Sends text waiting start.taken now.taken × (now.faults ≡ start.faults)
-  pub part : failed ≡ true → SendsPart text start.taken now.taken × Rises start.faults now.faults × (start.faults ≤ now.faults)
+  pub part : failed ≡ true → SendsPart text start.taken now.taken × Rises start.faults now.faults
+      × (start.faults ≤ now.faults)

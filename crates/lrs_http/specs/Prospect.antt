@@ -14,8 +14,10 @@ use Rattle.std.specs.Prelude.{Err, ⊤, [], ◌<◌, Bool, true, false}
 
 -- what a look at the bytes says
 abbrev pub IsProspect : List ℕ → List HeaderSpan → Prospect → Type 0
-IsProspect bytes fields (Whole spans) = IsRequestWithin bytes fields spans × ((head : RequestHead) × IsRequestAt bytes fields spans head)
-IsProspect bytes fields Crowded = (head : RequestHead) × (rest : List ℕ) × ReadsRequest bytes head rest × (most_fields < length head.fields)
+IsProspect bytes fields (Whole spans) =
+    IsRequestWithin bytes fields spans × ((head : RequestHead) × IsRequestAt bytes fields spans head)
+IsProspect bytes fields Crowded = (head : RequestHead) × (rest : List ℕ) × ReadsRequest bytes head rest
+    × (most_fields < length head.fields)
 IsProspect bytes fields Open = HasNoRequest bytes × MayBecomeRequest bytes
 IsProspect bytes fields Doubtful = HasNoRequest bytes × ¬ (MayBecomeRequest bytes)
 IsProspect bytes fields Never = (more : List ℕ) → HasNoRequest (bytes ++ more) × ¬ (MayBecomeRequest (bytes ++ more))
@@ -29,7 +31,7 @@ parts_at bytes fields spans = record {
   fields = map (header_bytes bytes) (take spans.headers fields);
 }
 
--- the spans cover a head at the front of the bytes, whatever follows them
+-- the spans cover a head at the beginning of the bytes, whatever follows them
 pub record IsHeadAt (bytes : List ℕ) (fields : List HeaderSpan) (spans : RequestSpans) : Type 0 where
   pub within : IsRequestWithin (window bytes) fields spans
   pub head : RequestHead
@@ -37,17 +39,18 @@ pub record IsHeadAt (bytes : List ℕ) (fields : List HeaderSpan) (spans : Reque
   pub parts : parts_at (window bytes) fields spans ≡ parts_of head
   pub front : (more : List ℕ) → IsFront (bytes ++ more) (stands head (drop spans.len (bytes ++ more)))
 
--- whatever follows the bytes, this is the answer; want of memory is free
+-- whatever follows the bytes, this is the answer; running out of memory is free
 abbrev pub IsRequestRefused : List ℕ → RequestRefused → Type 0
 IsRequestRefused bytes refused.Memory = ⊤
 IsRequestRefused bytes refused.LinkFault = ⊥
 IsRequestRefused bytes refusal = (more : List ℕ) → IsItem (bytes ++ more) (Err refusal)
 
--- the same where the stream ends behind the bytes, if they are fewer than a head may have
+-- the same if the stream ends after the bytes and they are fewer than a head may have
 abbrev pub IsJudged : List ℕ → RequestRefused → Type 0
 IsJudged bytes refused.Memory = ⊤
 IsJudged bytes refused.LinkFault = ⊥
-IsJudged bytes refusal = (more : List ℕ) → (length bytes < longest_head → more ≡ []) → IsItem (bytes ++ more) (Err refusal)
+IsJudged bytes refusal = (more : List ℕ) → (length bytes < longest_head → more ≡ [])
+    → IsItem (bytes ++ more) (Err refusal)
 
 -- why bytes are refused that are fewer than a head may have, are empty lines alone, or may become a head
 abbrev pub refusal_for : Bool → Bool → Bool → RequestRefused

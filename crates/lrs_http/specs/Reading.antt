@@ -3,14 +3,15 @@ use Rattle.std.specs.Prelude.{◌≡◌, ◌<◌, ◌⊎◌, ℕ, List, [], ◌+
 use Rattle.lrs_http.specs.declared.request.RequestRefused.{RequestRefused}
 use Rattle.lrs_http.specs.declared.request.RequestRefused.TheVariants as refused
 
--- the link has nothing left, where that is told
+-- the link has nothing left, if that is told
 abbrev pub IsAtEnd : Option (List ℕ) → Type 0
 IsAtEnd left = IfSome left (λ rest. rest ≡ [])
 
--- of the stream behind its first bytes, so many are the body, and the rest is left
+-- of the stream after its first bytes, so many are the body, and the rest is left
 abbrev pub IsBodyAt : ℕ → ℕ → Option (List ℕ) → Option (List ℕ) → List ℕ → Type 0
 IsBodyAt start size before after body =
-    IfSome before (λ stream. (rest : List ℕ) × (drop start stream ≡ body ++ rest) × (length body ≡ size) × (after ≡ Some rest))
+    IfSome before (λ stream. (rest : List ℕ) × (drop start stream ≡ body ++ rest) × (length body ≡ size)
+    × (after ≡ Some rest))
 
 -- why a body isn't read
 abbrev pub IsNoBody : ℕ → ℕ → Option (List ℕ) → RequestRefused → Type 0

@@ -1,5 +1,6 @@
 -- The bytes of a response (RFC 9112, section 4), its fields in one fixed order.
-use Rattle.std.specs.Prelude.{ℕ, ◌==◌, not, Bool, List, [], ◌∷◌, ◌++◌, length, Option, Some, None, unwrap_or, if◌then◌else◌, codes, decimal, IsTrue}
+use Rattle.std.specs.Prelude.{ℕ, ◌==◌, not, Bool, List, [], ◌∷◌, ◌++◌, length, Option, Some, None, unwrap_or}
+use Rattle.std.specs.Prelude.{if◌then◌else◌, codes, decimal, IsTrue}
 use Rattle.std.specs.List.{list_any}
 use Rattle.http.specs.StatusCode.{reason_phrase}
 
@@ -17,7 +18,7 @@ IsStatus status = IsTrue (list_any (λ s. s == status) statuses)
 unfoldable pub phrase_of : ℕ → List ℕ
 phrase_of status = unwrap_or (reason_phrase status) []
 
--- a text, where it applies
+-- a text, if it applies
 abbrev pub where_so : Bool → List ℕ → List ℕ
 where_so applies text = if applies then text else []
 

@@ -1,5 +1,6 @@
--- What a whole stream spells: requests one behind the other, and how that ends (RFC 9112, sections 2 and 9).
-use Rattle.std.specs.Prelude.{◌≡◌, ◌<◌, ◌≤◌, ◌-◌, ◌==◌, ◌||◌, ℕ, Bool, true, false, List, [], ◌∷◌, length, take, drop, nat_lt, Option, Some, None, Result, Ok, Err, if◌then◌else◌, MatchBool}
+-- What a whole stream spells: requests one after the other, and how that ends (RFC 9112, sections 2 and 9).
+use Rattle.std.specs.Prelude.{◌≡◌, ◌<◌, ◌≤◌, ◌-◌, ◌==◌, ◌||◌, ℕ, Bool, true, false, List, [], ◌∷◌, length, take, drop}
+use Rattle.std.specs.Prelude.{nat_lt, Option, Some, None, Result, Ok, Err, if◌then◌else◌, MatchBool}
 use Rattle.std.specs.List.{list_all}
 use Rattle.httparse.specs.Grammar.{RequestHead, print_request, ReadsRequest, HasNoRequest, MayBecomeRequest}
 use Rattle.lrs_http.specs.declared.request.Request.{Request}
@@ -21,9 +22,9 @@ window stream = take longest_head stream
 abbrev pub is_line_end : ℕ → Bool
 is_line_end b = b == 13 || b == 10
 
--- What stands at the front of a stream.
+-- What stands at the beginning of a stream.
 pub data Front : Type 0 where
-  -- a head, and the bytes behind it
+  -- a head, and the bytes after it
   stands : RequestHead → List ℕ → Front
   -- nothing, or empty lines that no head follows
   blank : Front
@@ -36,25 +37,27 @@ pub data Front : Type 0 where
 abbrev pub IsBlank : List ℕ → Type 0
 IsBlank stream = (length stream < longest_head) × (list_all is_line_end stream ≡ true)
 
--- where no head stands at the front, the first of these that holds says what stands there
+-- if no head stands at the beginning, the first of these that holds says what stands there
 abbrev pub IsNoHead : List ℕ → Front → Type 0
 IsNoHead stream (stands head behind) = ⊥
 IsNoHead stream blank = IsBlank stream
 IsNoHead stream wrong = ¬ (IsBlank stream) × ¬ (MayBecomeRequest (window stream))
 IsNoHead stream long = (longest_head ≤ length stream) × MayBecomeRequest (window stream)
-IsNoHead stream short = (length stream < longest_head) × (list_all is_line_end stream ≡ false) × MayBecomeRequest (window stream)
+IsNoHead stream short = (length stream < longest_head) × (list_all is_line_end stream ≡ false)
+    × MayBecomeRequest (window stream)
 
 abbrev pub IsFront : List ℕ → Front → Type 0
 IsFront stream (stands head behind) = ReadsRequest stream head behind × (length (print_request head) ≤ longest_head)
 IsFront stream front = HasNoRequest (window stream) × IsNoHead stream front
 
--- a request and the stream behind it, or why there is none
+-- a request and the stream after it, or why there is none
 abbrev pub Item : Type 0
 Item = Result (Request × List ℕ) RequestRefused
 
 -- the item of a head that is in order, with the length of its body
 unfoldable pub item_with : HeadParts → List ℕ → ℕ → Item
-item_with parts behind n = if nat_lt (length behind) n then Err refused.Cut else Ok (request_of parts (take n behind), drop n behind)
+item_with parts behind n = if nat_lt (length behind) n then Err refused.Cut
+    else Ok (request_of parts (take n behind), drop n behind)
 
 abbrev pub with_body : HeadParts → List ℕ → Result ℕ RequestRefused → Item
 with_body parts behind (Ok n) = item_with parts behind n
@@ -75,10 +78,12 @@ IsItem stream item = (front : Front) × IsFront stream front × (item ≡ item_o
 abbrev pub most_requests : ℕ
 most_requests = MOST_REQUESTS
 
--- The requests of a stream, one behind the other, and how they end: by a refusal, or with none where the last request is one that ends the connection.
+-- The requests of a stream, one after the other, and how they end: by a refusal, or with none if the last request is
+-- one that ends the connection.
 abbrev pub Spells : ℕ → List ℕ → List Request → Option RequestRefused → Type 0
 Spells most stream [] None = ⊥
 Spells most stream [] (Some refusal) = IsItem stream (Err refusal)
 Spells most stream (request ∷ requests) ending =
     (rest : List ℕ) × IsItem stream (Ok (request, rest))
-    × MatchBool (request.closes || most == 1) ((requests ≡ []) × (ending ≡ None)) (Spells (most - 1) rest requests ending)
+    × MatchBool (request.closes || most == 1) ((requests ≡ []) × (ending ≡ None))
+    (Spells (most - 1) rest requests ending)

@@ -3,9 +3,8 @@ ghost use Rattle.std.specs.Prelude.{◌≡◌, ◌≤◌, ◌<◌, ◌+◌, ◌�
 ghost use Rattle.std.specs.Char.{is_ascii_digit};
 ghost use Rattle.std.specs.List.{list_all, position_or_len};
 ghost use Rattle.std.specs.Option.{option_copied};
-ghost use Rattle.httparse.specs.Grammar.{skip_ows, is_ows};
 ghost use Rattle.httparse.specs.Spans.{IsHeaderWithin, IsRequestWithin, header_bytes, span_bytes};
-ghost use Rattle.lrs_http.specs.Fields.{is_comma, first_value, count_named, is_close, trims_to, asks_to_close, is_length, is_text};
+ghost use Rattle.lrs_http.specs.Fields.{is_comma, first_value, count_named, is_close, asks_to_close, is_length, is_text};
 ghost use Rattle.lrs_http.specs.Head.{HeadParts, method_of, path_of, query_of, closes_of, request_of, has_texts, stated_length, body_length, announced, most_fields, longest_body};
 ghost use Rattle.lrs_http.specs.Prospect.{parts_at};
 ghost use Rattle.lrs_http.specs.Reading.{IsNoText, IsQuiet};
@@ -14,6 +13,7 @@ use crate::{Method, Request, RequestRefused};
 use httparse::spans::{HeaderSpan, RequestSpans};
 use lrs_decimal::digits_value;
 use lrs_json::{Items, Memory, Text};
+use lrs_media::trims_to;
 use std::alloc::Global;
 
 /// The most bytes that a body may have.
@@ -42,37 +42,6 @@ fn count_named(bytes: &[u8], fields: &[HeaderSpan], name: &[u8]) -> usize
         }
     }
     count
-}
-
-fn is_white(byte: u8) -> bool
-    ensures { result ≡ is_ows byte }
-{
-    byte == b' ' || byte == b'\t'
-}
-
-fn skip_white(bytes: &[u8]) -> &[u8]
-    ensures { result.now ≡ skip_ows bytes.now }
-{
-    let mut at = 0;
-    while at < bytes.len() && is_white(bytes[at]) {
-        at += 1;
-    }
-    &bytes[at..]
-}
-
-fn all_white(bytes: &[u8]) -> bool
-    ensures { result ≡ list_all is_ows bytes.now }
-{
-    bytes.iter().all(|b| is_white(*b))
-}
-
-/// Whether the text is the word, in any case, once the white space round it is off (RFC 9110, section 5.6.3).
-pub fn trims_to(text: &[u8], word: &[u8]) -> bool
-    ensures { result ≡ trims_to text.now word.now }
-{
-    let rest = skip_white(text);
-    let end = rest.len().min(word.len());
-    rest[..end].eq_ignore_ascii_case(word) && all_white(&rest[end..])
 }
 
 #[tactic(auto, unfolding(crate::specs::Fields::is_close))]

@@ -25,9 +25,9 @@ const ROOM: usize = 5_462;
 
 /// What the first bytes of a stream are.
 pub(crate) enum Prospect {
-    /// A head stands at the front.
+    /// A head stands at the beginning.
     Whole(RequestSpans),
-    /// A head of more fields than a head may have stands at the front.
+    /// A head of more fields than a head may have stands at the beginning.
     Crowded,
     /// There is no head yet, and there may be one.
     Open,
@@ -58,7 +58,7 @@ fn method_reaches_target(bytes: &[u8], start: usize, early: bool) -> bool
     early
 }
 
-// Whether the bytes end inside a request's target; `early` is the answer where they end before it.
+// Whether the bytes end inside a request's target; `early` is the answer if they end before it.
 fn reaches_target(bytes: &[u8], early: bool) -> bool
     ensures { result ≡ reaches early false bytes.now }
 {
@@ -94,7 +94,7 @@ fn headless(bytes: &[u8], fields: &[HeaderSpan]) -> Prospect
     }
 }
 
-// Looks at bytes whose head, where they have one, has more fields than a head may have.
+// Looks at bytes whose head, if they have one, has more fields than a head may have.
 fn examine_crowded(alloc: Global, bytes: &[u8], fields: &[HeaderSpan]) -> Result<Prospect, Memory>
     requires short { length bytes.now ≤ longest_head }
     requires crowded { RequestOverflows most_fields bytes.now }
@@ -138,7 +138,7 @@ fn is_blank(bytes: &[u8]) -> bool
     bytes.iter().all(|b| *b == b'\r' || *b == b'\n')
 }
 
-/// Looks for a head at the front of the bytes, and gives none while one may still come.
+/// Looks for a head at the beginning of the bytes, and gives none while one may still come.
 pub(crate) fn look(
     alloc: Global,
     bytes: &[u8],
@@ -171,7 +171,7 @@ fn refusal_of(bytes: &[u8], may_become: bool) -> RequestRefused
     }
 }
 
-/// Takes the head at the front of the bytes, where they are all that a head may stand in.
+/// Takes the head at the beginning of the bytes, if they are all that a head may stand in.
 pub(crate) fn judge(
     alloc: Global,
     bytes: &[u8],

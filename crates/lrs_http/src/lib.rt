@@ -8,7 +8,6 @@ mod reading;
 mod request;
 mod response;
 
-pub use fields::trims_to;
 pub use laws::law_of_one_list;
 pub use reading::{MOST_REQUESTS, read_request};
 pub use request::{Method, Request, RequestRefused};

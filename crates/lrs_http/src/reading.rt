@@ -40,7 +40,7 @@ fn ends_empty_line(bytes: &[u8], lead: usize, at: usize) -> bool
 }
 
 impl Search {
-    // Whether an empty line stands behind the first line of a head, and among the bytes that are new.
+    // Whether an empty line stands after the first line of a head, and among the bytes that are new.
     fn finds_end(&mut self, bytes: &[u8]) -> bool {
         while self.lead < bytes.len() && matches!(bytes[self.lead], b'\r' | b'\n') {
             self.lead += 1;
@@ -51,7 +51,7 @@ impl Search {
     }
 }
 
-// Reads behind the bytes that are held, and answers how many bytes came.
+// Reads after the bytes that are held, and answers how many bytes came.
 fn read_behind<L: Link>(link: &mut L, bytes: &mut [u8], held: usize) -> Result<usize, Failed>
     requires { held ≤ length bytes.old }
     ensures room { IfOk result (λ n. held + n ≤ length bytes.old) }
@@ -71,7 +71,7 @@ fn read_behind<L: Link>(link: &mut L, bytes: &mut [u8], held: usize) -> Result<u
     Ok(number)
 }
 
-// Reads a piece behind what is kept, and answers whether there was one.
+// Reads a piece after what is kept, and answers whether there was one.
 fn read_piece<L: Link>(link: &mut L, kept: &mut Vec<u8>) -> Result<bool, RequestRefused>
     requires { vec_len kept.old < longest_head }
     ensures left { stream_left kept.new.items (L.left link.new) ≡ stream_left kept.old.items (L.left link.old) }
@@ -98,7 +98,7 @@ fn read_piece<L: Link>(link: &mut L, kept: &mut Vec<u8>) -> Result<bool, Request
     }
 }
 
-// Reads until a head stands at the front of what is kept. It is looked for where an empty line has come.
+// Reads until a head stands at the beginning of what is kept. It is looked for once an empty line has come.
 fn read_head<L: Link>(
     alloc: Global,
     link: &mut L,
@@ -185,7 +185,7 @@ fn fill_vector<L: Link>(link: &mut L, body: &mut Vec<u8>, held: usize) -> Result
     fill(link, body.as_mut_slice(), held)
 }
 
-// Takes the body behind a head: what is kept of it first, and the rest from the link, straight into its place.
+// Takes the body after a head: what is kept of it first, and the rest from the link, straight into its place.
 fn read_body<L: Link>(
     alloc: Global,
     link: &mut L,
@@ -210,8 +210,8 @@ fn read_body<L: Link>(
     Ok(Items::from_vec(body))
 }
 
-/// Reads the next request of a connection (RFC 9112). `kept` holds what was read behind the last one, and is empty at first.
-/// Behind a refusal the connection ends.
+/// Reads the next request of a connection (RFC 9112). `kept` holds what was read after the last one, and is empty at
+/// first. After a refusal the connection ends.
 pub fn read_request<L: Link>(
     alloc: Global,
     link: &mut L,

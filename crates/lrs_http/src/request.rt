@@ -18,7 +18,7 @@ pub struct Request {
     pub method: Method,
     /// The target before its first `?`, as it was sent.
     pub path: Text,
-    /// What stands behind that `?`.
+    /// What follows that `?`.
     pub query: Option<Text>,
     /// The field `X-Experience-API-Version`.
     pub version: Option<Text>,
@@ -26,12 +26,12 @@ pub struct Request {
     pub credential: Option<Text>,
     /// The field `Content-Type`.
     pub media: Option<Text>,
-    /// The connection ends behind the response: HTTP/1.0, or `Connection: close`.
+    /// The connection ends after the response: HTTP/1.0, or `Connection: close`.
     pub closes: bool,
     pub body: Items<u8>,
 }
 
-/// Why no request is read. Behind each of these the connection ends.
+/// Why no request is read. After each of these the connection ends.
 #[derive(Clone, Copy, Debug, PartialEq, Eq)]
 pub enum RequestRefused {
     /// The input ends before a request, with nothing but empty lines left.
@@ -50,7 +50,7 @@ pub enum RequestRefused {
     Cut,
     /// A call of the link failed.
     LinkFault,
-    /// Memory is wanting.
+    /// Memory ran out.
     Memory,
 }
 

@@ -26,7 +26,7 @@ pub struct Reply2<'a> {
     pub allow: &'a str,
 }
 
-// What waits to be written, so that a short response goes out in one write. Behind a fault nothing more is written.
+// What waits to be written, so that a short response goes out in one write. After a fault nothing more is written.
 #[derive(Drop)]
 struct Output {
     gathered: ArrayVec<u8, 4096>,
@@ -101,7 +101,7 @@ impl Output {
         self.gathered.clear();
     }
 
-    // Writes what waits, and the piece behind it.
+    // Writes what waits, and the piece after it.
     fn put_behind<L: Link>(&mut self, link: &mut L, piece: &[u8])
         ensures { Puts piece.now (λ l. view (L.taken l) (L.left l) (L.stream l) (L.name l) (L.fault_count l))
             self.old link.old self.new link.new }
@@ -110,7 +110,7 @@ impl Output {
         self.failed = send(link, piece, self.failed);
     }
 
-    // Gathers a piece behind what waits, or writes both where there is no room.
+    // Gathers a piece after what waits, or writes both if there is no room.
     fn put<L: Link>(&mut self, link: &mut L, piece: &[u8])
         ensures { Puts piece.now (λ l. view (L.taken l) (L.left l) (L.stream l) (L.name l) (L.fault_count l))
             self.old link.old self.new link.new }
@@ -189,8 +189,8 @@ fn write_fields<L: Link>(link: &mut L, reply: &Reply2, closes: bool) -> bool
     out.failed
 }
 
-/// Writes a response (RFC 9112, section 4), its fields in one fixed order. It takes no memory. With `closes` the response
-/// says that the connection ends behind it.
+/// Writes a response (RFC 9112, section 4), its fields in one fixed order. It takes no memory. With `closes` the
+/// response says that the connection ends after it.
 pub fn write_response<L: Link>(link: &mut L, reply: &Reply2, closes: bool) -> Result<(), LinkFault>
     requires status { IsStatus reply.now.status }
     requires bare { reply.now.status ≡ 204 → (reply.now.media.now ≡ []) × (reply.now.body.now ≡ []) }

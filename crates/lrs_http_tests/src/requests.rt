@@ -69,7 +69,7 @@ fn spelled<L: Link>(alloc: Global, link: &mut L) -> Result<String, Fail> {
     Ok(list)
 }
 
-// Whether the stream spells this, where it comes in pieces that end at the cuts.
+// Whether the stream spells this, if it comes in pieces that end at the cuts.
 fn spells(alloc: Global, bytes: &[u8], cuts: Vec<usize>, list: &str) -> Result<bool, Fail> {
     let mut link = link_of(alloc, bytes, cuts)?;
     Ok(spelled(alloc, &mut link)?.as_str() == list)
@@ -326,7 +326,7 @@ const WHOLE: [(&str, &str); 3] = [
     ("PUT /a HTTP/1.1\r\nContent-Length: 4\n\r\nbody", "body"),
 ];
 
-// Whether the request is given before the link is called behind its last byte, which fails.
+// Whether the request is given before the link is called after its last byte, which fails.
 fn is_given(alloc: Global, stream: &str, body: &str) -> Result<bool, Fail> {
     let bytes = stream.as_bytes();
     let mut link = failing(alloc, bytes.to_vec(alloc)?, bytes.len() as u64)?;

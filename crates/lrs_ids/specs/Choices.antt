@@ -7,6 +7,6 @@ abbrev pub first_some : {A : Type 0} → List (Option A) → Option A
 first_some [] = None
 first_some (o ∷ more) = option_or o (first_some more)
 
--- this one where the condition holds
+-- this one if the condition holds
 abbrev pub when : {A : Type 0} → Bool → A → Option A
 when holds a = if holds then Some a else None

@@ -9,8 +9,8 @@ use Rattle.lrs_ids.specs.declared.supply.TheConstants.{MOST}
 abbrev pub HoldSame : List (List ℕ) → List (List ℕ) → Type 0
 HoldSame ids others = (id : List ℕ) → is_one_of ids id ≡ is_one_of others id
 
--- What is seen of the ids that are yet to be made: those that were given or made, how many words are looked at, and the word
--- from which on.
+-- What is seen of the ids that are yet to be made: those that were given or made, how many words are looked at, and the
+-- word from which on.
 pub record IdSupply : Type 0 where
   pub gone : List (List ℕ)
   pub most : ℕ

@@ -19,7 +19,7 @@ const MOST: u128 = 1 << 101;
 pub struct IdSupply {
     // The ids that were given or made.
     gone: BTreeSet<Id>,
-    // The next id is that of one of the next so many words, or of the one behind them.
+    // The next id is that of one of the next so many words, or of the one after them.
     most: u128,
     word: u128,
 }
@@ -101,7 +101,7 @@ fn set_of(alloc: Global, given: &[Id]) -> Result<BTreeSet<Id>, Memory>
     Ok(ids)
 }
 
-// Makes an id. It is gone from then on, and the next begins at the word behind.
+// Makes an id. It is gone from then on, and the next begins at the word after.
 fn make_id<U: UsedIds>(
     used: &U,
     gone: &mut BTreeSet<Id>,

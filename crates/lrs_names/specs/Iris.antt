@@ -35,10 +35,11 @@ is_iri_character c = not (is_control_or_space c || is_delimiter c)
 abbrev pub is_colon : ℕ → Bool
 is_colon b = b == 58
 
--- A scheme, a colon and something behind it, with no refused character.
+-- A scheme, a colon and something after it, with no refused character.
 unfoldable pub is_iri : List ℕ → Bool
 is_iri text =
-    is_scheme (before_first is_colon text) && has_some (after_first is_colon text) && list_all is_iri_character (chars text)
+    is_scheme (before_first is_colon text) && has_some (after_first is_colon text)
+    && list_all is_iri_character (chars text)
 
 -- rule 6, where an IRI is asked for
 abbrev pub iri_faults : Json → List ℕ

@@ -16,7 +16,8 @@ is_hyphen b = b == 45
 -- Parts of one to eight letters or digits with hyphens between them; the first has letters alone.
 unfoldable pub is_language_tag : List ℕ → Bool
 is_language_tag text =
-    is_subtag is_ascii_alphabetic (before_first is_hyphen text) && list_all (is_subtag is_ascii_alphanumeric) (slice_split is_hyphen text)
+    is_subtag is_ascii_alphabetic (before_first is_hyphen text)
+    && list_all (is_subtag is_ascii_alphanumeric) (slice_split is_hyphen text)
 
 abbrev pub are_in_languages : Members → Bool
 are_in_languages no_members = true

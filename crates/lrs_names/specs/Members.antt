@@ -3,7 +3,8 @@ use Rattle.std.specs.Prelude.{ℕ, List, [], Bool, true, false, ◌&&◌, Option
 use Rattle.std.specs.List.{list_any}
 use Rattle.std.specs.Option.{option_map_or}
 use Rattle.std.specs.Str.{bytes_eq}
-use Rattle.lrs_json.specs.Json.{Json, null, boolean, number, string, array, object, Elements, no_elements, Members, no_members, member}
+use Rattle.lrs_json.specs.Json.{Json, null, boolean, number, string, array, object, Elements, no_elements, Members}
+use Rattle.lrs_json.specs.Json.{no_members, member}
 use Rattle.lrs_json.specs.Find.{find}
 
 -- a string whose text passes
@@ -48,15 +49,15 @@ has_member name j = is_some (find name j)
 abbrev pub has_member_that : List ℕ → (Json → Bool) → Json → Bool
 has_member_that name test j = option_map_or test (find name j) false
 
--- the member passes, where it stands
+-- the member passes, if it is there
 abbrev pub if_member : List ℕ → (Json → Bool) → Json → Bool
 if_member name test j = option_map_or test (find name j) true
 
--- the rules that the member breaks, where it stands
+-- the rules that the member breaks, if it is there
 abbrev pub faults_of_member : List ℕ → (Json → List ℕ) → Json → List ℕ
 faults_of_member name faults j = option_map_or faults (find name j) []
 
--- the text of the member, where it is a string
+-- the text of the member, if it is a string
 abbrev pub text_under : List ℕ → Json → Option (List ℕ)
 text_under name j = option_and_then text_of (find name j)
 

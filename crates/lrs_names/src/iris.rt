@@ -7,13 +7,13 @@ ghost use Rattle.lrs_names.specs.Members.{is_string_that};
 ghost use Rattle.lrs_names.specs.Rules.{least};
 
 use crate::rules::unless;
-use lrs_json::{Text, Tree};
+use lrs_json::{Memory, Text, Tree};
 use std::marker::Model;
 
 /// An IRI (RFC 3987, section 2.2, within the profile of xAPI 1.0.3, part two, section 4.3): a scheme, a colon and at
 /// least one character, without controls, spaces and the characters `"<>\^{|}` and the backquote. Contracts see it
-/// as the bytes of its text.
-#[derive(Drop)]
+/// as the bytes of its text, in whose order IRIs are.
+#[derive(PartialEq, Eq, PartialOrd, Ord, Drop)]
 pub struct Iri {
     text: Text,
 }
@@ -27,6 +27,8 @@ impl Model for Iri {
     ghost view = { λ iri. iri.text };
 
     ghost invariant = { λ iri. is_iri iri.text ≡ true };
+
+    ghost inverse = { λ text. record { text = text } };
 }
 
 impl Iri {
@@ -37,7 +39,7 @@ impl Iri {
         is_iri(text.as_str())
     }
 
-    /// Takes the text over, and hands it back where it is no IRI.
+    /// Takes the text over, and hands it back if it is no IRI.
     pub fn read(text: Text) -> Result<Iri, Text>
         ensures iri { IfOk result (λ iri. (iri ≡ text) × IsTrue (is_iri text)) }
         ensures other { IfErr result (λ given. (given ≡ text) × (IsTrue (is_iri text) → ⊥)) }
@@ -57,6 +59,15 @@ impl Iri {
         &self.text
     }
 
+    /// A copy of its own.
+    pub fn copy(&self) -> Result<Iri, Memory>
+        ensures { IfOk result (λ iri. iri ≡ self.now) }
+    {
+        Ok(Iri {
+            text: self.text.clone()?,
+        })
+    }
+
     /// Gives the text back.
     pub fn into_text(self) -> Text
         ensures given { result ≡ self }
@@ -67,7 +78,7 @@ impl Iri {
     }
 }
 
-/// Rule 6, where the value is no string that is an IRI.
+/// Rule 6, if the value is no string that is an IRI.
 pub fn broken_iri(tree: &Tree) -> Option<u8>
     ensures { result ≡ least (iri_faults (view tree.now)) }
 {

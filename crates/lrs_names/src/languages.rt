@@ -22,7 +22,7 @@ impl LangTag {
     }
 }
 
-/// Rule 14, where the value is no language map.
+/// Rule 14, if the value is no language map.
 pub fn broken_language_map(tree: &Tree) -> Option<u8>
     ensures { result ≡ least (language_map_faults (view tree.now)) }
 {

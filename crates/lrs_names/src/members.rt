@@ -32,7 +32,7 @@ pub fn text_of(tree: &Tree) -> Option<&Text>
     }
 }
 
-/// The text of the member of that name, where it is a string.
+/// The text of the member of that name, if it is a string.
 pub fn text_under<'a>(tree: &'a Tree, name: &str) -> Option<&'a Text>
     ensures { option_map (λ t. t.now) result ≡ text_under name.now (view tree.now) }
 {

@@ -13,7 +13,7 @@ pub fn lesser(a: Option<u8>, b: Option<u8>) -> Option<u8>
     }
 }
 
-/// The rule, where its demand isn't met.
+/// The rule, if its demand isn't met.
 pub fn unless(met: bool, rule: u8) -> Option<u8>
     ensures { result ≡ least (unless met rule) }
 {

@@ -347,7 +347,7 @@ const VALUES: [(&str, Option<u8>, Option<u8>); 62] = [
     ),
 ];
 
-// The rule that reading as an agent names, or `Err` for want of memory.
+// The rule that reading as an agent names, or `Err` if memory runs out.
 fn agent_rule(alloc: Global, tree: &Tree) -> Result<Option<u8>, Memory> {
     match Agent::read(alloc, tree) {
         Ok(agent) => {
@@ -420,7 +420,7 @@ fn identifier_of(alloc: Global, tree: &Tree) -> Option<Ifi> {
     }
 }
 
-// Whether the identifier is that of the tree, and the same as its own, exactly where it is to be.
+// Whether the identifier is that of the tree, and the same as its own, exactly if it is to be.
 fn is_told(alloc: Global, ifi: &Ifi, tree: &Tree, own: bool) -> bool {
     match identifier_of(alloc, tree) {
         Some(other) => {
@@ -432,7 +432,7 @@ fn is_told(alloc: Global, ifi: &Ifi, tree: &Tree, own: bool) -> bool {
     }
 }
 
-// The place of the first tree that is told wrong, where the identifier is that of the tree at `own`.
+// The place of the first tree that is told wrong, if the identifier is that of the tree at `own`.
 fn wrong_tree(alloc: Global, ifi: &Ifi, own: usize, trees: &[Tree]) -> Option<usize> {
     for (k, tree) in trees.iter().enumerate() {
         if !is_told(alloc, ifi, tree, k == own) {

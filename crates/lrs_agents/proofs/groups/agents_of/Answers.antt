@@ -1,4 +1,4 @@
--- Each item is an agent, and its agent is put behind those before it.
+-- Each item is an agent, and its agent is put after those before it.
 use Rattle.lrs_agents.proofs.AgentLemmas.{first_unbroken, no_agents, one_more_agent, all_agents}
 use Rattle.lrs_agents.proofs.groups.agents_of.Goals as goal
 

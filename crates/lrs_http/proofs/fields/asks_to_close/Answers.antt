@@ -1,7 +1,7 @@
 use Rattle.std.proofs.Common.{◌∙◌, ◌+◌, ◌<◌, sym, ap, length, arith}
 use Rattle.lrs_http.specs.Fields.{asks_to_close}
 use Rattle.lrs_http.proofs.FieldLemmas.{closes_true, closes_none, closes_later}
-use Rattle.lrs_http.proofs.SendLemmas.{rest_of}
+use Rattle.lrs_media.proofs.Trimming.{rest_of}
 use Rattle.lrs_http.proofs.fields.asks_to_close.Goals as goal
 
 pub returns-then-is_close : goal.returns-then-is_close

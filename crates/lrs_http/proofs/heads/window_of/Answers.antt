@@ -1,4 +1,4 @@
-use Rattle.lrs_http.proofs.FrontLemmas.{take_min}
+use Rattle.lrs_media.proofs.Trimming.{take_min}
 use Rattle.lrs_http.specs.Stream.{longest_head}
 use Rattle.lrs_http.proofs.heads.window_of.Goals as goal
 

@@ -1,4 +1,5 @@
-use Rattle.lrs_http.proofs.SendLemmas.{sends_piece, rest_of}
+use Rattle.lrs_http.proofs.SendLemmas.{sends_piece}
+use Rattle.lrs_media.proofs.Trimming.{rest_of}
 use Rattle.lrs_http.proofs.response.write_from.Goals as goal
 
 pub returns-clause-taken : goal.returns-clause-taken

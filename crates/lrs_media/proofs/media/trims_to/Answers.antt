@@ -1,9 +1,8 @@
 use Rattle.std.proofs.Common.{◌∙◌, ap, take, rules}
 use Rattle.std.specs.List.{list_all}
 use Rattle.httparse.specs.Grammar.{is_ows}
-use Rattle.lrs_http.proofs.FieldLemmas.{trimmed_is}
-use Rattle.lrs_http.proofs.SendLemmas.{rest_of}
-use Rattle.lrs_http.proofs.fields.trims_to.Goals as goal
+use Rattle.lrs_media.proofs.Trimming.{rest_of, trimmed_is}
+use Rattle.lrs_media.proofs.media.trims_to.Goals as goal
 
 pub returns-then-eq_ignore_ascii_case : goal.returns-then-eq_ignore_ascii_case
 returns-then-eq_ignore_ascii_case c =
