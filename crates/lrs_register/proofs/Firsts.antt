@@ -18,7 +18,7 @@ position_from-push p i (x ∷ xs) y = by_test (p x) (position_from-push p (i + 1
     by_test true more = refl
     by_test false more = more ∙ ap (λ k. option_or (position_from p (i + 1) xs) (cond (p y) (Some k) None)) (omega arith)
 
--- behind all others an item is the first that passes exactly where none of them does
+-- after all others an item is the first that passes exactly where none of them does
 pub position-push : {A : Type 0} (p : A → Bool) (xs : List A) (y : A) → position p (xs ++ y ∷ []) ≡ option_or (position p xs) (cond (p y) (Some (length xs)) None)
 position-push p xs y =
     position_from-zero p (xs ++ y ∷ []) ∙ (position_from-push p 0 xs y

@@ -10,12 +10,12 @@ unchanged = record { new = None; replaced = None }
 abbrev pub changes : {A : Type 0} → Change A → Bool
 changes change = is_some change.new || is_some change.replaced
 
--- an item in the place of the first that is under its key, where there is one
+-- an item in the place of the first that is under its key, if there is one
 abbrev pub with_replaced : {A : Type 0} → (A → A → Bool) → List A → Option A → List A
 with_replaced under xs None = xs
 with_replaced under xs (Some item) = with_first (λ x. under x item) item xs
 
--- The list behind a change: first the new one comes. The test tells whether an item stands under another one's key.
+-- The list after a change: first the new one comes. The test tells whether an item stands under another one's key.
 abbrev pub with_change : {A : Type 0} → (A → A → Bool) → List A → Change A → List A
 with_change under xs change = with_replaced under (with_new xs change.new) change.replaced
 

@@ -1,5 +1,6 @@
 -- A list whose items are found by key.
-use Rattle.std.specs.Prelude.{◌≡◌, ◌≤◌, ℕ, Bool, List, [], ◌∷◌, ◌++◌, if◌then◌else◌, position, Option, Some, None}
+use Rattle.std.specs.Prelude.{◌≡◌, ◌≤◌, ℕ, Bool, false, List, [], ◌∷◌, ◌++◌, if◌then◌else◌, position, Option, Some}
+use Rattle.std.specs.Prelude.{None}
 use Rattle.std.specs.BTreeMap.{is_at}
 use Rattle.std.specs.declared.cmp.Ordering.{Ordering}
 use Rattle.lrs_register.specs.Places.{HasPlace, place_of}
@@ -15,7 +16,8 @@ abbrev pub place_under : {K T : Type 0} → (K → K → Ordering) → (T → K)
 place_under cmp key_of key held = position (λ x. is_at (cmp (key_of x)) key) held
 
 -- each key has the place of the first item under it
-pub record IsIndexed {K T : Type 0} (cmp : K → K → Ordering) (key_of : T → K) (places : List (K × Option ℕ)) (held : List T) : Type 0 where
+pub record IsIndexed {K T : Type 0} (cmp : K → K → Ordering) (key_of : T → K) (places : List (K × Option ℕ))
+    (held : List T) : Type 0 where
   pub found : (k : K) → place_of cmp places k ≡ place_under cmp key_of k held
 
 -- ---- room
@@ -29,14 +31,19 @@ abbrev pub HasRoomForNew : {K T : Type 0} → (K → K → Ordering) → (T → 
 HasRoomForNew cmp key_of r None = Unit {0}
 HasRoomForNew cmp key_of r (Some item) = HasRoomFor cmp key_of r item
 
+-- the key of an item that may come
+abbrev pub is_key_of : {K T : Type 0} → (K → K → Ordering) → (T → K) → Option T → K → Bool
+is_key_of cmp key_of None key = false
+is_key_of cmp key_of (Some item) key = is_at (cmp (key_of item)) key
+
 -- ---- changes
 
--- a list, and behind it one more where there is one
+-- a list, and one more after it if there is one
 abbrev pub with_new : {A : Type 0} → List A → Option A → List A
 with_new xs None = xs
 with_new xs (Some x) = xs ++ x ∷ []
 
--- an item in the place of the first that passes, where there is one
+-- an item in the place of the first that passes, if there is one
 abbrev pub with_first : {A : Type 0} → (A → Bool) → A → List A → List A
 with_first p y [] = []
 with_first p y (x ∷ xs) = if p x then y ∷ xs else x ∷ with_first p y xs

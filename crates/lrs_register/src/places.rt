@@ -1,6 +1,8 @@
 // Places by key, made ahead.
 ghost use Rattle.std.specs.Prelude.{◌≡◌, [], OnOk};
-ghost use Rattle.lrs_register.specs.Places.{place_of, FillsPlace, HasPlace, KeepsPlaces, SamePlaces};
+ghost use Rattle.std.specs.BTreeMap.{is_at};
+ghost use Rattle.lrs_register.specs.Places.{is_empty_at, place_of, AddsOnly, FillsPlace, HasPlace, KeepsPlaces};
+ghost use Rattle.lrs_register.specs.Places.{SamePlaces, TakesPlacesBack};
 
 use std::alloc::{AllocError, Global};
 use std::collections::BTreeMap;
@@ -39,11 +41,12 @@ impl<K: Ord + Drop> Places<K> {
         }
     }
 
-    /// Makes the key's place, where it has none.
+    /// Makes the key's place, if it has none.
     pub fn make(&mut self, key: K) -> Result<(), AllocError>
         ensures same { SamePlaces K.cmp self.old self.new }
         ensures there { OnOk result (HasPlace K.cmp self.new key) }
         ensures kept { KeepsPlaces K.cmp self.old self.new }
+        ensures only { AddsOnly K.cmp (λ q. is_at (K.cmp key) q) self.old self.new }
     {
         if !self.map.contains_key(&key) {
             self.map.insert(key, None)?;
@@ -51,7 +54,7 @@ impl<K: Ord + Drop> Places<K> {
         Ok(())
     }
 
-    /// Fills the place that was made for a key, where it isn't filled yet. It takes no memory.
+    /// Fills the place that was made for a key, if it isn't filled yet. It takes no memory.
     pub fn fill(&mut self, key: &K, place: usize)
         requires { HasPlace K.cmp self.old key.now }
         ensures filled { FillsPlace K.cmp key.now place self.old self.new }
@@ -61,6 +64,25 @@ impl<K: Ord + Drop> Places<K> {
             if made.is_none() {
                 *made = Some(place);
             }
+        }
+    }
+
+    /// Takes back the place that was made for a key, where it isn't filled.
+    pub fn release(&mut self, key: &K)
+        ensures { TakesPlacesBack K.cmp (λ q. is_at (K.cmp key.now) q) self.old self.new }
+    {
+        if self.is_empty_at(key) {
+            self.map.remove(key);
+        }
+    }
+
+    // Whether a place is made ahead for a key, and isn't filled.
+    fn is_empty_at(&self, key: &K) -> bool
+        ensures { result ≡ is_empty_at K.cmp self.now key.now }
+    {
+        match self.map.get(key) {
+            Some(place) => place.is_none(),
+            None => false,
         }
     }
 }

@@ -2,9 +2,9 @@
 ghost use Rattle.std.specs.Prelude.{◌≡◌, ◌≤◌, ◌+◌, ◌<◌, [], ◌∷◌, ◌++◌, length, slice_get, slice_set, get_or, find, IfOk, OnOk};
 ghost use Rattle.std.specs.Option.{option_copied};
 ghost use Rattle.std.specs.BTreeMap.{is_at};
-ghost use Rattle.lrs_register.specs.Places.{KeepsPlaces};
+ghost use Rattle.lrs_register.specs.Places.{KeepsPlaces, MakesPlaces, TakesPlacesBack};
 ghost use Rattle.lrs_register.specs.Changes.{with_change, with_replaced, HasRoomForChange};
-ghost use Rattle.lrs_register.specs.Register.{place_under, with_first, with_new, HasRoomFor, HasRoomForNew};
+ghost use Rattle.lrs_register.specs.Register.{is_key_of, place_under, with_first, with_new, HasRoomFor, HasRoomForNew};
 
 use crate::{Change, Places};
 use std::alloc::{AllocError, Global};
@@ -90,9 +90,19 @@ impl<K: Ord + Drop, T: Keyed<K> + Drop> Register<K, T> {
     pub fn ready(&mut self, item: &T) -> Result<(), AllocError>
         ensures held { self.new.held ≡ self.old.held }
         ensures room { OnOk result (HasRoomFor K.cmp T.key self.new item.now) }
+        ensures made { MakesPlaces K.cmp (λ q. is_at (K.cmp (T.key item.now)) q) self.old.places self.new.places }
     {
         self.held.reserve(1)?;
         self.places.make(item.key_copy()?)
+    }
+
+    /// Takes back the place that was made for an item, where none came.
+    pub fn release(&mut self, item: &T)
+        ensures held { self.new.held ≡ self.old.held }
+        ensures back { TakesPlacesBack K.cmp (λ q. is_at (K.cmp (T.key item.now)) q)
+            self.old.places self.new.places }
+    {
+        self.places.release(item.key());
     }
 
     /// Takes an item in for which there is room. It takes no memory.
@@ -110,10 +120,23 @@ impl<K: Ord + Drop, T: Keyed<K> + Drop> Register<K, T> {
     pub fn ready_change(&mut self, change: &Change<T>) -> Result<(), AllocError>
         ensures held { self.new.held ≡ self.old.held }
         ensures room { OnOk result (HasRoomForChange K.cmp T.key self.new change.now) }
+        ensures made { MakesPlaces K.cmp (λ q. is_key_of K.cmp T.key change.now.new q)
+            self.old.places self.new.places }
     {
         match &change.new {
             Some(item) => self.ready(item),
             None => Ok(()),
+        }
+    }
+
+    /// Takes back the place that was made for a change that didn't come.
+    pub fn release_change(&mut self, change: &Change<T>)
+        ensures held { self.new.held ≡ self.old.held }
+        ensures back { TakesPlacesBack K.cmp (λ q. is_key_of K.cmp T.key change.now.new q)
+            self.old.places self.new.places }
+    {
+        if let Some(item) = &change.new {
+            self.release(item);
         }
     }
 
@@ -158,7 +181,7 @@ impl<K: Ord + Drop, T: Keyed<K> + Drop> Register<K, T> {
         self.held[place] = item;
     }
 
-    /// Puts an item in the place of the first with its key, where there is one. It takes no memory.
+    /// Puts an item in the place of the first with its key, if there is one. It takes no memory.
     pub fn replace_first(&mut self, item: T)
         ensures held { self.new.held ≡ with_first (λ x. is_at (K.cmp (T.key x)) (T.key item)) item self.old.held }
         ensures spare { self.new.spare ≡ self.old.spare }

@@ -2,3 +2,4 @@ pub mod Adding
 pub mod Rooms
 pub mod Supplies
 pub mod Firsts
+pub mod Taken

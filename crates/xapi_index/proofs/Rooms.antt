@@ -29,7 +29,7 @@ pub each_still : {A : Type 0} (P Q : A → Type 0) → ((x : A) → P x → Q x)
 each_still P Q still [] each = tt
 each_still P Q still (x ∷ xs) each = (still x each.0, each_still P Q still xs each.1)
 
--- the first place that passes, where one more item stands behind
+-- the first place that passes, where one more item stands after
 pub place-more : {A : Type 0} (p : A → Bool) (xs : List A) (y : A) (old new : Option ℕ) (test : Bool) (place : ℕ) → new ≡ option_or old (if test then Some place else None) → old ≡ position p xs → test ≡ p y → place ≡ length xs
     → new ≡ position p (xs ++ y ∷ [])
 place-more p xs y old new test place filled found same last =

@@ -38,7 +38,7 @@ names_more old new ts i t id ids next all at is left pushed before =
     ∙ (ap (λ k. ids ++ k ∷ ids_under (with_ids (supply_behind old (own_id (view t))) (drop (i + 1) ts))) is
     ∙ (sym (ap (λ xs. ids ++ ids_under (with_ids old xs)) at) ∙ before))))
 
--- ---- what is left behind them
+-- ---- what is left after them
 
 pub after_same : (supply other : Supply) (ts : List Tree) → GiveSame supply other → GiveSame (supply_after supply ts) (supply_after other ts)
 after_same supply other ts same = record { same = λ k. ap (λ (s : Supply). supply_after s ts k) (λ i j. same.same j i) }

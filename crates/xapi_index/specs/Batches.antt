@@ -26,7 +26,7 @@ abbrev pub id_for : List ℕ → Option (List ℕ) → List ℕ
 id_for made None = made
 id_for made (Some own) = own
 
--- what is left behind a statement: one less where none is its own
+-- what is left after a statement: one less if none is its own
 abbrev pub supply_behind : Supply → Option (List ℕ) → Supply
 supply_behind supply None = rest_of supply
 supply_behind supply (Some own) = supply
@@ -34,9 +34,10 @@ supply_behind supply (Some own) = supply
 -- Each goes under the id that it gives itself, else under the next one that is made.
 abbrev pub with_ids : Supply → List Tree → List WithId
 with_ids supply [] = []
-with_ids supply (t ∷ ts) = record { id = id_for (supply 0) (own_id (view t)); tree = t } ∷ with_ids (supply_behind supply (own_id (view t))) ts
+with_ids supply (t ∷ ts) =
+    record { id = id_for (supply 0) (own_id (view t)); tree = t } ∷ with_ids (supply_behind supply (own_id (view t))) ts
 
--- what is left behind all of them
+-- what is left after all of them
 abbrev pub supply_after : Supply → List Tree → Supply
 supply_after supply [] = supply
 supply_after supply (t ∷ ts) = supply_after (supply_behind supply (own_id (view t))) ts
@@ -47,7 +48,7 @@ ids_under ns = map (λ (n : WithId). n.id) ns
 abbrev pub held_of : ℕ → Authority → WithId → StoredStatement
 held_of moment by s = record { received = s.tree; id = s.id; stored = moment; authority = by }
 
--- the statements as they are kept, where their caller has an authority
+-- the statements as they are kept, if their caller has an authority
 abbrev pub kept_by : ℕ → Option Authority → List WithId → List StoredStatement
 kept_by moment None ns = []
 kept_by moment (Some by) ns = map (held_of moment by) ns

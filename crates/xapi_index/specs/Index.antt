@@ -28,10 +28,11 @@ pub record IsIndex (ids targets : List (List ℕ × Option ℕ)) (held : List St
   pub found : FindsIds ids held
   pub voided : FindsTargets targets held
 
--- the target, if any, has that position where it has none
+-- the target, if any, gets that position if it has none
 abbrev pub FillsTarget : Option (List ℕ) → ℕ → List (List ℕ × Option ℕ) → List (List ℕ × Option ℕ) → Type 0
 FillsTarget target position old new =
-    (k : List ℕ) → place_of (slice_cmp nat_cmp) new k ≡ option_or (place_of (slice_cmp nat_cmp) old k) (if is_that_id k target then Some position else None)
+    (k : List ℕ) → place_of (slice_cmp nat_cmp) new k ≡ option_or (place_of (slice_cmp nat_cmp) old k)
+    (if is_that_id k target then Some position else None)
 
 -- ---- room
 

@@ -1,6 +1,7 @@
--- The statements in the order in which they were accepted, each under an id of its own: which one an id names, which are
--- voided, and what is added.
-use Rattle.std.specs.Prelude.{ℕ, ◌&&◌, Bool, false, not, List, [], ◌∷◌, ◌++◌, find, map, position, slice_get, Option, Some, None, is_some, option_and_then, if◌then◌else◌}
+-- The statements in the order in which they were accepted, each under an id of its own: which one an id names, which
+-- are voided, and what is added.
+use Rattle.std.specs.Prelude.{ℕ, ◌&&◌, Bool, false, not, List, [], ◌∷◌, ◌++◌, find, map, position, slice_get, Option}
+use Rattle.std.specs.Prelude.{Some, None, is_some, option_and_then, if◌then◌else◌}
 use Rattle.std.specs.List.{list_any}
 use Rattle.std.specs.Str.{bytes_eq}
 use Rattle.lrs_json.specs.View.{view}
@@ -21,9 +22,10 @@ ids_of statements = map (λ (s : StoredStatement). s.id) statements
 
 -- ---- by position
 
--- the position of the statement to which this one refers, where it is held
+-- the position of the statement to which this one refers, if it is held
 abbrev pub position_referred : List StoredStatement → StoredStatement → Option ℕ
-position_referred statements s = option_and_then (λ id. position (λ t. bytes_eq t.id id) statements) (target_of (view s.received))
+position_referred statements s =
+    option_and_then (λ id. position (λ t. bytes_eq t.id id) statements) (target_of (view s.received))
 
 -- the same of the statement at a position
 abbrev pub referred_at : List StoredStatement → ℕ → Option ℕ
@@ -46,7 +48,7 @@ voids id s = is_that_id id (voided_by s)
 abbrev pub is_target : List ℕ → List StoredStatement → Bool
 is_target id statements = list_any (voids id) statements
 
--- A statement is voided where one that voids it is held, before it or behind it, and it isn't a voiding statement itself.
+-- A statement is voided if one that voids it is held, before or after it, and it isn't a voiding statement itself.
 abbrev pub is_voided : List StoredStatement → StoredStatement → Bool
 is_voided statements s = not (is_voiding (view s.received)) && is_target s.id statements
 

@@ -1,13 +1,14 @@
 // The statements by id, with room made ahead.
-ghost use Rattle.std.specs.Prelude.{◌≡◌, List, ℕ, OnOk, [], ◌≤◌, ◌<◌, ◌+◌, ◌-◌, position, length, slice_get, take, vec_len, vec_capacity};
+ghost use Rattle.std.specs.Prelude.{◌≡◌, OnOk, [], ◌≤◌, ◌<◌, ◌+◌, ◌-◌, position, length, slice_get, take, vec_len, vec_capacity};
 ghost use Rattle.std.specs.List.{AllByRecursion};
 ghost use Rattle.std.specs.Option.{option_copied};
 ghost use Rattle.std.specs.Str.{bytes_eq};
 ghost use Rattle.std.specs.Cmp.Lexicographic.{slice_cmp};
 ghost use Rattle.std.specs.Ordering.{nat_cmp};
-ghost use Rattle.lrs_register.specs.Places.{KeepsPlaces, SamePlaces};
+ghost use Rattle.lrs_register.specs.Places.{AddsOnly, KeepsPlaces, MakesPlaces, SamePlaces, TakesPlacesBack};
 ghost use Rattle.xapi_statement.specs.Stored.{StoredStatement as SpecStatement};
-ghost use Rattle.xapi_index.specs.Statements.{add, add_each, held_under, is_held, is_target, is_voided, voided_by, voids};
+ghost use Rattle.xapi_index.specs.Statements.{add, add_each, held_under, is_held, is_target, is_that_id, is_voided};
+ghost use Rattle.xapi_index.specs.Statements.{voided_by, voids};
 ghost use Rattle.xapi_index.specs.Statements.{position_referred, referred_at};
 ghost use Rattle.xapi_index.specs.Index.{FillsTarget, FindsIds, FindsTargets, HasPlaceFor, HasPlaces, IsIndexReadyFor};
 
@@ -168,9 +169,23 @@ impl Index {
     pub fn ready(&mut self, statements: &[StoredStatement]) -> Result<(), Memory>
         ensures held { self.new.held ≡ self.old.held }
         ensures ready { OnOk result (IsIndexReadyFor self.new statements.now) }
+        ensures ids { MakesPlaces (slice_cmp nat_cmp) (λ k. is_held k statements.now) self.old.ids self.new.ids }
+        ensures targets { MakesPlaces (slice_cmp nat_cmp) (λ k. is_target k statements.now)
+            self.old.targets self.new.targets }
     {
         self.held.reserve(statements.len())?;
         make_places(&mut self.ids, &mut self.targets, statements)
+    }
+
+    /// Takes back the places that were made for statements which didn't come.
+    pub fn release(&mut self, statements: &[StoredStatement])
+        ensures held { self.new.held ≡ self.old.held }
+        ensures ids { TakesPlacesBack (slice_cmp nat_cmp) (λ k. is_held k statements.now) self.old.ids self.new.ids }
+        ensures targets { TakesPlacesBack (slice_cmp nat_cmp) (λ k. is_target k statements.now)
+            self.old.targets self.new.targets }
+    {
+        release_ids(&mut self.ids, statements);
+        release_targets(&mut self.targets, statements);
     }
 
     /// Takes statements in for which there is room, each but for one whose id is held. It takes no memory.
@@ -209,6 +224,8 @@ fn make_places(
     ensures ids { SamePlaces (slice_cmp nat_cmp) ids.old ids.new }
     ensures targets { SamePlaces (slice_cmp nat_cmp) targets.old targets.new }
     ensures ready { OnOk result (AllByRecursion (HasPlaces ids.new targets.new) statements.now) }
+    ensures only_ids { AddsOnly (slice_cmp nat_cmp) (λ k. is_held k statements.now) ids.old ids.new }
+    ensures only_targets { AddsOnly (slice_cmp nat_cmp) (λ k. is_target k statements.now) targets.old targets.new }
 {
     for statement in statements {
         ids.make(statement.id())?;
@@ -221,10 +238,37 @@ fn make_target(targets: &mut Places<Id>, target: Option<Id>) -> Result<(), Memor
     ensures same { SamePlaces (slice_cmp nat_cmp) targets.old targets.new }
     ensures there { OnOk result (HasPlaceFor targets.new target) }
     ensures kept { KeepsPlaces (slice_cmp nat_cmp) targets.old targets.new }
+    ensures only { AddsOnly (slice_cmp nat_cmp) (λ k. is_that_id k target) targets.old targets.new }
 {
     match target {
         Some(target) => Ok(targets.make(target)?),
         None => Ok(()),
+    }
+}
+
+// Takes back the places of the ids of these statements, where they are empty.
+fn release_ids(ids: &mut Places<Id>, statements: &[StoredStatement])
+    ensures { TakesPlacesBack (slice_cmp nat_cmp) (λ k. is_held k statements.now) ids.old ids.new }
+{
+    for statement in statements {
+        ids.release(&statement.id());
+    }
+}
+
+// Takes back the places of what these statements void, where they are empty.
+fn release_targets(targets: &mut Places<Id>, statements: &[StoredStatement])
+    ensures { TakesPlacesBack (slice_cmp nat_cmp) (λ k. is_target k statements.now) targets.old targets.new }
+{
+    for statement in statements {
+        release_target(targets, voided_by(statement));
+    }
+}
+
+fn release_target(targets: &mut Places<Id>, target: Option<Id>)
+    ensures { TakesPlacesBack (slice_cmp nat_cmp) (λ k. is_that_id k target) targets.old targets.new }
+{
+    if let Some(target) = target {
+        targets.release(&target);
     }
 }
 
@@ -274,7 +318,7 @@ fn install_one(
     }
 }
 
-// Fills the place of what a statement at that position voids, where no earlier one voids it.
+// Fills the place of what a statement at that position voids, if no earlier one voids it.
 fn fill_target(targets: &mut Places<Id>, target: Option<Id>, position: usize)
     requires { HasPlaceFor targets.old target }
     ensures filled { FillsTarget target position targets.old targets.new }
