@@ -253,7 +253,7 @@ front_len bs s rest n e en = omega (arith, en, ap length e, length-append s rest
 front_taken : (bs s rest : List ℕ) (n : ℕ) → bs ≡ s ++ rest → n ≡ length s → take n bs ≡ s
 front_taken bs s rest n e en = rw (en, e) (take_front s rest)
 
--- the bytes behind the number at the front tell its length
+-- the bytes after the number at the front tell its length
 pub len_found : (bs rest : List ℕ) (n : ℕ) → number_end bs ≡ Some rest → n ≡ length bs - length rest → (n ≤ length bs) × IsNumber (take n bs)
 len_found bs rest n e en =
     let f = number_found bs rest e in

@@ -1,5 +1,6 @@
--- The numbers of JSON (RFC 8259, section 6), and how one at the front of some bytes is read.
-use Rattle.std.specs.Prelude.{◌≡◌, ◌≢◌, ◌⊎◌, ◌++◌, ◌&&◌, nat_le, IsTrue, ℕ, ◌==◌, ◌||◌, List, [], ◌∷◌, drop, Bool, false, Option, Some, None, option_and_then, if◌then◌else◌}
+-- The numbers of JSON (RFC 8259, section 6), and how one at the beginning of some bytes is read.
+use Rattle.std.specs.Prelude.{◌≡◌, ◌≢◌, ◌⊎◌, ◌++◌, ◌&&◌, nat_le, IsTrue, ℕ, ◌==◌, ◌||◌, List, [], ◌∷◌, drop, Bool}
+use Rattle.std.specs.Prelude.{false, Option, Some, None, option_and_then, if◌then◌else◌}
 use Rattle.std.specs.List.{prefix_len}
 
 abbrev pub is_digit : ℕ → Bool
@@ -15,7 +16,7 @@ abbrev pub IsDigits : List ℕ → Type 0
 IsDigits [] = ⊥
 IsDigits (b ∷ bs) = IsTrue (is_digit b) × Each is_digit bs
 
--- without the byte, where it comes first
+-- without the byte, if it comes first
 abbrev pub without : ℕ → List ℕ → List ℕ
 without k [] = []
 without k (b ∷ bs) = if b == k then bs else b ∷ bs
@@ -59,7 +60,7 @@ Ends rest = Stops goes_on_number rest
 
 -- ---- how a number is read
 
--- the bytes behind one or more digits
+-- the bytes after one or more digits
 unfoldable pub digits_end : List ℕ → Option (List ℕ)
 digits_end [] = None
 digits_end (b ∷ bs) = if is_digit b then Some (drop (prefix_len is_digit bs) bs) else None

@@ -1,5 +1,6 @@
--- The parts of a number's spelling: its digits before and behind the point, and its exponent.
-use Rattle.std.specs.Prelude.{ℕ, ◌+◌, ◌-◌, ◌*◌, ◌==◌, ◌||◌, not, List, [], ◌∷◌, length, take, drop, Bool, false, if◌then◌else◌}
+-- The parts of a number's spelling: its digits before and after the point, and its exponent.
+use Rattle.std.specs.Prelude.{ℕ, ◌+◌, ◌-◌, ◌*◌, ◌==◌, ◌||◌, not, List, [], ◌∷◌, length, take, drop, Bool, false}
+use Rattle.std.specs.Prelude.{if◌then◌else◌}
 use Rattle.std.specs.List.{prefix_len, filter}
 use Rattle.lrs_decimal.specs.Numbers.{is_digit, unsigned}
 
@@ -9,7 +10,7 @@ is_point b = b == 46
 abbrev pub is_e : ℕ → Bool
 is_e b = b == 101 || b == 69
 
--- the bytes before the first that passes, and the bytes behind it
+-- the bytes before the first that passes, and the bytes after it
 abbrev pub before : (ℕ → Bool) → List ℕ → List ℕ
 before p bytes = take (prefix_len (λ b. not (p b)) bytes) bytes
 
@@ -27,11 +28,11 @@ begins_with k (b ∷ bytes) = b == k
 abbrev pub is_negative : List ℕ → Bool
 is_negative spelling = begins_with 45 spelling
 
--- the digits before and behind the point
+-- the digits before and after the point
 abbrev pub all_digits : List ℕ → List ℕ
 all_digits spelling = filter is_digit (before is_e spelling)
 
--- those behind the point
+-- those after the point
 abbrev pub fraction_digits : List ℕ → List ℕ
 fraction_digits spelling = behind is_point (before is_e spelling)
 
@@ -41,7 +42,7 @@ exponent_digits spelling = unsigned (behind is_e spelling)
 abbrev pub has_negative_exponent : List ℕ → Bool
 has_negative_exponent spelling = begins_with 45 (behind is_e spelling)
 
--- the whole number that the digits spell, behind a number n
+-- the whole number that the digits spell, after a number n
 abbrev pub digits_behind : ℕ → List ℕ → ℕ
 digits_behind n [] = n
 digits_behind n (d ∷ ds) = digits_behind (n * 10 + (d - 48)) ds
@@ -54,4 +55,5 @@ abbrev pub point_right : List ℕ → ℕ
 point_right spelling = if has_negative_exponent spelling then 0 else digits_value (exponent_digits spelling)
 
 abbrev pub point_left : List ℕ → ℕ
-point_left spelling = length (fraction_digits spelling) + (if has_negative_exponent spelling then digits_value (exponent_digits spelling) else 0)
+point_left spelling = length (fraction_digits spelling)
+    + (if has_negative_exponent spelling then digits_value (exponent_digits spelling) else 0)

@@ -12,7 +12,7 @@ leading_zeros ds = prefix_len is_zero_digit ds
 abbrev pub trailing_zeros : List ℕ → ℕ
 trailing_zeros ds = prefix_len is_zero_digit (reverse ds)
 
--- Where some digit isn't zero: how many digits stand from the first to the last such digit.
+-- If some digit isn't zero: how many digits stand from the first to the last such digit.
 abbrev pub significant_digits : List ℕ → ℕ
 significant_digits ds = length ds - (leading_zeros ds + trailing_zeros ds)
 
@@ -26,16 +26,20 @@ has_small_exponent spelling =
     let right = point_right spelling + trailing_zeros (all_digits spelling) in
     nat_le (point_left spelling) (right + 999) && nat_le right (point_left spelling + 999)
 
--- Of a number's spelling: at most 64 bytes, at most four digits in the exponent, and zero, or at most 34 significant digits and a small exponent.
+-- Of a number's spelling: at most 64 bytes, at most four digits in the exponent, and zero, or at most 34 significant
+-- digits and a small exponent.
 abbrev pub is_in_range : List ℕ → Bool
 is_in_range spelling =
     nat_le (length spelling) 64 && nat_le (length (exponent_digits spelling)) 4
-    && (is_zero (all_digits spelling) || (nat_le (significant_digits (all_digits spelling)) 34 && has_small_exponent spelling))
+    && (is_zero (all_digits spelling)
+    || (nat_le (significant_digits (all_digits spelling)) 34 && has_small_exponent spelling))
 
--- Once the exponent has moved the point, nothing but zeros stands behind it.
+-- Once the exponent has moved the point, nothing but zeros stands after it.
 abbrev pub has_no_fraction : List ℕ → Bool
-has_no_fraction spelling = is_zero (all_digits spelling) || nat_le (point_left spelling) (point_right spelling + trailing_zeros (all_digits spelling))
+has_no_fraction spelling = is_zero (all_digits spelling)
+    || nat_le (point_left spelling) (point_right spelling + trailing_zeros (all_digits spelling))
 
 -- Of a number's spelling in range: it is a whole number.
 unfoldable pub is_whole : List ℕ → Bool
-is_whole spelling = nat_le (length spelling) 64 && nat_le (length (exponent_digits spelling)) 4 && has_no_fraction spelling
+is_whole spelling = nat_le (length spelling) 64 && nat_le (length (exponent_digits spelling)) 4
+    && has_no_fraction spelling

@@ -31,4 +31,5 @@ units d = signed d.negative (d.coefficient * 10 ^ d.scale)
 
 -- the decimal has the spelling's value: with the point moved out they are the same
 abbrev pub HasValue : Decimal → List ℕ → Type 0
-HasValue d spelling = signed d.negative (d.coefficient * 10 ^ (d.scale + point_left spelling)) ≡ scaled spelling (point_right spelling + 999)
+HasValue d spelling = signed d.negative (d.coefficient * 10 ^ (d.scale + point_left spelling))
+    ≡ scaled spelling (point_right spelling + 999)

@@ -27,7 +27,7 @@ pub struct Decimal {
 impl Decimal {
     ghost use Rattle.lrs_decimal.specs.Values.{signed_cmp, order, units, HasValue};
 
-    /// The value of the spelling, or `None` where the bytes are no number in range.
+    /// The value of the spelling, or `None` if the bytes are no number in range.
     pub fn of(spelling: &[u8]) -> Option<Decimal>
         ensures exact { IsSome result ↔ (IsNumber spelling.now × IsTrue (is_in_range spelling.now)) }
         ensures value { IfSome result (λ d. HasValue d spelling.now) }

@@ -73,7 +73,7 @@ fn exponent(bytes: &[u8]) -> Option<&[u8]>
     }
 }
 
-/// The bytes behind the number at the front.
+/// The bytes after the number at the beginning.
 #[tactic(auto, unfolding(crate::specs::Numbers::number_end))]
 fn number(bytes: &[u8]) -> Option<&[u8]>
     ensures { option_map (λ p. p.now) result ≡ number_end bytes.now }
@@ -83,13 +83,13 @@ fn number(bytes: &[u8]) -> Option<&[u8]>
     exponent(rest)
 }
 
-/// The length of the number at the front of the bytes, which is read as far as it goes.
+/// The length of the number at the beginning of the bytes, which is read as far as it goes.
 pub fn number_len(bytes: &[u8]) -> Option<usize>
     ensures within { IfSome result (λ n. n ≤ length bytes.now) }
     ensures found { IfSome result (λ n. IsNumber (take n bytes.now)) }
     ensures all { (s rest : List ℕ) → bytes.now ≡ s ++ rest → IsNumber s → Ends rest → result ≡ Some (length s) }
 
-    // The same as a function of the bytes, also where more could follow.
+    // The same as a function of the bytes, also if more could follow.
     ensures exact { option_map (λ n. drop n bytes.now) result ≡ number_end bytes.now }
 {
     let rest = number(bytes)?;

@@ -49,7 +49,7 @@ pub fn mantissa(spelling: &[u8]) -> &[u8]
     &spelling[..e_place(spelling)]
 }
 
-/// What is behind the e.
+/// What follows the e.
 fn exponent(spelling: &[u8]) -> &[u8]
     ensures { result.now ≡ behind is_e spelling.now }
 {

@@ -122,7 +122,7 @@ fn a_number_is_whole_by_its_value(rt: HostRuntime) {
     assert_eq!(rt; wrong_whole(), None);
 }
 
-// Where the number at the front ends, though more digits or signs follow it.
+// Where the number at the beginning ends, though more digits or signs follow it.
 const FRONTS: [(&str, Option<usize>); 9] = [
     ("12,", Some(2)),
     ("-0]", Some(2)),

@@ -31,7 +31,7 @@ module _ {D : Type 0} (time : D → ℕ) (since : D → ℕ → List ℕ → Typ
       → Elapses (time mid) (time new) (since mid) (since new) (image new) → Within (image mid) (image new) → LeavesOnly time since old new P
   stayed old mid new P so_far passes within = goes_on old mid new P so_far passes (λ c left. now_has old mid P so_far c (within c left))
 
-  -- one run behind another
+  -- one run after another
   pub then_run : (old mid new : D) (P Q : List ℕ → Type 0) → LeavesOnly time since old mid P → LeavesOnly time since mid new Q → ((c : List ℕ) → Q c → P c) → LeavesOnly time since old new P
   then_run old mid new P Q first second weaker = record {
     later = omega (arith, first.later, second.later);

@@ -1,5 +1,6 @@
 -- What the calls of a disk do to what a read gives, and what a crash may do between two syncs.
-use Rattle.std.specs.Prelude.{◌≡◌, ◌⊎◌, ◌^◌, ◌-◌, ℕ, ◌+◌, ◌≤◌, max, min, List, ◌++◌, length, take, drop, Option, Some, None}
+use Rattle.std.specs.Prelude.{◌≡◌, ◌⊎◌, ◌^◌, ◌-◌, ℕ, ◌+◌, ◌≤◌, max, min, List, ◌++◌, length, take, drop, Option, Some}
+use Rattle.std.specs.Prelude.{None}
 
 -- old with these bytes at this place
 abbrev pub written : List ℕ → ℕ → List ℕ → List ℕ
@@ -40,7 +41,8 @@ pub record Elapses (before now : ℕ) (past since : ℕ → List ℕ → Type 0)
   pub keeps : (t : ℕ) (c : List ℕ) → t ≤ before → past t c → since t c
 
 -- A crash at any moment since old leaves bytes that have P.
-pub record LeavesOnly {D : Type 0} (time : D → ℕ) (image_since : D → ℕ → List ℕ → Type 0) (old new : D) (P : List ℕ → Type 0) : Type 0 where
+pub record LeavesOnly {D : Type 0} (time : D → ℕ) (image_since : D → ℕ → List ℕ → Type 0) (old new : D)
+    (P : List ℕ → Type 0) : Type 0 where
   pub later : time old ≤ time new
   pub each : (c : List ℕ) → image_since new (time old) c → P c
   -- for a run that began earlier

@@ -1,18 +1,19 @@
 -- What is seen of a door.
-use Rattle.std.specs.Prelude.{◌≡◌, ◌≤◌, ◌++◌, ◌∷◌, [], ℕ, Bool, true, false, List, Option, Some, None, IfSome, option_map, nat_lt}
+use Rattle.std.specs.Prelude.{◌≡◌, ◌≤◌, ◌++◌, ◌∷◌, [], ℕ, Bool, true, false, List, Option, Some, None, IfSome}
+use Rattle.std.specs.Prelude.{option_map, nat_lt}
 use Rattle.std.specs.Option.{ForSome}
 use Rattle.lrs_disk.specs.Faults.{Rises}
 use Rattle.lrs_disk.specs.declared.door.Next.{Next}
 use Rattle.lrs_disk.specs.declared.door.Next.TheVariants as answers
 
--- A link that was given back: all that it brought and what it took, where it tells them, and whether its count of
+-- A link that was given back: all that it brought and what it took, if it tells them, and whether its count of
 -- faults rose while it was out.
 pub record Returned : Type 0 where
   pub stream : Option (List ℕ)
   pub taken : Option (List ℕ)
   pub rose : Bool
 
--- A door. The streams, the links that were given back and the readings are seen where it tells them.
+-- A door. The streams, the links that were given back and the readings are seen if it tells them.
 pub record DoorState : Type 0 where
   -- the last answer was that no link will come any more
   pub closed : Bool
@@ -51,15 +52,16 @@ name_joined name (answers.Joined link) = Some (name link)
 name_joined name answers.Closed = None
 name_joined name answers.Failed = None
 
--- A link brings the first of the streams that were to come. The door is closed where there are none.
-abbrev pub Brings : {L : Type 0} → (L → Option (List ℕ)) → Next L → Option (List (List ℕ)) → Option (List (List ℕ)) → Type 0
+-- A link brings the first of the streams that were to come. The door is closed if there are none.
+abbrev pub Brings : {L : Type 0} → (L → Option (List ℕ)) → Next L → Option (List (List ℕ))
+    → Option (List (List ℕ)) → Type 0
 Brings stream (answers.Joined link) None new = new ≡ None
 Brings stream (answers.Joined link) (Some []) new = ⊥
 Brings stream (answers.Joined link) (Some (first ∷ rest)) new = (stream link ≡ Some first) × (new ≡ Some rest)
 Brings stream answers.Closed old new = IfSome old (λ streams. streams ≡ []) × (new ≡ old)
 Brings stream answers.Failed old new = new ≡ old
 
--- the count of faults rises where the door fails to give a link, and stays otherwise
+-- the count of faults rises if the door fails to give a link, and stays otherwise
 abbrev pub HasNextCause : {L : Type 0} → ℕ → ℕ → Next L → Type 0
 HasNextCause before now (answers.Joined link) = now ≡ before
 HasNextCause before now answers.Closed = now ≡ before
@@ -71,7 +73,8 @@ link_returned stream taken faults = record { stream = stream; taken = taken; ros
 
 -- the link that was out was given back
 abbrev pub with_returned : DoorState → Returned → DoorState
-with_returned d link = record d { out = None; returned = option_map (λ (links : List Returned). links ++ link ∷ []) d.returned }
+with_returned d link =
+    record d { out = None; returned = option_map (λ (links : List Returned). links ++ link ∷ []) d.returned }
 
 abbrev pub IsFailed : {L : Type 0} → Next L → Type 0
 IsFailed (answers.Joined link) = ⊥

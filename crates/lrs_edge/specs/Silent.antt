@@ -7,4 +7,5 @@ tells_none b is = cc
 
 -- a door that never closes, with the name of the link that is out and the count of faults
 abbrev pub silent_door : Option ℕ → ℕ → DoorState
-silent_door out faults = record { closed = false; out = out; streams = None; returned = None; readings = None; faults = faults }
+silent_door out faults =
+    record { closed = false; out = out; streams = None; returned = None; readings = None; faults = faults }

@@ -14,7 +14,7 @@ use std::rt::Files;
 // The file of a store holds tokens as they are.
 const OWNER_ALONE: u32 = 0o600;
 
-// A name and its file, where there is one.
+// A name and its file, if there is one.
 #[derive(Drop)]
 pub(crate) struct Content<R> {
     rt: R,
@@ -183,7 +183,7 @@ impl<R: Files<File = File> + Eprint + Copy> Content<R> {
         }
     }
 
-    // Makes the file first, where there is none.
+    // Makes the file first, if there is none.
     fn write_at(&mut self, place: u64, bytes: &[u8]) -> io::Result<()> {
         if let Some(file) = &self.file {
             return file.write_all_at(bytes, place);
@@ -209,7 +209,7 @@ impl<R: Files<File = File> + Eprint + Copy> Content<R> {
     }
 }
 
-// A name with its file, where there is one.
+// A name with its file, if there is one.
 pub(crate) fn open<R: Files<File = File> + Eprint + Copy>(
     alloc: Global,
     rt: R,
@@ -220,7 +220,7 @@ pub(crate) fn open<R: Files<File = File> + Eprint + Copy>(
     Ok(Content { rt, name, file })
 }
 
-// Opens the file of a name, where there is one. Two programs on one file would write over each other, so it is locked
+// Opens the file of a name, if there is one. Two programs on one file would write over each other, so it is locked
 // for as long as its disk is there.
 fn find<R: Files<File = File>>(rt: &R, name: &str) -> io::Result<Option<File>> {
     match OpenOptions::new().read(true).write(true).open(rt, name) {

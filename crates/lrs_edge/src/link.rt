@@ -7,7 +7,7 @@ use lrs_disk::{Failed, Link};
 use std::net::{Shutdown, TcpStream};
 use std::time::{Clock, Duration};
 
-/// A TCP connection. It fails where its peer is slower than a `Patience`.
+/// A TCP connection. It fails if its peer is slower than a `Patience`.
 #[derive(Drop)]
 pub struct TcpLink<R: Clock + Copy> {
     stream: TcpStream,
@@ -24,7 +24,7 @@ const LAST_PIECES: u64 = 1_024;
 impl<R: Clock + Copy> TcpLink<R> {
     ghost use Rattle.lrs_edge.specs.TcpLink.{name_of, faults_of};
 
-    // A connection under a name. Its small writes go out at once, where the system allows it.
+    // A connection under a name. Its small writes go out at once, if the system allows it.
     pub(crate) fn new(rt: R, patience: Patience, stream: TcpStream, name: u64) -> Self
         ensures name { name_of result ≡ name }
         ensures faults { faults_of result ≡ 0 }
@@ -39,7 +39,7 @@ impl<R: Clock + Copy> TcpLink<R> {
     }
 
     // Ends the connection. What comes unread is taken out of it first, since the system would else break the connection
-    // off and might lose the last response. Behind a fault no response is on its way.
+    // off and might lose the last response. After a fault no response is on its way.
     pub(crate) fn end(self) {
         let _ = self.stream.shutdown(Shutdown::Write);
         if self.faults.count > 0 {

@@ -49,7 +49,7 @@ impl<R: Clock + Net<Listener = TcpListener, Stream = TcpStream> + Eprint + Copy 
     }
 }
 
-// What a call of the system gave, or nothing where it failed, which is reported.
+// What a call of the system gave, or nothing if it failed, which is reported.
 fn reported(rt: &impl Eprint, address: &str, made: io::Result<TcpListener>) -> Option<TcpListener> {
     match made {
         Ok(listener) => Some(listener),
@@ -103,7 +103,7 @@ fn has_failed<R: Clock + Eprint + Copy>(doors: &[TcpDoor<R>]) -> bool
     doors.iter().any(|door| door.faults() > 0)
 }
 
-// Counts a fault where one of these doors has failed.
+// Counts a fault if one of these doors has failed.
 fn count_failed<R: Clock + Eprint + Copy>(faults: &mut Faults, doors: &[TcpDoor<R>])
     ensures { CountsFaults faults.old.count faults.new.count (map state_of doors.now) }
 {

@@ -13,8 +13,8 @@ pub const REQUEST_SECONDS: u64 = 20;
 /// The seconds in which a whole response has to be taken.
 pub const RESPONSE_SECONDS: u64 = 20;
 
-/// How long a connection waits for its peer. A time is that of a whole request or response, however few of its bytes come
-/// or go at once.
+/// How long a connection waits for its peer. A time is that of a whole request or response, however few of its bytes
+/// come or go at once.
 #[derive(Clone, Copy, Debug, PartialEq, Eq)]
 pub struct Patience {
     /// For the first byte of a request.
@@ -36,7 +36,7 @@ impl Patience {
     }
 }
 
-// What a connection is at. A read behind a write begins a request, and a write behind a read a response.
+// What a connection is at. A read after a write begins a request, and a write after a read a response.
 #[derive(Clone, Copy)]
 enum Turn {
     // No byte of a request has come.
@@ -56,7 +56,7 @@ pub(crate) struct Pace<R: Clock + Copy> {
     write_wait: Option<Duration>,
 }
 
-// What is left of a time that began at a moment, and nothing where it is over.
+// What is left of a time that began at a moment, and nothing if it is over.
 fn left<R: Clock>(rt: &R, since: Instant, time: Duration) -> Option<Duration> {
     match time.checked_sub(since.elapsed(rt).ok()?) {
         Some(left) if !left.is_zero() => Some(left),

@@ -1,7 +1,7 @@
 use std::fmt::Display;
 use std::io::{self, ErrorKind};
 
-// What went wrong, in plain words where there are some.
+// What went wrong, in plain words if there are some.
 fn plain_words(kind: ErrorKind) -> Option<&'static str> {
     match kind {
         ErrorKind::WouldBlock => Some("another program works on it"),

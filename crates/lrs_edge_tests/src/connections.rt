@@ -128,7 +128,7 @@ fn gives_up(link: &mut TcpLink<HostRuntime>) -> bool
     link.read(&mut [0; 9]) == Err(Failed) && link.faults() == 1
 }
 
-// A client that sends nothing, and one behind it.
+// A client that sends nothing, and one after it.
 fn idle(door: &mut TcpDoor<HostRuntime>, client: &mut TcpStream) -> Option<usize>
     requires { (state_of door.old).out ≡ None }
 {

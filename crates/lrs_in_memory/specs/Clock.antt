@@ -1,8 +1,9 @@
 -- What a clock in memory shows.
-use Rattle.std.specs.Prelude.{◌++◌, ◌∷◌, [], ◌-◌, ◌^◌, ℕ, List, Option, Some, None, length, min, nat_lt, slice_index, if◌then◌else◌}
+use Rattle.std.specs.Prelude.{◌++◌, ◌∷◌, [], ◌-◌, ◌^◌, ℕ, List, Option, Some, None, length, min, nat_lt, slice_index}
+use Rattle.std.specs.Prelude.{if◌then◌else◌}
 use Rattle.std.proofs.Common.{zero, suc}
 
--- the reading with this number: the last one again at the end, and 0 where there are none
+-- the reading with this number: the last one again at the end, and 0 if there are none
 abbrev pub reading_at : List ℕ → ℕ → ℕ
 reading_at clock k = slice_index clock (min k (length clock - 1))
 

@@ -11,4 +11,9 @@ steps_of r = steps r.history.calls.items r.history.log.items
 
 -- which calls fail from now on
 abbrev pub allowance_of : Ledger → Allowance
-allowance_of r = record { failing = r.plan.failing.items; number = r.plan.number; calls = r.history.call_room; bytes = r.history.byte_room - length r.history.log.items }
+allowance_of r = record {
+  failing = r.plan.failing.items;
+  number = r.plan.number;
+  calls = r.history.call_room;
+  bytes = r.history.byte_room - length r.history.log.items;
+}

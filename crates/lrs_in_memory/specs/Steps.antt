@@ -30,7 +30,7 @@ reads_after (step ∷ steps) read = reads_after steps (read_after step read)
 abbrev pub From : (List ℕ → Type 0) → (List ℕ → List ℕ → Type 0) → List ℕ → Type 0
 From old R c = (d : List ℕ) × old d × R d c
 
--- the images after a step, where these were the images before it and this is what a read gave
+-- the images after a step, if these were the images before it and this is what a read gave
 abbrev pub Leaves : Step → List ℕ → (List ℕ → Type 0) → List ℕ → Type 0
 Leaves Nothing read old c = old c
 Leaves (Wrote place bytes) read old c = (c ≡ written read place bytes) ⊎ From old (Torn place (length bytes)) c
@@ -59,7 +59,8 @@ MayAdd old new step = (new ≡ old ++ step ∷ []) ⊎ (new ≡ old ++ Nothing �
 abbrev pub torn_write : Pending → ℕ → List ℕ → List ℕ → List ℕ
 torn_write pendings.Lost place bytes left = left
 torn_write pendings.Landed place bytes left = if nat_le place (length left) then written left place bytes else left
-torn_write (pendings.Torn byte) place bytes left = if nat_le place (length left) then written left place (replicate (length bytes) byte) else left
+torn_write (pendings.Torn byte) place bytes left =
+    if nat_le place (length left) then written left place (replicate (length bytes) byte) else left
 
 -- a cut that was undone, or not
 abbrev pub torn_cut : Pending → ℕ → List ℕ → List ℕ
@@ -78,4 +79,5 @@ image_after pending Synced read left = read
 -- the image in which all that wasn't synced was lost, or landed, or holds one byte
 abbrev pub crash_image : Pending → List Step → List ℕ → List ℕ → List ℕ
 crash_image pending [] read left = left
-crash_image pending (step ∷ steps) read left = crash_image pending steps (read_after step read) (image_after pending step read left)
+crash_image pending (step ∷ steps) read left =
+    crash_image pending steps (read_after step read) (image_after pending step read left)

@@ -2,7 +2,7 @@ ghost use Rattle.std.specs.Prelude.{◌≡◌, ◌+◌, ◌-◌, ◌^◌, min};
 ghost use Rattle.lrs_in_memory.specs.Clock.{reading_at, told_readings};
 ghost use Rattle.lrs_disk.specs.Readings.{AddsReading};
 
-// A clock that shows the numbers of a list, and at the end the last one again, or 0 where there are none.
+// A clock that shows the numbers of a list, and at the end the last one again, or 0 if there are none.
 #[derive(Drop)]
 pub(crate) struct Clock {
     pub(crate) numbers: Vec<u64>,

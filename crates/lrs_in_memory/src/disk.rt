@@ -58,7 +58,7 @@ impl MemDisk {
         })
     }
 
-    /// What a crash at a moment leaves, where what wasn't synced was lost, or landed, or holds one byte.
+    /// What a crash at a moment leaves, if what wasn't synced was lost, or landed, or holds one byte.
     pub fn image(&self, moment: u64, pending: Pending) -> Result<Vec<u8>, Memory>
         requires { moment ≤ moment_of self.now }
         ensures image { IfOk result (λ v. LeavesSince self.now moment v.items) }

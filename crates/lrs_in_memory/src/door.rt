@@ -30,7 +30,7 @@ impl MemDoor {
     ghost use Rattle.lrs_in_memory.specs.MemDoor.{coming_of, returned_of, clock_of, shown_of, schedule_of, IsUntouched};
 
     /// A door that gives these links, one after the other, and names each by its number. Its clock shows the numbers of
-    /// `clock`, at the end the last one again, or 0 where there are none. The calls of `next` with the numbers in
+    /// `clock`, at the end the last one again, or 0 if there are none. The calls of `next` with the numbers in
     /// `failing` fail.
     pub fn new(
         alloc: Global,

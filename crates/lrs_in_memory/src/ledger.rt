@@ -39,7 +39,7 @@ impl Ledger {
         })
     }
 
-    // One call. It fails where its number says so, and where there is no room. While there is room it is kept.
+    // One call. It fails if its number says so, and if there is no room. While there is room it is kept.
     pub(crate) fn enter(&mut self, act: Act, bytes: &[u8]) -> Result<(), Failed>
         ensures made { OnOk result (steps_of self.new ≡ steps_of self.old ++ made act bytes.now ∷ []) }
         ensures tried { OnErr result (HasRoom (allowance_of self.old) (length bytes.now)

@@ -28,7 +28,7 @@ pub struct MemLobby {
 impl MemLobby {
     ghost use Rattle.lrs_in_memory.specs.MemLobby.{doors_of, returned_of, asked_of, clock_of, shown_of, schedule_of, faults_of};
 
-    /// A lobby with these doors. Its clock shows the numbers of `clock`, at the end the last one again, or 0 where there
+    /// A lobby with these doors. Its clock shows the numbers of `clock`, at the end the last one again, or 0 if there
     /// are none. The calls of `doors` with the numbers in `failing` fail, and those for another number of doors.
     pub fn new(doors: Vec<MemDoor>, clock: Vec<u64>, failing: Vec<u64>) -> Self
         requires { All IsUntouched doors.items }
@@ -65,7 +65,7 @@ fn has_failed(doors: &[MemDoor]) -> bool
     doors.iter().any(|door| door.faults() > 0)
 }
 
-// Counts a fault where one of these doors has failed.
+// Counts a fault if one of these doors has failed.
 fn count_failed(plan: &mut Plan, doors: &[MemDoor])
     ensures cause { CountsFaults plan.old.faults plan.new.faults (map state_of doors.now) }
     ensures failing { plan.new.failing.items ≡ plan.old.failing.items }

@@ -1,6 +1,6 @@
 use std::alloc::{AllocError, AllocFailed};
 
-/// Want of memory: the one answer that has no cause in a contract.
+/// Out of memory: the one answer that has no cause in a contract.
 #[derive(Clone, Copy, Debug, PartialEq, Eq)]
 pub struct Memory;
 

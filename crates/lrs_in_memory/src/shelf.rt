@@ -26,7 +26,7 @@ pub struct MemShelf {
 impl MemShelf {
     ghost use Rattle.lrs_in_memory.specs.MemShelf.{disks_of, spare_of, taken_of, schedule_of, faults_of};
 
-    /// A shelf with these disks. A name that isn't there gets a spare disk, the last one first, and where there is
+    /// A shelf with these disks. A name that isn't there gets a spare disk, the last one first, and if there is
     /// none left the call fails. The calls with the numbers in `failing` fail, too.
     pub fn new(disks: Vec<(String, MemDisk)>, spare: Vec<MemDisk>, failing: Vec<u64>) -> Self
         requires settled { All (λ entry. IsSettled entry.1) disks.items }
@@ -58,7 +58,7 @@ impl MemShelf {
     }
 }
 
-// These names and one behind them, where there is memory for it.
+// These names and one more, if there is memory for it.
 fn with_name(names: Vec<String>, name: &str) -> Option<Vec<String>>
     ensures { IfSome result (λ all. names_of all ≡ names_of names ++ name.now ∷ []) }
 {
@@ -73,7 +73,7 @@ fn with_name(names: Vec<String>, name: &str) -> Option<Vec<String>>
     Some(names)
 }
 
-// Keeps a name behind the others. Without memory none is kept from then on.
+// Keeps a name after the others. Without memory none is kept from then on.
 fn note(taken: &mut Option<Vec<String>>, name: &str)
     ensures { AddsName (option_map names_of taken.old) (option_map names_of taken.new) name.now }
 {

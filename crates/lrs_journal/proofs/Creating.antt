@@ -3,7 +3,7 @@ use Rattle.std.proofs.Common.{◌≡◌, inl, inr, ℕ, ◌+◌, ◌≤◌, ◌<
 use Rattle.std.proofs.lemmas.Bool.{cases_eq}
 use Rattle.std.proofs.lemmas.List.{take-take, drop_all, append-nil}
 use Rattle.lrs_disk.specs.Disk.{written, Torn, Cut}
-use Rattle.lrs_journal.specs.Steps.{IsBehind, AtRest, IsPlaced, IsBlank, IsShort, behind_gate}
+use Rattle.lrs_journal.specs.Steps.{KeepsUpTo, AtRest, IsPlaced, IsBlank, IsShort, behind_gate}
 use Rattle.lrs_journal.specs.Store.{magic, store, header, body, frames, HasHeader}
 use Rattle.lrs_journal.specs.Create.{IsStore, IsOpenTo, IsMade}
 use Rattle.lrs_journal.specs.declared.sizes.TheConstants.{LEAST_BYTES, MOST_BYTES, FRAME_HEAD, HEADER}
@@ -31,7 +31,7 @@ short_blanked d c short is = is ∙ ap (λ (l : List ℕ). 0 ∷ l) (drop_all 1 
 pub torn_shut : (at n : ℕ) (d c : List ℕ) → 1 ≤ at → IsShut d → Torn at n d c → IsShut c
 torn_shut at n d c le shut torn = sym (take-take 1 at c le) ∙ ap (λ (l : List ℕ). take 1 l) torn.before ∙ take-take 1 at d le ∙ shut
 
-pub behind_shut : (at : ℕ) (old : List ℕ → Type 0) (c : List ℕ) → 1 ≤ at → ((d : List ℕ) → old d → IsShut d) → IsBehind at old c → IsShut c
+pub behind_shut : (at : ℕ) (old : List ℕ → Type 0) (c : List ℕ) → 1 ≤ at → ((d : List ℕ) → old d → IsShut d) → KeepsUpTo at old c → IsShut c
 behind_shut at old c le shut behind = sym (take-take 1 at c le) ∙ ap (λ (l : List ℕ). take 1 l) behind.2 ∙ take-take 1 at behind.0 le ∙ shut behind.0 behind.1
 
 -- a header is open and has more than one byte
@@ -43,7 +43,7 @@ pub shut_made : (limit : ℕ) (first c : List ℕ) → IsShut c → IsMade limit
 shut_made limit first [] shut = absurd (cc shut)
 shut_made limit first (a ∷ c) shut = inl (λ other h. let zero_first : a ≡ 0 = ap (λ (l : List ℕ). get_or l 0 7) shut in let one_first : a ≡ 1 = ap (λ (l : List ℕ). get_or l 0 7) h.split in absurd (omega arith))
 
--- the whole store behind a gate
+-- the whole store after a gate
 abbrev pub laid : ℕ → List ℕ → ℕ → List ℕ
 laid limit first gate = gate ∷ behind_gate limit ++ (body first ++ 0 ∷ [])
 

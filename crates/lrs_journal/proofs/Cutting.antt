@@ -14,7 +14,7 @@ module _ (place : ℕ) where
       let long : place ≤ length c = omega (arith, cut.no_shorter) in
       (d, was, ap (λ (l : List ℕ). take place l) (sym cut.front) ∙ take-take place (length c) d long, long, inl cut.front)
 
-  -- a torn write of one byte behind what was cut
+  -- a torn write of one byte after what was cut
   pub torn_end : (old : List ℕ → Type 0) (d e c : List ℕ) → old d → place ≤ length d → e ≡ take place d → Torn place 1 e c → IsCutBack place old c
   torn_end old d e c was le is torn =
       let size : length e ≡ place = ap (λ (l : List ℕ). length l) is ∙ (length-take place d ∙ omega arith) in

@@ -34,7 +34,7 @@ rest_stands limit end ps c placed at_rest = record { least = placed.least; most 
     closed [] = tt
     closed (b ∷ rest) = λ e. omega arith
 
--- a frame behind any gate counts or it doesn't
+-- a frame after any gate counts or it doesn't
 pub doubt_stands : (limit end : ℕ) (ps : List (List ℕ)) (p c : List ℕ) → IsPlaced limit end ps → length p < 2 ^ 32 → InDoubt limit ps p c → IsBeforeOrAfter limit ps p c
 doubt_stands limit end ps p c placed small doubt = elim (cases_eq doubt.0 1) [
   | inl is_open ↦ inr (record {
@@ -76,7 +76,7 @@ module _ (limit : ℕ) (ps : List (List ℕ)) (p : List ℕ) (end : ℕ) (is : e
       ap (λ (l : List ℕ). drop (end + 1) l) (split ∙ sym (append_assoc (store limit ps) (gate ∷ []) rest))
       ∙ drop_at (store limit ps ++ gate ∷ []) rest (end + 1) (omega (arith, is, length-append (store limit ps) (gate ∷ [])))
 
-  -- in doubt, as a store, a gate and what is behind it
+  -- in doubt, as a store, a gate and what follows it
   around : (c : List ℕ) (doubt : InDoubt limit ps p c) → c ≡ store limit ps ++ doubt.0 ∷ (body p ++ 0 ∷ doubt.1)
   around c doubt = doubt.2 ∙ append_assoc (store limit ps) (doubt.0 ∷ body p) (0 ∷ doubt.1)
 
@@ -104,7 +104,7 @@ module _ (limit : ℕ) (ps : List (List ℕ)) (p : List ℕ) (end : ℕ) (is : e
             ∙ ap (λ (l : List ℕ). l ++ 0 ∷ rest) (sym (store-push limit ps p)),
       )
 
-  -- what is behind the closed gate is free
+  -- what follows the closed gate is free
   pub behind_free : (c d : List ℕ) → AtRest limit ps d → take (end + 1) c ≡ take (end + 1) d → AtRest limit ps c
   behind_free c d at_rest same =
       let open_end : take (end + 1) d ≡ store limit ps ++ 0 ∷ [] =

@@ -84,7 +84,7 @@ read_whole bytes limit place number ps into len h small whole long is =
     read_more bytes limit place number ps (1 ∷ word) into word 5 len len h (sym (ap (λ (l : List ℕ). take 5 l) whole.1)) refl refl (omega arith) refl long small
     (take_all len into (omega (arith, long)) ∙ is) refl
 
--- no open gate behind those that were read
+-- no open gate after those that were read
 pub ended_stands : (bytes : List ℕ) (limit place number : ℕ) (ps : List (List ℕ)) → HasReadTo bytes limit place number ps → IsEnd (drop place bytes) → Stands bytes limit ps
 ended_stands bytes limit place number ps h ends = record {
   least = h.least;
@@ -95,7 +95,7 @@ ended_stands bytes limit place number ps h ends = record {
   ends = ends;
 }
 
--- a frame that isn't whole behind those that were read
+-- a frame that isn't whole after those that were read
 pub damaged_behind : (bytes : List ℕ) (limit place number : ℕ) (ps : List (List ℕ)) → HasReadTo bytes limit place number ps → IsTorn (drop place bytes) → IsDamaged bytes limit ps
 damaged_behind bytes limit place number ps h torn = record {
   sizes = h.sizes;

@@ -4,7 +4,7 @@ use Rattle.std.specs.Option.{is_some}
 use Rattle.std.proofs.lemmas.List.{same_from_push}
 use Rattle.lrs_disk.specs.Disk.{written}
 use Rattle.lrs_journal.specs.Store.{body, Stands, IsBeforeOrAfter, payloads_in}
-use Rattle.lrs_journal.specs.Steps.{IsBehind, IsAtGate, IsSettled, IsDoubtful, IsSound, end_behind}
+use Rattle.lrs_journal.specs.Steps.{KeepsUpTo, IsAtGate, IsSettled, IsDoubtful, IsSound, end_behind}
 use Rattle.lrs_journal.specs.Journal.{Journal, settled, frames_of, need_of, StandsForFrames, IsHolding, IsJournal, TellsAlike, Stores}
 use Rattle.lrs_journal.proofs.Told.{alike_back}
 use Rattle.lrs_journal.proofs.Doubt.{gate_within, doubt_within, behind_free, gate_keeps, gate_opens, staged_doubt, rest_stands, doubt_stands, placed_push}
@@ -12,7 +12,7 @@ use Rattle.lrs_journal.proofs.Reading.{stands_read}
 
 -- ---- one call more
 
-pub settled_kept : (old new : List ℕ → Type 0) (limit end number : ℕ) (ps : List (List ℕ)) → IsSettled old limit end number ps → ((c : List ℕ) → new c → IsBehind (end + 1) old c) → IsSettled new limit end number ps
+pub settled_kept : (old new : List ℕ → Type 0) (limit end number : ℕ) (ps : List (List ℕ)) → IsSettled old limit end number ps → ((c : List ℕ) → new c → KeepsUpTo (end + 1) old c) → IsSettled new limit end number ps
 settled_kept old new limit end number ps s from = record {
   placed = s.placed;
   each = λ c left. let now = from c left in behind_free limit ps [] end s.placed.behind c now.0 (s.each now.0 now.1) now.2;
@@ -166,8 +166,8 @@ module _ {D : Type 0} (told : D → Option (List ℕ)) (image : D → List ℕ �
       was : (c : List ℕ) → image d1 c → (b : List ℕ) × image d0 b × (c ≡ written b end (1 ∷ []))
       was c left = let now = from c left in (now.0, reads d0 now.0 now.1, now.2)
 
-  -- what changed behind a closed gate doesn't count
-  pub after_behind : (d0 d1 : D) (limit end number : ℕ) → IsSound (told d0) (image d0) limit end number None → TellsAlike (told d0) (told d1) → ((c : List ℕ) → image d1 c → IsBehind (end + 1) (image d0) c)
+  -- what changed after a closed gate doesn't count
+  pub after_behind : (d0 d1 : D) (limit end number : ℕ) → IsSound (told d0) (image d0) limit end number None → TellsAlike (told d0) (told d1) → ((c : List ℕ) → image d1 c → KeepsUpTo (end + 1) (image d0) c)
       → IsSound (told d1) (image d1) limit end number None × (frames_of told (seen d1 limit end number None) ≡ frames_of told (seen d0 limit end number None))
   after_behind d0 d1 limit end number sound alike from = (
     record {
@@ -238,16 +238,16 @@ module _ {D : Type 0} (told : D → Option (List ℕ)) (image : D → List ℕ �
         doubt_stands limit end tied.0 tied.1 c d.placed small (gate_keeps limit tied.0 tied.1 end d.placed.behind c now.0 (d.each now.0 now.1) now.2 now.3),
       )
 
-  -- what a change behind a closed gate leaves
+  -- what a change after a closed gate leaves
   pub behind_leaves : (d0 : D) (limit end number : ℕ) → IsSound (told d0) (image d0) limit end number None → (x : List (List ℕ)) → frames_of told (seen d0 limit end number None) ≡ Some x
-      → (c : List ℕ) → IsBehind (end + 1) (image d0) c → Stands c limit x
+      → (c : List ℕ) → KeepsUpTo (end + 1) (image d0) c → Stands c limit x
   behind_leaves d0 limit end number sound x is c now =
       let from = mapped (λ bytes. payloads_in (settled false end bytes)) (told d0) x is in
       let tied = sound.tied from.0 from.1 in
       let whole : x ≡ tied.0 = from.2 ∙ settled_read (image d0) limit end number tied.0 from.0 tied.1 (reads d0 from.0 from.1) in
       subst (λ (l : List (List ℕ)). Stands c limit l) (sym whole) (rest_stands limit end tied.0 c tied.1.placed (behind_free limit tied.0 [] end tied.1.placed.behind c now.0 (tied.1.each now.0 now.1) now.2))
 
--- what has room behind the frames of a journal without doubt has it behind the gate
+-- what has room after the frames of a journal without doubt has it after the gate
 pub room_behind : {D : Type 0} (disk : D) (limit gate number : ℕ) (doubt : Option ℕ) (p : List ℕ) (held : Journal D) → seen disk limit gate number doubt ≡ held → doubt ≡ None
     → need_of held p ≤ held.limit → gate + 6 + length p ≤ limit
 room_behind {D} disk limit gate number doubt p held view none fits =
@@ -257,7 +257,7 @@ pub no_doubt : (o : Option ℕ) → is_some o ≡ false → o ≡ None
 no_doubt None none = refl
 no_doubt (Some size) none = cc none
 
--- what a doubtful frame behind these leaves
+-- what a doubtful frame after these leaves
 pub doubt_before_or_after : (limit : ℕ) (x : List (List ℕ)) (p c : List ℕ) → StandsForFrames limit true (x ++ p ∷ []) c → IsBeforeOrAfter limit x p c
 doubt_before_or_after limit x p c stands =
     let same : x ≡ stands.0 = (same_from_push x stands.0 p stands.1 stands.2).0 in

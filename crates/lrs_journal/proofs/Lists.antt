@@ -1,8 +1,8 @@
--- Writes one behind the other, and torn writes.
+-- Writes one after the other, and torn writes.
 use Rattle.std.proofs.Common.{◌≡◌, ℕ, ◌+◌, ◌≤◌, ◌<◌, List, [], ◌∷◌, ◌++◌, length, take, drop, sym, ◌∙◌, ap, arith, append_assoc, length-append, length-take}
 use Rattle.std.proofs.lemmas.List.{take_at, drop_at, drop-drop, take-take}
 use Rattle.lrs_disk.specs.Disk.{written, Torn}
-use Rattle.lrs_journal.specs.Steps.{IsBehind, IsAtGate}
+use Rattle.lrs_journal.specs.Steps.{KeepsUpTo, IsAtGate}
 use Rattle.lrs_journal.specs.Store.{body}
 use Rattle.std.specs.Int.{w32, to_be_bytes}
 
@@ -10,7 +10,7 @@ use Rattle.std.specs.Int.{w32, to_be_bytes}
 pub written_front : (b : List ℕ) (p : ℕ) (xs : List ℕ) → p ≤ length b → length (take p b ++ xs) ≡ p + length xs
 written_front b p xs le = omega (arith, length-append (take p b) xs, length-take p b)
 
--- two writes, the second right behind the first, are one
+-- two writes, the second right after the first, are one
 pub written_on : (b : List ℕ) (p q : ℕ) (xs ys : List ℕ) → p ≤ length b → q ≡ p + length xs → written (written b p xs) q ys ≡ written b p (xs ++ ys)
 written_on b p q xs ys le is =
     let size : length (take p b ++ xs) ≡ q = written_front b p xs le ∙ sym is in
@@ -27,14 +27,14 @@ written_on b p q xs ys le is =
 pub same_front : (m n : ℕ) (c d : List ℕ) → m ≤ n → take n c ≡ take n d → take m c ≡ take m d
 same_front m n c d le same = sym (take-take m n c le) ∙ ap (λ (l : List ℕ). take m l) same ∙ take-take m n d le
 
--- a torn write behind a place keeps what is before it
-pub torn_behind : (place at n : ℕ) (old : List ℕ → Type 0) → place ≤ at → (d c : List ℕ) → IsBehind place old d → Torn at n d c → IsBehind place old c
+-- a torn write after a place keeps what is before it
+pub torn_behind : (place at n : ℕ) (old : List ℕ → Type 0) → place ≤ at → (d c : List ℕ) → KeepsUpTo place old d → Torn at n d c → KeepsUpTo place old c
 torn_behind place at n old le d c was torn = (was.0, was.1, same_front place at c d le torn.before ∙ was.2)
 
 pub torn_gate : (place : ℕ) (old : List ℕ → Type 0) (d c : List ℕ) → IsAtGate place old d → Torn place 1 d c → IsAtGate place old c
 torn_gate place old d c was torn = (was.0, was.1, torn.before ∙ was.2, torn.after ∙ was.3)
 
--- a length, a payload and a closed gate, written one behind the other
+-- a length, a payload and a closed gate, written one after the other
 pub staged_is : (b b1 b2 b3 : List ℕ) (p : ℕ) (payload : List ℕ) → p < length b → b1 ≡ written b (p + 1) (to_be_bytes w32 (length payload)) → b2 ≡ written b1 (p + 5) payload
     → b3 ≡ written b2 (p + 5 + length payload) (0 ∷ []) → b3 ≡ written b (p + 1) (body payload ++ 0 ∷ [])
 staged_is b b1 b2 b3 p payload lt is1 is2 is3 =

@@ -1,4 +1,4 @@
--- Bytes stand for one limit and one list of payloads, or are damaged behind one. What callers cite.
+-- Bytes stand for one limit and one list of payloads, or are damaged after one. What callers cite.
 use Rattle.std.proofs.Common.{◌≡◌, ◌≢◌, ℕ, ◌+◌, ◌<◌, ◌^◌, List, [], ◌∷◌, ◌++◌, length, take, drop, refl, sym, ◌∙◌, ap, subst, arith, append_assoc, length-append}
 use Rattle.std.proofs.lemmas.List.{take_at, drop_at}
 use Rattle.std.proofs.lemmas.Nat.{from_be_bytes-to_be_bytes_4, from_be_bytes-to_be_bytes_8}
@@ -11,7 +11,7 @@ use Rattle.lrs_journal.specs.declared.sizes.TheConstants.{FRAME_HEAD, HEADER}
 pub no_end : (q : List ℕ) (qs : List (List ℕ)) (r s : List ℕ) → IsEnd r → r ≡ frames (q ∷ qs) ++ s → ⊥
 no_end q qs r s ends is = subst IsEnd is ends refl
 
--- the first payloads are the same, and so is what is behind them
+-- the first payloads are the same, and so is what follows them
 pub first_once : (p q x y : List ℕ) → length p < 2 ^ 32 → length q < 2 ^ 32 → 1 ∷ body p ++ x ≡ 1 ∷ body q ++ y → (p ≡ q) × (x ≡ y)
 first_once p q x y small_p small_q e =
     let words : to_be_bytes w32 (length p) ≡ to_be_bytes w32 (length q) = ap (λ (l : List ℕ). take 4 (drop 1 l)) e in

@@ -10,7 +10,7 @@ use Rattle.lrs_journal.specs.declared.sizes.TheConstants.{HEADER}
 abbrev pub IsStore : List ℕ → Type 0
 IsStore bytes = take 8 bytes ≡ 1 ∷ magic
 
--- more than one byte, the first not 0, and no magic behind it
+-- more than one byte, the first not 0, and no magic after it
 abbrev pub IsForeign : List ℕ → Type 0
 IsForeign bytes = (1 < length bytes) × (get_or bytes 0 0 ≢ 0) × (take 7 (drop 1 bytes) ≢ magic)
 
@@ -18,7 +18,7 @@ IsForeign bytes = (1 < length bytes) × (get_or bytes 0 0 ≢ 0) × (take 7 (dro
 abbrev pub IsOpenTo : List ℕ → Type 0
 IsOpenTo bytes = (IsStore bytes → ⊥) × (IsForeign bytes → ⊥)
 
--- what the bytes are where no store is made on them
+-- what the bytes are if no store is made on them
 abbrev pub IsCreateRefused : List ℕ → CreateRefused → Type 0
 IsCreateRefused bytes refused.AlreadyStore = IsStore bytes
 IsCreateRefused bytes refused.Foreign = IsForeign bytes
@@ -34,5 +34,7 @@ abbrev pub IsMade : ℕ → List ℕ → List ℕ → Type 0
 IsMade limit first bytes = ((other : ℕ) → HasHeader bytes other → ⊥) ⊎ Stands bytes limit (first ∷ [])
 
 -- nothing was written
-abbrev pub IsUntouched : {D : Type 0} → (D → Option (List ℕ)) → (D → List ℕ → Type 0) → (D → ℕ) → (D → ℕ → List ℕ → Type 0) → D → D → Type 0
-IsUntouched told image time image_since old new = (told new ≡ told old) × LeavesOnly time image_since old new (image old)
+abbrev pub IsUntouched : {D : Type 0} → (D → Option (List ℕ)) → (D → List ℕ → Type 0) → (D → ℕ)
+    → (D → ℕ → List ℕ → Type 0) → D → D → Type 0
+IsUntouched told image time image_since old new =
+    (told new ≡ told old) × LeavesOnly time image_since old new (image old)

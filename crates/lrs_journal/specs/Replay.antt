@@ -40,13 +40,14 @@ IsSamePlace old new = (new.place ≡ old.place) × (new.number ≡ old.number)
 abbrev pub IsNextPlace : {D : Type 0} → Replay D → Replay D → List ℕ → Type 0
 IsNextPlace old new payload = (new.place ≡ old.place + (FRAME_HEAD + length payload)) × (new.number ≡ old.number + 1)
 
--- a front of these bytes is an open gate and a whole frame with a payload of this length
+-- these bytes begin with an open gate and a whole frame with a payload of this length
 abbrev pub IsWholeFrame : List ℕ → ℕ → Type 0
 IsWholeFrame bytes size = (behind : List ℕ) × (bytes ≡ 1 ∷ to_be_bytes w32 size ++ behind) × (size ≤ length behind)
 
 -- an open gate and a byte, and no whole frame
 abbrev pub IsTorn : List ℕ → Type 0
-IsTorn bytes = (behind : List ℕ) × (bytes ≡ 1 ∷ behind) × (0 < length behind) × ((payload rest : List ℕ) → IsPayload payload → behind ≢ body payload ++ rest)
+IsTorn bytes = (behind : List ℕ) × (bytes ≡ 1 ∷ behind) × (0 < length behind)
+    × ((payload rest : List ℕ) → IsPayload payload → behind ≢ body payload ++ rest)
 
 -- what these bytes begin with
 abbrev pub IsAhead : List ℕ → Ahead → Type 0

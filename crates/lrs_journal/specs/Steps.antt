@@ -1,5 +1,6 @@
 -- What a crash in a step leaves, and what a journal's fields are.
-use Rattle.std.specs.Prelude.{◌≡◌, ◌≢◌, ◌⊎◌, ◌≤◌, ◌+◌, ℕ, List, [], ◌∷◌, ◌++◌, length, take, drop, get_or, Option, Some, None, Bool, true}
+use Rattle.std.specs.Prelude.{◌≡◌, ◌≢◌, ◌⊎◌, ◌≤◌, ◌+◌, ℕ, List, [], ◌∷◌, ◌++◌, length, take, drop, get_or, Option, Some}
+use Rattle.std.specs.Prelude.{None, Bool, true}
 use Rattle.std.specs.Int.{w64, to_be_bytes}
 use Rattle.lrs_disk.specs.Disk.{Cut}
 use Rattle.std.specs.List.{AllByRecursion}
@@ -11,21 +12,23 @@ use Rattle.lrs_journal.specs.declared.sizes.TheConstants.{FRAME_HEAD, LEAST_BYTE
 abbrev pub Reads : {D : Type 0} → (D → Option (List ℕ)) → D → List ℕ → Type 0
 Reads told disk bytes = told disk ≡ Some bytes
 
--- one of the old images up to this place, and behind it anything
-abbrev pub IsBehind : ℕ → (List ℕ → Type 0) → List ℕ → Type 0
-IsBehind place old c = (d : List ℕ) × old d × (take place c ≡ take place d)
+-- one of the old images up to this place, and after it anything
+abbrev pub KeepsUpTo : ℕ → (List ℕ → Type 0) → List ℕ → Type 0
+KeepsUpTo place old c = (d : List ℕ) × old d × (take place c ≡ take place d)
 
 -- one of the old images, but for the byte at this place
 abbrev pub IsAtGate : ℕ → (List ℕ → Type 0) → List ℕ → Type 0
 IsAtGate place old c = (d : List ℕ) × old d × (take place c ≡ take place d) × (drop (place + 1) c ≡ drop (place + 1) d)
 
--- one of the old images, cut at this place or behind it, or up to this place and with at most one byte behind
+-- one of the old images, cut at this place or after it, or up to this place and with at most one byte after
 abbrev pub IsCutBack : ℕ → (List ℕ → Type 0) → List ℕ → Type 0
-IsCutBack place old c = (d : List ℕ) × old d × (take place c ≡ take place d) × (place ≤ length c) × ((take (length c) d ≡ c) ⊎ (length c ≤ place + 1))
+IsCutBack place old c = (d : List ℕ) × old d × (take place c ≡ take place d) × (place ≤ length c)
+    × ((take (length c) d ≡ c) ⊎ (length c ≤ place + 1))
 
 -- the old one up to this place, and there a 0
 abbrev pub IsClosed : ℕ → (List ℕ → Type 0) → List ℕ → Type 0
-IsClosed place old c = (d : List ℕ) × old d × (take place c ≡ take place d) × (rest : List ℕ) × (drop place c ≡ 0 ∷ rest)
+IsClosed place old c = (d : List ℕ) × old d × (take place c ≡ take place d) × (rest : List ℕ)
+    × (drop place c ≡ 0 ∷ rest)
 
 -- the frames of these payloads, and a closed gate
 abbrev pub AtRest : ℕ → List (List ℕ) → List ℕ → Type 0
@@ -33,9 +36,10 @@ AtRest limit payloads bytes = (rest : List ℕ) × (bytes ≡ store limit payloa
 
 -- the same with one more whole frame, whose gate may be anything
 abbrev pub InDoubt : ℕ → List (List ℕ) → List ℕ → List ℕ → Type 0
-InDoubt limit payloads payload bytes = (gate : ℕ) × (rest : List ℕ) × (bytes ≡ store limit payloads ++ gate ∷ body payload ++ 0 ∷ rest)
+InDoubt limit payloads payload bytes =
+    (gate : ℕ) × (rest : List ℕ) × (bytes ≡ store limit payloads ++ gate ∷ body payload ++ 0 ∷ rest)
 
--- the place of the first gate behind these payloads
+-- the place of the first gate after these payloads
 pub record IsPlaced (limit place : ℕ) (payloads : List (List ℕ)) : Type 0 where
   pub least : LEAST_BYTES ≤ limit
   pub most : limit ≤ MOST_BYTES
@@ -49,20 +53,22 @@ pub record IsSettled (image : List ℕ → Type 0) (limit end number : ℕ) (pay
   pub counts : number ≡ length payloads
 
 -- in doubt: each of the images stands for these payloads, or for them and one more
-pub record IsDoubtful (image : List ℕ → Type 0) (limit end number : ℕ) (payloads : List (List ℕ)) (payload : List ℕ) : Type 0 where
+pub record IsDoubtful (image : List ℕ → Type 0) (limit end number : ℕ) (payloads : List (List ℕ))
+    (payload : List ℕ) : Type 0 where
   pub placed : IsPlaced limit end payloads
   pub each : (c : List ℕ) → image c → InDoubt limit payloads payload c
   pub counts : number ≡ length payloads + 1
 
--- where the end gate stands: at the gate, or behind the frame there whose payload of this length is in doubt
+-- where the end gate stands: at the gate, or after the frame there whose payload of this length is in doubt
 abbrev pub end_behind : ℕ → Option ℕ → ℕ
 end_behind gate None = gate
 end_behind gate (Some size) = gate + (FRAME_HEAD + size)
 
--- what the fields say of the disk, where it tells what it holds; the doubt is the length of the doubtful payload
-abbrev pub IsTied : Option ℕ → (List ℕ → Type 0) → ℕ → ℕ → ℕ → Type 0
-IsTied None image limit end number = (payloads : List (List ℕ)) × IsSettled image limit end number payloads
-IsTied (Some size) image limit end number = (payloads : List (List ℕ)) × (payload : List ℕ) × (size ≡ length payload) × IsDoubtful image limit end number payloads payload
+-- what the fields say of the disk, if it tells what it holds; the doubt is the length of the doubtful payload
+abbrev pub FitsFields : Option ℕ → (List ℕ → Type 0) → ℕ → ℕ → ℕ → Type 0
+FitsFields None image limit end number = (payloads : List (List ℕ)) × IsSettled image limit end number payloads
+FitsFields (Some size) image limit end number = (payloads : List (List ℕ)) × (payload : List ℕ)
+    × (size ≡ length payload) × IsDoubtful image limit end number payloads payload
 
 -- a doubtful frame is counted, and fits
 abbrev pub FitsDoubt : Option ℕ → ℕ → ℕ → ℕ → Type 0
@@ -70,14 +76,16 @@ FitsDoubt None limit end number = number ≤ end
 FitsDoubt (Some size) limit end number = (1 ≤ number) × (number ≤ end + 1) × (end + (FRAME_HEAD + 1) + size ≤ limit)
 
 -- What is true of a journal's fields.
-pub record IsSound (told : Option (List ℕ)) (image : List ℕ → Type 0) (limit end number : ℕ) (doubt : Option ℕ) : Type 0 where
+pub record IsSound (told : Option (List ℕ)) (image : List ℕ → Type 0) (limit end number : ℕ)
+    (doubt : Option ℕ) : Type 0 where
   pub least : LEAST_BYTES ≤ limit
   pub most : limit ≤ MOST_BYTES
   pub fits : FitsDoubt doubt limit end number
-  pub tied : (b : List ℕ) → told ≡ Some b → IsTied doubt image limit end number
+  pub tied : (b : List ℕ) → told ≡ Some b → FitsFields doubt image limit end number
 
 -- What is true of a replay's fields.
-pub record IsReplay (told : Option (List ℕ)) (image : List ℕ → Type 0) (limit size place number : ℕ) (ended : Bool) : Type 0 where
+pub record IsReplay (told : Option (List ℕ)) (image : List ℕ → Type 0) (limit size place number : ℕ)
+    (ended : Bool) : Type 0 where
   pub least : LEAST_BYTES ≤ limit
   pub most : limit ≤ MOST_BYTES
   pub few : number ≤ place
@@ -93,10 +101,10 @@ IsBlank c = (length c ≤ 1) ⊎ (get_or c 0 0 ≢ 1)
 abbrev pub IsShort : List ℕ → Type 0
 IsShort c = length c ≤ 1
 
--- one of the old images, or a front of it with the first byte
+-- one of the old images, or its first part with the first byte
 abbrev pub IsCutShort : (List ℕ → Type 0) → List ℕ → Type 0
 IsCutShort old c = (d : List ℕ) × old d × Cut 1 d c
 
--- what stands behind the header's gate
+-- what follows the header's gate
 abbrev pub behind_gate : ℕ → List ℕ
 behind_gate limit = magic ++ 1 ∷ to_be_bytes w64 limit ++ 1 ∷ []

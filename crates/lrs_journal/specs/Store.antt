@@ -1,5 +1,6 @@
 -- What the bytes of a disk stand for: a header, open frames, and an end.
-use Rattle.std.specs.Prelude.{◌≡◌, ◌≢◌, ◌⊎◌, ◌<◌, ◌≤◌, ◌+◌, ◌-◌, ◌^◌, ℕ, zero, suc, List, [], ◌∷◌, ◌++◌, length, take, drop, min, get_or, Bool, ◌&&◌, ◌==◌, nat_le, if◌then◌else◌}
+use Rattle.std.specs.Prelude.{◌≡◌, ◌≢◌, ◌⊎◌, ◌<◌, ◌≤◌, ◌+◌, ◌-◌, ◌^◌, ℕ, zero, suc, List, [], ◌∷◌, ◌++◌, length, take}
+use Rattle.std.specs.Prelude.{drop, min, get_or, Bool, ◌&&◌, ◌==◌, nat_le, if◌then◌else◌}
 use Rattle.std.specs.List.{AllByRecursion}
 use Rattle.std.specs.Int.{w32, w64, to_be_bytes, from_be_bytes}
 use Rattle.lrs_journal.specs.declared.sizes.TheConstants.{FRAME_HEAD, HEADER, LEAST_BYTES, MOST_BYTES}
@@ -35,7 +36,8 @@ frames (payload ∷ payloads) = 1 ∷ body payload ++ frames payloads
 abbrev pub store : ℕ → List (List ℕ) → List ℕ
 store limit payloads = header limit ++ frames payloads
 
--- The bytes that a store has whose end gate stands here, with one frame more: its head, its payload and the new end gate.
+-- The bytes that a store has whose end gate stands here, with one frame more: its head, its payload and the new end
+-- gate.
 abbrev pub need_at : ℕ → List ℕ → ℕ
 need_at place payload = place + (FRAME_HEAD + 1) + length payload
 
@@ -52,7 +54,7 @@ IsEnd (gate ∷ next ∷ rest) = gate ≢ 1
 abbrev pub IsPayload : List ℕ → Type 0
 IsPayload payload = length payload < 2 ^ 32
 
--- The bytes begin with an open header of this limit, and then stand for these payloads. What is behind the end is free.
+-- The bytes begin with an open header of this limit, and then stand for these payloads. What follows the end is free.
 pub record Stands (bytes : List ℕ) (limit : ℕ) (payloads : List (List ℕ)) : Type 0 where
   pub least : LEAST_BYTES ≤ limit
   pub most : limit ≤ MOST_BYTES
@@ -61,7 +63,7 @@ pub record Stands (bytes : List ℕ) (limit : ℕ) (payloads : List (List ℕ)) 
   pub split : bytes ≡ store limit payloads ++ rest
   pub ends : IsEnd rest
 
--- Behind these payloads there is an open gate and a byte, and no whole frame.
+-- After these payloads there is an open gate and a byte, and no whole frame.
 pub record IsDamaged (bytes : List ℕ) (limit : ℕ) (payloads : List (List ℕ)) : Type 0 where
   pub sizes : AllByRecursion IsPayload payloads
   pub rest : List ℕ
@@ -71,7 +73,8 @@ pub record IsDamaged (bytes : List ℕ) (limit : ℕ) (payloads : List (List ℕ
 
 -- the bytes stand for the payloads, with one more or without it
 abbrev pub IsBeforeOrAfter : ℕ → List (List ℕ) → List ℕ → List ℕ → Type 0
-IsBeforeOrAfter limit payloads payload bytes = Stands bytes limit payloads ⊎ Stands bytes limit (payloads ++ payload ∷ [])
+IsBeforeOrAfter limit payloads payload bytes = Stands bytes limit payloads
+    ⊎ Stands bytes limit (payloads ++ payload ∷ [])
 
 -- Reading the list, of which Stands is the meaning.
 
@@ -83,10 +86,12 @@ length_at bytes = from_be_bytes w32 (take 4 (drop 1 bytes))
 abbrev pub begins_open : List ℕ → Bool
 begins_open bytes = (get_or bytes 0 0 == 1) && nat_le (FRAME_HEAD + length_at bytes) (length bytes)
 
--- the payloads of the open frames in front, at most this many
+-- the payloads of the open frames at the beginning, at most this many
 abbrev pub payloads_within : ℕ → List ℕ → List (List ℕ)
 payloads_within zero bytes = []
-payloads_within (suc n) bytes = if begins_open bytes then take (length_at bytes) (drop FRAME_HEAD bytes) ∷ payloads_within n (drop (FRAME_HEAD + length_at bytes) bytes) else []
+payloads_within (suc n) bytes = if begins_open bytes
+    then take (length_at bytes) (drop FRAME_HEAD bytes) ∷ payloads_within n (drop (FRAME_HEAD + length_at bytes) bytes)
+    else []
 
 -- the payloads that a store's bytes stand for
 abbrev pub payloads_in : List ℕ → List (List ℕ)

@@ -4,7 +4,7 @@ ghost use Rattle.std.specs.Option.{ForSome};
 ghost use Rattle.lrs_disk.specs.Disk.{LeavesOnly};
 ghost use Rattle.lrs_disk.specs.Faults.{HasCause};
 ghost use Rattle.lrs_journal.specs.Journal.{frames_of, IsJournal, IsSynced, TellsAlike, HasCount};
-ghost use Rattle.lrs_journal.specs.Steps.{Reads, IsBehind, AtRest, IsBlank, IsShort, IsCutShort, behind_gate};
+ghost use Rattle.lrs_journal.specs.Steps.{Reads, KeepsUpTo, AtRest, IsBlank, IsShort, IsCutShort, behind_gate};
 ghost use Rattle.lrs_journal.specs.Create.{IsStore, IsForeign, IsOpenTo, IsCreateRefused, IsMade, IsUntouched, need_of_first};
 ghost use Rattle.lrs_journal.specs.declared.create.CreateRefused.TheVariants as CreateRefused;
 ghost use Rattle.lrs_journal.specs.Store.{IsLimit};
@@ -19,7 +19,7 @@ use lrs_disk::{Disk, Failed};
 pub enum CreateRefused {
     /// The disk begins with an open gate and a store's magic.
     AlreadyStore,
-    /// The disk has more than one byte, the first isn't 0, and there is no store's magic behind it.
+    /// The disk has more than one byte, the first isn't 0, and there is no store's magic after it.
     Foreign,
     /// The file would need more bytes than the limit.
     Full { need: u64, limit: u64 },
@@ -72,12 +72,12 @@ fn shorten<D: Disk>(disk: &mut D, size: u64) -> Result<(), Failed>
     disk.sync()
 }
 
-// Writes the header behind its gate, and the first frame's open gate.
+// Writes the header after its gate, and the first frame's open gate.
 fn head<D: Disk>(disk: &mut D, limit: u64) -> Result<(), Failed>
     requires shut { (b : List ℕ) → Reads D.told disk.old b → b ≡ 0 ∷ [] }
     ensures written { OnOk result ((b : List ℕ) → Reads D.told disk.new b → b ≡ 0 ∷ behind_gate limit) }
     ensures tells { TellsAlike (D.told disk.old) (D.told disk.new) }
-    ensures any_moment { LeavesOnly D.time D.image_since disk.old disk.new (IsBehind 1 (D.image disk.old)) }
+    ensures any_moment { LeavesOnly D.time D.image_since disk.old disk.new (KeepsUpTo 1 (D.image disk.old)) }
     ensures cause { HasCause (D.fault_count disk.old) (D.fault_count disk.new) result }
 {
     let [a, b, c, d, e, f, g, h] = limit.to_be_bytes();
@@ -124,7 +124,7 @@ fn inspect<D: Disk>(disk: &mut D) -> Result<u64, CreateRefused>
     Ok(size)
 }
 
-// Makes a store of one frame on a disk, where there may be one.
+// Makes a store of one frame on a disk, if there may be one.
 fn make<D: Disk>(disk: &mut D, limit: u64, first: &[u8]) -> Result<(), CreateRefused>
     requires limit { IsLimit limit }
     requires first { length first.now < 2 ^ 32 }
@@ -157,7 +157,7 @@ fn make<D: Disk>(disk: &mut D, limit: u64, first: &[u8]) -> Result<(), CreateRef
 impl<D: Disk> Journal<D> {
     /// Makes a store on a disk, with one frame. The limit is what the file may have in bytes.
     ///
-    /// Each step is on the disk before the next, and the header's gate is opened last. Where there is a store already,
+    /// Each step is on the disk before the next, and the header's gate is opened last. If there is a store already,
     /// nothing is written.
     pub fn create(disk: D, limit: u64, first: &[u8]) -> Result<Journal<D>, (CreateRefused, D)>
         requires limit { IsLimit limit }
@@ -173,13 +173,13 @@ impl<D: Disk> Journal<D> {
             → (need ≡ need_of_first first.now) × (most ≡ limit) × (limit < need)) }
         ensures spared { IfErr result (λ e. e.0 ≢ CreateRefused.Failed
             → IsUntouched D.told D.image D.time D.image_since disk e.1) }
-        // Where no store may be made nothing is written, whatever the answer is.
+        // If no store may be made nothing is written, whatever the answer is.
         ensures store { IfErr result (λ e. ForSome (D.told disk) (λ bytes. (IsOpenTo bytes → ⊥)
             → IsUntouched D.told D.image D.time D.image_since disk e.1)) }
         ensures tells { IfErr result (λ e. TellsAlike (D.told disk) (D.told e.1)) }
         ensures later { IfOk result (λ journal. D.time disk ≤ D.time journal.disk) }
         ensures later_err { IfErr result (λ e. D.time disk ≤ D.time e.1) }
-        // Where nothing was pending, a crash at any moment leaves no open header or the one frame.
+        // If nothing was pending, a crash at any moment leaves no open header or the one frame.
         ensures any_moment { IfOk result (λ journal. IsSynced D.told D.image disk → ForSome (D.told disk)
             (λ bytes. (IsStore bytes → ⊥) → LeavesOnly D.time D.image_since disk journal.disk
             (IsMade limit first.now))) }

@@ -208,7 +208,7 @@ impl<D: Disk> Journal<D> {
         ensures any_moment { ForSome (frames_of D.told self.old) (λ payloads.
             LeavesOnly D.time D.image_since self.old.disk self.new.disk
             (IsBeforeOrAfter self.old.limit payloads payload.now)) }
-        // Where the call fails and no frame is in doubt, it leaves the frames from before alone.
+        // If the call fails and no frame is in doubt, it leaves the frames from before alone.
         ensures any_moment_err { IsErr result → self.new.doubt ≡ false → ForSome (frames_of D.told self.old)
             (λ payloads.
             LeavesOnly D.time D.image_since self.old.disk self.new.disk

@@ -161,7 +161,7 @@ fn load<D: Disk>(
     Ok(number == size as usize)
 }
 
-// Reads the frame that stands at a place of a disk of so many bytes into a vector, where it is whole.
+// Reads the frame that stands at a place of a disk of so many bytes into a vector, if it is whole.
 fn fetch<D: Disk>(
     disk: &mut D,
     place: u64,
@@ -271,7 +271,7 @@ impl<D: Disk> Replay<D> {
         self.limit
     }
 
-    /// Where the next gate stands: behind the header, or behind the last frame that was read.
+    /// Where the next gate stands: after the header, or after the last frame that was read.
     pub fn place(&self) -> u64
         ensures { result ≡ self.now.place }
     {

@@ -4,19 +4,19 @@ ghost use Rattle.lrs_disk.specs.Disk.{written, LeavesOnly, Follows, Within};
 ghost use Rattle.lrs_disk.specs.Faults.{HasCause};
 ghost use Rattle.lrs_journal.specs.Store.{body, need_at};
 ghost use Rattle.lrs_journal.specs.Journal.{TellsAlike};
-ghost use Rattle.lrs_journal.specs.Steps.{Reads, IsBehind, IsAtGate, IsCutBack, IsClosed};
+ghost use Rattle.lrs_journal.specs.Steps.{Reads, KeepsUpTo, IsAtGate, IsCutBack, IsClosed};
 
 use crate::sizes::FRAME_HEAD;
 use lrs_disk::{Disk, Failed};
 
-/// Writes a frame's body and a closed gate behind the gate at this place, and syncs.
+/// Writes a frame's body and a closed gate after the gate at this place, and syncs.
 pub(crate) fn stage<D: Disk>(disk: &mut D, place: u64, payload: &[u8]) -> Result<(), Failed>
     requires fits { need_at place payload.now < 2 ^ 32 }
     requires gate { (b : List ℕ) → Reads D.told disk.old b → place < length b }
     ensures staged { OnOk result (Follows (λ b c. c ≡ written b (place + 1) (body payload.now ++ 0
         ∷ [])) (Reads D.told disk.old) (D.image disk.new)) }
     ensures tells { TellsAlike (D.told disk.old) (D.told disk.new) }
-    ensures any_moment { LeavesOnly D.time D.image_since disk.old disk.new (IsBehind (place + 1) (D.image disk.old)) }
+    ensures any_moment { LeavesOnly D.time D.image_since disk.old disk.new (KeepsUpTo (place + 1) (D.image disk.old)) }
     ensures cause { HasCause (D.fault_count disk.old) (D.fault_count disk.new) result }
 {
     let length = payload.len() as u32;
@@ -49,13 +49,13 @@ pub(crate) fn repair<D: Disk>(disk: &mut D, place: u64) -> Result<(), Failed>
     ensures cause { HasCause (D.fault_count disk.old) (D.fault_count disk.new) result }
 {
     disk.cut(place)?;
-    // The cut has to be on the disk first: behind a gate that is torn open, what was there would count.
+    // The cut has to be on the disk first: after a gate that is torn open, what was there would count.
     disk.sync()?;
     disk.write_at(place, &[0])?;
     disk.sync()
 }
 
-/// Makes the gate at a place a closed one, where it isn't a 0.
+/// Makes the gate at a place a closed one, if it isn't a 0.
 pub(crate) fn close_end<D: Disk>(disk: &mut D, place: u64) -> Result<(), Failed>
     requires place { (b : List ℕ) → Reads D.told disk.old b → place ≤ length b }
     requires fixed { Within (Reads D.told disk.old) (D.image disk.old) }

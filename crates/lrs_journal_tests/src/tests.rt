@@ -20,7 +20,7 @@ fn first_wrong(steps: &[bool]) -> Option<usize> {
     steps.iter().position(|step| !*step)
 }
 
-// Adds each payload that is left with a comma behind it, at most nine, and a `!` where the list is damaged.
+// Adds each payload that is left with a comma after it, at most nine, and a `!` if the list is damaged.
 fn list_frames(
     replay: &mut Replay<MemDisk>,
     payload: &mut Vec<u8>,
@@ -37,7 +37,7 @@ fn list_frames(
     Ok(())
 }
 
-// The payloads of a disk, or `-` where there is no store.
+// The payloads of a disk, or `-` if there is no store.
 fn listed(alloc: Global, bytes: &[u8]) -> Result<Vec<u8>, Memory> {
     let mut list = Vec::new(alloc);
     match Journal::recover(disk_of(alloc, bytes, Vec::new(alloc))?) {
@@ -84,7 +84,7 @@ fn first_torn(alloc: Global, disk: &MemDisk, start: u64) -> Result<Option<u64>, 
     Ok(None)
 }
 
-// The moment before a frame is added and the disk behind it, or nothing where it isn't added.
+// The moment before a frame is added and the disk after it, or nothing if it isn't added.
 fn added(alloc: Global) -> Result<Option<(u64, MemDisk)>, Memory> {
     match Journal::create(disk_of(alloc, b"", Vec::new(alloc))?, 512, b"hi") {
         Ok(mut journal) => {
@@ -138,7 +138,7 @@ fn doubted(journal: &mut Journal<MemDisk>) -> Option<usize>
 #[test]
 fn a_doubt_is_settled(rt: HostRuntime) -> Result<(), Fail> {
     let alloc = rt.alloc();
-    // The sync behind the new frame's gate.
+    // The sync after the new frame's gate.
     let failing = [16].to_vec(alloc)?;
     let wrong = match Journal::create(disk_of(alloc, b"", failing)?, 512, b"hi") {
         Ok(mut journal) => {
@@ -254,7 +254,7 @@ fn the_limit_holds(rt: HostRuntime) -> Result<(), Fail> {
     Ok(())
 }
 
-// A front of `STORE` of so many bytes, and what is read of it.
+// The first bytes of `STORE`, so many, and what is read of them.
 const FRONTS: [(usize, &str); 8] = [
     (0, "-"),
     (16, "-"),
@@ -289,7 +289,7 @@ fn is_read_whole(alloc: Global, replay: &mut Replay<MemDisk>) -> bool {
     replay.limit() == 512 && more == Ok(true) && is_hi
 }
 
-// Whether an empty frame behind the one on these bytes leaves those bytes.
+// Whether an empty frame after the one on these bytes leaves those bytes.
 fn is_opened_for_more(alloc: Global, bytes: &[u8], then: &[u8]) -> Result<bool, Memory> {
     match Journal::recover(disk_of(alloc, bytes, Vec::new(alloc))?) {
         Ok(mut replay) => {
@@ -329,7 +329,7 @@ fn is_extended(replay: Replay<MemDisk>, then: &[u8]) -> bool
 #[test]
 fn a_store_is_opened_for_more(rt: HostRuntime) -> Result<(), Fail> {
     let alloc = rt.alloc();
-    // What stands behind the end is cut away.
+    // What follows the end is cut away.
     let mut bytes = STORE[..24].to_vec(alloc)?;
     bytes.extend_from_slice(&[9, 9, 9])?;
     let mut then = STORE[..24].to_vec(alloc)?;

@@ -1,4 +1,4 @@
--- The escapes of a run of bytes that stand for themselves, and of the byte behind it.
+-- The escapes of a run of bytes that stand for themselves, and of the byte after it.
 use Rattle.std.proofs.Common.{◌≡◌, ℕ, ◌+◌, suc, List, [], ◌∷◌, ◌++◌, take, drop, Bool, true, false, refl, sym, ap, arith, append_assoc}
 use Rattle.std.proofs.lemmas.Grind.{common_steps}
 use Rattle.std.specs.List.{flat_map, prefix_len}

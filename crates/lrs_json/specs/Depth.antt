@@ -1,6 +1,7 @@
 -- How deep a value nests.
 use Rattle.std.specs.Prelude.{ℕ, suc, max}
-use Rattle.lrs_json.specs.Json.{Json, null, boolean, number, string, array, object, Elements, no_elements, element, Members, no_members, member}
+use Rattle.lrs_json.specs.Json.{Json, null, boolean, number, string, array, object, Elements, no_elements, element}
+use Rattle.lrs_json.specs.Json.{Members, no_members, member}
 
 abbrev mutual
   pub depth : Json → ℕ

@@ -2,7 +2,8 @@
 use Rattle.std.specs.Prelude.{◌≡◌, ◌≤◌, ℕ, List, [], ◌∷◌, false, IsTrue, IsUtf8}
 use Rattle.lrs_decimal.specs.Numbers.{IsNumber}
 use Rattle.lrs_decimal.specs.Range.{is_in_range}
-use Rattle.lrs_json.specs.Json.{Json, null, boolean, number, string, array, object, Elements, no_elements, element, Members, no_members, member}
+use Rattle.lrs_json.specs.Json.{Json, null, boolean, number, string, array, object, Elements, no_elements, element}
+use Rattle.lrs_json.specs.Json.{Members, no_members, member}
 use Rattle.lrs_json.specs.Names.{is_among}
 use Rattle.lrs_json.specs.Depth.{depth}
 
@@ -20,7 +21,7 @@ abbrev mutual
   FitElements no_elements = Unit {0}
   FitElements (element j js) = Fits j × FitElements js
 
-  -- behind members of these names
+  -- after members of these names
   pub FitMembers : List (List ℕ) → Members → Type 0
   FitMembers names no_members = Unit {0}
   FitMembers names (member k j ms) = IsUtf8 k × (is_among k names ≡ false) × Fits j × FitMembers (k ∷ names) ms

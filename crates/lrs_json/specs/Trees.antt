@@ -1,6 +1,7 @@
 -- The tree that a value is seen of.
 use Rattle.std.specs.Prelude.{List, [], ◌∷◌}
-use Rattle.lrs_json.specs.Json.{Json, null, boolean, number, string, array, object, Elements, no_elements, element, Members, no_members, member}
+use Rattle.lrs_json.specs.Json.{Json, null, boolean, number, string, array, object, Elements, no_elements, element}
+use Rattle.lrs_json.specs.Json.{Members, no_members, member}
 use Rattle.lrs_json.specs.declared.tree.Tree.{Tree, Null, Bool, Number, Words, List as Many, Object}
 use Rattle.lrs_json.specs.declared.tree.Member.{Member}
 use Rattle.lrs_json.specs.declared.tree.Tree.TheViews.{roll-Member}

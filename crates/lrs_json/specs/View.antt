@@ -1,6 +1,7 @@
 -- The JSON value that a `Tree` is.
 use Rattle.std.specs.Prelude.{ℕ, List, [], ◌∷◌}
-use Rattle.lrs_json.specs.Json.{Json, null, boolean, number, string, array, object, Elements, no_elements, element, Members, no_members, member}
+use Rattle.lrs_json.specs.Json.{Json, null, boolean, number, string, array, object, Elements, no_elements, element}
+use Rattle.lrs_json.specs.Json.{Members, no_members, member}
 use Rattle.lrs_json.specs.declared.tree.Tree.{Tree}
 use Rattle.lrs_json.specs.declared.tree.Member.{Member}
 use Rattle.lrs_json.specs.declared.tree.Tree.TheOpen.{Tree-F, Member-F}

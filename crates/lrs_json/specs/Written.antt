@@ -1,7 +1,9 @@
 -- The written form: no white space, members in their order, numbers in their spelling.
-use Rattle.std.specs.Prelude.{◌≡◌, take, length, ℕ, ◌+◌, ◌/◌, ◌%◌, ◌==◌, ◌||◌, not, nat_lt, List, [], ◌∷◌, ◌++◌, map, Bool, true, false, if◌then◌else◌, codes}
+use Rattle.std.specs.Prelude.{◌≡◌, take, length, ℕ, ◌+◌, ◌/◌, ◌%◌, ◌==◌, ◌||◌, not, nat_lt, List, [], ◌∷◌, ◌++◌, map}
+use Rattle.std.specs.Prelude.{Bool, true, false, if◌then◌else◌, codes}
 use Rattle.std.specs.List.{flat_map}
-use Rattle.lrs_json.specs.Json.{Json, null, boolean, number, string, array, object, Elements, no_elements, element, Members, no_members, member}
+use Rattle.lrs_json.specs.Json.{Json, null, boolean, number, string, array, object, Elements, no_elements, element}
+use Rattle.lrs_json.specs.Json.{Members, no_members, member}
 use Rattle.lrs_json.specs.View.{view, member_view, elements_of, members_of}
 use Rattle.lrs_json.specs.declared.tree.Tree.{Tree}
 use Rattle.lrs_json.specs.declared.tree.Member.{Member}
@@ -21,13 +23,17 @@ is_plain b = not (nat_lt b 32 || b == 34 || b == 92)
 -- a byte of a text as it stands in a written string
 unfoldable pub escaped : ℕ → List ℕ
 escaped b =
-    if b == 34 then codes "\\\"" else (if b == 92 then codes "\\\\" else (if b == 8 then codes "\\b" else (if b == 9 then codes "\\t" else (if b == 10 then codes "\\n"
-    else (if b == 12 then codes "\\f" else (if b == 13 then codes "\\r" else (if nat_lt b 32 then codes "\\u00" ++ hex_digit_of (b / 16) ∷ hex_digit_of (b % 16) ∷ [] else b ∷ [])))))))
+    if b == 34 then codes "\\\""
+    else (if b == 92 then codes "\\\\"
+    else (if b == 8 then codes "\\b" else (if b == 9 then codes "\\t" else (if b == 10 then codes "\\n"
+    else (if b == 12 then codes "\\f"
+    else (if b == 13 then codes "\\r"
+    else (if nat_lt b 32 then codes "\\u00" ++ hex_digit_of (b / 16) ∷ hex_digit_of (b % 16) ∷ [] else b ∷ [])))))))
 
 abbrev pub quoted : List ℕ → List ℕ
 quoted text = 34 ∷ (flat_map escaped text ++ 34 ∷ [])
 
--- a comma, where something stands before
+-- a comma, if something stands before
 abbrev pub comma_if : Bool → List ℕ
 comma_if later = if later then 44 ∷ [] else []
 

@@ -1,5 +1,5 @@
 //! Appending the parts of a JSON text, for the layers that write one around trees. Each call leaves what stood before
-//! where memory runs out in the middle.
+//! if memory runs out in the middle.
 ghost use Rattle.std.specs.Prelude.{◌≡◌, [], ◌∷◌, ◌++◌, ◌<◌, ◌≤◌, length, IfOk, OnOk};
 ghost use Rattle.std.specs.List.{flat_map, prefix_len};
 ghost use Rattle.lrs_json.specs.Json.{string};
@@ -18,7 +18,7 @@ pub fn put(bytes: &[u8], into: &mut Vec<u8>) -> Result<(), Memory>
     Ok(())
 }
 
-/// A comma, where other items or members stand before.
+/// A comma, if other items or members stand before.
 pub fn put_comma(later: bool, into: &mut Vec<u8>) -> Result<(), Memory>
     ensures ok { OnOk result (into.new.items ≡ into.old.items ++ comma_if later) }
     ensures kept { Extends into.old.items into.new.items }
@@ -39,7 +39,7 @@ pub fn put_quoted(text: &str, into: &mut Vec<u8>) -> Result<(), Memory>
     put_to_quote(text, into)
 }
 
-/// The text that the two make, one behind the other.
+/// The text that the two make, one after the other.
 #[tactic(auto, using(crate::proofs::Extending::extends_trans))]
 pub fn put_quoted_parts(first: &str, second: &str, into: &mut Vec<u8>) -> Result<(), Memory>
     ensures ok { OnOk result (into.new.items ≡ into.old.items ++ quoted (first.now ++ second.now)) }
@@ -61,7 +61,7 @@ fn put_to_quote(text: &str, into: &mut Vec<u8>) -> Result<(), Memory>
     Ok(())
 }
 
-/// The name of a member and its colon, and a comma before it where other members stand before.
+/// The name of a member and its colon, and a comma before it if other members stand before.
 #[tactic(auto, using(crate::proofs::Extending::extends_trans))]
 pub fn put_name(later: bool, name: &str, into: &mut Vec<u8>) -> Result<(), Memory>
     ensures ok { OnOk result (into.new.items ≡ into.old.items ++ name_text later name.now) }
@@ -95,7 +95,7 @@ fn put_escaped(text: &str, into: &mut Vec<u8>) -> Result<(), Memory>
     Ok(())
 }
 
-/// How many bytes at the front stand for themselves in a string.
+/// How many bytes at the beginning stand for themselves in a string.
 pub fn plain_len(bytes: &[u8]) -> usize
     ensures bound { result ≤ length bytes.now }
     ensures value { result ≡ prefix_len is_plain bytes.now }
@@ -108,7 +108,7 @@ pub fn plain_len(bytes: &[u8]) -> usize
     bytes.len()
 }
 
-// The bytes at the front that stand for themselves, copied at once, and the escape of the byte behind them. What is
+// The bytes at the beginning that stand for themselves, copied at once, and the escape of the byte after them. What is
 // left is given back.
 #[tactic(auto, using(crate::proofs::Extending::extends_trans))]
 fn put_run<'a>(bytes: &'a [u8], into: &mut Vec<u8>) -> Result<&'a [u8], Memory>

@@ -8,7 +8,7 @@ use std::alloc::Global;
 use std::marker::Model;
 use std::slice::Iter;
 
-/// A `Vec` that contracts see as the list of its items, so that two trees are equal exactly where they look so.
+/// A `Vec` that contracts see as the list of its items, so that two trees are equal exactly if they look so.
 #[derive(Debug, Drop)]
 pub struct Items<T> {
     items: Vec<T>,

@@ -1,6 +1,6 @@
 use std::alloc::{AllocError, AllocFailed};
 
-/// Want of memory: the one answer that needs no cause.
+/// Out of memory: the one answer that needs no cause.
 #[derive(Clone, Copy, Debug, PartialEq, Eq)]
 pub struct Memory;
 

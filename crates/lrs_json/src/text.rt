@@ -54,7 +54,7 @@ impl Text {
     }
 }
 
-/// The text that the bytes are, where they are known to be UTF-8, as those of an id and of a moment are.
+/// The text that the bytes are, if they are known to be UTF-8, as those of an id and of a moment are.
 pub fn utf8_text(bytes: &[u8]) -> &str
     requires { IsUtf8 bytes.now }
     ensures { result.now ≡ bytes.now }

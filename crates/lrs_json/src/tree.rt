@@ -25,7 +25,7 @@ pub struct Member {
 }
 
 impl Tree {
-    /// The value of the first member of that name, where the tree is an object.
+    /// The value of the first member of that name, if the tree is an object.
     pub fn get(&self, name: &str) -> Option<&Tree>
         ensures { option_map (λ t. view t.now) result ≡ find name.now (view self.now) }
     {

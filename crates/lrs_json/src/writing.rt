@@ -4,7 +4,7 @@ ghost use Rattle.lrs_json.specs.Written.{Extends, comma_if, written_tree, list_t
 use crate::appending::{put, put_comma, put_name, put_quoted};
 use crate::{Member, Memory, Tree};
 
-/// Appends the written form of the tree, or nothing where memory runs out.
+/// Appends the written form of the tree, or nothing if memory runs out.
 pub fn write(tree: &Tree, into: &mut Vec<u8>) -> Result<(), Memory>
     ensures ok { OnOk result (into.new.items ≡ into.old.items ++ written_tree tree.now) }
     ensures err { OnErr result (into.new.items ≡ into.old.items) }
@@ -19,7 +19,7 @@ pub fn write(tree: &Tree, into: &mut Vec<u8>) -> Result<(), Memory>
     }
 }
 
-/// Appends the written form of the tree, or a part of it where memory runs out in the middle.
+/// Appends the written form of the tree, or a part of it if memory runs out in the middle.
 #[cycle(write)]
 pub fn put_tree(tree: &Tree, into: &mut Vec<u8>) -> Result<(), Memory>
     ensures ok { OnOk result (into.new.items ≡ into.old.items ++ written_tree tree.now) }

@@ -16,7 +16,7 @@ use Rattle.lrs_json_equal.proofs.SameValues.{or_left, or_right, found_at, passed
 abbrev seen : List Member → Members
 seen ms = members_of (map member_view ms)
 
--- a member behind others has none of their names, nor of those before
+-- a member after others has none of their names, nor of those before
 is_new : (xs : List Member) (m : Member) (ys : List Member) (names : List (List ℕ)) → FitMembers names (seen (xs ++ (m ∷ ys))) → is_among (member_view m).0 names ≡ false
 is_new [] m ys names f = f.1
 is_new (x ∷ xs) m ys names f = or_right (bytes_eq (member_view m).0 (member_view x).0) (is_among (member_view m).0 names) (is_new xs m ys ((member_view x).0 ∷ names) f.3)
@@ -44,7 +44,7 @@ named_behind (x ∷ xs) m ys =
     let k = (member_view m).0 in
     is_some_at (bytes_eq (member_view x).0 k) (member_view x).1 (find_member k (seen (xs ++ (m ∷ ys)))) (named_behind xs m ys)
 
--- members in front of a place, the one that stands there, and those behind
+-- members in front of a place, the one that stands there, and those after
 parts : (ms : List Member) (i : ℕ) (m : Member) → i < length ms → m ≡ get_or ms i m → (take i ms ++ (m ∷ drop (suc i) ms)) ≡ ms
 parts ms i m lt e =
     ap (λ (us : List Member). take i ms ++ us) (sym (drop-cons ms i m lt ∙ ap (λ (z : Member). z ∷ drop (suc i) ms) (sym e)))

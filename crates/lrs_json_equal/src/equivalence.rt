@@ -147,7 +147,7 @@ fn has_same_value(member: &Member, members: &[Member], at: usize) -> bool
 // Looks at that place, and then at all.
 fn find_from<'a>(members: &'a [Member], name: &str, at: usize) -> Option<&'a Tree>
     ensures found { is_some result ≡ is_some (find_member name.now (members_of (map member_view members.now))) }
-    // Where the names differ, it is the only one of that name.
+    // If the names differ, it is the only one of that name.
     ensures first { (names : List (List ℕ)) → FitMembers names (members_of (map member_view members.now))
         → option_map (λ t. view t.now) result ≡ find_member name.now (members_of (map member_view members.now)) }
 {

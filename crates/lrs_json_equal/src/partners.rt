@@ -1,4 +1,4 @@
-// Where the members of one object stand in another, where there are many.
+// Where the members of one object stand in another, if there are many.
 use lrs_json::Member;
 use std::cmp::Ordering;
 
@@ -9,7 +9,7 @@ const AT_ONCE: usize = 8_192;
 /// whichever they are; good ones spare a walk of all members for each. Takes 16 KiB of the stack.
 #[derive(Drop)]
 pub struct Partners {
-    // Of the members from that place on; none are known yet where there is none.
+    // Of the members from that place on; none are known yet if there is none.
     from: Option<usize>,
     places: [u16; AT_ONCE],
 }

@@ -94,7 +94,7 @@ same_text (x ∷ xs) (y ∷ ys) r s e =
     let rest = same_text xs ys r s parts.1 in
     (rw (first, rest.0) refl, rest.1)
 
--- two strings that are written alike, whatever stands behind them, are of one text
+-- two strings that are written alike, whatever stands after them, are of one text
 pub same_quoted : (a b r s : List ℕ) → quoted a ++ r ≡ quoted b ++ s → (a ≡ b) × (r ≡ s)
 same_quoted a b r s e =
     let inside : flat_map escaped a ++ 34 ∷ [] ++ r ≡ flat_map escaped b ++ 34 ∷ [] ++ s = cc e in

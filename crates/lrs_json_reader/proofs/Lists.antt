@@ -5,7 +5,7 @@ use Rattle.lrs_json.specs.Json as Json
 use Rattle.lrs_json.specs.View.{view, elements_of}
 use Rattle.lrs_json_reader.specs.Placed.{Placed, array, plain, plain_elements, Elements, no_elements, element}
 use Rattle.lrs_json_reader.specs.Grammar.{Value, Listed}
-use Rattle.lrs_json_reader.specs.Steps.{GoesOn}
+use Rattle.lrs_json_reader.specs.Steps.{StepsToNext}
 use Rattle.lrs_json_reader.specs.Reading.{noted, Misses, ReadsValue, has_some}
 use Rattle.lrs_json_reader.specs.declared.cursor.Stop.{Stop}
 use Rattle.lrs_json_reader.specs.declared.cursor.Stop.TheVariants.{Memory}
@@ -46,7 +46,7 @@ list_start start here rest e d notes =
     }
 
 -- what a list's rest is, where the reader finds that an item comes
-item_comes : (later : Bool) (more : Elements) (here s rest : List ℕ) → GoesOn later 93 here (Ok true) s → Listed later more here rest
+item_comes : (later : Bool) (more : Elements) (here s rest : List ℕ) → StepsToNext later 93 here (Ok true) s → Listed later more here rest
     → (p : Placed) × (left : Elements) × (c : List ℕ) × (more ≡ element p left) × Value p s c × Listed true left c rest
 item_comes later no_elements here s rest go l = absurd (true≢false (go.all_end rest l).0)
 item_comes later (element p left) here s rest go l =
@@ -54,16 +54,16 @@ item_comes later (element p left) here s rest go l =
     (p, left, l.2, refl, subst (λ z. Value p z l.2) (sym at.1) l.5, l.6)
 
 -- and where it finds the end
-end_comes : (later : Bool) (more : Elements) (here s rest : List ℕ) → GoesOn later 93 here (Ok false) s → Listed later more here rest → (more ≡ no_elements) × (s ≡ rest)
+end_comes : (later : Bool) (more : Elements) (here s rest : List ℕ) → StepsToNext later 93 here (Ok false) s → Listed later more here rest → (more ≡ no_elements) × (s ≡ rest)
 end_comes later no_elements here s rest go l = (refl, (go.all_end rest l).1)
 end_comes later (element p left) here s rest go l = absurd (true≢false (sym (go.all_more l.0 l.1 l.3 l.4 (Value-Opens p l.1 l.2 l.5)).0))
 
 -- and where it finds neither
-none_comes : (later : Bool) (more : Elements) (here s rest : List ℕ) (y : Stop) → GoesOn later 93 here (Err y) s → Listed later more here rest → y ≡ Memory
+none_comes : (later : Bool) (more : Elements) (here s rest : List ℕ) (y : Stop) → StepsToNext later 93 here (Err y) s → Listed later more here rest → y ≡ Memory
 none_comes later no_elements here s rest y go l = go.all_end rest l
 none_comes later (element p left) here s rest y go l = go.all_more l.0 l.1 l.3 l.4 (Value-Opens p l.1 l.2 l.5)
 
-pub list_next : (ts new : List Tree) (t : Tree) (start here mid next : Reader) → new ≡ ts ++ t ∷ [] → mid.places ≡ here.places → ListSoFar ts start here → GoesOn (has_some ts) 93 here.cursor (Ok true) mid.cursor → ReadsValue mid (Ok t) next
+pub list_next : (ts new : List Tree) (t : Tree) (start here mid next : Reader) → new ≡ ts ++ t ∷ [] → mid.places ≡ here.places → ListSoFar ts start here → StepsToNext (has_some ts) 93 here.cursor (Ok true) mid.cursor → ReadsValue mid (Ok t) next
     → ListSoFar new start next
 list_next ts new t start here mid next is kept so go found =
     let x = found.it in
@@ -91,13 +91,13 @@ list_at x start rest0 rest e v =
     let o = only_array x (starts_at x start rest0 rest 91 e v) in
     (o.0, o.1, subst (λ z. Value z start rest) o.1 v)
 
-pub list_goes_fault : (ts : List Tree) (start here : Reader) (s rest0 : List ℕ) (y : Stop) → start.cursor ≡ 91 ∷ rest0 → ListSoFar ts start here → GoesOn (has_some ts) 93 here.cursor (Err y) s → Misses Value start y
+pub list_goes_fault : (ts : List Tree) (start here : Reader) (s rest0 : List ℕ) (y : Stop) → start.cursor ≡ 91 ∷ rest0 → ListSoFar ts start here → StepsToNext (has_some ts) 93 here.cursor (Err y) s → Misses Value start y
 list_goes_fault ts start here s rest0 y e so go = λ x rest v ends.
     let l = list_at x start.cursor rest0 rest e v in
     let m = so.complete l.0 rest l.2 in
     none_comes (has_some ts) m.0 here.cursor s rest y go m.2
 
-pub list_item_fault : (ts : List Tree) (start here mid : Reader) (rest0 : List ℕ) (y : Stop) → start.cursor ≡ 91 ∷ rest0 → ListSoFar ts start here → GoesOn (has_some ts) 93 here.cursor (Ok true) mid.cursor → Misses Value mid y
+pub list_item_fault : (ts : List Tree) (start here mid : Reader) (rest0 : List ℕ) (y : Stop) → start.cursor ≡ 91 ∷ rest0 → ListSoFar ts start here → StepsToNext (has_some ts) 93 here.cursor (Ok true) mid.cursor → Misses Value mid y
     → Misses Value start y
 list_item_fault ts start here mid rest0 y e so go misses = λ x rest v ends.
     let l = list_at x start.cursor rest0 rest e v in
@@ -109,7 +109,7 @@ elements_plain : (ps : List Placed) → plain_elements (before_elements ps no_el
 elements_plain [] = refl
 elements_plain (p ∷ ps) = ap (Json.element (plain p)) (elements_plain ps)
 
-pub list_done : (ts : List Tree) (start here new : Reader) (rest0 : List ℕ) → start.cursor ≡ 91 ∷ rest0 → new.places ≡ here.places → ListSoFar ts start here → GoesOn (has_some ts) 93 here.cursor (Ok false) new.cursor
+pub list_done : (ts : List Tree) (start here new : Reader) (rest0 : List ℕ) → start.cursor ≡ 91 ∷ rest0 → new.places ≡ here.places → ListSoFar ts start here → StepsToNext (has_some ts) 93 here.cursor (Ok false) new.cursor
     → ReadsValue start (Ok (Many ts)) new
 list_done ts start here new rest0 e kept so go =
     let is = before_elements so.ps no_elements in

@@ -45,7 +45,7 @@ pub earliest-append : (xs ys : List ℕ) → earliest (xs ++ ys) ≡ earlier (ea
 earliest-append [] ys = sym (none-earlier (earliest ys))
 earliest-append (x ∷ xs) ys = ap (earlier (Some x)) (earliest-append xs ys) ∙ sym (earlier-assoc (Some x) (earliest xs) (earliest ys))
 
--- behind what is known, both
+-- after what is known, both
 both : (a : Option ℕ) (xs ys : List ℕ) → earlier (earlier a (earliest xs)) (earliest ys) ≡ earlier a (earliest (xs ++ ys))
 both a xs ys = earlier-assoc a (earliest xs) (earliest ys) ∙ ap (earlier a) (sym (earliest-append xs ys))
 

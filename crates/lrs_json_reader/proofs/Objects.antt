@@ -7,7 +7,7 @@ use Rattle.lrs_json.specs.View.{view, member_view, members_of}
 use Rattle.lrs_json_reader.specs.Placed.{Placed, object, plain, plain_members, Members, no_members, member}
 use Rattle.lrs_json_reader.specs.Flaws.{earlier, earliest}
 use Rattle.lrs_json_reader.specs.Grammar.{is_space, Spaces, Quoted, Value, Paired}
-use Rattle.lrs_json_reader.specs.Steps.{GoesOn}
+use Rattle.lrs_json_reader.specs.Steps.{StepsToNext}
 use Rattle.lrs_json_reader.specs.Reading.{noted, Entry, plain_entry, noted_entry, Pair, Misses, ReadsValue, ReadsMember, repeated_among, has_some}
 use Rattle.lrs_json_reader.specs.declared.cursor.Stop.{Stop}
 use Rattle.lrs_json_reader.specs.declared.cursor.Stop.TheVariants.{Memory}
@@ -47,23 +47,23 @@ object_start start here rest e d notes =
       shorter = omega (arith, ap length whole);
     }
 
-member_comes : (later : Bool) (more : Members) (here s rest : List ℕ) → GoesOn later 125 here (Ok true) s → Paired later more here rest
+member_comes : (later : Bool) (more : Members) (here s rest : List ℕ) → StepsToNext later 125 here (Ok true) s → Paired later more here rest
     → (m : Entry) × (left : Members) × (c : List ℕ) × (more ≡ member m.left m.name m.value left) × Pair m s c × Paired true left c rest
 member_comes later no_members here s rest go l = absurd (true≢false (go.all_end rest l).0)
 member_comes later (member left k p more) here s rest go l =
     let at = go.all_more l.0 l.1 l.6 l.7 (Quoted-Opens k l.1 l.2 l.8) in
     (record { left = left; name = k; value = p }, more, l.5, refl, (l.2, l.3, l.4, subst (λ z. Quoted k z l.2) (sym at.1) l.8, l.9, l.10, l.11, l.13 ∙ ap length (sym at.1)), l.12)
 
-end_comes : (later : Bool) (more : Members) (here s rest : List ℕ) → GoesOn later 125 here (Ok false) s → Paired later more here rest → (more ≡ no_members) × (s ≡ rest)
+end_comes : (later : Bool) (more : Members) (here s rest : List ℕ) → StepsToNext later 125 here (Ok false) s → Paired later more here rest → (more ≡ no_members) × (s ≡ rest)
 end_comes later no_members here s rest go l = (refl, (go.all_end rest l).1)
 end_comes later (member left k p more) here s rest go l = absurd (true≢false (sym (go.all_more l.0 l.1 l.6 l.7 (Quoted-Opens k l.1 l.2 l.8)).0))
 
-none_comes : (later : Bool) (more : Members) (here s rest : List ℕ) (y : Stop) → GoesOn later 125 here (Err y) s → Paired later more here rest → y ≡ Memory
+none_comes : (later : Bool) (more : Members) (here s rest : List ℕ) (y : Stop) → StepsToNext later 125 here (Err y) s → Paired later more here rest → y ≡ Memory
 none_comes later no_members here s rest y go l = go.all_end rest l
 none_comes later (member left k p more) here s rest y go l = go.all_more l.0 l.1 l.6 l.7 (Quoted-Opens k l.1 l.2 l.8)
 
 pub object_next : (ts new : List Member) (lefts afters : List ℕ) (left : ℕ) (t : Member) (start here mid next : Reader) → new ≡ ts ++ t ∷ [] → afters ≡ lefts ++ left ∷ [] → left ≡ length mid.cursor → mid.places ≡ here.places
-    → ObjectSoFar ts lefts start here → GoesOn (has_some ts) 125 here.cursor (Ok true) mid.cursor → ReadsMember mid (Ok t) next → ObjectSoFar new afters start next
+    → ObjectSoFar ts lefts start here → StepsToNext (has_some ts) 125 here.cursor (Ok true) mid.cursor → ReadsMember mid (Ok t) next → ObjectSoFar new afters start next
 object_next ts new lefts afters left t start here mid next is places_are left_is kept so go found =
     let x = found.it in
     let later : has_some new ≡ true = ap has_some is ∙ has_some-push ts t in
@@ -92,7 +92,7 @@ object_at x start rest0 rest e v =
     let o = only_object x (starts_at x start rest0 rest 123 e v) in
     (o.0, o.1, subst (λ z. Value z start rest) o.1 v)
 
-pub object_goes_fault : (ts : List Member) (lefts : List ℕ) (start here : Reader) (s rest0 : List ℕ) (y : Stop) → start.cursor ≡ 123 ∷ rest0 → ObjectSoFar ts lefts start here → GoesOn (has_some ts) 125 here.cursor (Err y) s
+pub object_goes_fault : (ts : List Member) (lefts : List ℕ) (start here : Reader) (s rest0 : List ℕ) (y : Stop) → start.cursor ≡ 123 ∷ rest0 → ObjectSoFar ts lefts start here → StepsToNext (has_some ts) 125 here.cursor (Err y) s
     → Misses Value start y
 object_goes_fault ts lefts start here s rest0 y e so go = λ x rest v ends.
     let l = object_at x start.cursor rest0 rest e v in
@@ -100,7 +100,7 @@ object_goes_fault ts lefts start here s rest0 y e so go = λ x rest v ends.
     none_comes (has_some ts) m.0 here.cursor s rest y go m.2
 
 pub object_member_fault : (ts : List Member) (lefts : List ℕ) (start here mid : Reader) (rest0 : List ℕ) (y : Stop) → start.cursor ≡ 123 ∷ rest0 → ObjectSoFar ts lefts start here
-    → GoesOn (has_some ts) 125 here.cursor (Ok true) mid.cursor → Misses Pair mid y → Misses Value start y
+    → StepsToNext (has_some ts) 125 here.cursor (Ok true) mid.cursor → Misses Pair mid y → Misses Value start y
 object_member_fault ts lefts start here mid rest0 y e so go misses = λ x rest v ends.
     let l = object_at x start.cursor rest0 rest e v in
     let m = so.complete l.0 rest l.2 in
@@ -122,7 +122,7 @@ names_entered (m ∷ ms) = ap (λ z. m.name ∷ z) (names_entered ms)
 -- where the repeated names among its own are noted last
 pub object_done : (ts : List Member) (lefts : List ℕ) (start here new : Reader) (rest0 : List ℕ) → start.cursor ≡ 123 ∷ rest0
     → new.places.repeated ≡ earlier here.places.repeated (earliest (repeated_among [] (map (λ t. (member_view t).0) ts) lefts)) → new.places.out_of_range ≡ here.places.out_of_range
-    → ObjectSoFar ts lefts start here → GoesOn (has_some ts) 125 here.cursor (Ok false) new.cursor → ReadsValue start (Ok (Many ts)) new
+    → ObjectSoFar ts lefts start here → StepsToNext (has_some ts) 125 here.cursor (Ok false) new.cursor → ReadsValue start (Ok (Many ts)) new
 object_done ts lefts start here new rest0 e repeated out so go =
     let is = before_members so.ms no_members in
     let names : map (λ t. (member_view t).0) ts ≡ map (λ m. m.name) so.ms = names_seen ts ∙ ap (map (λ e. e.0)) so.sees ∙ names_entered so.ms in

@@ -41,7 +41,7 @@ some_same x y e = cc e
 pub number_all_at : (bs : List ℕ) (n : ℕ) (s rest : List ℕ) → bs ≡ s ++ rest → Some n ≡ Some (length s) → (take n bs ≡ s) × (drop n bs ≡ rest)
 number_all_at bs n s rest is e = let len : n ≡ length s = some_same n (length s) e in rw (len, is) (take_front s rest, drop_front s rest)
 
--- what a `?` hands on is want of memory
+-- what a `?` hands on is that memory ran out
 pub err_finds : {T : Type 0} {Q : Stop → Type 0} (r : Result T Stop) (P : T → Type 0) → IsErrAnd r Q → ((y : Stop) → Q y → y ≡ Memory) → Finds r P
 err_finds (Ok x) P h f = absurd h
 err_finds (Err y) P h f = f y h

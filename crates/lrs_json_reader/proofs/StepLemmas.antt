@@ -2,7 +2,7 @@
 use Rattle.std.proofs.Common.{◌≡◌, ◌↔◌, ◌≤◌, ℕ, IsTrue, not, List, [], ◌∷◌, Bool, true, false, length, Result, Ok, Err, IsErrAnd, refl, sym, ap, ◌∙◌, subst, true≢false, arith, length-append}
 use Rattle.lrs_json_reader.specs.Grammar.{is_space, Spaces, Comma}
 use Rattle.lrs_decimal.specs.Numbers.{Stops}
-use Rattle.lrs_json_reader.specs.Steps.{Opens, GoesOn, Closes}
+use Rattle.lrs_json_reader.specs.Steps.{Opens, StepsToNext, Closes}
 use Rattle.lrs_json_reader.specs.Reading.{has_some}
 use Rattle.lrs_json_reader.specs.declared.cursor.Stop.{Stop}
 use Rattle.lrs_json_reader.specs.declared.cursor.Stop.TheVariants.{Memory}
@@ -36,7 +36,7 @@ no_more : (later : Bool) (close : ℕ) (old a b new : List ℕ) → Closes close
 no_more true close old a b new k e c s o = k.no_comma (cc (e, comma_at true old a b close c s o refl))
 no_more false close old a b new k e c s o = not_close close b new o (sym (item_at false old a b close c s o refl) ∙ e)
 
-pub at_end : (later : Bool) (close : ℕ) (old s new : List ℕ) → Closes close → s ≡ behind is_space old → s ≡ close ∷ new → GoesOn later close old (Ok false) new
+pub at_end : (later : Bool) (close : ℕ) (old s new : List ℕ) → Closes close → s ≡ behind is_space old → s ≡ close ∷ new → StepsToNext later close old (Ok false) new
 at_end later close old s new k es en =
     let e : behind is_space old ≡ close ∷ new = sym es ∙ en in
     let spaces : Spaces old (close ∷ new) = subst (λ z. Spaces old z) e (Spaces-behind old) in
@@ -48,7 +48,7 @@ at_end later close old s new k es en =
       no_longer = let l = Spaces-length old (close ∷ new) spaces in omega (arith, l);
     }
 
-pub at_item : (later : Bool) (close : ℕ) (old new : List ℕ) → Closes close → later ≡ false → new ≡ behind is_space old → ((rest : List ℕ) → new ≡ close ∷ rest → ⊥) → GoesOn later close old (Ok true) new
+pub at_item : (later : Bool) (close : ℕ) (old new : List ℕ) → Closes close → later ≡ false → new ≡ behind is_space old → ((rest : List ℕ) → new ≡ close ∷ rest → ⊥) → StepsToNext later close old (Ok true) new
 at_item later close old new k lf es none =
     record {
       goes = λ _. (old, rw lf refl, rw es (Spaces-behind old));
@@ -59,7 +59,7 @@ at_item later close old new k lf es none =
     }
 
 pub at_comma : (later : Bool) (close : ℕ) (old s t new : List ℕ) → Closes close → later ≡ true → s ≡ behind is_space old → ((rest : List ℕ) → s ≡ close ∷ rest → ⊥) → s ≡ 44 ∷ t → new ≡ behind is_space t
-    → GoesOn later close old (Ok true) new
+    → StepsToNext later close old (Ok true) new
 at_comma later close old s t new k lt es none et en =
     let comma : Spaces old (44 ∷ t) = subst (λ z. Spaces old z) (sym es ∙ et) (Spaces-behind old) in
     record {
@@ -71,7 +71,7 @@ at_comma later close old s t new k lt es none et en =
     }
 
 pub at_fault : (later : Bool) (close : ℕ) (old s new : List ℕ) {Q : Stop → Type 0} (r : Result Bool Stop) → Closes close → later ≡ true → s ≡ behind is_space old → ((rest : List ℕ) → s ≡ close ∷ rest → ⊥)
-    → IsErrAnd r Q → ((y : Stop) (rest : List ℕ) → Q y → s ≡ 44 ∷ rest → y ≡ Memory) → GoesOn later close old r new
+    → IsErrAnd r Q → ((y : Stop) (rest : List ℕ) → Q y → s ≡ 44 ∷ rest → y ≡ Memory) → StepsToNext later close old r new
 at_fault later close old s new (Ok x) k lt es none q f = absurd q
 at_fault later close old s new (Err y) k lt es none q f =
     record {
@@ -91,8 +91,8 @@ some_or_none false [] e = absurd (true≢false (sym (e.1 refl)))
 some_or_none false (x ∷ xs) e = refl
 
 -- the cursor was asked with whether something stands before
-pub goes_later : {X : Type 0} {b : Bool} {xs : List X} {close : ℕ} {old new : List ℕ} {r : Result Bool Stop} → (IsTrue b ↔ (xs ≡ [])) → GoesOn (not b) close old r new → GoesOn (has_some xs) close old r new
-goes_later {b = b} {xs = xs} {close = close} {old = old} {new = new} {r = r} e go = subst (λ z. GoesOn z close old r new) (some_or_none b xs e) go
+pub goes_later : {X : Type 0} {b : Bool} {xs : List X} {close : ℕ} {old new : List ℕ} {r : Result Bool Stop} → (IsTrue b ↔ (xs ≡ [])) → StepsToNext (not b) close old r new → StepsToNext (has_some xs) close old r new
+goes_later {b = b} {xs = xs} {close = close} {old = old} {new = new} {r = r} e go = subst (λ z. StepsToNext z close old r new) (some_or_none b xs e) go
 
-pub goes_at : {a later b : Bool} {close : ℕ} {old new : List ℕ} → a ≡ b → GoesOn later close old (Ok a) new → GoesOn later close old (Ok b) new
-goes_at {later = later} {close = close} {old = old} {new = new} e go = subst (λ z. GoesOn later close old (Ok z) new) e go
+pub goes_at : {a later b : Bool} {close : ℕ} {old new : List ℕ} → a ≡ b → StepsToNext later close old (Ok a) new → StepsToNext later close old (Ok b) new
+goes_at {later = later} {close = close} {old = old} {new = new} e go = subst (λ z. StepsToNext later close old (Ok z) new) e go

@@ -16,7 +16,7 @@ use Rattle.lrs_json_reader.proofs.Values.{Value-Stops}
 use Rattle.lrs_json_reader.proofs.Ends.{last_Ends}
 use Rattle.lrs_json_reader.proofs.Noting.{none-earlier, places_same}
 
--- whatever text the bytes are, its value stands behind the white space
+-- whatever text the bytes are, its value stands after the white space
 whole_at : (bytes s : List ℕ) (p : Placed) → s ≡ behind is_space bytes → (t : IsText p bytes) → Value p s t.1 × Ends t.1
 whole_at bytes s p e t =
     let here : s ≡ t.0 = e ∙ behind-Spaces bytes t.0 t.2 (Value-Stops p t.0 t.1 t.3) in

@@ -2,7 +2,8 @@
 use Rattle.std.specs.Prelude.{ℕ, max, List, [], ◌∷◌, ◌++◌, Option, Some, None, if◌then◌else◌}
 use Rattle.lrs_decimal.specs.Range.{is_in_range}
 use Rattle.lrs_json.specs.Names.{is_among}
-use Rattle.lrs_json_reader.specs.Placed.{Placed, null, boolean, number, string, array, object, Elements, no_elements, element, Members, no_members, member}
+use Rattle.lrs_json_reader.specs.Placed.{Placed, null, boolean, number, string, array, object, Elements, no_elements}
+use Rattle.lrs_json_reader.specs.Placed.{element, Members, no_members, member}
 
 -- The names that equal an earlier name of the same object, each by the bytes that are left from its quote on.
 abbrev mutual
@@ -18,10 +19,11 @@ abbrev mutual
   repeated_in_elements no_elements = []
   repeated_in_elements (element p ps) = repeated_names p ++ repeated_in_elements ps
 
-  -- behind members of these names
+  -- after members of these names
   pub repeated_in_members : List (List ℕ) → Members → List ℕ
   repeated_in_members names no_members = []
-  repeated_in_members names (member left k p ms) = (if is_among k names then left ∷ [] else []) ++ (repeated_names p ++ repeated_in_members (k ∷ names) ms)
+  repeated_in_members names (member left k p ms) = (if is_among k names then left ∷ [] else [])
+      ++ (repeated_names p ++ repeated_in_members (k ∷ names) ms)
 
 -- The numbers that are out of range, each by the bytes that are left from its first byte on.
 abbrev mutual

@@ -1,4 +1,5 @@
--- A JSON value whose numbers and names know where they stand: by how many bytes the text has left from their first byte on.
+-- A JSON value whose numbers and names know where they stand: by how many bytes the text has left from their first byte
+-- on.
 use Rattle.std.specs.Prelude.{ℕ, List, Bool}
 use Rattle.lrs_json.specs.Json as Json
 

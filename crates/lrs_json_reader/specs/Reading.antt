@@ -1,5 +1,6 @@
 -- What the reader's private functions say.
-use Rattle.std.specs.Prelude.{◌≡◌, ℕ, ◌<◌, length, List, [], ◌∷◌, ◌++◌, ◌-◌, Bool, true, false, Option, Some, None, Result, Ok, Err, MatchResult, if◌then◌else◌}
+use Rattle.std.specs.Prelude.{◌≡◌, ℕ, ◌<◌, length, List, [], ◌∷◌, ◌++◌, ◌-◌, Bool, true, false, Option, Some, None}
+use Rattle.std.specs.Prelude.{Result, Ok, Err, MatchResult, if◌then◌else◌}
 use Rattle.lrs_decimal.specs.Numbers.{Ends}
 use Rattle.lrs_json.specs.Json as Json
 use Rattle.lrs_json.specs.Json.{string}
@@ -19,7 +20,10 @@ use Rattle.lrs_json.specs.declared.tree.Member.{Member}
 
 -- the places that are known, and those of a value
 abbrev pub noted : Places → Placed → Places
-noted places p = record { repeated = earlier places.repeated (earliest (repeated_names p)); out_of_range = earlier places.out_of_range (earliest (out_of_range_numbers p)) }
+noted places p = record {
+  repeated = earlier places.repeated (earliest (repeated_names p));
+  out_of_range = earlier places.out_of_range (earliest (out_of_range_numbers p));
+}
 
 -- a member of an object, with the bytes that are left from its name on
 pub record Entry : Type 0 where
@@ -35,10 +39,12 @@ noted_entry places m = noted places m.value
 
 -- a name, a colon and a value
 abbrev pub Pair : Entry → List ℕ → List ℕ → Type 0
-Pair m bytes rest = (c d e : List ℕ) × Quoted m.name bytes c × Spaces c (58 ∷ d) × Spaces d e × Value m.value e rest × (m.left ≡ length bytes)
+Pair m bytes rest = (c d e : List ℕ) × Quoted m.name bytes c × Spaces c (58 ∷ d) × Spaces d e × Value m.value e rest
+    × (m.left ≡ length bytes)
 
 -- The reader went from old to new over what t is, and has noted the flaws in it; nothing else stands there.
-pub record Found {T X Y : Type 0} (Is : X → List ℕ → List ℕ → Type 0) (shown : X → Y) (seen : T → Y) (note : Places → X → Places) (old : Reader) (t : T) (new : Reader) : Type 0 where
+pub record Found {T X Y : Type 0} (Is : X → List ℕ → List ℕ → Type 0) (shown : X → Y) (seen : T → Y)
+    (note : Places → X → Places) (old : Reader) (t : T) (new : Reader) : Type 0 where
   pub it : X
   pub here : Is it old.cursor new.cursor
   pub sees : seen t ≡ shown it
@@ -46,16 +52,18 @@ pub record Found {T X Y : Type 0} (Is : X → List ℕ → List ℕ → Type 0) 
   pub shorter : length new.cursor < length old.cursor
   pub only : (x : X) (rest : List ℕ) → Is x old.cursor rest → Ends rest → (x ≡ it) × (new.cursor ≡ rest)
 
--- Where something stands, only memory was wanting.
+-- If something stands, only memory ran out.
 abbrev pub Misses : {X : Type 0} → (X → List ℕ → List ℕ → Type 0) → Reader → Stop → Type 0
 Misses {X} Is old e = (x : X) (rest : List ℕ) → Is x old.cursor rest → Ends rest → e ≡ Memory
 
-abbrev pub Reads : {T X Y : Type 0} → (X → List ℕ → List ℕ → Type 0) → (X → Y) → (T → Y) → (Places → X → Places) → Reader → Result T Stop → Reader → Type 0
+abbrev pub Reads : {T X Y : Type 0} → (X → List ℕ → List ℕ → Type 0) → (X → Y) → (T → Y) → (Places → X → Places)
+    → Reader → Result T Stop → Reader → Type 0
 Reads Is shown seen note old r new = MatchResult r (λ t. Found Is shown seen note old t new) (λ e. Misses Is old e)
 
 -- the same of a literal word, of a string and of a number
 abbrev pub ReadsWord : List ℕ → Tree → Reader → Result Tree Stop → Reader → Type 0
-ReadsWord word tree old r new = Reads {X = Unit {0}} (λ _ bytes rest. bytes ≡ word ++ rest) (λ _. view tree) view (λ places _. places) old r new
+ReadsWord word tree old r new =
+    Reads {X = Unit {0}} (λ _ bytes rest. bytes ≡ word ++ rest) (λ _. view tree) view (λ places _. places) old r new
 
 abbrev pub ReadsString : Reader → Result Tree Stop → Reader → Type 0
 ReadsString old r new = Reads Quoted string view (λ places _. places) old r new
@@ -76,11 +84,12 @@ abbrev pub has_some : {X : Type 0} → List X → Bool
 has_some [] = false
 has_some (x ∷ xs) = true
 
--- the repeated names among these, each by its place, behind others
+-- the repeated names among these, each by its place, after others
 abbrev pub repeated_among : List (List ℕ) → List (List ℕ) → List ℕ → List ℕ
 repeated_among names [] places = []
 repeated_among names (k ∷ ks) [] = []
-repeated_among names (k ∷ ks) (left ∷ places) = (if is_among k names then left ∷ [] else []) ++ repeated_among (k ∷ names) ks places
+repeated_among names (k ∷ ks) (left ∷ places) =
+    (if is_among k names then left ∷ [] else []) ++ repeated_among (k ∷ names) ks places
 
 abbrev pub no_places : Places
 no_places = record { repeated = None; out_of_range = None }
@@ -90,13 +99,16 @@ pub record IsRead (bytes : List ℕ) (tree : Tree) (places : Places) : Type 0 wh
   pub placed : Placed
   pub spelled : IsText placed bytes
   pub sees : view tree ≡ plain placed
-  pub notes : places ≡ record { repeated = earliest (repeated_names placed); out_of_range = earliest (out_of_range_numbers placed) }
+  pub notes : places ≡ record {
+    repeated = earliest (repeated_names placed);
+    out_of_range = earliest (out_of_range_numbers placed);
+  }
   pub only : (p : Placed) → IsText p bytes → p ≡ placed
 
 abbrev pub ReadsText : List ℕ → Result (Tree × Places) Stop → Type 0
 ReadsText bytes r = MatchResult r (λ t. IsRead bytes t.0 t.1) (λ e. (p : Placed) → IsText p bytes → e ≡ Memory)
 
--- the answer where these flaws were noted
+-- the answer if these flaws were noted
 abbrev pub Judged : Tree → Option ℕ → Option ℕ → ℕ → Result Tree ReadRefused → Type 0
 Judged tree (Some left) out length r = r ≡ Err (Repeated (length - left))
 Judged tree None (Some left) length r = r ≡ Err (NumberRange (length - left))

@@ -14,7 +14,8 @@ use Rattle.lrs_json_reader.specs.declared.reading.ReadRefused.TheVariants.{Memor
 abbrev pub is_too_deep : ℕ → List ℕ → Bool
 is_too_deep limit bytes = reaches (suc limit) 0 Outside bytes
 
--- The bytes are a text of the value, which nests no deeper than the limit, repeats no name in an object, and has each number in range.
+-- The bytes are a text of the value, which nests no deeper than the limit, repeats no name in an object, and has each
+-- number in range.
 pub record Spells (limit : ℕ) (bytes : List ℕ) (j : Json) : Type 0 where
   pub placed : Placed
   pub is : plain placed ≡ j
@@ -37,7 +38,8 @@ pub record RepeatedAt (limit : ℕ) (bytes : List ℕ) (place : ℕ) : Type 0 wh
   pub first : earliest (repeated_names placed) ≡ Some left
   pub at : place ≡ length bytes - left
 
--- The bytes are a text that repeats no name and has a number out of range, and this is the offset of the earliest such number.
+-- The bytes are a text that repeats no name and has a number out of range, and this is the offset of the earliest such
+-- number.
 pub record OutOfRangeAt (limit : ℕ) (bytes : List ℕ) (place : ℕ) : Type 0 where
   pub shallow : is_too_deep limit bytes ≡ false
   pub placed : Placed
@@ -51,7 +53,7 @@ pub record OutOfRangeAt (limit : ℕ) (bytes : List ℕ) (place : ℕ) : Type 0 
 abbrev pub Gives : {T : Type 0} → Result T ReadRefused → (T → Type 0) → Type 0
 Gives r P = MatchResult r P (λ e. e ≡ Memory)
 
--- The refusal comes only where its cause holds, and where the cause holds it comes, or memory ran out.
+-- The refusal comes only if its cause holds, and if the cause holds it comes, or memory ran out.
 pub record Refuses {T : Type 0} (r : Result T ReadRefused) (e : ReadRefused) (Cause : Type 0) : Type 0 where
   pub only : r ≡ Err e → Cause
   pub always : Cause → (r ≡ Err e) ⊎ (r ≡ Err Memory)

@@ -1,5 +1,6 @@
 -- What the cursor's private functions say.
-use Rattle.std.specs.Prelude.{◌≡◌, ◌≢◌, ℕ, ◌≤◌, take, drop, IsUtf8, length, List, [], ◌∷◌, Bool, true, false, Result, MatchResult, IfOk, OnOk}
+use Rattle.std.specs.Prelude.{◌≡◌, ◌≢◌, ℕ, ◌≤◌, take, drop, IsUtf8, length, List, [], ◌∷◌, Bool, true, false, Result}
+use Rattle.std.specs.Prelude.{MatchResult, IfOk, OnOk}
 use Rattle.lrs_json.specs.Written.{is_plain}
 use Rattle.lrs_json_reader.specs.Grammar.{is_space, Spaces, Comma, Chars}
 use Rattle.std.specs.List.{flat_map}
@@ -18,11 +19,13 @@ abbrev pub Opens : ℕ → List ℕ → Type 0
 Opens close [] = ⊥
 Opens close (b ∷ bs) = (is_space b ≡ false) × (b ≢ close)
 
--- The cursor went from old to new. It stands behind a comma, where one is wanted, and white space, or behind the closing bracket.
-pub record GoesOn (later : Bool) (close : ℕ) (old : List ℕ) (r : Result Bool Stop) (new : List ℕ) : Type 0 where
+-- The cursor went from old to new. It stands after a comma, if one is wanted, and white space, or after the closing
+-- bracket.
+pub record StepsToNext (later : Bool) (close : ℕ) (old : List ℕ) (r : Result Bool Stop) (new : List ℕ) : Type 0 where
   pub goes : IfOk r (λ more. more ≡ true → (a : List ℕ) × Comma later old a × Spaces a new)
   pub ends : IfOk r (λ more. more ≡ false → Spaces old (close ∷ new))
-  pub all_more : (a b : List ℕ) → Comma later old a → Spaces a b → Opens close b → Finds r (λ more. (more ≡ true) × (new ≡ b))
+  pub all_more : (a b : List ℕ) → Comma later old a → Spaces a b → Opens close b
+      → Finds r (λ more. (more ≡ true) × (new ≡ b))
   pub all_end : (rest : List ℕ) → Spaces old (close ∷ rest) → Finds r (λ more. (more ≡ false) × (new ≡ rest))
   pub no_longer : OnOk r (length new ≤ length old)
 
@@ -38,6 +41,6 @@ pub record IsPlain (n : ℕ) (bytes : List ℕ) : Type 0 where
   pub rest : List ℕ
   pub quote : drop n bytes ≡ 34 ∷ rest
 
--- a string behind its opening quote
+-- a string after its opening quote
 abbrev pub Within : List ℕ → List ℕ → List ℕ → Type 0
 Within text bytes rest = (ps : List Piece) × Chars ps bytes rest × (text ≡ flat_map piece_text ps) × IsUtf8 text

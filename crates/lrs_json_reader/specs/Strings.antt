@@ -1,5 +1,6 @@
 -- What stands in a string: bytes that stand for themselves, and escapes.
-use Rattle.std.specs.Prelude.{ℕ, ◌+◌, ◌-◌, ◌*◌, ◌==◌, ◌&&◌, ◌||◌, nat_lt, nat_le, List, [], ◌∷◌, Bool, Option, Some, None, if◌then◌else◌, encode_utf8}
+use Rattle.std.specs.Prelude.{ℕ, ◌+◌, ◌-◌, ◌*◌, ◌==◌, ◌&&◌, ◌||◌, nat_lt, nat_le, List, [], ◌∷◌, Bool, Option, Some}
+use Rattle.std.specs.Prelude.{None, if◌then◌else◌, encode_utf8}
 use Rattle.lrs_decimal.specs.Fronts.{◌>>=◌, Front}
 use Rattle.lrs_json_reader.specs.declared.strings.Piece.{Piece}
 use Rattle.lrs_json_reader.specs.declared.strings.Piece.TheVariants.{Byte, Char}
@@ -7,7 +8,9 @@ use Rattle.lrs_json_reader.specs.declared.strings.Piece.TheVariants.{Byte, Char}
 -- the value of a hexadecimal digit
 unfoldable pub hex_value_of : ℕ → Option ℕ
 hex_value_of b =
-    if nat_le 48 b && nat_le b 57 then Some (b - 48) else (if nat_le 97 b && nat_le b 102 then Some (b - 87) else (if nat_le 65 b && nat_le b 70 then Some (b - 55) else None))
+    if nat_le 48 b && nat_le b 57 then Some (b - 48)
+    else (if nat_le 97 b && nat_le b 102 then Some (b - 87)
+    else (if nat_le 65 b && nat_le b 70 then Some (b - 55) else None))
 
 unfoldable pub next_at : Front ℕ
 next_at [] = None
@@ -40,7 +43,7 @@ byte_at b bytes = do
   found ← next_at bytes
   if found.0 == b then Some found else None
 
--- the low half of a pair, behind its `\u`
+-- the low half of a pair, after its `\u`
 unfoldable pub low_at : Front ℕ
 low_at bytes = do
   slash ← byte_at 92 bytes
@@ -48,18 +51,23 @@ low_at bytes = do
   low ← unit_at letter.1
   if is_low low.0 then Some low else None
 
--- what a `\u` stands for, by what is behind it
+-- what a `\u` stands for, by what follows it
 unfoldable pub unicode_at : Front Piece
 unicode_at bytes = do
   high ← unit_at bytes
-  if is_high high.0 then low_at high.1 >>= (λ low. Some (Char (0x10000 + (high.0 - 0xd800) * 1024 + (low.0 - 0xdc00)), low.1)) else (if is_low high.0 then None else Some (Char high.0, high.1))
+  if is_high high.0
+      then low_at high.1 >>= (λ low. Some (Char (0x10000 + (high.0 - 0xd800) * 1024 + (low.0 - 0xdc00)), low.1))
+      else (if is_low high.0 then None else Some (Char high.0, high.1))
 
 -- what a backslash and a letter but u stand for
 unfoldable pub letter_of : ℕ → Option ℕ
 letter_of b =
-    if b == 34 || b == 92 || b == 47 then Some b else (if b == 98 then Some 8 else (if b == 102 then Some 12 else (if b == 110 then Some 10 else (if b == 114 then Some 13 else (if b == 116 then Some 9 else None)))))
+    if b == 34 || b == 92 || b == 47 then Some b
+    else (if b == 98 then Some 8
+    else (if b == 102 then Some 12
+    else (if b == 110 then Some 10 else (if b == 114 then Some 13 else (if b == 116 then Some 9 else None)))))
 
--- what a backslash stands for, by what is behind it
+-- what a backslash stands for, by what follows it
 unfoldable pub escape_at : Front Piece
 escape_at bytes = do
   b ← next_at bytes

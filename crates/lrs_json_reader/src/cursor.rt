@@ -5,7 +5,7 @@ ghost use Rattle.lrs_decimal.specs.Numbers.{IsNumber, Ends};
 ghost use Rattle.lrs_json_reader.specs.Grammar.{is_space, Quoted};
 ghost use Rattle.lrs_json_reader.specs.Strings.{piece_at, piece_text};
 ghost use Rattle.lrs_json_reader.specs.declared.strings.Piece.{Piece as SpecPiece};
-ghost use Rattle.lrs_json_reader.specs.Steps.{Finds, GoesOn, Closes, IsPlain, Within};
+ghost use Rattle.lrs_json_reader.specs.Steps.{Finds, StepsToNext, Closes, IsPlain, Within};
 
 use crate::strings::{Piece, next_piece};
 use lrs_decimal::number_len;
@@ -101,7 +101,7 @@ impl Cursor<'_> {
         self.left.first().copied()
     }
 
-    /// Steps over the bytes at the front.
+    /// Steps over the bytes at the beginning.
     pub fn advance(&mut self, by: usize)
         requires { by ≤ length self.old }
         ensures { self.new ≡ drop by self.old }
@@ -141,7 +141,7 @@ impl Cursor<'_> {
     /// Steps to the next item, or over the closing bracket.
     pub fn goes_on(&mut self, later: bool, close: u8) -> Result<bool, Stop>
         requires { Closes close }
-        ensures { GoesOn later close self.old result self.new }
+        ensures { StepsToNext later close self.old result self.new }
     {
         self.skip_spaces();
         if self.take(&[close]) {
@@ -202,7 +202,7 @@ impl Cursor<'_> {
         }
     }
 
-    // How many bytes stand before the closing quote, where each stands for itself.
+    // How many bytes stand before the closing quote, if each stands for itself.
     fn plain_len(&self) -> Option<usize>
         ensures { MatchOption result (Unit {0}) (λ n. IsPlain n self.now) }
     {

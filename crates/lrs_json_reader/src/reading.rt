@@ -25,7 +25,7 @@ pub enum ReadRefused {
     Repeated { place: usize },
     /// A number is out of range. The place is the offset of the earliest such number.
     NumberRange { place: usize },
-    /// Want of memory.
+    /// Out of memory.
     Memory,
 }
 

@@ -130,7 +130,7 @@ fn escape(bytes: &[u8]) -> Option<(Piece, &[u8])>
     }
 }
 
-/// One byte or one escape of a string, and the bytes behind it.
+/// One byte or one escape of a string, and the bytes after it.
 #[tactic(auto, unfolding(crate::specs::Strings::piece_at))]
 pub fn next_piece(bytes: &[u8]) -> Option<(Piece, &[u8])>
     ensures value { option_map (λ p. (p.0, p.1.now)) result ≡ piece_at bytes.now }

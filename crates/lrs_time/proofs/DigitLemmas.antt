@@ -32,7 +32,7 @@ AllDigits-run (b ∷ bs) = run_at b bs (is_ascii_digit b) refl (AllDigits-run bs
 
 -- ---- numbers
 
--- a number of k digits, with noughts behind it up to p digits
+-- a number of k digits, with noughts after it up to p digits
 pub cut_fits : (v k p : ℕ) → v < 10 ^ k → k ≤ p → v * 10 ^ (p - k) < 10 ^ p
 cut_fits v k p h le =
     let whole : 10 ^ k * 10 ^ (p - k) ≡ 10 ^ p = sym (pow-add 10 k (p - k)) ∙ ap (λ n. 10 ^ n) (omega arith) in
@@ -87,7 +87,7 @@ numeral_is most text t =
     let len : (1 ≤ prefix_len is_ascii_digit text) × (prefix_len is_ascii_digit text ≤ most) = grind arith in
     record { digits = AllDigits-run text; some = omega arith; few = omega arith }
 
--- the bytes are digits, so many at most, and those behind them
+-- the bytes are digits, so many at most, and those after them
 abbrev pub IsNumeralFront : ℕ → List ℕ → List ℕ × List ℕ → Type 0
 IsNumeralFront most text n = IsNumeral most n.0 × (text ≡ n.0 ++ n.1)
 

@@ -48,7 +48,7 @@ same_span_equivalence =
 abbrev pub quantity_of : Amount → Quantity
 quantity_of a = record { billionths = billionths a; is_whole = is_empty a.fraction }
 
--- the bytes are an amount, and those behind it
+-- the bytes are an amount, and those after it
 abbrev IsQuantityFront : List ℕ → Quantity × List ℕ → Type 0
 IsQuantityFront text q = (a : Amount) × IsAmount a × (quantity_of a ≡ q.0) × (text ≡ a.digits ++ (a.fraction ++ q.1))
 
@@ -105,7 +105,7 @@ abbrev pub IsField : Option Amount → Type 0
 IsField None = Unit {0}
 IsField (Some a) = IsAmount a
 
--- no fraction, or nothing behind it
+-- no fraction, or nothing after it
 abbrev pub EndsFraction : Option Amount → List ℕ → Type 0
 EndsFraction None rest = Unit {0}
 EndsFraction (Some a) rest = (a.fraction ≡ []) ⊎ (rest ≡ [])
@@ -148,7 +148,7 @@ field_found unit text = field_of unit text (quantity_at text) refl
 
 -- ---- fields in a row
 
--- no fraction but in the last of the fields, with nothing behind it
+-- no fraction but in the last of the fields, with nothing after it
 abbrev pub EndsFractions : List (Option Amount) → List ℕ → Type 0
 EndsFractions [] rest = Unit {0}
 EndsFractions (None ∷ fs) rest = EndsFractions fs rest
@@ -258,7 +258,7 @@ fields_again (unit ∷ units) (Some a ∷ fs) rest u l each ends none =
     let here = field_again unit a (fields_text units fs ++ rest) u.0 each.0 (ends_here units a fs rest ends.0) in
     rw (append_assoc (field_text unit (Some a)) (fields_text units fs) rest, here, fields_again units fs rest u.2 (omega arith) each.1 ends.1 none) refl
 
--- ---- the fields behind a `T`
+-- ---- the fields after a `T`
 
 all_none-values : (fs : List (Option Amount)) → all_none (values fs) ≡ all_missing fs
 all_none-values [] = refl

@@ -62,7 +62,7 @@ first_of_year n d small h december last =
       number = omega (arith, signed_arith, days_from_civil-next_year (pos d.year) (pos (d.year + 1)) (omega (arith, signed_arith)) (omega (arith, signed_arith)));
     }
 
--- the days behind the last of a month
+-- the days after the last of a month
 behind_month : (n : ℕ) (d : Day) → n < 2_932_896 → IsNumbered n d → d.day ≡ days_in_month (pos d.year) d.month → (b : Bool) → (d.month == 12) ≡ b
     → IsNumbered (suc n) (if b then record { year = d.year + 1; month = 1; day = 1 } else record { year = d.year; month = d.month + 1; day = 1 })
 behind_month n d small h last true is =

@@ -120,7 +120,7 @@ within_days m day second part told clock few e = omega (arith, signed_arith)
 below_end : (d : Date) → days_from_civil d.year d.month d.day ≤ℤ pos 2_932_896
 below_end d = (epoch_day_range d).1
 
--- no text tells a moment behind the last day of the year 9999
+-- no text tells a moment after the last day of the year 9999
 pub day_is_told : (m : ℕ) (text : List ℕ) → IsMomentText m text → m / 86_400_000 ≤ 2_932_896
 unfolding date_of
 day_is_told m text (s, h, day, three, zulu, instant) =

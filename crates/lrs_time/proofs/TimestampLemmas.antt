@@ -88,7 +88,7 @@ date_is text c y r m r' k a b d e f g =
     let year : (c.0 * 100 + y.0) % 100 ≡ y.0 = omega arith in
     (omega arith, e.0, g.0, rw (century, year) (cc (a.1, b.1, d, e.1, f, g.1)))
 
--- the bytes are a date, and those behind it
+-- the bytes are a date, and those after it
 abbrev IsDateFront : List ℕ → CivilDay × List ℕ → Type 0
 IsDateFront text d =
     (d.0.year < 10000) × (d.0.month < 100) × (d.0.day < 100) × (text ≡ (four_digits d.0.year ++ (45 ∷ two_digits d.0.month) ++ (45 ∷ two_digits d.0.day)) ++ d.1)
@@ -115,7 +115,7 @@ date_again year month day rest y m d =
 clock_is : (text : List ℕ) (h : ℕ × List ℕ) (r : List ℕ) (m : ℕ × List ℕ) (r' : List ℕ) (s : ℕ × List ℕ) → text ≡ two_digits h.0 ++ h.1 → h.1 ≡ 58 ∷ r → r ≡ two_digits m.0 ++ m.1 → m.1 ≡ 58 ∷ r' → r' ≡ two_digits s.0 ++ s.1 → text ≡ (two_digits h.0 ++ (58 ∷ two_digits m.0) ++ (58 ∷ two_digits s.0)) ++ s.1
 clock_is text h r m r' s a b d e f = cc (a, b, d, e, f)
 
--- the bytes are a time of day, and those behind it
+-- the bytes are a time of day, and those after it
 abbrev IsClockFront : List ℕ → ℕ × List ℕ → Type 0
 IsClockFront text s =
     (hour minute second : ℕ) × (hour < 24) × (minute < 60) × (second < 60) × (s.0 ≡ hour * 3600 + minute * 60 + second) × (text ≡ (two_digits hour ++ (58 ∷ two_digits minute) ++ (58 ∷ two_digits second)) ++ s.1)
@@ -140,7 +140,7 @@ clock_again hour minute second rest h m s =
 
 -- ---- the fraction
 
--- the bytes are a fraction or none, and those behind it
+-- the bytes are a fraction or none, and those after it
 abbrev IsFractionFront : List ℕ → ℕ × List ℕ → Type 0
 IsFractionFront text n =
     (ds : List ℕ) × IsFraction ds × (n.0 ≡ cut_fraction 9 ds) × (text ≡ fraction_text ds ++ n.1)
@@ -196,7 +196,7 @@ whole_found : {A : Type 0} (p : A × List ℕ) (y : A) → whole p ≡ Some y �
 whole_found (x, []) y e = (same_Some _ _ e, refl)
 whole_found (x, b ∷ bs) y e = cc e
 
--- behind this sign the bytes spell an offset of these minutes
+-- after this sign the bytes spell an offset of these minutes
 abbrev IsOffsetOf : Bool → List ℕ → ℕ → Type 0
 IsOffsetOf west text minutes =
     (zone : Zone) × IsZone zone × (is_west zone ≡ west) × (zone_minutes zone ≡ minutes) × (sign west ∷ text ≡ zone_text zone)
@@ -230,7 +230,7 @@ IsZoneText text offset = (zone : Zone) × IsZone zone × (offset_of zone ≡ off
 zone_of_offset : (west : Bool) (byte : ℕ) (rest : List ℕ) (m : ℕ) → byte ≡ sign west → IsOffsetOf west rest m → IsZoneText (byte ∷ rest) (record { west = west; minutes = m })
 zone_of_offset west byte rest m e z = (z.0, z.1, cc (z.2, z.3), rw e z.4)
 
--- the arms of the reader, behind what its tests say
+-- the arms of the reader, after what its tests say
 offset_arms : (byte : ℕ) (rest : List ℕ) (o : Offset) (z p m : Bool) → (byte == 90) ≡ z → (byte == 43) ≡ p → (byte == 45) ≡ m → (if z then whole (offset_of utc, rest) else (if p then option_and_then (λ (minutes : ℕ). Some (record { west = false; minutes = minutes })) (offset_minutes_at rest) else (if m then option_and_then (λ (minutes : ℕ). Some (record { west = true; minutes = minutes })) (offset_minutes_at rest) else None))) ≡ Some o → IsZoneText (byte ∷ rest) o
 offset_arms byte rest o true p m is-z is-p is-m e =
     let w = whole_found (offset_of utc, rest) o e in

@@ -1,5 +1,6 @@
 -- What the text of a duration is, and when two durations are the same.
-use Rattle.std.specs.Prelude.{◌≡◌, ℕ, ◌+◌, ◌*◌, ◌/◌, ◌%◌, ◌==◌, ◌&&◌, ◌||◌, ◌⊎◌, IsTrue, Bool, true, false, List, [], ◌∷◌, ◌++◌, drop, Option, Some, None, option_map, unwrap_or, if◌then◌else◌, codes}
+use Rattle.std.specs.Prelude.{◌≡◌, ℕ, ◌+◌, ◌*◌, ◌/◌, ◌%◌, ◌==◌, ◌&&◌, ◌||◌, ◌⊎◌, IsTrue, Bool, true, false, List, []}
+use Rattle.std.specs.Prelude.{◌∷◌, ◌++◌, drop, Option, Some, None, option_map, unwrap_or, if◌then◌else◌, codes}
 use Rattle.std.specs.Str.Parse.{digits_value}
 use Rattle.std.specs.Fmt.{decimal}
 use Rattle.lrs_time.specs.Digits.{IsNumeral, cut_fraction, two_digits}
@@ -55,7 +56,7 @@ all_missing [] = true
 all_missing (None ∷ fs) = all_missing fs
 all_missing (Some a ∷ fs) = false
 
--- no field stands behind one with a fraction
+-- no field stands after one with a fraction
 abbrev pub FractionIsLast : List (Option Amount) → Type 0
 FractionIsLast [] = Unit {0}
 FractionIsLast (None ∷ fs) = FractionIsLast fs
@@ -87,7 +88,7 @@ date_units = 89 ∷ 77 ∷ 87 ∷ 68 ∷ []
 abbrev pub clock_units : List ℕ
 clock_units = 72 ∷ 77 ∷ 83 ∷ []
 
--- the `T` stands where a field stands behind it
+-- the `T` stands if a field stands after it
 abbrev pub clock_text : List (Option Amount) → List ℕ
 clock_text fs = if all_missing fs then [] else 84 ∷ fields_text clock_units fs
 
@@ -160,7 +161,7 @@ same_span a b =
 
 -- ---- seconds
 
--- the hundredths behind a point, where they aren't 0
+-- the hundredths after a point, if they aren't 0
 abbrev pub hundredths_text : ℕ → List ℕ
 hundredths_text n = if n == 0 then [] else 46 ∷ two_digits n
 

@@ -1,6 +1,8 @@
--- How the readers of this crate go through a text. Each of these is a value at the front of the
--- text and what stands behind it; what the texts are stands in `Timestamp` and `Duration`.
-use Rattle.std.specs.Prelude.{ℕ, ◌+◌, ◌-◌, ◌*◌, ◌<◌, ◌==◌, ◌&&◌, ◌||◌, ◌++◌, not, unwrap_or, slice_index_or, nat_lt, nat_le, Bool, true, false, List, [], ◌∷◌, take, drop, Option, Some, None, Result, Ok, Err, if◌then◌else◌, ℤ, pos}
+-- How the readers of this crate go through a text. Each of these is a value at the beginning of the
+-- text and what follows it; what the texts are stands in `Timestamp` and `Duration`.
+use Rattle.std.specs.Prelude.{ℕ, ◌+◌, ◌-◌, ◌*◌, ◌<◌, ◌==◌, ◌&&◌, ◌||◌, ◌++◌, not, unwrap_or, slice_index_or, nat_lt}
+use Rattle.std.specs.Prelude.{nat_le, Bool, true, false, List, [], ◌∷◌, take, drop, Option, Some, None, Result, Ok, Err}
+use Rattle.std.specs.Prelude.{if◌then◌else◌, ℤ, pos}
 use Rattle.std.specs.List.{prefix_len}
 use Rattle.std.specs.Str.Parse.{digits_value}
 use Rattle.std.specs.Char.{is_ascii_digit}
@@ -16,12 +18,13 @@ use Rattle.lrs_time.specs.declared.timestamps.Parts.{Parts}
 use Rattle.lrs_time.specs.declared.timestamps.TimeRefused.{TimeRefused}
 use Rattle.lrs_time.specs.declared.timestamps.TimeRefused.TheVariants.{Shape, NoSuchDay, NegativeZero}
 
--- the digits at the front, at least one and at most so many
+-- the digits at the beginning, at least one and at most so many
 unfoldable pub numeral_at : ℕ → Front (List ℕ)
 numeral_at most text =
-    if nat_le 1 (prefix_len is_ascii_digit text) && nat_le (prefix_len is_ascii_digit text) most then Some (take (prefix_len is_ascii_digit text) text, drop (prefix_len is_ascii_digit text) text) else None
+    if nat_le 1 (prefix_len is_ascii_digit text) && nat_le (prefix_len is_ascii_digit text) most
+    then Some (take (prefix_len is_ascii_digit text) text, drop (prefix_len is_ascii_digit text) text) else None
 
--- what stands behind this byte
+-- what follows this byte
 unfoldable pub after : ℕ → List ℕ → Option (List ℕ)
 after wanted [] = None
 after wanted (byte ∷ rest) = if byte == wanted then Some rest else None
@@ -29,7 +32,8 @@ after wanted (byte ∷ rest) = if byte == wanted then Some rest else None
 unfoldable pub two_digits_at : Front ℕ
 two_digits_at [] = None
 two_digits_at (a ∷ []) = None
-two_digits_at (a ∷ b ∷ rest) = if is_ascii_digit a && is_ascii_digit b then Some ((a - 48) * 10 + (b - 48), rest) else None
+two_digits_at (a ∷ b ∷ rest) = if is_ascii_digit a && is_ascii_digit b then Some ((a - 48) * 10 + (b - 48), rest)
+    else None
 
 -- two digits of a number below the limit
 unfoldable pub below_at : ℕ → Front ℕ
@@ -61,31 +65,36 @@ clock_at text = do
 unfoldable pub fraction_at : Front ℕ
 fraction_at [] = Some (0, [])
 fraction_at (byte ∷ rest) =
-    if byte == 46 then numeral_at 30 rest >>= (λ digits. Some (cut_fraction 9 digits.0, digits.1)) else Some (0, byte ∷ rest)
+    if byte == 46 then numeral_at 30 rest >>= (λ digits. Some (cut_fraction 9 digits.0, digits.1))
+    else Some (0, byte ∷ rest)
 
--- without a colon, where one comes first
+-- without a colon, if one comes first
 unfoldable pub without_colon : List ℕ → List ℕ
 without_colon [] = []
 without_colon (byte ∷ rest) = if byte == 58 then rest else byte ∷ rest
 
--- the value, if nothing stands behind it
+-- the value, if nothing follows it
 abbrev pub whole : {A : Type 0} → A × List ℕ → Option A
 whole (x, []) = Some x
 whole (x, b ∷ bs) = None
 
--- the minutes behind the hours of an offset
+-- the minutes after the hours of an offset
 unfoldable pub minutes_at : ℕ → List ℕ → Option ℕ
 minutes_at hours [] = Some (hours * 60)
-minutes_at hours (byte ∷ rest) = below_at 60 (without_colon (byte ∷ rest)) >>= (λ minutes. whole (hours * 60 + minutes.0, minutes.1))
+minutes_at hours (byte ∷ rest) = below_at 60 (without_colon (byte ∷ rest))
+    >>= (λ minutes. whole (hours * 60 + minutes.0, minutes.1))
 
--- the minutes of an offset behind its sign
+-- the minutes of an offset after its sign
 unfoldable pub offset_minutes_at : List ℕ → Option ℕ
 offset_minutes_at text = below_at 24 text >>= (λ hours. minutes_at hours.0 hours.1)
 
 unfoldable pub offset_at : List ℕ → Option Offset
 offset_at [] = Some (record { west = false; minutes = 0 })
 offset_at (byte ∷ rest) =
-    if byte == 90 then whole (record { west = false; minutes = 0 }, rest) else (if byte == 43 then offset_minutes_at rest >>= (λ minutes. Some (record { west = false; minutes = minutes })) else (if byte == 45 then offset_minutes_at rest >>= (λ minutes. Some (record { west = true; minutes = minutes })) else None))
+    if byte == 90 then whole (record { west = false; minutes = 0 }, rest)
+    else (if byte == 43 then offset_minutes_at rest >>= (λ minutes. Some (record { west = false; minutes = minutes }))
+    else (if byte == 45 then offset_minutes_at rest >>= (λ minutes. Some (record { west = true; minutes = minutes }))
+    else None))
 
 unfoldable pub parts_at : List ℕ → Option Parts
 parts_at text = do
@@ -114,13 +123,15 @@ is_negative_zero offset = offset.west && (offset.minutes == 0)
 
 abbrev pub instant_of_parts : Parts → ℤ
 instant_of_parts p =
-    nanoseconds (days_from_civil (pos p.date.year) p.date.month p.date.day) p.second (seconds_ahead p.offset.west p.offset.minutes) p.nanosecond
+    nanoseconds (days_from_civil (pos p.date.year) p.date.month p.date.day) p.second
+    (seconds_ahead p.offset.west p.offset.minutes) p.nanosecond
 
 -- the instant of the parts, or the first thing that is wrong with them
 abbrev pub judged : Option Parts → Result ℤ TimeRefused
 judged None = Err Shape
 judged (Some p) =
-    if is_day p.date.year p.date.month p.date.day then (if is_negative_zero p.offset then Err NegativeZero else Ok (instant_of_parts p)) else Err NoSuchDay
+    if is_day p.date.year p.date.month p.date.day
+    then (if is_negative_zero p.offset then Err NegativeZero else Ok (instant_of_parts p)) else Err NoSuchDay
 
 -- the instant that a timestamp names, or why the text is refused
 unfoldable pub timestamp_at : List ℕ → Result ℤ TimeRefused
@@ -132,7 +143,10 @@ timestamp_at text = judged (parts_at text)
 unfoldable pub quantity_behind : ℕ → Front Quantity
 quantity_behind billionths [] = Some (record { billionths = billionths; is_whole = true }, [])
 quantity_behind billionths (byte ∷ rest) =
-    if is_decimal_sign byte then numeral_at 9 rest >>= (λ digits. Some (record { billionths = billionths + cut_fraction 9 digits.0; is_whole = false }, digits.1)) else Some (record { billionths = billionths; is_whole = true }, byte ∷ rest)
+    if is_decimal_sign byte
+    then numeral_at 9 rest
+    >>= (λ digits. Some (record { billionths = billionths + cut_fraction 9 digits.0; is_whole = false }, digits.1))
+    else Some (record { billionths = billionths; is_whole = true }, byte ∷ rest)
 
 -- the number of a field
 unfoldable pub quantity_at : Front Quantity
@@ -142,14 +156,14 @@ abbrev pub is_empty : List ℕ → Bool
 is_empty [] = true
 is_empty (b ∷ bs) = false
 
--- the field of the unit, if its letter stands behind the number, and nothing behind a fraction
+-- the field of the unit, if its letter stands after the number, and nothing after a fraction
 abbrev pub unit_behind : ℕ → List ℕ → Option (Quantity × List ℕ) → Option ℕ × List ℕ
 unit_behind unit text None = (None, text)
 unit_behind unit text (Some (number, [])) = (None, text)
 unit_behind unit text (Some (number, letter ∷ rest)) =
     if (letter == unit) && (number.is_whole || is_empty rest) then (Some number.billionths, rest) else (None, text)
 
--- the field of the unit, where one stands at the front, and what stands behind it
+-- the field of the unit, if one stands at the beginning, and what follows it
 unfoldable pub field_at : ℕ → List ℕ → Option ℕ × List ℕ
 field_at unit text = unit_behind unit text (quantity_at text)
 
@@ -170,7 +184,7 @@ all_none (Some n ∷ fs) = false
 abbrev pub if_some_field : List (Option ℕ) × List ℕ → Option (List (Option ℕ) × List ℕ)
 if_some_field fields = if all_none fields.0 then None else Some fields
 
--- the fields behind a `T`, or none
+-- the fields after a `T`, or none
 unfoldable pub clock_fields_at : Front (List (Option ℕ))
 clock_fields_at [] = Some (None ∷ None ∷ None ∷ [], [])
 clock_fields_at (byte ∷ rest) =

@@ -1,10 +1,11 @@
 -- What the text of a timestamp is, and which instant it names.
-use Rattle.std.specs.Prelude.{◌≡◌, ℕ, ◌+◌, ◌*◌, ◌<◌, Bool, true, false, List, [], ◌∷◌, ◌++◌, length, ℤ, pos, neg_ℤ, ◌+ℤ◌, ◌-ℤ◌, ◌*ℤ◌}
+use Rattle.std.specs.Prelude.{◌≡◌, ℕ, ◌+◌, ◌*◌, ◌<◌, Bool, true, false, List, [], ◌∷◌, ◌++◌, length, ℤ, pos, neg_ℤ}
+use Rattle.std.specs.Prelude.{◌+ℤ◌, ◌-ℤ◌, ◌*ℤ◌}
 use Rattle.std.specs.Int.{IsInRange}
 use Rattle.jiff_core.specs.Calendar.{days_from_civil, days_in_month}
 use Rattle.lrs_time.specs.Digits.{two_digits, three_digits, four_digits, IsNumeral, cut_fraction}
 
--- What stands behind the time of day: nothing, `Z`, or an offset of hours and minutes.
+-- What follows the time of day: nothing, `Z`, or an offset of hours and minutes.
 -- The test says that the sign of the offset is a minus.
 pub data Zone : Type 0 where
   absent : Zone

@@ -1,4 +1,4 @@
-//! Numbers in digits, at the front of a text.
+//! Numbers in digits, at the beginning of a text.
 ghost use Rattle.std.specs.Prelude.{◌≡◌, ℕ, ◌+◌, ◌-◌, ◌*◌, ◌/◌, ◌%◌, ◌^◌, ◌<◌, ◌≤◌, ◌∷◌, [], length, take, option_map, IfSome};
 ghost use Rattle.std.specs.List.{prefix_len};
 ghost use Rattle.std.specs.Char.{is_ascii_digit};
@@ -8,7 +8,7 @@ ghost use Rattle.lrs_time.specs.Reading.{numeral_at, after, two_digits_at, below
 
 use lrs_decimal::digits_value;
 
-/// How many digits stand at the front.
+/// How many digits stand at the beginning.
 fn digits_len(text: &[u8]) -> usize
     ensures bound { result ≤ length text.now }
     ensures value { result ≡ prefix_len is_ascii_digit text.now }
@@ -21,7 +21,7 @@ fn digits_len(text: &[u8]) -> usize
     text.len()
 }
 
-/// The digits at the front, at least one and at most `most`, and what stands behind them.
+/// The digits at the beginning, at least one and at most `most`, and what follows them.
 #[tactic(auto, unfolding(crate::specs::Reading::numeral_at))]
 pub(crate) fn read_numeral(most: usize, text: &[u8]) -> Option<(&[u8], &[u8])>
     ensures value { option_map (λ p. (p.0.now, p.1.now)) result ≡ numeral_at most text.now }
@@ -34,7 +34,7 @@ pub(crate) fn read_numeral(most: usize, text: &[u8]) -> Option<(&[u8], &[u8])>
     Some(text.split_at(len))
 }
 
-/// The digits behind a decimal point as a count of the unit `10 ^ -places`, cut off.
+/// The digits after a decimal point as a count of the unit `10 ^ -places`, cut off.
 pub(crate) fn cut(places: usize, digits: &[u8]) -> u32
     requires digits { AllDigits 10 digits.now }
     requires few { places ≤ 9 }
@@ -45,7 +45,7 @@ pub(crate) fn cut(places: usize, digits: &[u8]) -> u32
     digits_value(kept) as u32 * 10u32.pow((places - kept.len()) as u32)
 }
 
-/// What stands behind the byte `wanted`, where it comes first.
+/// What follows the byte `wanted`, if it comes first.
 #[tactic(auto, unfolding(crate::specs::Reading::after))]
 pub(crate) fn after(wanted: u8, text: &[u8]) -> Option<&[u8]>
     ensures { option_map (λ p. p.now) result ≡ after wanted text.now }
@@ -54,7 +54,7 @@ pub(crate) fn after(wanted: u8, text: &[u8]) -> Option<&[u8]>
     if *first == wanted { Some(rest) } else { None }
 }
 
-/// A number of two digits at the front.
+/// A number of two digits at the beginning.
 #[tactic(auto, unfolding(crate::specs::Reading::two_digits_at))]
 pub(crate) fn read_two_digits(text: &[u8]) -> Option<(u8, &[u8])>
     ensures value { option_map (λ p. (p.0, p.1.now)) result ≡ two_digits_at text.now }
@@ -70,7 +70,7 @@ pub(crate) fn read_two_digits(text: &[u8]) -> Option<(u8, &[u8])>
     }
 }
 
-/// A number of two digits below the limit, at the front.
+/// A number of two digits below the limit, at the beginning.
 #[tactic(auto, unfolding(crate::specs::Reading::below_at))]
 pub(crate) fn read_below(limit: u8, text: &[u8]) -> Option<(u8, &[u8])>
     ensures value { option_map (λ p. (p.0, p.1.now)) result ≡ below_at limit text.now }

@@ -56,7 +56,7 @@ struct Quantity {
     is_whole: bool,
 }
 
-/// The number at the front: up to nine digits, and a fraction of up to nine.
+/// The number at the beginning: up to nine digits, and a fraction of up to nine.
 #[tactic(auto, unfolding(crate::specs::Reading::quantity_at, crate::specs::Reading::quantity_behind))]
 fn read_quantity(text: &[u8]) -> Option<(Quantity, &[u8])>
     ensures { option_map (λ p. (p.0, p.1.now)) result ≡ quantity_at text.now }
@@ -82,7 +82,7 @@ fn read_quantity(text: &[u8]) -> Option<(Quantity, &[u8])>
     }
 }
 
-/// The field of the unit, where one stands at the front, and what stands behind it.
+/// The field of the unit, if one stands at the beginning, and what follows it.
 /// A fraction stands in the last field alone, so nothing may follow it.
 #[tactic(auto, unfolding(crate::specs::Reading::field_at))]
 fn read_field(unit: u8, text: &[u8]) -> (Option<u64>, &[u8])
@@ -101,7 +101,7 @@ fn read_field(unit: u8, text: &[u8]) -> (Option<u64>, &[u8])
     }
 }
 
-/// The fields in front of the `T`.
+/// The fields before the `T`.
 fn read_date_fields(text: &[u8]) -> ([Option<u64>; 4], &[u8])
     ensures { (result.0, result.1.now) ≡ fields_at date_units text.now }
 {
@@ -112,7 +112,7 @@ fn read_date_fields(text: &[u8]) -> ([Option<u64>; 4], &[u8])
     ([years, months, weeks, days], text)
 }
 
-/// The fields behind the `T`, of which one stands, or none where there is no `T`.
+/// The fields after the `T`, of which one stands, or none if there is no `T`.
 #[tactic(auto, unfolding(crate::specs::Reading::clock_fields_at))]
 fn read_clock_fields(text: &[u8]) -> Option<([Option<u64>; 3], &[u8])>
     ensures { option_map (λ p. (p.0, p.1.now)) result ≡ clock_fields_at text.now }
@@ -132,7 +132,7 @@ fn read_clock_fields(text: &[u8]) -> Option<([Option<u64>; 3], &[u8])>
 impl Duration {
     /// Reads a duration, as xAPI 1.0.3 (Part Two, section 4.6) takes them from ISO 8601: `P`, then
     /// years, months, weeks and days, then `T` with hours, minutes and seconds, each of them
-    /// optional, and at least one there. The last field may have a fraction, behind a point or a
+    /// optional, and at least one there. The last field may have a fraction, after a point or a
     /// comma. A number has up to nine digits on either side.
     pub fn read(text: &[u8]) -> Option<Duration>
         ensures none { IsNone result ↔ IsNoDuration text.now }

@@ -33,7 +33,7 @@ impl Model for Moment {
 pub const LATEST: u64 = 253_402_300_799_999;
 
 impl Moment {
-    /// The moment that many milliseconds after 1970-01-01T00:00:00Z, or the last moment where that
+    /// The moment that many milliseconds after 1970-01-01T00:00:00Z, or the last moment if that
     /// is later.
     pub fn clamp(ms: u64) -> Moment
         ensures { result ≡ clamped ms }

@@ -130,7 +130,7 @@ fn read_clock(text: &[u8]) -> Option<(u32, &[u8])>
     Some((second, rest))
 }
 
-/// The nanoseconds of a fraction, 0 where none stands.
+/// The nanoseconds of a fraction, 0 if none stands.
 #[tactic(auto, unfolding(crate::specs::Reading::fraction_at))]
 fn read_fraction(text: &[u8]) -> Option<(u32, &[u8])>
     ensures value { option_map (λ p. (p.0, p.1.now)) result ≡ fraction_at text.now }
@@ -145,7 +145,7 @@ fn read_fraction(text: &[u8]) -> Option<(u32, &[u8])>
     }
 }
 
-/// The minutes of an offset of so many hours, by what stands behind these.
+/// The minutes of an offset of so many hours, by what follows these.
 #[tactic(auto, unfolding(crate::specs::Reading::minutes_at, crate::specs::Reading::without_colon))]
 fn read_minutes(hours: u8, text: &[u8]) -> Option<u16>
     requires { hours < 24 }
@@ -166,7 +166,7 @@ fn read_minutes(hours: u8, text: &[u8]) -> Option<u16>
     }
 }
 
-/// The minutes of an offset behind its sign.
+/// The minutes of an offset after its sign.
 #[tactic(auto, unfolding(crate::specs::Reading::offset_minutes_at))]
 fn read_offset_minutes(text: &[u8]) -> Option<u16>
     ensures value { result ≡ offset_minutes_at text.now }

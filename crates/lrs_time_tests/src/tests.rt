@@ -509,7 +509,7 @@ const SECONDS: [u64; 10] = [
 const ALL_SECONDS: &str =
     "PT0SPT0SPT0.01SPT0.99SPT1SPT1.50SPT12.34SPT60SPT999999999.99SPT18446744073709551.61S";
 
-// Each behind the one before.
+// Each after the one before.
 fn written_in_a_row(milliseconds: &[u64], into: &mut Vec<u8>) -> bool {
     for ms in milliseconds {
         if seconds_text(*ms, into).is_err() {

@@ -24,7 +24,7 @@ abbrev mutual
   NeatAll none = Unit {0}
   NeatAll (more x xs) = Neat x × NeatAll xs
 
-  -- behind members of these names
+  -- after members of these names
   pub NeatNamed : List (List ℕ) → Named → Type 0
   NeatNamed names unnamed = Unit {0}
   NeatNamed names (named k x ms) = (is_among k names ≡ false) × Neat x × NeatNamed (k ∷ names) ms

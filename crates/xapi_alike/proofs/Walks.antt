@@ -79,7 +79,7 @@ any_halves : (p : Place) (k : List ℕ) (j : Json) (ms : List Member) (n : ℕ)
     → (any_alike p k j (members_of (map member_view (drop n ms))) || any_alike p k j (members_of (map member_view (take n ms)))) ≡ any_alike p k j (members_of (map member_view ms))
 any_halves p k j ms n = sym (any_append p k j (take n ms) (drop n ms)) ∙ ap (λ (ts : List Member). any_alike p k j (members_of (map member_view ts))) (take-append-drop n ms)
 
--- what is found behind is found, and what isn't is found in front or not at all
+-- what is found after is found, and what isn't is found in front or not at all
 pub any_behind : (p : Place) (k : List ℕ) (j : Json) (ms back : List Member) (n : ℕ) (r : Bool) → back ≡ drop n ms → r ≡ any_alike p k j (members_of (map member_view back)) → r ≡ true
     → r ≡ any_alike p k j (members_of (map member_view ms))
 any_behind p k j ms back n r at is found =
@@ -118,14 +118,14 @@ step_at : (b : Bool) (k : List ℕ) (x : Normal) (rest ns : Named) → (if b the
 step_at true k x rest ns e = refl
 step_at false k x rest ns e = ap (λ (c : Bool). c && named_alike rest ns) e
 
--- behind a member that is alike to one, what is left decides
+-- after a member that is alike to one, what is left decides
 named_step : (p : Place) (k : List ℕ) (j : Json) (ms : Members) (ns : Named) → is_alike_within p k j ns ≡ true → named_alike (normal_members p (member k j ms)) ns ≡ named_alike (normal_members p ms) ns
 named_step p k j ms ns e = step_at (is_passed_over p k) k (normal (place_of_member p k) j) (normal_members p ms) ns e
 
 drop_member : (ms : List Member) (i : ℕ) (m : Member) → i < length ms → m ≡ get_or ms i m → drop i ms ≡ m ∷ drop (i + 1) ms
 drop_member ms i m lt e = rw add-one (drop-cons ms i m lt ∙ ap (λ (z : Member). z ∷ drop (suc i) ms) (sym e))
 
--- where the member at a place is alike to one, what is left behind it decides
+-- where the member at a place is alike to one, what is left after it decides
 pub named_on : (p : Place) (ts : List Member) (i : ℕ) (m : Member) (ns : Named) (r : Bool) → i < length ts → m ≡ get_or ts i m → r ≡ is_alike_within p (member_view m).0 (member_view m).1 ns → r ≡ true
     → named_alike (normal_members p (members_of (map member_view (drop i ts)))) ns ≡ named_alike (normal_members p (members_of (map member_view (drop (i + 1) ts)))) ns
 named_on p ts i m ns r lt at is found =

@@ -6,7 +6,8 @@ use Rattle.lrs_decimal.specs.Values.{order}
 use Rattle.lrs_time.specs.Duration.{same_span}
 use Rattle.xapi_values.specs.Numbers.{is_decimal}
 use Rattle.xapi_values.specs.Kinds.{same_kind}
-use Rattle.xapi_alike.specs.Normal.{Words, letters, uuid, instant, lasting, Normal, nothing, truth, amount, words, items, thing, Normals, none, more, Named, unnamed, named}
+use Rattle.xapi_alike.specs.Normal.{Words, letters, uuid, instant, lasting, Normal, nothing, truth, amount, words}
+use Rattle.xapi_alike.specs.Normal.{items, thing, Normals, none, more, Named, unnamed, named}
 
 -- one spelling, or two of one value
 abbrev pub same_amount : List ℕ → List ℕ → Bool
@@ -57,7 +58,8 @@ abbrev mutual
   alike (truth b) (truth c) = same_truth b c
   alike (amount s) (amount t) = same_amount s t
   alike (words v) (words w) = same_words v w
-  alike (items u xs) (items v ys) = same_truth u v && (if u then (size xs == size ys) && as_often xs xs ys else all_alike xs ys)
+  alike (items u xs) (items v ys) =
+      same_truth u v && (if u then (size xs == size ys) && as_often xs xs ys else all_alike xs ys)
   alike (thing k ms) (thing l ns) = same_kind k l && (named_alike ms ns && are_named ns ms)
   alike _ _ = false
 

@@ -1,6 +1,7 @@
 -- The normal form of a statement: what of it counts, with the values that its numbers, ids and times have.
 use Rattle.std.specs.Prelude.{ℕ, ℤ, List, Bool, false, Option, Some, None, Result, Ok, Err, if◌then◌else◌}
-use Rattle.lrs_json.specs.Json.{Json, null, boolean, number, string, array, object, Elements, no_elements, element, Members, no_members, member}
+use Rattle.lrs_json.specs.Json.{Json, null, boolean, number, string, array, object, Elements, no_elements, element}
+use Rattle.lrs_json.specs.Json.{Members, no_members, member}
 use Rattle.lrs_names.specs.Ids.{id_of}
 use Rattle.lrs_time.specs.Duration.{Span}
 use Rattle.lrs_time.specs.Reading.{timestamp_at, duration_at}
@@ -8,8 +9,11 @@ use Rattle.lrs_time.specs.declared.timestamps.TimeRefused.{TimeRefused}
 use Rattle.xapi_values.specs.Kinds.{kind_of}
 use Rattle.xapi_values.specs.declared.kinds.Kind.{Kind}
 use Rattle.xapi_alike.specs.declared.place.Place.{Place}
-use Rattle.xapi_alike.specs.declared.place.Place.TheVariants.{Statement, SubStatement, Object, Agent, GroupMembers, Activity, Reference, Context, ContextActivities, Activities, Outcome, Id, Timestamp, Duration, Plain}
-use Rattle.xapi_alike.specs.Places.{is_passed_over, kind_at, place_of_object, place_of_member, place_of_item, is_unordered, is_plural}
+use Rattle.xapi_alike.specs.declared.place.Place.TheVariants.{Statement, SubStatement, Object, Agent, GroupMembers}
+use Rattle.xapi_alike.specs.declared.place.Place.TheVariants.{Activity, Reference, Context, ContextActivities}
+use Rattle.xapi_alike.specs.declared.place.Place.TheVariants.{Activities, Outcome, Id, Timestamp, Duration, Plain}
+use Rattle.xapi_alike.specs.Places.{is_passed_over, kind_at, place_of_object, place_of_member, place_of_item}
+use Rattle.xapi_alike.specs.Places.{is_unordered, is_plural}
 
 -- what a text says at its place
 pub data Words : Type 0 where
@@ -29,7 +33,7 @@ mutual
     words : Words → Normal
     -- an array, and whether it is without order
     items : Bool → Normals → Normal
-    -- an object, with its kind where its place asks for one
+    -- an object, with its kind if its place asks for one
     thing : Kind → Named → Normal
 
   pub data Normals : Type 0 where
@@ -93,7 +97,8 @@ abbrev mutual
   pub normal_members : Place → Members → Named
   normal_members place no_members = unnamed
   normal_members place (member name j ms) =
-      if is_passed_over place name then normal_members place ms else named name (normal (place_of_member place name) j) (normal_members place ms)
+      if is_passed_over place name then normal_members place ms
+      else named name (normal (place_of_member place name) j) (normal_members place ms)
 
 -- the same where no array may stand for an object
 abbrev pub normal_one : Place → Json → Normal

@@ -4,14 +4,16 @@ use Rattle.std.specs.Str.{bytes_eq}
 use Rattle.lrs_names.specs.Members.{is_one_of}
 use Rattle.xapi_values.specs.declared.kinds.Kind.{Kind}
 use Rattle.xapi_alike.specs.declared.place.Place.{Place}
-use Rattle.xapi_alike.specs.declared.place.Place.TheVariants.{Statement, SubStatement, Object, Agent, GroupMembers, Activity, Reference, Context, ContextActivities, Activities, Outcome, Id, Timestamp, Duration, Plain}
+use Rattle.xapi_alike.specs.declared.place.Place.TheVariants.{Statement, SubStatement, Object, Agent, GroupMembers}
+use Rattle.xapi_alike.specs.declared.place.Place.TheVariants.{Activity, Reference, Context, ContextActivities}
+use Rattle.xapi_alike.specs.declared.place.Place.TheVariants.{Activities, Outcome, Id, Timestamp, Duration, Plain}
 
 -- the members that a store may set or change: two statements are the same whatever these are
 abbrev pub own_members : List (List ℕ)
 own_members = codes "id" ∷ codes "stored" ∷ codes "authority" ∷ codes "version" ∷ []
 
--- Members that are looked over: those of a statement itself, and an `objectType` that a place has a default for, since the
--- kind of what stands there is compared in its stead.
+-- Members that are looked over: those of a statement itself, and an `objectType` that a place has a default for, since
+-- the kind of what stands there is compared in its stead.
 unfoldable pub is_passed_over : Place → List ℕ → Bool
 is_passed_over Statement name = is_one_of own_members name
 is_passed_over SubStatement name = false
@@ -29,7 +31,7 @@ is_passed_over Timestamp name = false
 is_passed_over Duration name = false
 is_passed_over Plain name = false
 
--- the kind that is meant where none is stated: an Agent where someone acts, an Activity as an object or of a context
+-- the kind that is meant if none is stated: an Agent where someone acts, an Activity as an object or of a context
 abbrev pub kind_or : Kind → Kind → Kind
 kind_or default Kind.Unstated = default
 kind_or default Kind.Activity = Kind.Activity
@@ -39,8 +41,8 @@ kind_or default Kind.StatementRef = Kind.StatementRef
 kind_or default Kind.SubStatement = Kind.SubStatement
 kind_or default Kind.Other = Kind.Other
 
--- The kind of an object at a place, by what it states. At other places than these nothing is meant by an `objectType`, which is a
--- member as any other.
+-- The kind of an object at a place, by what it states. At other places than these nothing is meant by an `objectType`,
+-- which is a member as any other.
 unfoldable pub kind_at : Place → Kind → Kind
 kind_at Statement own = Kind.Unstated
 kind_at SubStatement own = Kind.Unstated
@@ -89,13 +91,17 @@ place_of_object Plain kind = Plain
 -- what a statement or a SubStatement makes of its member
 abbrev pub place_in_statement : List ℕ → Place
 place_in_statement name =
-    if bytes_eq name (codes "actor") then Agent else (if bytes_eq name (codes "object") then Object else (if bytes_eq name (codes "result") then Outcome
-    else (if bytes_eq name (codes "context") then Context else (if bytes_eq name (codes "timestamp") then Timestamp else Plain))))
+    if bytes_eq name (codes "actor") then Agent
+    else (if bytes_eq name (codes "object") then Object else (if bytes_eq name (codes "result") then Outcome
+    else (if bytes_eq name (codes "context") then Context
+    else (if bytes_eq name (codes "timestamp") then Timestamp else Plain))))
 
 abbrev pub place_in_context : List ℕ → Place
 place_in_context name =
-    if bytes_eq name (codes "registration") then Id else (if bytes_eq name (codes "instructor") then Agent else (if bytes_eq name (codes "team") then Agent
-    else (if bytes_eq name (codes "contextActivities") then ContextActivities else (if bytes_eq name (codes "statement") then Reference else Plain))))
+    if bytes_eq name (codes "registration") then Id
+    else (if bytes_eq name (codes "instructor") then Agent else (if bytes_eq name (codes "team") then Agent
+    else (if bytes_eq name (codes "contextActivities") then ContextActivities
+    else (if bytes_eq name (codes "statement") then Reference else Plain))))
 
 abbrev pub activity_members : List (List ℕ)
 activity_members = codes "parent" ∷ codes "grouping" ∷ codes "category" ∷ codes "other" ∷ []

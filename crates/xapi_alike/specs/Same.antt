@@ -1,4 +1,4 @@
--- When two statements are the same: where what counts of them is alike.
+-- When two statements are the same: if what counts of them is alike.
 use Rattle.std.specs.Prelude.{◌≡◌, Bool, true}
 use Rattle.lrs_json.specs.Json.{Json}
 use Rattle.lrs_json.specs.Fits.{Fits}

@@ -19,7 +19,8 @@ is_named_within place name ns = if is_passed_over place name then true else has_
 -- of members that aren't normal yet: one of that name is alike at the place
 abbrev pub any_alike : Place → List ℕ → Json → Members → Bool
 any_alike place name j no_members = false
-any_alike place name j (member k i ms) = (bytes_eq k name && alike (normal place j) (normal place i)) || any_alike place name j ms
+any_alike place name j (member k i ms) = (bytes_eq k name && alike (normal place j) (normal place i))
+    || any_alike place name j ms
 
 -- one has that name
 abbrev pub has_member_named : List ℕ → Members → Bool

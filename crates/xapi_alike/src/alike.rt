@@ -115,7 +115,7 @@ fn bags_are_alike(place: Place, a: &[Tree], b: &[Tree]) -> bool
     }
 }
 
-// Many items are laid side by side by rank. No answer where they are few, or where ranks don't tell.
+// Many items are laid side by side by rank. No answer if they are few, or if ranks don't tell.
 #[cycle(alike)]
 fn ranked_are_alike(place: Place, a: &[Tree], b: &[Tree]) -> Option<bool>
     requires { length a.now ≡ length b.now }
@@ -171,7 +171,7 @@ fn are_alike_by_rank(place: Place, a: &[Tree], left: &[u16], b: &[Tree], right: 
     true
 }
 
-// Where the item at that place occurs in one more often than in the other, these aren't the same.
+// If the item at that place occurs in one more often than in the other, these aren't the same.
 #[cycle(alike)]
 fn is_told_apart(place: Place, a: &[Tree], b: &[Tree], at: u16) -> Option<bool>
     ensures { IfSome result (λ answer. answer ≡ same_bag (normal_items place (elements_of (map view a.now)))
@@ -295,7 +295,7 @@ fn many_are_alike(place: Place, a: &[Member], b: &[Member]) -> bool
     true
 }
 
-// The member mostly stands at that place, or soon behind it.
+// The member mostly stands at that place, or soon after it.
 #[cycle(alike)]
 fn is_alike_within(place: Place, member: &Member, members: &[Member], at: usize) -> bool
     ensures { result ≡ is_alike_within place (member_view member.now).0 (member_view member.now).1

@@ -18,7 +18,8 @@ const NAMES: usize = 8;
 /// Places of members.
 pub type Places = ArrayVec<u16, MOST>;
 
-/// The places of all items, by rank. Any order serves, but where items that are alike don't come together, ranks don't tell.
+/// The places of all items, by rank. Any order serves, but if items that are alike don't come together, ranks don't
+/// tell.
 pub fn rank(items: &[Tree], into: &mut Places)
     requires room { length items.now ≤ 16_384 }
     requires empty { into.old.items ≡ [] }
@@ -38,7 +39,8 @@ fn fill(count: usize, into: &mut Places)
     }
 }
 
-/// The place of the first item of `a`, by rank, beside which none of `b` is left. What comes of it is right whichever it is.
+/// The place of the first item of `a`, by rank, beside which none of `b` is left. What comes of it is right whichever
+/// it is.
 pub fn first_extra(a: &[Tree], left: &[u16], b: &[Tree], right: &[u16]) -> Option<u16> {
     let mut rest = right;
     for i in left {
@@ -50,7 +52,7 @@ pub fn first_extra(a: &[Tree], left: &[u16], b: &[Tree], right: &[u16]) -> Optio
     None
 }
 
-// What is behind the first of `right` that ranks with the item, if one does.
+// What follows the first of `right` that ranks with the item, if one does.
 fn behind_partner<'t>(a: &[Tree], i: u16, b: &[Tree], right: &'t [u16]) -> Option<&'t [u16]> {
     for (at, j) in right.iter().enumerate() {
         match order_at(a, i, b, *j) {

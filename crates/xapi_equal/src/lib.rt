@@ -1,4 +1,4 @@
-//! When two statements are the same, as they were received (a profile of xAPI 1.0.3, part two, section 2.3.1).
+//! The sameness of xapi_alike, of two `Statement`s. The store compares trees as they were received and doesn't use it.
 #![tactic(auto)]
 
 ghost use Rattle.std.specs.Prelude.{◌≡◌};

@@ -1,4 +1,4 @@
-//! The tests of xapi_equal.
+//! The tests of xapi_equal and xapi_alike.
 #![tactic(auto)]
 
 #[cfg(test)]

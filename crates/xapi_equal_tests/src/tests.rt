@@ -4,7 +4,7 @@ use std::test::Fail;
 use xapi_equal::same;
 use xapi_statement::Statement;
 
-// The front of a statement, up to what the rows say.
+// The beginning of a statement, up to what the rows say.
 const ACTED: &str =
     r#"{"actor":{"mbox":"mailto:a@b"},"verb":{"id":"http://v/1"},"object":{"id":"http://a/1"}"#;
 
@@ -545,7 +545,7 @@ fn is_right(
     Ok(right)
 }
 
-// The same of two texts, between what stands before and behind both.
+// The same of two texts, between what stands before and after both.
 fn are_right(
     alloc: Global,
     front: &str,
@@ -575,7 +575,7 @@ fn first_wrong(
     Ok(None)
 }
 
-// What stands behind the actor, the verb and the object.
+// What follows the actor, the verb and the object.
 
 #[test]
 fn what_does_not_count_and_what_does(rt: HostRuntime) -> Result<(), Fail> {
@@ -636,7 +636,7 @@ const MANY: [(&str, &str, bool); 5] = [
     ),
 ];
 
-// What stands before and behind a letter.
+// What stands before and after a letter.
 const MEMBERS: [(&str, &str); 3] = [
     (r#"{"mbox":"mailto:"#, r#"@b"}"#),
     (r#"{"account":{"homePage":"http://h/","name":""#, r#""}}"#),
@@ -715,7 +715,7 @@ const MANY_NAMES: [(&str, &str, u8, bool); 5] = [
 const EXTENDED: &str =
     r#"{"actor":{"mbox":"mailto:a@b"},"verb":{"id":"http://v/1"},"object":{"id":"http://a/1"},"result":{"extensions":{"http://e/1":"#;
 
-// What stands before and behind a letter.
+// What stands before and after a letter.
 const NAMES: [(&str, &str); 2] = [("\"", "\":1"), ("\"http://long/", "\":[{}]")];
 
 // Objects with the members of these letters and one more, which stands last in one and first in the other.

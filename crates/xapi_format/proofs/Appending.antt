@@ -26,19 +26,19 @@ three_members : (a b c : List ℕ) (x y z : Json) → written (object (members_o
 three_members a b c x y z =
     ap (λ t. 123 ∷ t) (first_member false a x (members_of ((b, y) ∷ (c, z) ∷ [])) ∙ ap (λ t. member_text false a x ++ t) (first_member true b y (members_of ((c, z) ∷ []))))
 
--- the only member behind others, which is an object of two members, and both closing braces
+-- the only member after others, which is an object of two members, and both closing braces
 object_last : (n a b : List ℕ) (x y : Json) → members_text true (members_of ((n, object (members_of ((a, x) ∷ (b, y) ∷ []))) ∷ []))
     ≡ name_text true n ++ (123 ∷ (member_text false a x ++ (member_text true b y ++ 125 ∷ 125 ∷ [])))
 object_last n a b x y = simp append_assoc
 
 -- ---- what pieces make
 
--- one member, and those behind it
+-- one member, and those after it
 pub member_behind : (later : Bool) (name : List ℕ) (j : Json) (ms : Members) (s m1 m2 : List ℕ) → m1 ≡ s ++ member_text later name j → m2 ≡ m1 ++ members_text true ms → m2 ≡ s ++ members_text later (member name j ms)
 member_behind later name j ms s m1 m2 e1 e2 =
     behind s m1 m2 (member_text later name j) (members_text true ms) e1 e2 ∙ ap (λ t. s ++ t) (sym (first_member later name j ms))
 
--- two members, and those behind them
+-- two members, and those after them
 pub two_behind : (a b : List ℕ) (x y : Json) (ms : Members) (s m1 m2 : List ℕ) → m1 ≡ s ++ (member_text true a x ++ member_text true b y) → m2 ≡ m1 ++ members_text true ms → m2 ≡ s ++ members_text true (member a x (member b y ms))
 two_behind a b x y ms s m1 m2 e1 e2 =
     behind s m1 m2 (member_text true a x ++ member_text true b y) (members_text true ms) e1 e2

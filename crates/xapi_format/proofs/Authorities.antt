@@ -1,10 +1,10 @@
 -- The Agent of an authority has one identifier, its account.
 use Rattle.std.proofs.Common.{◌≡◌, ℕ, List, Bool, true, false, ◌||◌, refl}
-use Rattle.lrs_agents.specs.Identifiers.{identifier_of}
+use Rattle.lrs_agents.specs.Identifiers.{identifier_of, same_ifi}
 use Rattle.lrs_agents.specs.declared.identifiers.Ifi.{Ifi}
 use Rattle.lrs_agents.specs.declared.identifiers.Ifi.TheVariants.{Account}
 use Rattle.xapi_format.specs.Authorities.{authority_agent, home_page}
-use Rattle.xapi_format.specs.Party.{is_identified, is_party, same_ifi}
+use Rattle.xapi_format.specs.Party.{is_identified, is_party}
 
 or_false : (b : Bool) → (b || false) ≡ b
 or_false true = refl

@@ -1,4 +1,5 @@
--- Under whose authority a statement stands, as the Agent that its completed form names (xAPI 1.0.3, part two, section 2.4.9).
+-- Under whose authority a statement stands, as the Agent that its completed form names (xAPI 1.0.3, part two, section
+-- 2.4.9).
 use Rattle.std.specs.Prelude.{ℕ, List, [], ◌∷◌, ◌++◌, codes}
 use Rattle.std.specs.Fmt.{decimal}
 use Rattle.lrs_json.specs.Json.{Json, object, string}
@@ -27,7 +28,8 @@ account_json account =
 -- {"objectType":"Agent","name":N,"account":{..}}
 abbrev pub authority_agent : List ℕ → List ℕ → Json
 authority_agent name account =
-    object (members_of ((codes "objectType", string (codes "Agent")) ∷ (codes "name", string name) ∷ (codes "account", account_json account) ∷ []))
+    object (members_of ((codes "objectType", string (codes "Agent")) ∷ (codes "name", string name)
+    ∷ (codes "account", account_json account) ∷ []))
 
 abbrev pub authority_json : Authority → Json
 authority_json authority = authority_agent (authority_name authority) (account_name authority)

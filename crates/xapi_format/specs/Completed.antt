@@ -1,7 +1,8 @@
 -- The completed form of a statement: as it was received, with what the store adds (xAPI 1.0.3, part two, section 2.4).
 use Rattle.std.specs.Prelude.{ℕ, List, [], ◌∷◌, unwrap_or, codes, if◌then◌else◌}
 use Rattle.std.specs.Str.{bytes_eq}
-use Rattle.lrs_json.specs.Json.{Json, null, boolean, number, string, array, object, no_elements, element, Members, no_members, member}
+use Rattle.lrs_json.specs.Json.{Json, null, boolean, number, string, array, object, no_elements, element, Members}
+use Rattle.lrs_json.specs.Json.{no_members, member}
 use Rattle.lrs_json.specs.Find.{find}
 use Rattle.lrs_json.specs.View.{members_of}
 use Rattle.lrs_names.specs.Ids.{id_text}
@@ -48,27 +49,31 @@ plural_member name j =
     if bytes_eq name (codes "context") then with_each_member plural_context_member j
     else (if bytes_eq name (codes "object") then plural_object j else j)
 
--- the other members in their order, and these behind them
+-- the other members in their order, and these after them
 abbrev pub kept_before : Members → Members → Members
 kept_before no_members behind = behind
 kept_before (member name j ms) behind =
-    if is_one_of added_names name then kept_before ms behind else member name (plural_member name j) (kept_before ms behind)
+    if is_one_of added_names name then kept_before ms behind
+    else member name (plural_member name j) (kept_before ms behind)
 
 -- the member of that name as it was given, else this text
 abbrev pub given_or : List ℕ → Json → List ℕ → Json
 given_or name received otherwise = unwrap_or (find name received) (string otherwise)
 
 abbrev pub added_last : Json → Json → Members
-added_last received authority = members_of ((codes "authority", authority) ∷ (codes "version", given_or (codes "version") received (codes "1.0.0")) ∷ [])
+added_last received authority = members_of
+    ((codes "authority", authority) ∷ (codes "version", given_or (codes "version") received (codes "1.0.0")) ∷ [])
 
 -- The time at which it happened is the one that was given, else the stored moment.
 abbrev pub added_behind_id : Json → List ℕ → Json → Members
 added_behind_id received stored authority =
-    member (codes "timestamp") (given_or (codes "timestamp") received stored) (member (codes "stored") (string stored) (added_last received authority))
+    member (codes "timestamp") (given_or (codes "timestamp") received stored)
+    (member (codes "stored") (string stored) (added_last received authority))
 
--- What the store writes behind them.
+-- What the store writes after them.
 abbrev pub added : Json → List ℕ → List ℕ → Json → Members
-added received id stored authority = member (codes "id") (string (id_text id)) (added_behind_id received stored authority)
+added received id stored authority =
+    member (codes "id") (string (id_text id)) (added_behind_id received stored authority)
 
 -- The completed form of a received statement: under an id, with the text of its stored moment and an authority.
 unfoldable pub completed : Json → List ℕ → List ℕ → Json → Json

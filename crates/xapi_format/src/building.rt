@@ -16,7 +16,7 @@ use lrs_time::{Moment, moment_text};
 use std::alloc::Global;
 use xapi_values::whole;
 
-/// The completed form of a statement as a tree of its own: what was received, and behind it what the store adds.
+/// The completed form of a statement as a tree of its own: what was received, and after it what the store adds.
 #[tactic(auto, unfolding(crate::specs::Completed::completed))]
 pub fn completed(
     alloc: Global,
@@ -69,7 +69,7 @@ fn push_if_kept(alloc: Global, part: &Member, built: &mut Items<Member>) -> Resu
     push_made::<OfStatement>(alloc, part, built)
 }
 
-// What the store writes behind the members that are kept.
+// What the store writes after the members that are kept.
 fn push_added(
     alloc: Global,
     received: &Tree,

@@ -31,7 +31,7 @@ pub trait Plural {
 
 // ---- as a text
 
-// Changes the members, where it is an object.
+// Changes the members, if it is an object.
 #[tactic(auto, using(lrs_json::proofs::Extending::extends_trans))]
 fn put_each<P: Plural>(tree: &Tree, into: &mut Vec<u8>) -> Result<(), Memory>
     ensures ok { OnOk result (into.new.items ≡ into.old.items
@@ -57,7 +57,7 @@ fn put_members<P: Plural>(members: &[Member], into: &mut Vec<u8>) -> Result<(), 
     put(b"}", into)
 }
 
-/// Appends a member, behind others where they stand before.
+/// Appends a member, after others if they stand before.
 #[tactic(auto, using(lrs_json::proofs::Extending::extends_trans))]
 pub fn put_member<P: Plural>(later: bool, member: &Member, into: &mut Vec<u8>) -> Result<(), Memory>
     ensures ok { OnOk result (into.new.items ≡ into.old.items
@@ -71,7 +71,7 @@ pub fn put_member<P: Plural>(later: bool, member: &Member, into: &mut Vec<u8>) -
 
 // ---- as a tree
 
-// Changes the members, where it is an object.
+// Changes the members, if it is an object.
 fn made_each<P: Plural>(alloc: Global, tree: &Tree) -> Result<Tree, Memory>
     ensures { IfOk result (λ made. view made ≡ with_each_member P.change (view tree.now)) }
 {

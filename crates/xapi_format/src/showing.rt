@@ -17,7 +17,7 @@ use lrs_json::{Member, Memory, Tree, utf8_text};
 use lrs_names::Id;
 use lrs_time::{Moment, moment_text};
 
-/// Appends the text of a completed statement. What stood before stays where memory runs out in the middle.
+/// Appends the text of a completed statement. What stood before stays if memory runs out in the middle.
 #[tactic(auto, using(lrs_json::proofs::Extending::extends_trans), unfolding(crate::specs::Completed::completed))]
 pub fn put_completed(
     received: &Tree,
@@ -63,7 +63,7 @@ fn put_kept(members: &[Member], into: &mut Vec<u8>) -> Result<bool, Memory>
     Ok(later)
 }
 
-// The member, where it is kept; whether any stand now.
+// The member, if it is kept; whether any stand now.
 #[tactic(auto, using(lrs_json::proofs::Extending::extends_trans))]
 fn put_if_kept(later: bool, part: &Member, into: &mut Vec<u8>) -> Result<bool, Memory>
     ensures ok { IfOk result (λ now. (ms behind : Members) → into.old.items
@@ -78,7 +78,7 @@ fn put_if_kept(later: bool, part: &Member, into: &mut Vec<u8>) -> Result<bool, M
     Ok(true)
 }
 
-// What the store writes behind the members that are kept, and the closing brace.
+// What the store writes after the members that are kept, and the closing brace.
 #[tactic(auto, using(lrs_json::proofs::Extending::extends_trans))]
 fn put_added(
     received: &Tree,

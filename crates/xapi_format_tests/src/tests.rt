@@ -197,7 +197,7 @@ fn has_mailbox(alloc: Global, by: &Authority, name: &str) -> Result<bool, Fail> 
     Ok(by.has_agent(&mailbox))
 }
 
-// Whether the authority has the account of that name on the callers' page exactly where it should, and nothing else.
+// Whether the authority has the account of that name on the callers' page exactly if it should, and nothing else.
 fn is_found(alloc: Global, by: &Authority, name: &str, wanted: bool) -> Result<bool, Fail> {
     Ok(
         has_account(alloc, by, "https://lrs.invalid/callers", name)? == wanted

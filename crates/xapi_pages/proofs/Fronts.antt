@@ -36,7 +36,7 @@ within ascending n i k is = subst (λ m. i < m) (length-positions ascending n) (
 some_same : (a b : ℕ) → Some a ≡ Some b → a ≡ b
 some_same a b is = cc is
 
--- from an index on the positions come behind one of them
+-- from an index on the positions come after one of them
 pub behind_up : (n after first most i k : ℕ) → n ≤ most → first ≡ min (after + 1) most → slice_get (positions_of true n) i ≡ Some k → nat_lt after k ≡ nat_le first i
 behind_up n after first most i k le is at =
     let lt : i < n = within true n i k at in
@@ -87,7 +87,17 @@ given_no b l x xs is = by_tests (b x) (l x) refl refl is
     by_tests false true at_b at_l both = ap (λ ys. filter b ys) (ap (λ u. cond u (x ∷ filter l xs) (filter l xs)) at_l) ∙ ap (λ t. cond t (x ∷ filter b (filter l xs)) (filter b (filter l xs))) at_b
     by_tests true true at_b at_l both = cc both
 
--- what stands before the first that comes behind one is left out
+-- at the place of one that both let pass
+pub next_given : {A : Type 0} (b l : A → Bool) (xs : List A) (i : ℕ) (x : A) → slice_get xs i ≡ Some x → b x && l x ≡ true
+    → filter b (filter l (drop i xs)) ≡ x ∷ filter b (filter l (drop (i + 1) xs))
+next_given b l xs i x at is = ap (λ ks. filter b (filter l ks)) (drop_at xs i x at) ∙ given_yes b l x (drop (i + 1) xs) is
+
+-- at the place of one that isn't let pass
+pub next_left_out : {A : Type 0} (b l : A → Bool) (xs : List A) (i : ℕ) (x : A) → slice_get xs i ≡ Some x → b x && l x ≡ false
+    → filter b (filter l (drop i xs)) ≡ filter b (filter l (drop (i + 1) xs))
+next_left_out b l xs i x at is = ap (λ ks. filter b (filter l ks)) (drop_at xs i x at) ∙ given_no b l x (drop (i + 1) xs) is
+
+-- what stands before the first that comes after one is left out
 pub skipped : {A : Type 0} (b l : A → Bool) (first : ℕ) (xs : List A) → ((i : ℕ) (x : A) → i < first → slice_get xs i ≡ Some x → b x ≡ false) → filter b (filter l (drop first xs)) ≡ filter b (filter l xs)
 skipped b l zero xs out = refl
 skipped b l (suc first) [] out = refl
@@ -95,7 +105,7 @@ skipped b l (suc first) (x ∷ xs) out = skipped b l first xs (λ i y lt at. out
 
 -- ---- a page
 
--- it is full, and something comes behind it
+-- it is full, and something follows it
 pub page_full : (size : ℕ) (ks rest : List ℕ) (k : ℕ) → length ks ≡ size → first_page size (ks ++ k ∷ rest) ≡ record { positions = ks; link = last_of ks }
 page_full size ks rest k long =
     let front : take size (ks ++ k ∷ rest) ≡ ks = ap (λ n. take n (ks ++ k ∷ rest)) (sym long) ∙ take-append_seam ks (k ∷ rest) in
@@ -105,7 +115,7 @@ page_full size ks rest k long =
     is_more : (n : ℕ) → size < n → nat_lt size n ≡ true
     is_more n long = grind (arith, common_steps)
 
--- nothing comes behind it
+-- nothing follows it
 pub page_last : (size : ℕ) (ks : List ℕ) → length ks ≤ size → first_page size ks ≡ record { positions = ks; link = None }
 page_last size ks short =
     let front : take size ks ≡ ks = take_all size ks short in

@@ -12,12 +12,12 @@ reaches p next steps None = false
 reaches p next zero (Some k) = p k
 reaches p next (suc steps) (Some k) = p k || reaches p next steps (next k)
 
--- the first that passes is reached behind so many steps
+-- the first that passes is reached after so many steps
 abbrev pub IsFirst : (ℕ → Bool) → (ℕ → Option ℕ) → ℕ → ℕ → Type 0
 IsFirst p next zero k = p k ≡ true
 IsFirst p next (suc d) k = (j : ℕ) × (p k ≡ false) × (next k ≡ Some j) × IsFirst p next d j
 
--- positions of a walk, no two of them equal, from each of which the first is behind so many steps at most
+-- positions of a walk, no two of them equal, from each of which the first is after so many steps at most
 record Trail (p : ℕ → Bool) (next : ℕ → Option ℕ) (n d : ℕ) : Type 0 where
   xs : List ℕ
   long : length xs ≡ suc d

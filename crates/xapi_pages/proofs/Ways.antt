@@ -177,7 +177,7 @@ mark_next marks x rest k lt = same_or_other marks x k Passes lt
     by_test true is at = ap (λ m. if is_among rest k then Passes else m) (ap (λ i. mark_at (set marks x Passes) i) (eqb-true k x is) ∙ get_or-set_same marks x Passes Unknown lt) ∙ either (is_among rest k)
     by_test false is at = ap (λ m. if is_among rest k then Passes else m) at
 
--- the next of the positions, and those behind it
+-- the next of the positions, and those after it
 pub next_inside : (n : ℕ) (path : List ℕ) (i : ℕ) → i < length path → ((k : ℕ) → is_among (drop i path) k ≡ true → k < n) → get_or path i 0 < n
 next_inside n path i lt inside = inside (get_or path i 0) (ap (λ ws. is_among ws (get_or path i 0)) (drop_more path i 0 lt) ∙ ap (λ b. b || is_among (drop (i + 1) path) (get_or path i 0)) (eq-eqb (get_or path i 0) (get_or path i 0) refl))
 

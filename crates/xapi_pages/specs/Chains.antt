@@ -1,5 +1,6 @@
 -- Chains of references by the positions of statements, and what is marked of them while a page is found.
-use Rattle.std.specs.Prelude.{◌≡◌, ◌==◌, ◌&&◌, ℕ, Bool, true, false, List, length, get_or, slice_get, Option, Some, None, if◌then◌else◌}
+use Rattle.std.specs.Prelude.{◌≡◌, ◌==◌, ◌&&◌, ℕ, Bool, true, false, List, length, get_or, slice_get, Option, Some}
+use Rattle.std.specs.Prelude.{None, if◌then◌else◌}
 use Rattle.std.specs.List.{list_any}
 use Rattle.std.specs.Option.{option_map_or}
 use Rattle.xapi_query.specs.Filters.{direct, sees}
@@ -12,11 +13,13 @@ use Rattle.xapi_pages.specs.declared.chains.Mark.TheVariants.{Unknown, Passes, F
 
 -- the statement at a position is seen and passes the filters by itself
 abbrev pub is_direct_at : Query → Sight → List StoredStatement → ℕ → Bool
-is_direct_at query sight statements position = option_map_or (λ s. sees sight s && direct query s) (slice_get statements position) false
+is_direct_at query sight statements position =
+    option_map_or (λ s. sees sight s && direct query s) (slice_get statements position) false
 
 -- a statement of the chain of the one at a position is seen and passes the filters
 abbrev pub chain_passes : Query → Sight → List StoredStatement → ℕ → Bool
-chain_passes query sight statements position = list_any (λ s. sees sight s && direct query s) (chain_from statements (length statements) (slice_get statements position))
+chain_passes query sight statements position = list_any (λ s. sees sight s && direct query s)
+    (chain_from statements (length statements) (slice_get statements position))
 
 -- ---- marks
 

@@ -15,8 +15,8 @@ pub(crate) enum Mark {
     Fails,
 }
 
-/// Whether a statement of the chain of the one at a position is seen and passes the filters, among the first so many. Marks
-/// are made at the first reference that is followed; the same are handed in throughout a page.
+/// Whether a statement of the chain of the one at a position is seen and passes the filters, among the first so many.
+/// Marks are made at the first reference that is followed; the same are handed in throughout a page.
 pub(crate) fn chain_passes(
     alloc: Global,
     index: &Index,
@@ -58,7 +58,7 @@ fn is_direct_at(index: &Index, query: &Query, sight: &Sight, asof: usize, positi
     }
 }
 
-// Marks for so many positions, where there are none.
+// Marks for so many positions, if there are none.
 fn make_marks(alloc: Global, asof: usize, marks: &mut Vec<Mark>) -> Result<(), Memory>
     ensures room { OnOk result (asof ≤ length marks.new.items) }
     ensures known { OnOk result ((k : ℕ) → mark_at marks.new.items k ≡ mark_at marks.old.items k) }
@@ -95,8 +95,8 @@ fn follow(
     Ok(passes)
 }
 
-// Walks from a position until something is known. The positions behind it are marked as failing: so a walk that comes round
-// ends, too, where nothing passes.
+// Walks from a position until something is known. The positions after it are marked as failing: so a walk that comes
+// round ends, too, if nothing passes.
 fn walk(
     index: &Index,
     query: &Query,

@@ -12,14 +12,14 @@ use xapi_index::Index;
 use xapi_query::{Query, Sight, in_time, sees};
 use xapi_statement::StoredStatement;
 
-/// The positions of a page, and the last one of them where something comes behind it.
+/// The positions of a page, and the last one of them if something follows it.
 #[derive(Drop)]
 pub(crate) struct Page {
     pub(crate) positions: Vec<usize>,
     pub(crate) link: Option<usize>,
 }
 
-/// The page behind a position, in the list as of the first so many statements. Each of these is looked at once at most.
+/// The page after a position, in the list as of the first so many statements. Each of these is looked at once at most.
 pub(crate) fn find_page(
     alloc: Global,
     index: &Index,
@@ -71,7 +71,7 @@ fn last_of(positions: &[usize]) -> Option<usize>
     positions.last().copied()
 }
 
-// The first index from which on the positions come behind that one.
+// The first index from which on the positions come after that one.
 fn first_behind(ascending: bool, asof: usize, after: Option<usize>) -> usize
     ensures { (i k : ℕ) → slice_get (positions_of ascending asof) i ≡ Some k →
         is_behind ascending after k ≡ nat_le result i }
@@ -118,7 +118,7 @@ fn is_listed_at(
     }
 }
 
-// Whether a statement is listed where one of its chain passes.
+// Whether a statement is listed if one of its chain passes.
 fn may_be_listed(
     index: &Index,
     query: &Query,

@@ -11,7 +11,7 @@ use xapi_index::Index;
 use xapi_query::{Query, Sight, link_text};
 use xapi_statement::{Format, StoredStatement};
 
-/// The body of the page behind a position, in the list as of the first `asof` statements.
+/// The body of the page after a position, in the list as of the first `asof` statements.
 pub fn page_text(
     alloc: Global,
     index: &Index,
@@ -66,7 +66,7 @@ fn put_statements(
     Ok(())
 }
 
-// The statement at a position, where one stands there; whether one was put by then.
+// The statement at a position, if one stands there; whether one was put by then.
 fn put_at(
     index: &Index,
     format: Format,
@@ -101,7 +101,7 @@ fn put_statement(
     statement.write(format, body)
 }
 
-// The link behind a position as a string, which is empty where there is none.
+// The link after a position as a string, which is empty if there is none.
 fn put_more(
     alloc: Global,
     query: &Query,

@@ -13,7 +13,7 @@ use Rattle.xapi_query.specs.declared.query.Query.{Query}
 use Rattle.xapi_query.specs.declared.sight.Sight.{Sight}
 use Rattle.xapi_query.specs.declared.sight.Sight.TheVariants.{Nothing, All, Provider, Registration}
 
--- ---- filters: where one isn't given, every statement passes it
+-- ---- filters: if one isn't given, every statement passes it
 
 -- the identifier is that of an agent or group that takes part
 abbrev pub passes_agent : Query → StoredStatement → Bool
@@ -24,7 +24,8 @@ passes_verb query s = option_map_or (λ id. bytes_eq (verb_of (view s.received))
 
 -- it is about that activity
 abbrev pub passes_activity : Query → StoredStatement → Bool
-passes_activity query s = option_map_or (λ id. has_activity id query.related_activities (view s.received)) query.activity true
+passes_activity query s =
+    option_map_or (λ id. has_activity id query.related_activities (view s.received)) query.activity true
 
 -- its context names that registration
 abbrev pub is_registered : List ℕ → StoredStatement → Bool

@@ -29,7 +29,7 @@ impl MoreLink {
         link_text(alloc, &self.query, self.asof, self.after)
     }
 
-    /// Appends its text, or nothing where memory runs out.
+    /// Appends its text, or nothing if memory runs out.
     pub fn write(&self, into: &mut Vec<u8>) -> Result<(), Memory>
         ensures ok { OnOk result (into.new.items ≡ into.old.items ++ link_text self.now) }
         ensures err { OnErr result (into.new.items ≡ into.old.items) }
@@ -40,8 +40,8 @@ impl MoreLink {
     }
 }
 
-/// The text of the link behind that position in a list as of so many statements, from the path on:
-/// `/xapi/statements/more?asof=N&after=P`, and behind it the parameters of the query, as a form has them.
+/// The text of the link after that position in a list as of so many statements, from the path on:
+/// `/xapi/statements/more?asof=N&after=P`, and after it the parameters of the query, as a form has them.
 pub fn link_text(alloc: Global, query: &Query, asof: u64, after: u64) -> Result<Text, Memory>
     ensures { IfOk result (λ text. text ≡ link_text (record { query = query.now; asof = asof; after = after })) }
 {

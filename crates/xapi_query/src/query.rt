@@ -12,8 +12,8 @@ pub struct Given<T> {
     pub value: T,
 }
 
-/// Which statements are asked for as a list, in which order and form (xAPI 1.0.3, part three, section 2.1.3). What isn't
-/// given asks nothing.
+/// Which statements are asked for as a list, in which order and form (xAPI 1.0.3, part three, section 2.1.3). What
+/// isn't given asks nothing.
 #[derive(Drop)]
 pub struct Query {
     /// An agent or a group of this identifier takes part.

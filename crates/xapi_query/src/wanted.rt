@@ -5,9 +5,9 @@ use xapi_statement::Format;
 /// What a GET of statements asks for.
 #[derive(Drop)]
 pub enum Wanted {
-    /// The statement of that id, in that form, where it isn't voided.
+    /// The statement of that id, in that form, if it isn't voided.
     One(Id, Format),
-    /// The same, where it is voided.
+    /// The same, if it is voided.
     Voided(Id, Format),
     /// The first page of a list.
     Many(Query),

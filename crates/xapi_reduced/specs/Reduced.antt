@@ -1,9 +1,10 @@
--- The form of a statement with ids alone (xAPI 1.0.3, part three, section 2.1.3): of each Agent, Group, Activity and verb
--- what tells which one it is. All else stays as it is.
+-- The form of a statement with ids alone (xAPI 1.0.3, part three, section 2.1.3): of each Agent, Group, Activity and
+-- verb what tells which one it is. All else stays as it is.
 use Rattle.std.specs.Prelude.{ℕ, List, [], ◌∷◌, Bool, ◌&&◌, ◌||◌, not, codes, if◌then◌else◌}
 use Rattle.std.specs.List.{list_any}
 use Rattle.std.specs.Str.{bytes_eq}
-use Rattle.lrs_json.specs.Json.{Json, null, boolean, number, string, array, object, Elements, no_elements, element, Members, no_members, member}
+use Rattle.lrs_json.specs.Json.{Json, null, boolean, number, string, array, object, Elements, no_elements, element}
+use Rattle.lrs_json.specs.Json.{Members, no_members, member}
 use Rattle.lrs_agents.specs.Agents.{identifiers}
 use Rattle.lrs_names.specs.Members.{has_member, is_one_of}
 use Rattle.xapi_values.specs.Kinds.{kind_of, same_kind}
@@ -121,7 +122,8 @@ reduced_object j = if is_nested j then with_each_member reduced_nested_member j 
 
 abbrev pub reduced_member : List ℕ → Json → Json
 reduced_member name j =
-    if bytes_eq name (codes "object") then reduced_object j else (if bytes_eq name (codes "authority") then reduced_party j else reduced_part name j)
+    if bytes_eq name (codes "object") then reduced_object j
+    else (if bytes_eq name (codes "authority") then reduced_party j else reduced_part name j)
 
 -- The form of a completed statement with ids alone.
 unfoldable pub reduced : Json → Json

@@ -8,7 +8,7 @@ use Rattle.lrs_json.specs.Names.{is_among}
 use Rattle.lrs_json.proofs.Sets.{Names, has_more, has_name, not_false, not_true}
 use Rattle.xapi_rules.specs.Objects.{are_new}
 
--- The set has each id so far, and all are new where those that are left are, behind these.
+-- The set has each id so far, and all are new where those that are left are, after these.
 pub record IdsSoFar (ids : Names) (left all : List (List ℕ)) : Type 0 where
   pub so_far : List (List ℕ)
   pub has : (k : List ℕ) → has_name k ids ≡ is_among k so_far

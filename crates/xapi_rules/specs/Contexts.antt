@@ -1,21 +1,25 @@
--- Results, contexts and attachments, and the rules 24 to 32 on them (xAPI 1.0.3, part two, sections 2.4.5, 2.4.6 and 2.4.11).
+-- Results, contexts and attachments, and the rules 24 to 32 on them (xAPI 1.0.3, part two, sections 2.4.5, 2.4.6 and
+-- 2.4.11).
 use Rattle.std.specs.Prelude.{ℕ, List, [], ◌∷◌, ◌++◌, Bool, ◌&&◌, codes}
 use Rattle.lrs_json.specs.Json.{Json, null, boolean, number, string, array, object, Elements, no_elements, element}
 use Rattle.lrs_names.specs.Rules.{unless}
 use Rattle.lrs_names.specs.Iris.{iri_faults}
 use Rattle.lrs_names.specs.Languages.{is_language_tag, language_map_faults}
 use Rattle.lrs_agents.specs.Agents.{group_faults, agent_or_group_faults}
-use Rattle.lrs_names.specs.Members.{is_string, is_string_that, has_only, has_member, has_member_that, if_member, faults_of_member}
+use Rattle.lrs_names.specs.Members.{is_string, is_string_that, has_only, has_member, has_member_that, if_member}
+use Rattle.lrs_names.specs.Members.{faults_of_member}
 use Rattle.xapi_values.specs.Shapes.{is_object, is_boolean, is_uuid, is_duration, extension_faults}
 use Rattle.xapi_values.specs.Numbers.{is_count, is_score}
 use Rattle.xapi_rules.specs.Objects.{activity_faults, reference_faults}
 
 -- ---- results (section 2.4.5)
 
--- Rule 24: only the six members, `success` and `completion` truth values, `response` a string; its extensions are an object.
+-- Rule 24: only the six members, `success` and `completion` truth values, `response` a string; its extensions are an
+-- object.
 unfoldable pub is_result : Json → Bool
 is_result j =
-    has_only (codes "score" ∷ codes "success" ∷ codes "completion" ∷ codes "response" ∷ codes "duration" ∷ codes "extensions" ∷ []) j
+    has_only (codes "score" ∷ codes "success" ∷ codes "completion" ∷ codes "response" ∷ codes "duration"
+    ∷ codes "extensions" ∷ []) j
     && if_member (codes "success") is_boolean j && if_member (codes "completion") is_boolean j
     && if_member (codes "response") is_string j && if_member (codes "extensions") is_object j
 
@@ -35,7 +39,8 @@ result_faults j =
 
 abbrev pub context_members : List (List ℕ)
 context_members =
-    codes "registration" ∷ codes "instructor" ∷ codes "team" ∷ codes "contextActivities" ∷ codes "revision" ∷ codes "platform"
+    codes "registration" ∷ codes "instructor" ∷ codes "team" ∷ codes "contextActivities" ∷ codes "revision"
+    ∷ codes "platform"
     ∷ codes "language" ∷ codes "statement" ∷ codes "extensions" ∷ []
 
 -- Rule 27, but for the agents and the reference in it: only the nine members, `registration` a UUID, `revision` and
@@ -105,14 +110,18 @@ context_faults j =
 -- `length` a whole number that isn't negative.
 unfoldable pub is_attachment : Json → Bool
 is_attachment j =
-    has_only (codes "usageType" ∷ codes "display" ∷ codes "description" ∷ codes "contentType" ∷ codes "length" ∷ codes "sha2" ∷ codes "fileUrl" ∷ []) j
-    && has_member (codes "usageType") j && has_member (codes "display") j && has_member_that (codes "contentType") is_string j
-    && has_member_that (codes "length") is_count j && has_member_that (codes "sha2") is_string j && has_member (codes "fileUrl") j
+    has_only (codes "usageType" ∷ codes "display" ∷ codes "description" ∷ codes "contentType" ∷ codes "length"
+    ∷ codes "sha2" ∷ codes "fileUrl" ∷ []) j
+    && has_member (codes "usageType") j && has_member (codes "display") j
+    && has_member_that (codes "contentType") is_string j
+    && has_member_that (codes "length") is_count j && has_member_that (codes "sha2") is_string j
+    && has_member (codes "fileUrl") j
 
 unfoldable pub attachment_faults : Json → List ℕ
 attachment_faults j =
     unless (is_attachment j) 32 ++ faults_of_member (codes "usageType") iri_faults j
-    ++ faults_of_member (codes "display") language_map_faults j ++ faults_of_member (codes "description") language_map_faults j
+    ++ faults_of_member (codes "display") language_map_faults j
+    ++ faults_of_member (codes "description") language_map_faults j
     ++ faults_of_member (codes "fileUrl") iri_faults j
 
 unfoldable pub faults_of_attachments : Elements → List ℕ

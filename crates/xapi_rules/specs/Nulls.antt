@@ -1,27 +1,33 @@
--- Rule 3: no null stands outside extensions (xAPI 1.0.3, part two, section 2.2). Extensions are the objects at the member
--- `extensions` of a result, of a context and of an Activity's definition. A null in place of them stands in their holder, an
--- array in place of them is none, and a definition beside anything but an Activity frees nothing.
+-- Rule 3: no null stands outside extensions (xAPI 1.0.3, part two, section 2.2). Extensions are the objects at the
+-- member `extensions` of a result, of a context and of an Activity's definition. A null in place of them stands in
+-- their holder, an array in place of them is none, and a definition beside anything but an Activity frees nothing.
 use Rattle.std.specs.Prelude.{ℕ, List, Bool, true, false, ◌||◌, codes, if◌then◌else◌}
 use Rattle.std.specs.Str.{bytes_eq}
-use Rattle.lrs_json.specs.Json.{Json, null, boolean, number, string, array, object, Elements, no_elements, element, Members, no_members, member}
+use Rattle.lrs_json.specs.Json.{Json, null, boolean, number, string, array, object, Elements, no_elements, element}
+use Rattle.lrs_json.specs.Json.{Members, no_members, member}
 use Rattle.xapi_values.specs.Kinds.{kind_of, is_activity_kind, same_kind}
 use Rattle.xapi_values.specs.declared.kinds.Kind.{Kind}
 use Rattle.xapi_values.specs.declared.kinds.Kind.TheVariants.{SubStatement}
 use Rattle.xapi_rules.specs.declared.nulls.Role.{Role}
-use Rattle.xapi_rules.specs.declared.nulls.Role.TheVariants.{Plain, Statement, Object, Described, Holder, Context, ContextActivities, Activities, Extensions}
+use Rattle.xapi_rules.specs.declared.nulls.Role.TheVariants.{Plain, Statement, Object, Described, Holder, Context}
+use Rattle.xapi_rules.specs.declared.nulls.Role.TheVariants.{ContextActivities, Activities, Extensions}
 
 -- What a member's place makes of it. The `extensions` of a definition, of a result and of a context are free.
 unfoldable pub role_of_member : Role → List ℕ → Role
 role_of_member Plain name = Plain
 role_of_member Statement name =
-    if bytes_eq name (codes "object") then Object else (if bytes_eq name (codes "result") then Holder else (if bytes_eq name (codes "context") then Context else Plain))
+    if bytes_eq name (codes "object") then Object
+    else (if bytes_eq name (codes "result") then Holder
+    else (if bytes_eq name (codes "context") then Context else Plain))
 role_of_member Object name = Plain
 role_of_member Described name = if bytes_eq name (codes "definition") then Holder else Plain
 role_of_member Holder name = if bytes_eq name (codes "extensions") then Extensions else Plain
 role_of_member Context name =
-    if bytes_eq name (codes "extensions") then Extensions else (if bytes_eq name (codes "contextActivities") then ContextActivities else Plain)
+    if bytes_eq name (codes "extensions") then Extensions
+    else (if bytes_eq name (codes "contextActivities") then ContextActivities else Plain)
 role_of_member ContextActivities name =
-    if bytes_eq name (codes "parent") || bytes_eq name (codes "grouping") || bytes_eq name (codes "category") || bytes_eq name (codes "other") then Activities else Plain
+    if bytes_eq name (codes "parent") || bytes_eq name (codes "grouping") || bytes_eq name (codes "category")
+    || bytes_eq name (codes "other") then Activities else Plain
 role_of_member Activities name = Plain
 role_of_member Extensions name = Plain
 
@@ -57,7 +63,8 @@ abbrev mutual
   has_null role (number s) = false
   has_null role (string s) = false
   has_null role (array js) = items_have_null (role_of_item role) js
-  has_null role (object ms) = if is_free role then false else members_have_null (role_of_object role (kind_of (object ms))) ms
+  has_null role (object ms) =
+      if is_free role then false else members_have_null (role_of_object role (kind_of (object ms))) ms
 
   pub items_have_null : Role → Elements → Bool
   items_have_null role no_elements = false

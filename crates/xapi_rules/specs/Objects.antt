@@ -7,11 +7,13 @@ use Rattle.lrs_names.specs.Rules.{unless}
 use Rattle.lrs_names.specs.Iris.{iri_faults}
 use Rattle.lrs_names.specs.Languages.{language_map_faults}
 use Rattle.lrs_agents.specs.Agents.{agent_faults, group_faults}
-use Rattle.lrs_names.specs.Members.{is_string, is_string_that, is_one_of, is_word, has_only, has_member, has_member_that, if_member, faults_of_member, text_under}
+use Rattle.lrs_names.specs.Members.{is_string, is_string_that, is_one_of, is_word, has_only, has_member}
+use Rattle.lrs_names.specs.Members.{has_member_that, if_member, faults_of_member, text_under}
 use Rattle.xapi_values.specs.Shapes.{is_object, is_string_array, is_uuid, extension_faults}
 use Rattle.xapi_values.specs.Kinds.{kind_of}
 use Rattle.xapi_values.specs.declared.kinds.Kind.{Kind}
-use Rattle.xapi_values.specs.declared.kinds.Kind.TheVariants.{Unstated, Activity, Agent, Group, StatementRef, SubStatement, Other}
+use Rattle.xapi_values.specs.declared.kinds.Kind.TheVariants.{Unstated, Activity, Agent, Group, StatementRef}
+use Rattle.xapi_values.specs.declared.kinds.Kind.TheVariants.{SubStatement, Other}
 
 -- ---- interaction activities (section 2.4.4.1)
 
@@ -49,19 +51,21 @@ abbrev pub are_new : List (List ℕ) → List (List ℕ) → Bool
 are_new names [] = true
 are_new names (k ∷ ks) = not (is_among k names) && are_new (k ∷ names) ks
 
--- The rules that a list of components breaks: 14 in their descriptions, 20 in its form, 21 where an id comes again.
+-- The rules that a list of components breaks: 14 in their descriptions, 20 in its form, 21 if an id comes again.
 unfoldable pub component_list_faults : Json → List ℕ
 component_list_faults null = 20 ∷ []
 component_list_faults (boolean b) = 20 ∷ []
 component_list_faults (number s) = 20 ∷ []
 component_list_faults (string s) = 20 ∷ []
-component_list_faults (array js) = unless (are_components js) 20 ++ unless (are_new [] (ids_of js)) 21 ++ faults_of_components js
+component_list_faults (array js) = unless (are_components js) 20 ++ unless (are_new [] (ids_of js)) 21
+    ++ faults_of_components js
 component_list_faults (object ms) = 20 ∷ []
 
 -- one of the ten types of interaction
 unfoldable pub is_interaction_type : List ℕ → Bool
 is_interaction_type text =
-    is_one_of (codes "true-false" ∷ codes "choice" ∷ codes "fill-in" ∷ codes "long-fill-in" ∷ codes "matching" ∷ codes "performance"
+    is_one_of (codes "true-false" ∷ codes "choice" ∷ codes "fill-in" ∷ codes "long-fill-in" ∷ codes "matching"
+    ∷ codes "performance"
     ∷ codes "sequencing" ∷ codes "likert" ∷ codes "numeric" ∷ codes "other" ∷ []) text
 
 -- Rule 20, but for the lists of components: the type is one of ten, and the pattern is an array of strings.
@@ -73,15 +77,18 @@ is_interaction j =
 unfoldable pub interaction_faults : Json → List ℕ
 interaction_faults j =
     unless (is_interaction j) 20 ++ faults_of_member (codes "choices") component_list_faults j
-    ++ faults_of_member (codes "scale") component_list_faults j ++ faults_of_member (codes "source") component_list_faults j
-    ++ faults_of_member (codes "target") component_list_faults j ++ faults_of_member (codes "steps") component_list_faults j
+    ++ faults_of_member (codes "scale") component_list_faults j
+    ++ faults_of_member (codes "source") component_list_faults j
+    ++ faults_of_member (codes "target") component_list_faults j
+    ++ faults_of_member (codes "steps") component_list_faults j
 
 -- ---- activities (section 2.4.4.1)
 
 abbrev pub definition_members : List (List ℕ)
 definition_members =
     codes "name" ∷ codes "description" ∷ codes "type" ∷ codes "moreInfo" ∷ codes "extensions" ∷ codes "interactionType"
-    ∷ codes "correctResponsesPattern" ∷ codes "choices" ∷ codes "scale" ∷ codes "source" ∷ codes "target" ∷ codes "steps" ∷ []
+    ∷ codes "correctResponsesPattern" ∷ codes "choices" ∷ codes "scale" ∷ codes "source" ∷ codes "target"
+    ∷ codes "steps" ∷ []
 
 -- Rule 19: an object with only the twelve members; its extensions are an object.
 unfoldable pub is_definition : Json → Bool
@@ -110,7 +117,8 @@ activity_faults j =
 -- Rule 22 on the reference: only `objectType` and `id`, a UUID.
 unfoldable pub is_reference : Json → Bool
 is_reference j =
-    has_only (codes "objectType" ∷ codes "id" ∷ []) j && has_member_that (codes "objectType") (is_word (codes "StatementRef")) j
+    has_only (codes "objectType" ∷ codes "id" ∷ []) j
+    && has_member_that (codes "objectType") (is_word (codes "StatementRef")) j
     && has_member_that (codes "id") is_uuid j
 
 abbrev pub reference_faults : Json → List ℕ
@@ -118,7 +126,7 @@ reference_faults j = unless (is_reference j) 22
 
 -- ---- objects
 
--- The rules that an object breaks of which the kind is stated, where a SubStatement breaks those.
+-- The rules that an object breaks of which the kind is stated, if a SubStatement breaks those.
 abbrev pub faults_of_kind : List ℕ → Json → Kind → List ℕ
 faults_of_kind nested j Unstated = activity_faults j
 faults_of_kind nested j Activity = activity_faults j

@@ -1,4 +1,5 @@
--- The thirty-two rules on a statement (xAPI 1.0.3, part two, section 2), by their numbers: those that it breaks, and the least.
+-- The thirty-two rules on a statement (xAPI 1.0.3, part two, section 2), by their numbers: those that it breaks, and
+-- the least.
 use Rattle.std.specs.Prelude.{ℕ, suc, List, [], ◌∷◌, ◌++◌, Bool, false, not, ◌&&◌, ◌||◌, ◌==◌, Option, codes}
 use Rattle.lrs_json.specs.Json.{Json, null, boolean, number, string, array, object, Elements, no_elements, element}
 use Rattle.lrs_names.specs.Rules.{unless, least}
@@ -12,7 +13,8 @@ use Rattle.xapi_rules.specs.Objects.{object_faults_with, nested_object_faults}
 use Rattle.xapi_rules.specs.Contexts.{result_faults, context_faults, attachments_faults}
 use Rattle.xapi_rules.specs.Nulls.{has_null}
 use Rattle.xapi_values.specs.declared.kinds.Kind.{Kind}
-use Rattle.xapi_values.specs.declared.kinds.Kind.TheVariants.{Unstated, Activity, Agent, Group, StatementRef, SubStatement, Other}
+use Rattle.xapi_values.specs.declared.kinds.Kind.TheVariants.{Unstated, Activity, Agent, Group, StatementRef}
+use Rattle.xapi_values.specs.declared.kinds.Kind.TheVariants.{SubStatement, Other}
 use Rattle.xapi_rules.specs.declared.nulls.Role.TheVariants.{Statement}
 
 -- ---- what a statement and a SubStatement share
@@ -27,7 +29,8 @@ is_verb j = has_only (codes "id" ∷ codes "display" ∷ []) j && has_member (co
 
 unfoldable pub verb_faults : Json → List ℕ
 verb_faults j =
-    unless (is_verb j) 16 ++ faults_of_member (codes "id") iri_faults j ++ faults_of_member (codes "display") language_map_faults j
+    unless (is_verb j) 16 ++ faults_of_member (codes "id") iri_faults j
+    ++ faults_of_member (codes "display") language_map_faults j
 
 -- an Activity, by what it says that it is
 abbrev pub is_about_activity : Json → Bool
@@ -36,9 +39,10 @@ is_about_activity j = is_activity_kind (kind_of j)
 abbrev pub has_no_revision : Json → Bool
 has_no_revision j = not (has_member (codes "revision") j) && not (has_member (codes "platform") j)
 
--- Rule 29 (section 2.4.6): `revision` and `platform` stand only where the object is an Activity.
+-- Rule 29 (section 2.4.6): `revision` and `platform` stand only if the object is an Activity.
 unfoldable pub is_fit_revision : Json → Bool
-is_fit_revision j = if_member (codes "context") has_no_revision j || has_member_that (codes "object") is_about_activity j
+is_fit_revision j =
+    if_member (codes "context") has_no_revision j || has_member_that (codes "object") is_about_activity j
 
 -- Rule 30 (sections 2.4.7 and 2.4.8): the times are timestamps.
 unfoldable pub are_timestamps : Json → Bool
@@ -52,7 +56,8 @@ action_faults j =
 unfoldable pub shared_faults : Json → List ℕ
 shared_faults j =
     action_faults j ++ faults_of_member (codes "context") context_faults j
-    ++ faults_of_member (codes "attachments") attachments_faults j ++ unless (is_fit_revision j) 29 ++ unless (are_timestamps j) 30
+    ++ faults_of_member (codes "attachments") attachments_faults j ++ unless (is_fit_revision j) 29
+    ++ unless (are_timestamps j) 30
 
 -- ---- SubStatements (section 2.4.4.3)
 
@@ -62,7 +67,8 @@ has_action j = has_member (codes "actor") j && has_member (codes "verb") j && ha
 -- Rule 23: `actor`, `verb` and `object` stand, and only five others.
 unfoldable pub is_substatement : Json → Bool
 is_substatement j =
-    has_only (codes "objectType" ∷ codes "actor" ∷ codes "verb" ∷ codes "object" ∷ codes "result" ∷ codes "context" ∷ codes "timestamp" ∷ codes "attachments" ∷ []) j
+    has_only (codes "objectType" ∷ codes "actor" ∷ codes "verb" ∷ codes "object" ∷ codes "result" ∷ codes "context"
+    ∷ codes "timestamp" ∷ codes "attachments" ∷ []) j
     && has_action j
 
 unfoldable pub substatement_faults : Json → List ℕ
@@ -88,7 +94,8 @@ is_pair (object ms) = false
 
 abbrev pub has_no_identifier : Json → Bool
 has_no_identifier j =
-    not (has_member (codes "mbox") j) && not (has_member (codes "mbox_sha1sum") j) && not (has_member (codes "openid") j)
+    not (has_member (codes "mbox") j) && not (has_member (codes "mbox_sha1sum") j)
+    && not (has_member (codes "openid") j)
     && not (has_member (codes "account") j)
 
 -- Rule 31 on a Group: no identifier, and two members.

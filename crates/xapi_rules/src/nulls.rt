@@ -88,7 +88,7 @@ impl Role {
     }
 }
 
-/// Whether a null stands in the tree, where its place has that role, outside what is free there.
+/// Whether a null stands in the tree, if its place has that role, outside what is free there.
 #[cycle(nulls)]
 pub fn has_null(tree: &Tree, role: Role) -> bool
     ensures { result ≡ has_null role (view tree.now) }

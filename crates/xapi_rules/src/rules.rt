@@ -307,7 +307,7 @@ fn broken_authority_of(tree: &Tree) -> Option<u8>
 pub fn broken_rule(alloc: Global, tree: &Tree) -> Result<Option<u8>, Memory>
     ensures rule { IfOk result (λ r. r ≡ broken_rule (view tree.now)) }
 
-    // It is one of those that the tree breaks, and none of them is less; none is named where none is broken.
+    // It is one of those that the tree breaks, and none of them is less; none is named if none is broken.
     ensures least { IfOk result (IsLeast (statement_faults (view tree.now))) }
 {
     judge(alloc, tree)

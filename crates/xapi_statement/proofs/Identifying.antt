@@ -6,7 +6,7 @@ use Rattle.std.specs.Str.{bytes_eq}
 use Rattle.std.proofs.lemmas.Slice.Eq.{bytes_eq-Decides}
 use Rattle.lrs_agents.specs.declared.identifiers.Ifi.{Ifi}
 use Rattle.lrs_agents.specs.declared.identifiers.Ifi.TheVariants.{Mbox, MboxSha1, OpenId, Account}
-use Rattle.xapi_format.specs.Party.{same_ifi}
+use Rattle.lrs_agents.specs.Identifiers.{same_ifi}
 
 -- a text equals itself, and no other
 same_bytes : (a b : List ℕ) → bytes_eq a b ≡ true → a ≡ b

@@ -1,4 +1,5 @@
--- Who takes part in a statement, by their identifiers (xAPI 1.0.3, part two, section 2.4.2.3; part three, section 2.1.3).
+-- Who takes part in a statement, by their identifiers (xAPI 1.0.3, part two, section 2.4.2.3; part three, section
+-- 2.1.3).
 use Rattle.std.specs.Prelude.{Bool, ◌&&◌, ◌||◌, Option, None, option_and_then, codes, if◌then◌else◌}
 use Rattle.lrs_json.specs.Json.{Json}
 use Rattle.lrs_json.specs.Find.{find}
@@ -15,10 +16,12 @@ unfoldable pub is_party_object : Ifi → Json → Bool
 is_party_object ifi j = is_party_kind (kind_of j) && is_party ifi j
 
 unfoldable pub has_direct_agent : Ifi → Json → Bool
-has_direct_agent ifi j = has_member_that (codes "actor") (is_party ifi) j || has_member_that (codes "object") (is_party_object ifi) j
+has_direct_agent ifi j = has_member_that (codes "actor") (is_party ifi) j
+    || has_member_that (codes "object") (is_party_object ifi) j
 
 unfoldable pub is_party_of_context : Ifi → Json → Bool
-is_party_of_context ifi j = has_member_that (codes "instructor") (is_party ifi) j || has_member_that (codes "team") (is_party ifi) j
+is_party_of_context ifi j = has_member_that (codes "instructor") (is_party ifi) j
+    || has_member_that (codes "team") (is_party ifi) j
 
 unfoldable pub has_context_agent : Ifi → Json → Bool
 has_context_agent ifi j = has_member_that (codes "context") (is_party_of_context ifi) j
@@ -32,14 +35,15 @@ has_related_agent ifi j =
     has_member_that (codes "authority") (is_party ifi) j || has_context_agent ifi j
     || has_member_that (codes "object") (nested_has_agent ifi) j
 
--- That identifier is the actor's, or that of the object where it is an Agent or a Group, or of a member of such a Group. Of
--- the related places: also of the authority, the instructor, the team, their members, and the same places of a SubStatement.
+-- That identifier is the actor's, or that of the object if it is an Agent or a Group, or of a member of such a Group.
+-- Of the related places: also of the authority, the instructor, the team, their members, and the same places of a
+-- SubStatement.
 unfoldable pub has_agent : Ifi → Bool → Json → Bool
 has_agent ifi related j = has_direct_agent ifi j || (related && has_related_agent ifi j)
 
 abbrev pub agent_in : Json → Option Ifi
 agent_in j = if same_kind (kind_of j) Kind.Group then None else identifier_of j
 
--- the identifier of the actor, where it is an Agent
+-- the identifier of the actor, if it is an Agent
 unfoldable pub actor_of : Json → Option Ifi
 actor_of j = option_and_then agent_in (find (codes "actor") j)

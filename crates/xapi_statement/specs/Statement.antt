@@ -1,5 +1,6 @@
 -- What is asked of a statement: its length, and its members (xAPI 1.0.3, part two, section 2.4).
-use Rattle.std.specs.Prelude.{ℕ, nat_lt, List, [], length, Bool, false, ◌&&◌, ◌||◌, Option, Some, None, is_none, option_map, option_and_then, unwrap_or, codes, if◌then◌else◌}
+use Rattle.std.specs.Prelude.{ℕ, nat_lt, List, [], length, Bool, false, ◌&&◌, ◌||◌, Option, Some, None, is_none}
+use Rattle.std.specs.Prelude.{option_map, option_and_then, unwrap_or, codes, if◌then◌else◌}
 use Rattle.lrs_json.specs.Json.{Json, null, boolean, number, string, array, object, Elements, no_elements, element}
 use Rattle.lrs_json.specs.Find.{find}
 use Rattle.lrs_json.specs.Written.{written}
@@ -15,7 +16,7 @@ use Rattle.xapi_statement.specs.declared.length.TheConstants.{LONGEST_STATEMENT}
 unfoldable pub is_too_long : Json → Bool
 is_too_long j = nat_lt LONGEST_STATEMENT (length (written j))
 
--- why a value is no statement of the store, where it is none
+-- why a value is no statement of the store, if it is none
 unfoldable pub refusal : Json → Option StatementRefused
 refusal j = if is_too_long j then Some TooLong else option_map Broken (broken_rule j)
 
@@ -127,7 +128,8 @@ result_boolean name j = option_and_then (member_boolean name) (find (codes "resu
 
 -- the spelling of the scaled score
 unfoldable pub scaled_of : Json → Option (List ℕ)
-scaled_of j = option_and_then (member_number (codes "scaled")) (option_and_then (find (codes "score")) (find (codes "result") j))
+scaled_of j =
+    option_and_then (member_number (codes "scaled")) (option_and_then (find (codes "score")) (find (codes "result") j))
 
 unfoldable pub has_duration : Json → Bool
 has_duration j = has_member_that (codes "result") (has_member (codes "duration")) j

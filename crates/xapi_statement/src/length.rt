@@ -17,7 +17,7 @@ pub fn is_too_long(statement: &Tree) -> bool
     room_behind(statement, LONGEST_STATEMENT).is_none()
 }
 
-// What is left of the room behind the tree's written form.
+// What is left of the room after the tree's written form.
 #[cycle(room)]
 fn room_behind(tree: &Tree, room: usize) -> Option<usize>
     ensures { MatchOption result (room < length (written_tree tree.now))

@@ -21,7 +21,7 @@ fn id_in(tree: &Tree) -> Option<Id>
     }
 }
 
-/// The id that a statement gives itself, where it is a UUID.
+/// The id that a statement gives itself, if it is a UUID.
 pub fn own_id(statement: &Tree) -> Option<Id>
     ensures { result ≡ own_id (view statement.now) }
 {
@@ -72,7 +72,7 @@ fn reference_in(object: &Tree) -> Option<Id>
     }
 }
 
-/// The statement to which the object refers, where it is a StatementRef.
+/// The statement to which the object refers, if it is a StatementRef.
 #[tactic(auto, unfolding(crate::specs::Statement::target_of))]
 pub fn target_of(statement: &Tree) -> Option<Id>
     ensures { result ≡ target_of (view statement.now) }

@@ -151,7 +151,7 @@ impl StoredStatement {
         }
     }
 
-    /// Appends the written form of its tree in that form, or nothing where memory runs out. Of the exact form no tree
+    /// Appends the written form of its tree in that form, or nothing if memory runs out. Of the exact form no tree
     /// is made.
     pub fn write(&self, format: Format, into: &mut Vec<u8>) -> Result<(), Memory>
         ensures ok { OnOk result (into.new.items ≡ into.old.items ++ shown_text format self.now) }
@@ -174,7 +174,7 @@ impl StoredStatement {
         written
     }
 
-    // What stood before stays where memory runs out in the middle.
+    // What stood before stays if memory runs out in the middle.
     fn put_reduced(&self, into: &mut Vec<u8>) -> Result<(), Memory>
         ensures ok { OnOk result (into.new.items ≡ into.old.items ++ shown_text Format.Ids self.now) }
         ensures kept { Extends into.old.items into.new.items }

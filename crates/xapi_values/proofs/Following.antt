@@ -1,4 +1,4 @@
--- Members behind members.
+-- Members after members.
 use Rattle.std.proofs.Common.{◌≡◌, ℕ, List, [], ◌∷◌, ◌++◌, refl, ap}
 use Rattle.lrs_json.specs.Json.{Json, Members, no_members, member}
 use Rattle.lrs_json.specs.View.{members_of}

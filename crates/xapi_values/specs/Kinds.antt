@@ -4,12 +4,15 @@ use Rattle.lrs_json.specs.Json.{Json}
 use Rattle.lrs_json.specs.Find.{find}
 use Rattle.lrs_names.specs.Members.{is_word}
 use Rattle.xapi_values.specs.declared.kinds.Kind.{Kind}
-use Rattle.xapi_values.specs.declared.kinds.Kind.TheVariants.{Unstated, Activity, Agent, Group, StatementRef, SubStatement, Other}
+use Rattle.xapi_values.specs.declared.kinds.Kind.TheVariants.{Unstated, Activity, Agent, Group, StatementRef}
+use Rattle.xapi_values.specs.declared.kinds.Kind.TheVariants.{SubStatement, Other}
 
 abbrev pub kind_named : Json → Kind
 kind_named j =
-    if is_word (codes "Activity") j then Activity else (if is_word (codes "Agent") j then Agent else (if is_word (codes "Group") j then Group
-    else (if is_word (codes "StatementRef") j then StatementRef else (if is_word (codes "SubStatement") j then SubStatement else Other))))
+    if is_word (codes "Activity") j then Activity
+    else (if is_word (codes "Agent") j then Agent else (if is_word (codes "Group") j then Group
+    else (if is_word (codes "StatementRef") j then StatementRef
+    else (if is_word (codes "SubStatement") j then SubStatement else Other))))
 
 abbrev pub kind_stated : Option Json → Kind
 kind_stated None = Unstated

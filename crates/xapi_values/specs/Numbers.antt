@@ -1,5 +1,6 @@
 -- Numbers as the rules on scores and attachments ask of them, by their exact values.
-use Rattle.std.specs.Prelude.{◌≡◌, IsTrue, ℕ, List, [], ◌∷◌, Bool, true, false, ◌&&◌, Option, Some, None, option_and_then, codes, if◌then◌else◌}
+use Rattle.std.specs.Prelude.{◌≡◌, IsTrue, ℕ, List, [], ◌∷◌, Bool, true, false, ◌&&◌, Option, Some, None}
+use Rattle.std.specs.Prelude.{option_and_then, codes, if◌then◌else◌}
 use Rattle.std.specs.Option.{option_map_or}
 use Rattle.std.specs.Ordering.{is_lt, is_le}
 use Rattle.std.specs.declared.cmp.Ordering.{Ordering}
@@ -10,7 +11,7 @@ use Rattle.lrs_json.specs.Json.{Json, null, boolean, number, string, array, obje
 use Rattle.lrs_json.specs.Find.{find}
 use Rattle.lrs_names.specs.Members.{has_only, if_member}
 
--- nothing is left behind the number
+-- nothing is left after the number
 abbrev pub is_whole_text : Option (List ℕ) → Bool
 is_whole_text None = false
 is_whole_text (Some []) = true
@@ -36,21 +37,21 @@ IsNumberInRange j = (spelling : List ℕ) × (j ≡ number spelling) × IsNumber
 abbrev pub is_number : Json → Bool
 is_number j = option_map_or is_decimal (spelling_of j) false
 
--- the spelling of the member, where it is a number
+-- the spelling of the member, if it is a number
 abbrev pub member_number : List ℕ → Json → Option (List ℕ)
 member_number name j = option_and_then spelling_of (find name j)
 
--- how two numbers lie, where both are such
+-- how two numbers lie, if both are such
 unfoldable pub compared : List ℕ → List ℕ → Option Ordering
 compared s t = if is_decimal s && is_decimal t then Some (order s t) else None
 
--- the first is less than the second, where both stand
+-- the first is less than the second, if both stand
 unfoldable pub is_below : Option (List ℕ) → Option (List ℕ) → Bool
 is_below None t = true
 is_below (Some s) None = true
 is_below (Some s) (Some t) = option_map_or is_lt (compared s t) true
 
--- the first isn't greater than the second, where both stand
+-- the first isn't greater than the second, if both stand
 unfoldable pub is_not_above : Option (List ℕ) → Option (List ℕ) → Bool
 is_not_above None t = true
 is_not_above (Some s) None = true
@@ -79,4 +80,5 @@ are_in_order j =
 
 -- Rule 26 (section 2.4.5.1): only `scaled`, `raw`, `min` and `max`, all numbers, and in their order.
 unfoldable pub is_score : Json → Bool
-is_score j = has_only (codes "scaled" ∷ codes "raw" ∷ codes "min" ∷ codes "max" ∷ []) j && are_numbers j && are_in_order j
+is_score j = has_only (codes "scaled" ∷ codes "raw" ∷ codes "min" ∷ codes "max" ∷ []) j && are_numbers j
+    && are_in_order j

@@ -1,7 +1,8 @@
 -- What is asked of a value by its kind, beyond the words of names.
 use Rattle.std.specs.Prelude.{◌≡◌, ℕ, ℤ, List, [], nat_eq, Bool, true, false, ◌&&◌, is_some, is_ok, codes}
 use Rattle.std.specs.List.{starts_with}
-use Rattle.lrs_json.specs.Json.{Json, null, boolean, number, string, array, object, Elements, no_elements, element, Members, no_members, member}
+use Rattle.lrs_json.specs.Json.{Json, null, boolean, number, string, array, object, Elements, no_elements, element}
+use Rattle.lrs_json.specs.Json.{Members, no_members, member}
 use Rattle.lrs_names.specs.Ids.{id_of}
 use Rattle.lrs_names.specs.Iris.{is_iri}
 use Rattle.lrs_names.specs.Members.{is_string_that}

@@ -37,8 +37,8 @@ impl Kind {
         }
     }
 
-    /// Whether it is an Activity at a place where an Activity may stand and no Agent without an `objectType`: the object
-    /// of a statement, or context activities.
+    /// Whether it is an Activity at a place where an Activity may stand and no Agent without an `objectType`: the
+    /// object of a statement, or context activities.
     pub fn is_activity(self) -> bool
         ensures { result ≡ is_activity_kind self }
     {

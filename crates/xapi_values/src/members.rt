@@ -1,4 +1,4 @@
-// The least rule that a member breaks, where it stands.
+// The least rule that a member breaks, if it is there.
 ghost use Rattle.std.specs.Prelude.{◌≡◌, codes};
 ghost use Rattle.lrs_json.specs.View.{view};
 ghost use Rattle.lrs_names.specs.Iris.{iri_faults};
@@ -11,7 +11,7 @@ use crate::shapes::broken_extensions;
 use lrs_json::Tree;
 use lrs_names::{broken_iri, broken_language_map};
 
-/// The rule (6) that the member of that name breaks, which has to be an IRI where it stands.
+/// The rule (6) that the member of that name breaks, which has to be an IRI if it is there.
 pub fn broken_iri_at(tree: &Tree, name: &str) -> Option<u8>
     ensures { result ≡ least (faults_of_member name.now iri_faults (view tree.now)) }
 {
@@ -21,7 +21,7 @@ pub fn broken_iri_at(tree: &Tree, name: &str) -> Option<u8>
     }
 }
 
-/// The rule (14) that the member of that name breaks, which has to be a language map where it stands.
+/// The rule (14) that the member of that name breaks, which has to be a language map if it is there.
 pub fn broken_map_at(tree: &Tree, name: &str) -> Option<u8>
     ensures { result ≡ least (faults_of_member name.now language_map_faults (view tree.now)) }
 {

@@ -19,7 +19,7 @@ fn spelling_of(tree: &Tree) -> Option<&[u8]>
     }
 }
 
-/// The spelling of the member of that name, where it is a number.
+/// The spelling of the member of that name, if it is a number.
 pub fn member_number<'a>(tree: &'a Tree, name: &str) -> Option<&'a [u8]>
     ensures { option_map (λ s. s.now) result ≡ member_number name.now (view tree.now) }
 {
@@ -29,7 +29,7 @@ pub fn member_number<'a>(tree: &'a Tree, name: &str) -> Option<&'a [u8]>
     }
 }
 
-/// The value of a spelling, where it is a number in range.
+/// The value of a spelling, if it is a number in range.
 pub fn decimal_of(spelling: &[u8]) -> Option<Decimal>
     ensures some { is_some result ≡ is_decimal spelling.now }
     ensures value { IfSome result (λ d. HasValue d spelling.now) }

@@ -2,7 +2,7 @@ use crate::tests::rule_of;
 use std::alloc::Global;
 use std::test::Fail;
 
-// The front of each statement, up to what the rows say.
+// The beginning of each statement, up to what the rows say.
 const FRONT: &str = r#"{"actor":{"mbox":"mailto:a@b"},"verb":{"id":"http://v/1"},"#;
 
 // The rest of a statement, and whether a null stands in it outside extensions (rule 3). The others break no rule.

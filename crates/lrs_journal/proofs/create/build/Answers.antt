@@ -1,7 +1,7 @@
 use Rattle.std.proofs.Common.{◌≡◌, ℕ, List, [], ◌∷◌, take, inl, ap, arith}
 use Rattle.std.proofs.lemmas.Result.{on_ok_weaker}
 use Rattle.lrs_disk.proofs.Moments.{weaker_run, then_run, now_has}
-use Rattle.lrs_journal.specs.Steps.{IsBehind, IsAtGate, IsShort, IsCutShort}
+use Rattle.lrs_journal.specs.Steps.{KeepsUpTo, IsAtGate, IsShort, IsCutShort}
 use Rattle.lrs_journal.specs.Create.{IsMade}
 use Rattle.lrs_journal.proofs.Creating.{IsShut, cut_blank, gate_short, short_blanked, behind_shut, blank_made, shut_made, staged_laid, gate_made, opened_rests, laid}
 use Rattle.lrs_journal.proofs.create.build.Goals as goal
@@ -65,7 +65,7 @@ returns-in_err-head-clause-any_moment g c synced =
     let two = then_run T S I cn on d0 d1 d2 P (IsAtGate 0 (I d1)) one c.write_gate.ensures.any_moment (λ f at. blank_made limit first f (inl (gate_short at.0 f (short_now at.0 at.1) at.3))) in
     let d3 = c.head.new.disk in
     let zero_now : (f : List ℕ) → I d2 f → f ≡ 0 ∷ [] = λ f left. let from = c.in_ok-write_gate.ensures.written f left in short_blanked from.0 f (c.in_ok-shorten.ensures.short from.0 from.1) from.2 in
-    then_run T S I cn on d0 d2 d3 P (IsBehind 1 (I d2)) two c.head.ensures.any_moment (λ f behind. shut_made limit first f (behind_shut 1 (I d2) f (omega arith) (λ e left. ap (λ (l : List ℕ). take 1 l) (zero_now e left)) behind))
+    then_run T S I cn on d0 d2 d3 P (KeepsUpTo 1 (I d2)) two c.head.ensures.any_moment (λ f behind. shut_made limit first f (behind_shut 1 (I d2) f (omega arith) (λ e left. ap (λ (l : List ℕ). take 1 l) (zero_now e left)) behind))
 
 pub returns-in_err-stage-clause-any_moment : goal.returns-in_err-stage-clause-any_moment
 returns-in_err-stage-clause-any_moment g c synced =
@@ -86,10 +86,10 @@ returns-in_err-stage-clause-any_moment g c synced =
     let two = then_run T S I cn on d0 d1 d2 P (IsAtGate 0 (I d1)) one c.write_gate.ensures.any_moment (λ f at. blank_made limit first f (inl (gate_short at.0 f (short_now at.0 at.1) at.3))) in
     let d3 = c.head.new.disk in
     let zero_now : (f : List ℕ) → I d2 f → f ≡ 0 ∷ [] = λ f left. let from = c.in_ok-write_gate.ensures.written f left in short_blanked from.0 f (c.in_ok-shorten.ensures.short from.0 from.1) from.2 in
-    let three = then_run T S I cn on d0 d2 d3 P (IsBehind 1 (I d2)) two c.head.ensures.any_moment (λ f behind. shut_made limit first f (behind_shut 1 (I d2) f (omega arith) (λ e left. ap (λ (l : List ℕ). take 1 l) (zero_now e left)) behind)) in
+    let three = then_run T S I cn on d0 d2 d3 P (KeepsUpTo 1 (I d2)) two c.head.ensures.any_moment (λ f behind. shut_made limit first f (behind_shut 1 (I d2) f (omega arith) (λ e left. ap (λ (l : List ℕ). take 1 l) (zero_now e left)) behind)) in
     let d4 = c.stage.new.disk in
-    let shut_now : (f : List ℕ) → I d3 f → IsShut f = λ f left. behind_shut 1 (I d2) f (omega arith) (λ e left. ap (λ (l : List ℕ). take 1 l) (zero_now e left)) (now_has T S I cn on d2 d3 (IsBehind 1 (I d2)) c.head.ensures.any_moment f left) in
-    then_run T S I cn on d0 d3 d4 P (IsBehind 18 (I d3)) three c.stage.ensures.any_moment (λ f behind. shut_made limit first f (behind_shut 18 (I d3) f (omega arith) shut_now behind))
+    let shut_now : (f : List ℕ) → I d3 f → IsShut f = λ f left. behind_shut 1 (I d2) f (omega arith) (λ e left. ap (λ (l : List ℕ). take 1 l) (zero_now e left)) (now_has T S I cn on d2 d3 (KeepsUpTo 1 (I d2)) c.head.ensures.any_moment f left) in
+    then_run T S I cn on d0 d3 d4 P (KeepsUpTo 18 (I d3)) three c.stage.ensures.any_moment (λ f behind. shut_made limit first f (behind_shut 18 (I d3) f (omega arith) shut_now behind))
 
 pub returns-clause-any_moment : goal.returns-clause-any_moment
 returns-clause-any_moment g c synced =
@@ -110,10 +110,10 @@ returns-clause-any_moment g c synced =
     let two = then_run T S I cn on d0 d1 d2 P (IsAtGate 0 (I d1)) one c.write_gate.ensures.any_moment (λ f at. blank_made limit first f (inl (gate_short at.0 f (short_now at.0 at.1) at.3))) in
     let d3 = c.head.new.disk in
     let zero_now : (f : List ℕ) → I d2 f → f ≡ 0 ∷ [] = λ f left. let from = c.in_ok-write_gate.ensures.written f left in short_blanked from.0 f (c.in_ok-shorten.ensures.short from.0 from.1) from.2 in
-    let three = then_run T S I cn on d0 d2 d3 P (IsBehind 1 (I d2)) two c.head.ensures.any_moment (λ f behind. shut_made limit first f (behind_shut 1 (I d2) f (omega arith) (λ e left. ap (λ (l : List ℕ). take 1 l) (zero_now e left)) behind)) in
+    let three = then_run T S I cn on d0 d2 d3 P (KeepsUpTo 1 (I d2)) two c.head.ensures.any_moment (λ f behind. shut_made limit first f (behind_shut 1 (I d2) f (omega arith) (λ e left. ap (λ (l : List ℕ). take 1 l) (zero_now e left)) behind)) in
     let d4 = c.stage.new.disk in
-    let shut_now : (f : List ℕ) → I d3 f → IsShut f = λ f left. behind_shut 1 (I d2) f (omega arith) (λ e left. ap (λ (l : List ℕ). take 1 l) (zero_now e left)) (now_has T S I cn on d2 d3 (IsBehind 1 (I d2)) c.head.ensures.any_moment f left) in
-    let four = then_run T S I cn on d0 d3 d4 P (IsBehind 18 (I d3)) three c.stage.ensures.any_moment (λ f behind. shut_made limit first f (behind_shut 18 (I d3) f (omega arith) shut_now behind)) in
+    let shut_now : (f : List ℕ) → I d3 f → IsShut f = λ f left. behind_shut 1 (I d2) f (omega arith) (λ e left. ap (λ (l : List ℕ). take 1 l) (zero_now e left)) (now_has T S I cn on d2 d3 (KeepsUpTo 1 (I d2)) c.head.ensures.any_moment f left) in
+    let four = then_run T S I cn on d0 d3 d4 P (KeepsUpTo 18 (I d3)) three c.stage.ensures.any_moment (λ f behind. shut_made limit first f (behind_shut 18 (I d3) f (omega arith) shut_now behind)) in
     let d5 = c.write_gate-2.new.disk in
     let laid_now : (f : List ℕ) → I d4 f → f ≡ laid limit first 0 = λ f left. let from = c.in_ok-stage.ensures.staged f left in staged_laid limit first from.0 f (c.in_ok-head.ensures.written from.0 from.1) from.2 in
     then_run T S I cn on d0 d4 d5 P (IsAtGate 0 (I d4)) four c.write_gate-2.ensures.any_moment (λ f at. gate_made limit first f at.0 c.requires.limit.0 c.requires.limit.1 (omega (arith, c.requires.first)) (laid_now at.0 at.1) at.3)

@@ -2,7 +2,7 @@ use Rattle.std.proofs.Common.{◌+◌, refl, ◌∙◌, ap, sym, arith}
 use Rattle.std.proofs.lemmas.Result.{on_ok_weaker}
 use Rattle.lrs_disk.specs.Disk.{written}
 use Rattle.lrs_disk.proofs.Moments.{started, stepped, stayed}
-use Rattle.lrs_journal.specs.Steps.{IsBehind}
+use Rattle.lrs_journal.specs.Steps.{KeepsUpTo}
 use Rattle.lrs_journal.proofs.Lists.{torn_behind, staged_is}
 use Rattle.lrs_journal.proofs.Told.{before}
 use Rattle.lrs_journal.proofs.steps.stage.Goals as goal
@@ -16,7 +16,7 @@ returns-in_err-write_at-clause-any_moment g c =
     let on = g.met.D.Disk.only_now in
     let d0 = c.args.disk.now in
     let fence = c.args.place + 1 in
-    let P = IsBehind fence (I d0) in
+    let P = KeepsUpTo fence (I d0) in
     let at_start = started T S I cn on d0 P (λ f left. (f, left, refl)) in
     stepped T S I cn on d0 d0 c.write_at.new.self P _ at_start c.write_at.ensures.time c.write_at.ensures.crash (torn_behind fence _ _ (I d0) (omega arith))
 
@@ -29,7 +29,7 @@ returns-in_err-write_at-2-clause-any_moment g c =
     let on = g.met.D.Disk.only_now in
     let d0 = c.args.disk.now in
     let fence = c.args.place + 1 in
-    let P = IsBehind fence (I d0) in
+    let P = KeepsUpTo fence (I d0) in
     let at_start = started T S I cn on d0 P (λ f left. (f, left, refl)) in
     let one = stepped T S I cn on d0 d0 c.write_at.new.self P _ at_start c.write_at.ensures.time c.write_at.ensures.crash (torn_behind fence _ _ (I d0) (omega arith)) in
     stepped T S I cn on d0 c.write_at.new.self c.write_at-2.new.self P _ one c.write_at-2.ensures.time c.write_at-2.ensures.crash (torn_behind fence _ _ (I d0) (omega arith))
@@ -43,7 +43,7 @@ returns-in_err-write_at-3-clause-any_moment g c =
     let on = g.met.D.Disk.only_now in
     let d0 = c.args.disk.now in
     let fence = c.args.place + 1 in
-    let P = IsBehind fence (I d0) in
+    let P = KeepsUpTo fence (I d0) in
     let at_start = started T S I cn on d0 P (λ f left. (f, left, refl)) in
     let one = stepped T S I cn on d0 d0 c.write_at.new.self P _ at_start c.write_at.ensures.time c.write_at.ensures.crash (torn_behind fence _ _ (I d0) (omega arith)) in
     let two = stepped T S I cn on d0 c.write_at.new.self c.write_at-2.new.self P _ one c.write_at-2.ensures.time c.write_at-2.ensures.crash (torn_behind fence _ _ (I d0) (omega arith)) in
@@ -58,7 +58,7 @@ returns-clause-any_moment g c =
     let on = g.met.D.Disk.only_now in
     let d0 = c.args.disk.now in
     let fence = c.args.place + 1 in
-    let P = IsBehind fence (I d0) in
+    let P = KeepsUpTo fence (I d0) in
     let at_start = started T S I cn on d0 P (λ f left. (f, left, refl)) in
     let one = stepped T S I cn on d0 d0 c.write_at.new.self P _ at_start c.write_at.ensures.time c.write_at.ensures.crash (torn_behind fence _ _ (I d0) (omega arith)) in
     let two = stepped T S I cn on d0 c.write_at.new.self c.write_at-2.new.self P _ one c.write_at-2.ensures.time c.write_at-2.ensures.crash (torn_behind fence _ _ (I d0) (omega arith)) in

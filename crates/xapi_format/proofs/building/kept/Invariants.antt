@@ -5,7 +5,7 @@ use Rattle.xapi_format.specs.Completed.{kept_before}
 use Rattle.xapi_values.specs.Following.{followed_by}
 use Rattle.xapi_format.proofs.building.kept.Given as goal
 
--- what was kept so far, and what is left, for every list behind
+-- what was kept so far, and what is left, for every list after
 abbrev pub invariant-loop-part : goal.invariant-loop-part
 invariant-loop-part l =
     (behind : Members) → kept_before (members_of (map member_view l.members)) behind

@@ -5,7 +5,7 @@ use Rattle.lrs_json.specs.Written.{Extends, members_text}
 use Rattle.xapi_format.specs.Completed.{kept_before}
 use Rattle.xapi_format.proofs.showing.put_kept.Given as goal
 
--- what stands so far, for every list behind
+-- what stands so far, for every list after
 abbrev pub invariant-loop-member : goal.invariant-loop-member
 invariant-loop-member l =
     Extends l.fn.into.items l.into.items

@@ -2,7 +2,7 @@ use Rattle.std.proofs.Common.{◌≡◌, ◌≤◌, ◌+◌, ◌∙◌, ◌∷�
 use Rattle.std.specs.Prelude.{filter}
 use Rattle.std.proofs.lemmas.List.{drop_all, length-take-le}
 use Rattle.xapi_pages.specs.Listings.{first_page, is_behind, is_listed_at, last_of, listing_behind, positions_of}
-use Rattle.xapi_pages.proofs.Fronts.{drop_at, given_no, given_yes, le_no, le_yes, length-positions, page_full, page_last, skipped}
+use Rattle.xapi_pages.proofs.Fronts.{le_no, le_yes, length-positions, next_given, next_left_out, page_full, page_last, skipped}
 use Rattle.xapi_pages.proofs.listing.find_page.Goals as goal
 
 pub loop-i-init : goal.loop-i-init
@@ -26,11 +26,10 @@ loop-i-preserved-then-not-listed c =
     let b = is_behind c.args.query.now.ascending c.args.after in
     let l = is_listed_at c.args.query.now c.args.sight.now (take c.args.asof c.args.index.now.held) in
     let all = positions_of c.args.query.now.ascending c.args.asof in
-    let here = drop_at all at.i x c.position_at-position.ensures.at in
     let behind = c.first_behind-first.ensures at.i x c.position_at-position.ensures.at ∙ le_yes c.first_behind-first.result at.i at.auto.i in
-    let passed = given_no b l x (drop (at.i + 1) all) (ap (λ t. t && l x) behind ∙ (sym c.in_ok-listed.ensures.listed ∙ c.if-not-listed.true)) in
+    let passed = next_left_out b l all at.i x c.position_at-position.ensures.at (ap (λ t. t && l x) behind ∙ (sym c.in_ok-listed.ensures.listed ∙ c.if-not-listed.true)) in
     record {
-      given = ap (λ ks. at.positions.items ++ ks) (sym passed ∙ ap (λ ks. filter b (filter l ks)) (sym here)) ∙ at.invariant.given;
+      given = ap (λ ks. at.positions.items ++ ks) (sym passed) ∙ at.invariant.given;
       short = at.invariant.short;
       marked = c.in_ok-listed.ensures.marks;
     }
@@ -43,11 +42,10 @@ returns-then-len-most-clause-link c =
     let l = is_listed_at c.args.query.now c.args.sight.now (take c.args.asof c.args.index.now.held) in
     let all = positions_of c.args.query.now.ascending c.args.asof in
     let rest = filter b (filter l (drop (at.i + 1) all)) in
-    let here = drop_at all at.i x c.position_at-position.ensures.at in
     let behind = c.first_behind-first.ensures at.i x c.position_at-position.ensures.at ∙ le_yes c.first_behind-first.result at.i at.auto.i in
-    let given = given_yes b l x (drop (at.i + 1) all) (ap (λ t. t && l x) behind ∙ (sym c.in_ok-listed.ensures.listed ∙ c.if-not-listed.false)) in
+    let given = next_given b l all at.i x c.position_at-position.ensures.at (ap (λ t. t && l x) behind ∙ (sym c.in_ok-listed.ensures.listed ∙ c.if-not-listed.false)) in
     let whole : at.positions.items ++ x ∷ rest ≡ listing_behind c.args.query.now c.args.sight.now (take c.args.asof c.args.index.now.held) c.args.after =
-    ap (λ ks. at.positions.items ++ ks) (sym given ∙ ap (λ ks. filter b (filter l ks)) (sym here)) ∙ at.invariant.given in
+    ap (λ ks. at.positions.items ++ ks) (sym given) ∙ at.invariant.given in
     let counted : at.positions.len ≡ length at.positions.items = search rules in
     let short = at.invariant.short in
     let most = c.if-len-most.true in
@@ -64,9 +62,8 @@ loop-i-preserved c =
     let l = is_listed_at c.args.query.now c.args.sight.now (take c.args.asof c.args.index.now.held) in
     let all = positions_of c.args.query.now.ascending c.args.asof in
     let rest = filter b (filter l (drop (at.i + 1) all)) in
-    let here = drop_at all at.i x c.position_at-position.ensures.at in
     let behind = c.first_behind-first.ensures at.i x c.position_at-position.ensures.at ∙ le_yes c.first_behind-first.result at.i at.auto.i in
-    let given = given_yes b l x (drop (at.i + 1) all) (ap (λ t. t && l x) behind ∙ (sym c.in_ok-listed.ensures.listed ∙ c.if-not-listed.false)) in
+    let given = next_given b l all at.i x c.position_at-position.ensures.at (ap (λ t. t && l x) behind ∙ (sym c.in_ok-listed.ensures.listed ∙ c.if-not-listed.false)) in
     let counted : at.positions.len ≡ length at.positions.items = search rules in
     let room = c.if-len-most.false in
     let len = c.len.ensures in
@@ -74,7 +71,7 @@ loop-i-preserved c =
     let one = length-append at.positions.items (x ∷ []) in
     record {
       given = ap (λ ks. ks ++ rest) c.in_ok-push.ensures.items ∙ (append_assoc at.positions.items (x ∷ []) rest
-          ∙ (ap (λ ks. at.positions.items ++ ks) (sym given ∙ ap (λ ks. filter b (filter l ks)) (sym here)) ∙ at.invariant.given));
+          ∙ (ap (λ ks. at.positions.items ++ ks) (sym given) ∙ at.invariant.given));
       short = omega arith;
       marked = c.in_ok-listed.ensures.marks;
     }

@@ -3,7 +3,7 @@ use Rattle.std.specs.Option.{is_some}
 use Rattle.lrs_disk.specs.Disk.{LeavesOnly}
 use Rattle.lrs_disk.proofs.Moments.{started, now_has, weaker_run, then_run}
 use Rattle.lrs_journal.specs.Store.{IsBeforeOrAfter, Stands}
-use Rattle.lrs_journal.specs.Steps.{IsBehind, IsSound}
+use Rattle.lrs_journal.specs.Steps.{KeepsUpTo, IsSound}
 use Rattle.lrs_journal.specs.Journal.{Journal, frames_of, StandsForFrames, IsJournal, IsAppended, IsUnchanged}
 use Rattle.lrs_journal.proofs.Kept.{seen, sound_journal, settled_journal, after_behind, after_staged, gate_there, room_behind, behind_leaves, no_doubt, doubt_before_or_after}
 use Rattle.lrs_journal.proofs.journal.Journal.append.Goals as goal
@@ -53,7 +53,7 @@ invariant_of-self g c =
     let told = g.D.Disk.told in
     let none : i.doubt ≡ None = no_doubt i.doubt (ap (λ (h : Journal _). h.doubt) c.self.view_is ∙ c.requires) in
     let old = subst (λ (o : Option ℕ). IsSound (told i.disk) (I i.disk) i.limit i.gate i.number o) none c.self.invariant in
-    let now = now_has g.D.Disk.time g.D.Disk.image_since I g.met.D.Disk.counts_now g.met.D.Disk.only_now i.disk d1 (IsBehind (i.gate + 1) (I i.disk)) c.stage.ensures.any_moment in
+    let now = now_has g.D.Disk.time g.D.Disk.image_since I g.met.D.Disk.counts_now g.met.D.Disk.only_now i.disk d1 (KeepsUpTo (i.gate + 1) (I i.disk)) c.stage.ensures.any_moment in
     subst (λ (o : Option ℕ). IsSound (told d1) (I d1) i.limit i.gate i.number o) (sym none) (after_behind told I g.met.D.Disk.reads_image i.disk d1 i.limit i.gate i.number old c.stage.ensures.tells now).0
 
 pub returns-in_err-stage-clause-failed : goal.returns-in_err-stage-clause-failed
@@ -64,7 +64,7 @@ returns-in_err-stage-clause-failed g c _ =
     let told = g.D.Disk.told in
     let none : i.doubt ≡ None = no_doubt i.doubt (ap (λ (h : Journal _). h.doubt) c.self.view_is ∙ c.requires) in
     let old = subst (λ (o : Option ℕ). IsSound (told i.disk) (I i.disk) i.limit i.gate i.number o) none c.self.invariant in
-    let now = now_has g.D.Disk.time g.D.Disk.image_since I g.met.D.Disk.counts_now g.met.D.Disk.only_now i.disk d1 (IsBehind (i.gate + 1) (I i.disk)) c.stage.ensures.any_moment in
+    let now = now_has g.D.Disk.time g.D.Disk.image_since I g.met.D.Disk.counts_now g.met.D.Disk.only_now i.disk d1 (KeepsUpTo (i.gate + 1) (I i.disk)) c.stage.ensures.any_moment in
     let after = after_behind told I g.met.D.Disk.reads_image i.disk d1 i.limit i.gate i.number old c.stage.ensures.tells now in
     let same = subst (λ (o : Option ℕ). IsUnchanged told (seen i.disk i.limit i.gate i.number o) (seen d1 i.limit i.gate i.number o)) (sym none) (record { frames = after.1; number = refl; end = refl; limit = refl }) in
     inr (ap is_some none, subst (λ (h : Journal _). IsUnchanged told h (seen d1 i.limit i.gate i.number i.doubt)) c.self.view_is same)
@@ -77,7 +77,7 @@ returns-in_err-stage-clause-sound g c =
     let told = g.D.Disk.told in
     let none : i.doubt ≡ None = no_doubt i.doubt (ap (λ (h : Journal _). h.doubt) c.self.view_is ∙ c.requires) in
     let old = subst (λ (o : Option ℕ). IsSound (told i.disk) (I i.disk) i.limit i.gate i.number o) none c.self.invariant in
-    let now = now_has g.D.Disk.time g.D.Disk.image_since I g.met.D.Disk.counts_now g.met.D.Disk.only_now i.disk d1 (IsBehind (i.gate + 1) (I i.disk)) c.stage.ensures.any_moment in
+    let now = now_has g.D.Disk.time g.D.Disk.image_since I g.met.D.Disk.counts_now g.met.D.Disk.only_now i.disk d1 (KeepsUpTo (i.gate + 1) (I i.disk)) c.stage.ensures.any_moment in
     subst (λ (o : Option ℕ). IsJournal told I (seen d1 i.limit i.gate i.number o)) (sym none)
     (settled_journal told I g.met.D.Disk.reads_image d1 i.limit i.gate i.number (after_behind told I g.met.D.Disk.reads_image i.disk d1 i.limit i.gate i.number old c.stage.ensures.tells now).0)
 
@@ -93,7 +93,7 @@ returns-in_err-stage-clause-any_moment g c x is =
     let none : i.doubt ≡ None = no_doubt i.doubt (ap (λ (h : Journal _). h.doubt) c.self.view_is ∙ c.requires) in
     let old = subst (λ (o : Option ℕ). IsSound (told i.disk) (I i.disk) i.limit i.gate i.number o) none c.self.invariant in
     let run : (x : List (List ℕ)) → frames_of told (seen i.disk i.limit i.gate i.number None) ≡ Some x → LeavesOnly T S i.disk d1 (IsBeforeOrAfter i.limit x p) = λ x is.
-    weaker_run T S I g.met.D.Disk.counts_now g.met.D.Disk.only_now i.disk d1 (IsBehind (i.gate + 1) (I i.disk)) (IsBeforeOrAfter i.limit x p) c.stage.ensures.any_moment
+    weaker_run T S I g.met.D.Disk.counts_now g.met.D.Disk.only_now i.disk d1 (KeepsUpTo (i.gate + 1) (I i.disk)) (IsBeforeOrAfter i.limit x p) c.stage.ensures.any_moment
     (λ f now. inl (behind_leaves told I g.met.D.Disk.reads_image i.disk i.limit i.gate i.number old x is f now)) in
     subst (λ (h : Journal _). (x : List (List ℕ)) → frames_of told h ≡ Some x → LeavesOnly T S h.disk d1 (IsBeforeOrAfter h.limit x p)) (ap (λ (o : Option ℕ). seen i.disk i.limit i.gate i.number o) (sym none) ∙ c.self.view_is) run x is
 
@@ -108,7 +108,7 @@ returns-in_err-stage-clause-any_moment_err g c _ _ x is =
     let none : i.doubt ≡ None = no_doubt i.doubt (ap (λ (h : Journal _). h.doubt) c.self.view_is ∙ c.requires) in
     let old = subst (λ (o : Option ℕ). IsSound (told i.disk) (I i.disk) i.limit i.gate i.number o) none c.self.invariant in
     let run : (x : List (List ℕ)) → frames_of told (seen i.disk i.limit i.gate i.number None) ≡ Some x → LeavesOnly T S i.disk d1 (λ image. Stands image i.limit x) = λ x is.
-    weaker_run T S I g.met.D.Disk.counts_now g.met.D.Disk.only_now i.disk d1 (IsBehind (i.gate + 1) (I i.disk)) (λ image. Stands image i.limit x) c.stage.ensures.any_moment
+    weaker_run T S I g.met.D.Disk.counts_now g.met.D.Disk.only_now i.disk d1 (KeepsUpTo (i.gate + 1) (I i.disk)) (λ image. Stands image i.limit x) c.stage.ensures.any_moment
     (λ f now. behind_leaves told I g.met.D.Disk.reads_image i.disk i.limit i.gate i.number old x is f now) in
     subst (λ (h : Journal _). (x : List (List ℕ)) → frames_of told h ≡ Some x → LeavesOnly T S h.disk d1 (λ image. Stands image h.limit x)) (ap (λ (o : Option ℕ). seen i.disk i.limit i.gate i.number o) (sym none) ∙ c.self.view_is) run x is
 
@@ -155,7 +155,7 @@ returns-in_err-settle-clause-any_moment g c x is =
     let staged = after_staged told I g.met.D.Disk.reads_image i.disk d1 i.limit i.gate i.number p old fits c.stage.ensures.tells c.in_ok-stage.ensures.staged in
     let run : (x : List (List ℕ)) → frames_of told (seen i.disk i.limit i.gate i.number None) ≡ Some x → LeavesOnly T S i.disk d2 (IsBeforeOrAfter i.limit x p) = λ x is.
     then_run T S I g.met.D.Disk.counts_now g.met.D.Disk.only_now i.disk d1 d2 (IsBeforeOrAfter i.limit x p) (StandsForFrames i.limit true (x ++ p ∷ []))
-    (weaker_run T S I g.met.D.Disk.counts_now g.met.D.Disk.only_now i.disk d1 (IsBehind (i.gate + 1) (I i.disk)) (IsBeforeOrAfter i.limit x p) c.stage.ensures.any_moment
+    (weaker_run T S I g.met.D.Disk.counts_now g.met.D.Disk.only_now i.disk d1 (KeepsUpTo (i.gate + 1) (I i.disk)) (IsBeforeOrAfter i.limit x p) c.stage.ensures.any_moment
     (λ f now. inl (behind_leaves told I g.met.D.Disk.reads_image i.disk i.limit i.gate i.number old x is f now)))
     (c.settle.ensures.any_moment (x ++ p ∷ []) (staged.1 ∙ ap (λ (o : Option (List (List ℕ))). option_map (λ payloads. payloads ++ p ∷ []) o) is))
     (doubt_before_or_after i.limit x p) in
@@ -195,7 +195,7 @@ returns-clause-any_moment g c x is =
     let staged = after_staged told I g.met.D.Disk.reads_image i.disk d1 i.limit i.gate i.number p old fits c.stage.ensures.tells c.in_ok-stage.ensures.staged in
     let run : (x : List (List ℕ)) → frames_of told (seen i.disk i.limit i.gate i.number None) ≡ Some x → LeavesOnly T S i.disk d2 (IsBeforeOrAfter i.limit x p) = λ x is.
     then_run T S I g.met.D.Disk.counts_now g.met.D.Disk.only_now i.disk d1 d2 (IsBeforeOrAfter i.limit x p) (StandsForFrames i.limit true (x ++ p ∷ []))
-    (weaker_run T S I g.met.D.Disk.counts_now g.met.D.Disk.only_now i.disk d1 (IsBehind (i.gate + 1) (I i.disk)) (IsBeforeOrAfter i.limit x p) c.stage.ensures.any_moment
+    (weaker_run T S I g.met.D.Disk.counts_now g.met.D.Disk.only_now i.disk d1 (KeepsUpTo (i.gate + 1) (I i.disk)) (IsBeforeOrAfter i.limit x p) c.stage.ensures.any_moment
     (λ f now. inl (behind_leaves told I g.met.D.Disk.reads_image i.disk i.limit i.gate i.number old x is f now)))
     (c.settle.ensures.any_moment (x ++ p ∷ []) (staged.1 ∙ ap (λ (o : Option (List (List ℕ))). option_map (λ payloads. payloads ++ p ∷ []) o) is))
     (doubt_before_or_after i.limit x p) in

@@ -3,7 +3,7 @@ use Rattle.lrs_json.specs.View.{view, member_view}
 use Rattle.lrs_json_reader.specs.Placed.{plain}
 use Rattle.lrs_json_reader.specs.Grammar.{Value}
 use Rattle.lrs_json_reader.specs.Flaws.{earlier, earliest}
-use Rattle.lrs_json_reader.specs.Steps.{GoesOn}
+use Rattle.lrs_json_reader.specs.Steps.{StepsToNext}
 use Rattle.lrs_json.specs.declared.tree.Member.{Member}
 use Rattle.lrs_json_reader.specs.Reading.{has_some, repeated_among, noted, noted_entry, plain_entry, Pair}
 use Rattle.lrs_json.specs.declared.tree.Tree.{the_lemmas}
@@ -53,7 +53,7 @@ object-returns t c =
     let among : List Member → List ℕ → Option ℕ = λ ms lefts. earlier c.loop-lefts.self.places.repeated (earliest (repeated_among [] (map (λ m. (member_view m).0) ms) lefts)) in
     object_done c.loop-lefts.members c.loop-lefts.lefts.items c.args.self.now c.loop-lefts.self c.note_repeated.new.self c.requires.0 c.requires.1
     (noted_last.repeated ∙ ap (λ ms. among ms c.deref.result.now) c.as_slice.ensures ∙ ap (among c.loop-lefts.members) c.deref.ensures.value) noted_last.out_of_range c.loop-lefts.invariant
-    (subst (λ z. GoesOn (has_some c.loop-lefts.members) 125 c.loop-lefts.self.cursor (Ok false) z) (sym noted_last.cursor) (goes_at c.if-branch.false (goes_later c.is_empty.ensures c.in_ok-goes_on.ensures)))
+    (subst (λ z. StepsToNext (has_some c.loop-lefts.members) 125 c.loop-lefts.self.cursor (Ok false) z) (sym noted_last.cursor) (goes_at c.if-branch.false (goes_later c.is_empty.ensures c.in_ok-goes_on.ensures)))
 
 pub member-returns-in_err-name : goal.member-returns-in_err-name
 member-returns-in_err-name t c = reads_err Pair plain_entry member_view noted_entry _ _ _ c.from_residual.ensures.1 (λ y is m rest p ends. is ∙ c.in_err-name.ensures.all m.name p.0 p.3)

@@ -2,7 +2,7 @@ use Rattle.std.proofs.Common.{◌≡◌, ◌&&◌, true, false, sym, ap, ◌∙�
 use Rattle.std.specs.Str.{bytes_eq}
 use Rattle.lrs_agents.specs.declared.identifiers.Ifi.TheVariants.{Account}
 use Rattle.xapi_format.specs.Authorities.{account_name, authority_name, home_page}
-use Rattle.xapi_format.specs.Party.{same_ifi}
+use Rattle.lrs_agents.specs.Identifiers.{same_ifi}
 use Rattle.xapi_format.proofs.Authorities.{is_authority}
 use Rattle.xapi_format.proofs.authority.Authority.has_agent.Goals as goal
 
