@@ -1,0 +1,4 @@
+pub mod Merging
+pub mod Documents
+pub mod Changes
+pub mod Docs
