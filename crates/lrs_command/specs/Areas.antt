@@ -2,7 +2,7 @@
 use Rattle.lrs_command.specs.declared.command.Command.{Command}
 use Rattle.lrs_command.specs.declared.command.Command.TheVariants as command
 use Rattle.lrs_command.specs.declared.command.Read.{Read}
-use Rattle.lrs_command.specs.declared.command.Read.TheVariants.{Statements, More, About}
+use Rattle.lrs_command.specs.declared.command.Read.TheVariants.{Statements, More, Documents, Profile, About}
 use Rattle.lrs_record.specs.Writes.{write_area}
 use Rattle.lrs_record.specs.declared.entry.Area.{Area}
 use Rattle.lrs_record.specs.declared.entry.Area.TheVariants.{Free, Store}
@@ -10,6 +10,8 @@ use Rattle.lrs_record.specs.declared.entry.Area.TheVariants.{Free, Store}
 abbrev pub read_area : Read → Area
 read_area (Statements wanted) = Store
 read_area (More link) = Store
+read_area (Documents wanted) = Store
+read_area Profile = Store
 read_area About = Free
 
 abbrev pub command_area : Command → Area

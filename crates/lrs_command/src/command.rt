@@ -3,12 +3,13 @@ ghost use Rattle.lrs_command.specs.Areas.{read_area};
 
 use lrs_record::{Area, Write};
 use lrs_rules::Rule;
+use xapi_keys::WantedDocuments;
 use xapi_query::{MoreLink, Wanted};
 
 /// What a caller asks.
 #[derive(Drop)]
 pub enum Command {
-    /// What is kept where it is accepted.
+    /// What is kept if it is accepted.
     Write(Write),
     /// What is only answered.
     Read(Read),
@@ -23,6 +24,10 @@ pub enum Read {
     Statements(Wanted),
     /// Asks for the next page of a list.
     More(MoreLink),
+    /// Asks for a state document, or for the ids of some.
+    Documents(WantedDocuments),
+    /// Asks for the document of a profile, of which none is ever held.
+    Profile,
     /// Asks for the versions of xAPI that are spoken.
     About,
 }
@@ -33,7 +38,7 @@ impl Read {
         ensures { result ≡ read_area self.now }
     {
         match self {
-            Read::Statements(_) | Read::More(_) => Area::Store,
+            Read::Statements(_) | Read::More(_) | Read::Documents(_) | Read::Profile => Area::Store,
             Read::About => Area::Free,
         }
     }

@@ -12,4 +12,5 @@ use Rattle.xapi_statement.specs.Statement.{own_id}
 -- the refusal of the first statement that is refused under its own id, whatever stands before it
 abbrev pub refused_each : State → Who → List Tree → Option Refusal
 refused_each st by [] = None
-refused_each st by (t ∷ ts) = option_or (refused_under st by st.statements (own_id (view t)) (view t)) (refused_each st by ts)
+refused_each st by (t ∷ ts) =
+    option_or (refused_under st by st.statements (own_id (view t)) (view t)) (refused_each st by ts)

@@ -7,7 +7,7 @@ use Rattle.lrs_parts.specs.State.{State, changes_nothing}
 use Rattle.lrs_parts.specs.declared.effect.Effect.{Effect}
 use Rattle.lrs_record.specs.declared.entry.Entry.{Entry}
 
--- Whether an entry comes next, where there is room for it. The flag: it is the first.
+-- Whether an entry comes next, if there is room for it. The flag: it is the first.
 abbrev pub may_come : Bool → State → Entry → Bool
 may_come true st e = is_founding e
 may_come false st e = is_none (said_at_once st e) && nat_le st.last e.moment
@@ -17,12 +17,12 @@ abbrev pub may_be_next : Bool → State → Entry → Bool
 may_be_next true st e = is_founding e
 may_be_next false st e = is_none (refusal st e) && nat_le st.last e.moment
 
--- its effect, where it is the first or changes anything
+-- its effect, if it is the first or changes anything
 abbrev pub Changes : Bool → State → Entry → Option Effect → Type 0
 Changes first st e (Some x) = (first || not (changes_nothing (effect st e)) ≡ true) × (x ≡ effect st e)
 Changes first st e None = first || not (changes_nothing (effect st e)) ≡ false
 
--- its effect, exactly where it comes next
+-- its effect, exactly if it comes next
 abbrev pub Comes : Bool → State → Entry → Option Effect → Type 0
 Comes first st e (Some x) = (may_come first st e ≡ true) × (x ≡ effect st e)
 Comes first st e None = may_come first st e ≡ false

@@ -10,7 +10,7 @@ use Rattle.lrs_record.specs.declared.entry.Caller.TheVariants.{Nobody, Operator,
 use Rattle.lrs_record.specs.declared.entry.Entry.{Entry}
 use Rattle.lrs_record.specs.declared.entry.Write.TheVariants.{Found, Put}
 use Rattle.lrs_replies.specs.declared.answered.Answered.{Answered}
-use Rattle.lrs_replies.specs.declared.answered.Answered.TheVariants.{Shown, Refused}
+use Rattle.lrs_replies.specs.declared.answered.Answered.TheVariants.{Shown, Document, Refused}
 use Rattle.lrs_replies.specs.declared.answered.Refusal.{Refusal}
 use Rattle.lrs_replies.specs.declared.answered.Refusal.TheVariants.{Unauthorized, Forbidden, NotFound}
 
@@ -37,9 +37,10 @@ MayRefusePut (Forbidden rule) = ⊥
 MayRefusePut NotFound = ⊥
 MayRefusePut other = Unit {0}
 
--- what the program's own put may be answered: it shows no text
+-- what the program's own put may be answered: it shows no text and no document
 abbrev pub IsOfPut : Answered → Type 0
 IsOfPut (Shown text through) = ⊥
+IsOfPut (Document media bytes) = ⊥
 IsOfPut (Refused refusal) = MayRefusePut refusal
 IsOfPut other = Unit {0}
 

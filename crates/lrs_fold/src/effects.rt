@@ -1,9 +1,10 @@
 // What an entry changes.
 ghost use Rattle.std.specs.Prelude.{◌≡◌, ◌∷◌, ◌++◌, [], Some, IfOk, OnOk};
 ghost use Rattle.std.specs.List.{AllByRecursion};
+ghost use Rattle.std.specs.Option.{option_copied};
 ghost use Rattle.lrs_fold.specs.Judged.{IsJudged, IsJudgedTree};
 ghost use Rattle.lrs_fold.specs.Naming.{with_these_ids};
-ghost use Rattle.lrs_history.specs.Effects.{effect, keeping, keeping_all, making, new_by, supply_in};
+ghost use Rattle.lrs_history.specs.Effects.{document_by, dropping, effect, keeping, keeping_all, making, new_by, supply_in, writing};
 ghost use Rattle.lrs_parts.specs.Parts.{state_of};
 ghost use Rattle.lrs_parts.specs.declared.acceptance.Acceptance.TheVariants as acceptance;
 ghost use Rattle.lrs_parts.specs.State.{no_change};
@@ -12,14 +13,17 @@ ghost use Rattle.lrs_record.specs.declared.entry.Write.TheVariants as write;
 ghost use Rattle.xapi_index.specs.Batches.{with_ids};
 
 use crate::Fold;
+use lrs_agents::Ifi;
 use lrs_command::Who;
 use lrs_json::{Items, Memory, Text, Tree};
-use lrs_names::{Draw, Id};
+use lrs_names::{Draw, Id, Iri};
 use lrs_parts::{Acceptance, Effect, Founding, HeldProvider, ProvidersChange};
-use lrs_record::{Entry, Moment, Write};
+use lrs_record::{Entry, How, Moment, Write};
 use lrs_replies::token_text;
 use std::alloc::Global;
+use xapi_docs::{Document, DocumentsChange, posted};
 use xapi_index::batch_ids;
+use xapi_keys::StateKey;
 use xapi_statement::{Statement, StoredStatement};
 
 impl Fold {
@@ -42,6 +46,24 @@ impl Fold {
             Write::Put { id, statement } => self.put(alloc, who, moment, id, statement),
             Write::Post { statements } => {
                 self.post(alloc, who, moment, &draw, statements.into_vec())
+            }
+            Write::State {
+                how,
+                key,
+                media,
+                bytes,
+            } => self.state(alloc, moment, how, key, media, bytes),
+            Write::Drop {
+                activity,
+                agent,
+                registration,
+                state,
+            } => {
+                let effect = self.dropping(alloc, moment, &activity, &agent, &registration, &state);
+                drop(activity);
+                drop(agent);
+                drop(state);
+                effect
             }
         }
     }
@@ -80,7 +102,7 @@ impl Fold {
     {
         let mut added = Vec::new(alloc);
         self.push_new(&mut added, who, moment, &id, statement)?;
-        Ok(writing(alloc, moment, added))
+        Ok(writing_new(alloc, moment, added))
     }
 
     #[tactic(auto, using(crate::proofs::Naming::with_ids_again))]
@@ -101,7 +123,53 @@ impl Fold {
         Ok(writing_all(alloc, moment, added, ids))
     }
 
-    // Puts a statement behind the new ones, where its id isn't held and its caller has an authority.
+    fn state(
+        &self,
+        alloc: Global,
+        moment: Moment,
+        how: How,
+        key: StateKey,
+        media: Text,
+        bytes: Items<u8>,
+    ) -> Result<Effect, Memory>
+        ensures { IfOk result (λ made. made ≡ writing (state_of self.now.parts) moment how key media bytes) }
+    {
+        let held = self.parts.documents.get(&key);
+        match document_by(alloc, how, media, bytes, moment, held) {
+            Ok(document) => {
+                let mut effect = Effect::no_change(alloc, moment);
+                effect.documents = DocumentsChange::Written { key, document };
+                Ok(effect)
+            }
+            Err(refused) => {
+                drop(key);
+                Err(refused)
+            }
+        }
+    }
+
+    fn dropping(
+        &self,
+        alloc: Global,
+        moment: Moment,
+        activity: &Iri,
+        agent: &Ifi,
+        registration: &Option<Id>,
+        state: &Option<Text>,
+    ) -> Result<Effect, Memory>
+        ensures { IfOk result (λ made. made
+            ≡ dropping (state_of self.now.parts) moment activity.now agent.now registration.now state.now) }
+    {
+        let keys = self
+            .parts
+            .documents
+            .keys(activity, agent, registration, state)?;
+        let mut effect = Effect::no_change(alloc, moment);
+        effect.documents = DocumentsChange::Dropped(keys);
+        Ok(effect)
+    }
+
+    // Puts a statement after the new ones, if its id isn't held and its caller has an authority.
     fn push_new(
         &self,
         added: &mut Vec<StoredStatement>,
@@ -157,7 +225,7 @@ fn founding(alloc: Global, admin: Text, base: Text, moment: Moment) -> Effect
     effect
 }
 
-fn writing(alloc: Global, moment: Moment, added: Vec<StoredStatement>) -> Effect
+fn writing_new(alloc: Global, moment: Moment, added: Vec<StoredStatement>) -> Effect
     ensures { result ≡ record (no_change moment) { statements = added.items } }
 {
     let mut effect = Effect::no_change(alloc, moment);
@@ -168,7 +236,28 @@ fn writing(alloc: Global, moment: Moment, added: Vec<StoredStatement>) -> Effect
 fn writing_all(alloc: Global, moment: Moment, added: Vec<StoredStatement>, ids: Vec<Id>) -> Effect
     ensures { result ≡ record (no_change moment) { statements = added.items; acceptance = acceptance.Ids ids.items } }
 {
-    let mut effect = writing(alloc, moment, added);
+    let mut effect = writing_new(alloc, moment, added);
     effect.acceptance = Acceptance::Ids(Items::from_vec(ids));
     effect
+}
+
+// The document that is written over what is held.
+fn document_by(
+    alloc: Global,
+    how: How,
+    media: Text,
+    bytes: Items<u8>,
+    moment: Moment,
+    held: Option<&Document>,
+) -> Result<Document, Memory>
+    ensures { IfOk result (λ document. document ≡ document_by how media bytes moment (option_copied held.entry)) }
+{
+    match how {
+        How::Put => Ok(Document {
+            media,
+            bytes,
+            moment,
+        }),
+        How::Post => posted(alloc, media, bytes, moment, held),
+    }
 }

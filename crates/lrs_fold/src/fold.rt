@@ -1,6 +1,7 @@
 ghost use Rattle.std.specs.Prelude.{◌≡◌, OnOk};
-ghost use Rattle.lrs_parts.specs.Parts.{state_of, IsReadyFor};
+ghost use Rattle.lrs_parts.specs.Parts.{state_of, AddsNoPlaces, IsReadyFor, MakesPlacesFor};
 ghost use Rattle.lrs_parts.specs.State.{apply, nothing};
+ghost use Rattle.lrs_parts.specs.declared.parts.Parts.{Parts as SpecParts};
 
 use lrs_json::Memory;
 use lrs_parts::{Effect, Parts};
@@ -26,8 +27,18 @@ impl Fold {
     pub fn ready(&mut self, effect: &Effect) -> Result<(), Memory>
         ensures same { state_of self.new.parts ≡ state_of self.old.parts }
         ensures ready { OnOk result (IsReadyFor self.new.parts effect.now) }
+        ensures made { MakesPlacesFor self.old.parts self.new.parts effect.now }
     {
         self.parts.ready(effect)
+    }
+
+    /// Takes back the places that were made for an effect which doesn't come: then there are none but those before.
+    pub fn release(&mut self, effect: &Effect)
+        ensures same { state_of self.new.parts ≡ state_of self.old.parts }
+        ensures undone { (before : SpecParts) → MakesPlacesFor before self.old.parts effect.now
+            → AddsNoPlaces before self.new.parts }
+    {
+        self.parts.release(effect);
     }
 
     /// Takes an effect in for which there is room. It takes no memory.

@@ -12,7 +12,7 @@ use lrs_record::{Caller, Entry, Write};
 use std::alloc::Global;
 
 impl Fold {
-    /// What an entry changes, where it may come next as the first one or behind others, if there is room for it. None where
+    /// What an entry changes, if it may come next, as the first one or after others, and there is room for it. None if
     /// it may not.
     #[tactic(auto, using(crate::proofs::Coming::comes, crate::proofs::Coming::stays))]
     pub fn next(&self, alloc: Global, first: bool, entry: Entry) -> Result<Option<Effect>, Memory>
@@ -31,7 +31,7 @@ impl Fold {
         }
     }
 
-    // What an entry changes that isn't refused, where it changes anything.
+    // What an entry changes that isn't refused, if it changes anything.
     fn prepare_next(
         &self,
         alloc: Global,

@@ -32,7 +32,7 @@ pub enum Outcome {
     Accepted(Accepted),
 }
 
-/// An entry that is to be kept where there is room for it.
+/// An entry that is to be kept if there is room for it.
 #[derive(Drop)]
 pub struct Accepted {
     /// The entry, as clauses see it.

@@ -1,7 +1,8 @@
 // What is said to a question.
 ghost use Rattle.std.specs.Prelude.{◌≡◌, ◌≤◌, length, IfOk};
+ghost use Rattle.std.specs.Option.{option_copied};
 ghost use Rattle.lrs_command.specs.declared.command.Read.TheVariants as question;
-ghost use Rattle.lrs_history.specs.Answers.{is_shown, one_said, page_said, wanted_said};
+ghost use Rattle.lrs_history.specs.Answers.{document_said, documents_said, is_shown, one_said, page_said, wanted_said};
 ghost use Rattle.lrs_history.specs.History.{answered_inside, read_answered};
 ghost use Rattle.lrs_history.specs.Whose.{who_is};
 ghost use Rattle.lrs_parts.specs.Parts.{state_of};
@@ -14,9 +15,11 @@ use lrs_history::barred;
 use lrs_json::{Items, Memory};
 use lrs_names::Id;
 use lrs_record::Caller;
-use lrs_replies::{Answered, Refusal, versions_text};
+use lrs_replies::{Answered, Refusal, states_text, versions_text};
 use lrs_rules::Rule;
 use std::alloc::Global;
+use xapi_docs::Document;
+use xapi_keys::WantedDocuments;
 use xapi_pages::page_text;
 use xapi_query::{MoreLink, Query, Wanted, sees};
 use xapi_statement::{Format, StoredStatement};
@@ -47,6 +50,8 @@ impl Fold {
         match read {
             Read::Statements(wanted) => self.wanted_said(alloc, who, wanted),
             Read::More(link) => self.more_said(alloc, who, link),
+            Read::Documents(wanted) => self.documents_said(alloc, wanted),
+            Read::Profile => Ok(Answered::Refused(Refusal::NotFound)),
             Read::About => Ok(Answered::Shown {
                 text: Items::from_vec(versions_text(alloc)?),
                 through: None,
@@ -54,7 +59,30 @@ impl Fold {
         }
     }
 
-    // The page that a link leads to, where there is such a list as it speaks of.
+    fn documents_said(&self, alloc: Global, wanted: &WantedDocuments) -> Result<Answered, Memory>
+        ensures { IfOk result (λ said. said ≡ documents_said (state_of self.now.parts) wanted.now) }
+    {
+        match wanted {
+            WantedDocuments::One(key) => document_said(alloc, self.parts.documents.get(key)),
+            WantedDocuments::Ids {
+                activity,
+                agent,
+                registration,
+                since,
+            } => {
+                let ids = self
+                    .parts
+                    .documents
+                    .ids(activity, agent, registration, *since)?;
+                Ok(Answered::Shown {
+                    text: Items::from_vec(states_text(alloc, ids.as_slice())?),
+                    through: None,
+                })
+            }
+        }
+    }
+
+    // The page that a link leads to, if there is such a list.
     fn more_said(&self, alloc: Global, who: Who, link: &MoreLink) -> Result<Answered, Memory>
         ensures { IfOk result (λ said. said ≡ answered_inside (state_of self.now.parts) who (question.More link.now)) }
     {
@@ -82,7 +110,7 @@ impl Fold {
         }
     }
 
-    // The statement of an id, where it is voided or not as is asked.
+    // The statement of an id, if it is voided or isn't, as is asked.
     fn one_said(
         &self,
         alloc: Global,
@@ -112,7 +140,7 @@ impl Fold {
         sees(&self.sight(who), held) && self.parts.statements.is_voided(held) == voided
     }
 
-    // The page behind a position in the list as of the first n statements.
+    // The page after a position in the list as of the first n statements.
     fn page_said(
         &self,
         alloc: Global,
@@ -149,4 +177,21 @@ fn statement_text(alloc: Global, format: Format, held: &StoredStatement) -> Resu
     let mut body = Vec::with_capacity(alloc, BODY_ROOM)?;
     held.write(format, &mut body)?;
     Ok(body)
+}
+
+// The document, where one is held: a copy of its type and its bytes.
+fn document_said(alloc: Global, held: Option<&Document>) -> Result<Answered, Memory>
+    ensures { IfOk result (λ said. said ≡ document_said (option_copied held.entry)) }
+{
+    match held {
+        Some(document) => {
+            let media = document.media.clone()?;
+            let bytes = document.bytes.as_slice().to_vec(alloc)?;
+            Ok(Answered::Document {
+                media,
+                bytes: Items::from_vec(bytes),
+            })
+        }
+        None => Ok(Answered::Refused(Refusal::NotFound)),
+    }
 }

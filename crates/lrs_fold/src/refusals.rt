@@ -1,18 +1,22 @@
 // Why a write is refused.
 ghost use Rattle.std.specs.Prelude.{◌≡◌, IfOk, Ok, None};
+ghost use Rattle.std.specs.Option.{option_copied};
 ghost use Rattle.lrs_fold.specs.Judged.{IsJudged};
 ghost use Rattle.lrs_history.specs.Effects.{Occasion};
-ghost use Rattle.lrs_history.specs.Refusals.{bad_form, conflict, refusal, refusal_at};
+ghost use Rattle.lrs_history.specs.Refusals.{bad_form, conflict, refusal, refusal_at, unmergeable, unmergeable_with};
 ghost use Rattle.lrs_parts.specs.Parts.{state_of};
 
 use crate::Fold;
 use crate::forms::{refused_batch, refused_form};
 use lrs_command::Who;
-use lrs_history::{barred, refused_name};
-use lrs_json::Memory;
-use lrs_record::{Entry, Write};
+use lrs_history::{barred, refused_agent, refused_document, refused_name};
+use lrs_json::{Memory, Text};
+use lrs_media::is_json;
+use lrs_record::{Entry, How, Write};
 use lrs_replies::Refusal;
+use lrs_rules::Rule;
 use std::alloc::Global;
+use xapi_docs::{Document, MergeRefused, merge};
 
 // Why a write isn't looked at, whatever the store holds.
 fn bad_form(alloc: Global, write: &Write) -> Result<Option<Refusal>, Memory>
@@ -23,6 +27,38 @@ fn bad_form(alloc: Global, write: &Write) -> Result<Option<Refusal>, Memory>
         Write::Provider { name } => Ok(refused_name(name)),
         Write::Put { id, statement } => refused_form(alloc, id, statement),
         Write::Post { statements } => refused_batch(alloc, statements.as_slice()),
+        Write::State {
+            how: _,
+            key,
+            media,
+            bytes,
+        } => Ok(refused_document(&key.agent, media, bytes.as_slice())),
+        Write::Drop { agent, .. } => Ok(refused_agent(agent)),
+    }
+}
+
+// Why what is posted isn't merged into the document that is held.
+fn unmergeable_with(
+    alloc: Global,
+    media: &Text,
+    bytes: &[u8],
+    held: Option<&Document>,
+) -> Result<Option<Refusal>, Memory>
+    ensures { IfOk result (λ refused. refused ≡ unmergeable_with media.now bytes.now (option_copied held.entry)) }
+{
+    let Some(held) = held else {
+        return Ok(None);
+    };
+    if !is_json(held.media.as_str()) || !is_json(media.as_str()) {
+        return Ok(Some(Refusal::Broken(Rule::T(1))));
+    }
+    match merge(alloc, held.bytes.as_slice(), bytes) {
+        Ok(merged) => {
+            drop(merged);
+            Ok(None)
+        }
+        Err(MergeRefused::NotObjects) => Ok(Some(Refusal::Broken(Rule::T(2)))),
+        Err(MergeRefused::Memory) => Err(Memory),
     }
 }
 
@@ -47,7 +83,30 @@ impl Fold {
         if let Some(refusal) = bad_form(alloc, write)? {
             return Ok(Some(refusal));
         }
+        if let Some(refusal) = self.unmergeable(alloc, write)? {
+            return Ok(Some(refusal));
+        }
         Ok(self.conflict(who, write))
+    }
+
+    // Why a document isn't merged into the one that is held.
+    fn unmergeable(&self, alloc: Global, write: &Write) -> Result<Option<Refusal>, Memory>
+        ensures { IfOk result (λ refused. refused ≡ unmergeable (state_of self.now.parts) write.now) }
+    {
+        match write {
+            Write::State {
+                how: How::Post,
+                key,
+                media,
+                bytes,
+            } => unmergeable_with(
+                alloc,
+                media,
+                bytes.as_slice(),
+                self.parts.documents.get(key),
+            ),
+            _ => Ok(None),
+        }
     }
 
     // What a write meets in the store.

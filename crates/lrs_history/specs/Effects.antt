@@ -1,5 +1,6 @@
 -- What an entry changes in the parts of a store.
-use Rattle.std.specs.Prelude.{ℕ, List, [], ◌∷◌, length, Some}
+use Rattle.std.specs.Prelude.{ℕ, List, [], ◌∷◌, length, Option, Some}
+use Rattle.lrs_agents.specs.declared.identifiers.Ifi.{Ifi}
 use Rattle.lrs_command.specs.declared.who.Who.{Who}
 use Rattle.lrs_history.specs.Whose.{authority_of, who_is}
 use Rattle.lrs_names.specs.declared.draw.Draw.{Draw}
@@ -9,8 +10,16 @@ use Rattle.lrs_parts.specs.declared.acceptance.Acceptance.TheVariants as accepta
 use Rattle.lrs_parts.specs.declared.effect.Effect.{Effect}
 use Rattle.lrs_record.specs.declared.entry.Entry.{Entry}
 use Rattle.lrs_record.specs.declared.entry.Write.{Write}
-use Rattle.lrs_record.specs.declared.entry.Write.TheVariants.{Found, Provider, Put, Post}
+use Rattle.lrs_record.specs.declared.entry.How.{How}
+use Rattle.lrs_record.specs.declared.entry.How.TheVariants as how
+use Rattle.lrs_record.specs.declared.entry.Write.TheVariants.{Found, Provider, Put, Post, Drop}
+use Rattle.lrs_record.specs.declared.entry.Write.TheVariants as write
 use Rattle.lrs_replies.specs.Texts.{token_text}
+use Rattle.xapi_docs.specs.Changes.{document_of, posted}
+use Rattle.xapi_docs.specs.Documents.{document_under, keys_in}
+use Rattle.xapi_docs.specs.declared.changes.DocumentsChange.TheVariants.{Dropped, Written}
+use Rattle.xapi_docs.specs.declared.documents.Document.{Document}
+use Rattle.xapi_keys.specs.declared.state_key.StateKey.{StateKey}
 use Rattle.xapi_index.specs.Batches.{WithId, given_ids, kept_by, with_ids, ids_under}
 use Rattle.lrs_ids.specs.Ids.{Supply, supply_of}
 use Rattle.xapi_index.specs.Statements.{new_ones}
@@ -75,13 +84,34 @@ making st moment name token = record (no_change moment) {
   acceptance = acceptance.Provider (length st.providers) token;
 }
 
+-- ---- documents
+
+-- a document is written under a key: it replaces the one that is held, or is merged into it
+abbrev pub document_by : How → List ℕ → List ℕ → ℕ → Option Document → Document
+document_by how.Put media bytes moment held = document_of media bytes moment
+document_by how.Post media bytes moment held = posted media bytes moment held
+
+abbrev pub writing : State → ℕ → How → StateKey → List ℕ → List ℕ → Effect
+writing st moment h key media bytes = record (no_change moment) {
+  documents = Written key (document_by h media bytes moment (document_under key st.documents));
+}
+
+-- the documents that are held of an activity, an agent and a registration go, or the one of that state id
+abbrev pub dropping : State → ℕ → List ℕ → Ifi → Option (List ℕ) → Option (List ℕ) → Effect
+dropping st moment activity agent registration state = record (no_change moment) {
+  documents = Dropped (keys_in activity agent registration state st.documents);
+}
+
 -- ---- all of them
 
 abbrev pub effect_of : State → Occasion → Write → Effect
-effect_of st at (Found admin base) = record (no_change at.moment) { founding = Some (record { admin = admin; base = base }) }
+effect_of st at (Found admin base) =
+    record (no_change at.moment) { founding = Some (record { admin = admin; base = base }) }
 effect_of st at (Provider name) = making st at.moment name at.token
 effect_of st at (Put id statement) = keeping st at.by at.moment (with_ids_in at (Put id statement))
 effect_of st at (Post statements) = keeping_all st at.by at.moment (with_ids_in at (Post statements))
+effect_of st at (write.State h key media bytes) = writing st at.moment h key media bytes
+effect_of st at (Drop activity agent registration state) = dropping st at.moment activity agent registration state
 
 abbrev pub effect : State → Entry → Effect
 effect st e = effect_of st (occasion st e) e.write

@@ -1,5 +1,6 @@
 -- The store as a plain list of entries: what it holds, what it answers, and which lists can have come about.
-use Rattle.std.specs.Prelude.{◌≡◌, ◌<◌, ◌==◌, ◌&&◌, ℕ, max, Bool, true, false, IsTrue, List, [], ◌∷◌, ◌++◌, length, map, Option, Some, None, option_map, if◌then◌else◌, nat_lt}
+use Rattle.std.specs.Prelude.{◌≡◌, ◌<◌, ◌==◌, ◌&&◌, ℕ, max, Bool, true, false, IsTrue, List, [], ◌∷◌, ◌++◌, length, map}
+use Rattle.std.specs.Prelude.{Option, Some, None, option_map, if◌then◌else◌, nat_lt}
 use Rattle.std.specs.Option.{option_or}
 use Rattle.lrs_command.specs.declared.command.Command.{Command}
 use Rattle.lrs_command.specs.declared.command.Command.TheVariants as command
@@ -55,7 +56,7 @@ abbrev pub refused_or : Option Refusal → Answered → Answered
 refused_or None said = said
 refused_or (Some refusal) said = refused refusal
 
--- where the end gate stands behind a history's frames
+-- where the end gate stands after a history's frames
 abbrev pub end_place : ℕ → List Entry → ℕ
 end_place limit entries = length (store limit (map written_entry entries))
 
@@ -63,13 +64,14 @@ end_place limit entries = length (store limit (map written_entry entries))
 abbrev pub need : ℕ → Entry → ℕ
 need place e = need_at place (written_entry e)
 
--- where there is room for its entry, a write is accepted
+-- if there is room for its entry, a write is accepted
 abbrev pub if_room : ℕ → ℕ → Answered → Entry → Answer
 if_room limit place said e =
-    if nat_lt limit (need place e) then only (refused (Full (need_told place (written_entry e)) limit)) else record { said = said; entry = Some e }
+    if nat_lt limit (need place e) then only (refused (Full (need_told place (written_entry e)) limit))
+    else record { said = said; entry = Some e }
 
--- What is said to a write whatever room there is, or None where it is to have its entry: why it is refused, or what is said
--- where nothing changes.
+-- What is said to a write whatever room there is, or None if it is to have its entry: why it is refused, or what is
+-- said if nothing changes.
 abbrev pub said_at_once : State → Entry → Option Answered
 said_at_once st e =
     option_or (option_map refused (refusal st e)) (when (changes_nothing (effect st e)) (write_said (effect st e)))
@@ -81,7 +83,8 @@ entry_at caller write moment draw = record { caller = caller; write = write; mom
 abbrev pub next_entry : State → Caller → Write → ℕ → Draw → Entry
 next_entry st caller write clock draw = entry_at caller write (max (clamped clock) st.last) draw
 
--- What becomes of a command: something is said to it at once, or it has an entry and this is said where there is room for it.
+-- What becomes of a command: something is said to it at once, or it has an entry and this is said if there is room for
+-- it.
 pub data Outcome : Type 0 where
   Said : Answered → Outcome
   Accepted : Entry → Answered → Outcome
@@ -119,9 +122,10 @@ answer_in limit place st caller command clock draw = answer_of limit place (outc
 
 -- The abstract store: what it answers a command over a history.
 abbrev pub answer : ℕ → List Entry → Caller → Command → ℕ → Draw → Answer
-answer limit entries caller command clock draw = answer_in limit (end_place limit entries) (state entries) caller command clock draw
+answer limit entries caller command clock draw =
+    answer_in limit (end_place limit entries) (state entries) caller command clock draw
 
--- the history behind an answer
+-- the history after an answer
 abbrev pub with_entry : List Entry → Option Entry → List Entry
 with_entry entries None = entries
 with_entry entries (Some e) = entries ++ e ∷ []
@@ -149,12 +153,14 @@ IsFounding e = IsTrue (is_founding e)
 -- This entry may come next: the first founds the store, each other is the one that the answer to its own write gives.
 abbrev pub ComesNext : ℕ → List Entry → Entry → Type 0
 ComesNext limit [] e = IsFounding e
-ComesNext limit (first ∷ more) e = (answer limit (first ∷ more) e.caller (command.Write e.write) e.moment e.draw).entry ≡ Some e
+ComesNext limit (first ∷ more) e =
+    (answer limit (first ∷ more) e.caller (command.Write e.write) e.moment e.draw).entry ≡ Some e
 
--- each entry comes next behind those before it, and has a written form
+-- each entry comes next after those before it, and has a written form
 abbrev pub IsLegalFrom : ℕ → List Entry → List Entry → Type 0
 IsLegalFrom limit before [] = Unit {0}
-IsLegalFrom limit before (e ∷ entries) = IsLawful e × ComesNext limit before e × IsLegalFrom limit (before ++ e ∷ []) entries
+IsLegalFrom limit before (e ∷ entries) =
+    IsLawful e × ComesNext limit before e × IsLegalFrom limit (before ++ e ∷ []) entries
 
 -- The history can have come about in a store of this limit.
 abbrev pub IsLegal : ℕ → List Entry → Type 0

@@ -1,8 +1,10 @@
--- Why a command is refused: the first reason in a fixed order. It is: the caller (A1, A2), the form (its lengths, then the
--- rules S and B, then P15 and B9; of `found` 404), what a write speaks of that isn't there (404), an earlier list that there
--- is not (P14), then for each statement in its order another one under its id (409) or what a new one may not be (C2). What
--- a read asks for that isn't there is told in its answer.
-use Rattle.std.specs.Prelude.{ℕ, ◌==◌, ◌&&◌, ◌||◌, nat_lt, Bool, true, false, not, List, [], ◌∷◌, length, Option, Some, None, option_map, if◌then◌else◌}
+-- Why a command is refused: the first reason in a fixed order. It is: the caller (A1, A2), the form (of a document its
+-- agent (P6), its media type (F4) and its length; of statements their lengths, then the rules S and B, then P15 and B9;
+-- of `found` 404), an earlier list that there is not (P14), what a write speaks of that isn't there (404), what can't
+-- be merged into the document that is held (T1, T2), then for each statement in its order another one under its id
+-- (409) or what a new one may not be (C2). What a read asks for that isn't there is told in its answer.
+use Rattle.std.specs.Prelude.{ℕ, ◌==◌, ◌&&◌, ◌||◌, nat_lt, Bool, true, false, not, List, [], ◌∷◌, length, Option, Some}
+use Rattle.std.specs.Prelude.{None, is_none, option_map, if◌then◌else◌}
 use Rattle.std.specs.List.{list_any}
 use Rattle.std.specs.Option.{option_or}
 use Rattle.std.specs.Str.{bytes_eq}
@@ -12,13 +14,16 @@ use Rattle.lrs_command.specs.Areas.{read_area}
 use Rattle.lrs_command.specs.declared.command.Read.{Read}
 use Rattle.lrs_command.specs.declared.command.Read.TheVariants.{Statements, More, About}
 use Rattle.lrs_record.specs.Writes.{write_area}
+use Rattle.lrs_agents.specs.Identifiers.{is_identifier}
+use Rattle.lrs_agents.specs.declared.identifiers.Ifi.{Ifi}
+use Rattle.lrs_media.specs.Media.{is_json}
 use Rattle.lrs_rules.specs.declared.rule.Rule.{Rule}
 use Rattle.lrs_rules.specs.declared.rule.Rule.TheVariants as rule
 use Rattle.lrs_command.specs.declared.who.Who.{Who}
 use Rattle.lrs_command.specs.declared.who.Who.TheVariants as who
 use Rattle.lrs_history.specs.Effects.{Occasion, with_ids_in, occasion}
 use Rattle.lrs_history.specs.Whose.{authority_of}
-use Rattle.lrs_history.specs.declared.admitting.TheConstants.{MOST_OF_BATCH}
+use Rattle.lrs_history.specs.declared.admitting.TheConstants.{LONGEST_DOCUMENT, LONGEST_MEDIA, MOST_OF_BATCH}
 use Rattle.lrs_json.specs.Json.{Json}
 use Rattle.lrs_json.specs.View.{view}
 use Rattle.lrs_json.specs.declared.tree.Tree.{Tree}
@@ -26,10 +31,16 @@ use Rattle.lrs_parts.specs.Providers.{is_name}
 use Rattle.lrs_parts.specs.State.{State}
 use Rattle.lrs_record.specs.declared.entry.Entry.{Entry}
 use Rattle.lrs_record.specs.declared.entry.Write.{Write}
-use Rattle.lrs_record.specs.declared.entry.Write.TheVariants.{Found, Provider, Put, Post}
+use Rattle.lrs_record.specs.declared.entry.How.TheVariants as how
+use Rattle.lrs_record.specs.declared.entry.Write.TheVariants.{Found, Provider, Put, Post, Drop}
+use Rattle.lrs_record.specs.declared.entry.Write.TheVariants as write
 use Rattle.lrs_replies.specs.declared.answered.Refusal.{Refusal}
-use Rattle.lrs_replies.specs.declared.answered.Refusal.TheVariants.{Conflict, Broken, TooLong, Unauthorized, Forbidden, NotFound}
+use Rattle.lrs_replies.specs.declared.answered.Refusal.TheVariants.{Conflict, Broken, TooLong, Unauthorized, Forbidden}
+use Rattle.lrs_replies.specs.declared.answered.Refusal.TheVariants.{NotFound}
 use Rattle.xapi_alike.specs.Same.{same}
+use Rattle.xapi_docs.specs.Documents.{document_under}
+use Rattle.xapi_docs.specs.Merging.{merge}
+use Rattle.xapi_docs.specs.declared.documents.Document.{Document}
 use Rattle.xapi_index.specs.Batches.{WithId, given_ids, kept_by}
 use Rattle.lrs_ids.specs.Choices.{first_some, when}
 use Rattle.lrs_ids.specs.Ids.{are_distinct}
@@ -64,7 +75,7 @@ refused_name name = when (not (is_name name)) (Broken (rule.B 2))
 abbrev pub broken : Option ℕ → Option Refusal
 broken number = option_map (λ n. Broken (rule.S n)) number
 
--- what a statement's own id breaks, where it goes under another: P15
+-- what a statement's own id breaks, if it goes under another: P15
 abbrev pub other_id : List ℕ → Option (List ℕ) → Option Refusal
 other_id id None = None
 other_id id (Some own) = when (not (bytes_eq own id)) (Broken (rule.P 15))
@@ -81,9 +92,23 @@ abbrev pub broken_in : List Tree → Option ℕ
 broken_in [] = None
 broken_in (t ∷ ts) = option_or (broken_rule (view t)) (broken_in ts)
 
--- Why statements aren't looked at: their number and lengths, then the rules S on statements, then that two have one id (B9).
+-- an identifier that is none of its kind: P6
+abbrev pub refused_agent : Ifi → Option Refusal
+refused_agent agent = when (not (is_identifier agent)) (Broken (rule.P 6))
+
+-- Why a document isn't looked at: the identifier of its agent, then its media type, F4, then its length.
+abbrev pub refused_document : Ifi → List ℕ → List ℕ → Option Refusal
+refused_document agent media bytes = first_some (
+    refused_agent agent
+    ∷ when (nat_lt LONGEST_MEDIA (length media)) (Broken (rule.F 4))
+    ∷ when (nat_lt LONGEST_DOCUMENT (length bytes)) TooLong
+    ∷ [])
+
+-- Why statements aren't looked at: their number and lengths, then the rules S on statements, then that two have one id
+-- (B9).
 abbrev pub refused_batch : List Tree → Option Refusal
-refused_batch trees = first_some (when (is_too_large trees) TooLong ∷ broken (broken_in trees) ∷ when (not (are_distinct (given_ids trees))) (Broken (rule.B 9)) ∷ [])
+refused_batch trees = first_some (when (is_too_large trees) TooLong ∷ broken (broken_in trees)
+    ∷ when (not (are_distinct (given_ids trees))) (Broken (rule.B 9)) ∷ [])
 
 -- A `found` command is no command of a founded store.
 abbrev pub bad_form : Write → Option Refusal
@@ -91,12 +116,29 @@ bad_form (Found admin base) = Some NotFound
 bad_form (Provider name) = refused_name name
 bad_form (Put id statement) = refused_form id (view statement)
 bad_form (Post statements) = refused_batch statements
+bad_form (write.State h key media bytes) = refused_document key.agent media bytes
+bad_form (Drop activity agent registration state) = refused_agent agent
 
 -- ---- what isn't there
 
 -- What a write speaks of isn't there. No write so far speaks of anything but what it brings.
 abbrev pub missing : State → Write → Option Refusal
 missing st write = None
+
+-- ---- what a document meets in the store
+
+-- Why what is posted isn't merged into the document that is held: one of the two types isn't JSON (T1), or one of the
+-- two texts is no JSON object (T2).
+abbrev pub unmergeable_with : List ℕ → List ℕ → Option Document → Option Refusal
+unmergeable_with media bytes None = None
+unmergeable_with media bytes (Some held) = first_some (
+    when (not (is_json held.media && is_json media)) (Broken (rule.T 1))
+    ∷ when (is_none (merge held.bytes bytes)) (Broken (rule.T 2))
+    ∷ [])
+
+abbrev pub unmergeable : State → Write → Option Refusal
+unmergeable st (write.State how.Post key media bytes) = unmergeable_with media bytes (document_under key st.documents)
+unmergeable st other = None
 
 -- ---- what statements meet in the store
 
@@ -108,7 +150,7 @@ may_void other = false
 abbrev pub forbidden : State → Who → List StoredStatement → Json → Option Refusal
 forbidden st by before j = when (is_voiding j && not (may_void by)) (Forbidden (rule.C 2))
 
--- why a statement of this id isn't kept, where that one is held under it
+-- why a statement of this id isn't kept, if that one is held under it
 abbrev pub refused_over : State → Who → List StoredStatement → List ℕ → Json → Option StoredStatement → Option Refusal
 refused_over st by before id j None = forbidden st by before j
 refused_over st by before id j (Some held) = when (not (same (view held.received) j)) (Conflict id)
@@ -118,11 +160,12 @@ abbrev pub refused_under : State → Who → List StoredStatement → Option (Li
 refused_under st by before None j = forbidden st by before j
 refused_under st by before (Some id) j = refused_over st by before id j (held_under id st.statements)
 
--- those before the next one, behind this one
+-- those before the next one, after this one
 abbrev pub before_next : State → Occasion → List StoredStatement → WithId → List StoredStatement
 before_next st at before n = add_each before (kept_by at.moment (authority_of st at.by) (n ∷ []))
 
--- Each in its order, with those before it. No two of them have one id, so none comes under that of an earlier one of them.
+-- Each in its order, with those before it. No two of them have one id, so none comes under that of an earlier one of
+-- them.
 abbrev pub refused_in : State → Occasion → List StoredStatement → List WithId → Option Refusal
 refused_in st at before [] = None
 refused_in st at before (n ∷ ns) = option_or
@@ -137,7 +180,13 @@ conflict st at other = None
 -- ---- all of them
 
 abbrev pub refusal_at : State → Occasion → Write → Option Refusal
-refusal_at st at write = first_some (barred (write_area write) at.by ∷ bad_form write ∷ missing st write ∷ conflict st at write ∷ [])
+refusal_at st at write = first_some (
+    barred (write_area write) at.by
+    ∷ bad_form write
+    ∷ missing st write
+    ∷ unmergeable st write
+    ∷ conflict st at write
+    ∷ [])
 
 -- why a write is refused whatever room there is
 abbrev pub refusal : State → Entry → Option Refusal

@@ -19,7 +19,8 @@ provider_at (Some k) = who.Provider k
 
 -- whose the token is: the admin's, or that of a provider
 abbrev pub who_presents : State → List ℕ → Who
-who_presents st token = if is_admin st.founding token then who.Admin else provider_at (place_of_token token st.providers)
+who_presents st token = if is_admin st.founding token then who.Admin
+    else provider_at (place_of_token token st.providers)
 
 -- what a store makes of a caller
 abbrev pub who_is : State → Caller → Who
@@ -27,7 +28,7 @@ who_is st Nobody = who.Unknown
 who_is st Operator = who.Admin
 who_is st (Token token) = who_presents st token
 
--- under whose authority a caller's statements stand, where it has one
+-- under whose authority a caller's statements stand, if it has one
 abbrev pub authority_of : State → Who → Option Authority
 authority_of st who.Unknown = None
 authority_of st who.Admin = Some Admin

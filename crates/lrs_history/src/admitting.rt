@@ -1,7 +1,8 @@
 // Who is let in, and what is refused before a statement is looked at.
 ghost use Rattle.std.specs.Prelude.{◌≡◌};
-ghost use Rattle.lrs_history.specs.Refusals.{barred, refused_name, refused_with};
+ghost use Rattle.lrs_history.specs.Refusals.{barred, refused_agent, refused_document, refused_name, refused_with};
 
+use lrs_agents::Ifi;
 use lrs_command::{Area, Who};
 use lrs_json::Text;
 use lrs_parts::is_name;
@@ -10,6 +11,12 @@ use lrs_rules::Rule;
 
 /// How many statements may come together.
 pub const MOST_OF_BATCH: usize = 500;
+
+/// How long the body of a state document may be, in bytes. A merged document may be longer.
+pub const LONGEST_DOCUMENT: usize = 1_048_576;
+
+/// How long the media type of a state document may be, in bytes.
+pub const LONGEST_MEDIA: usize = 255;
 
 /// Why a caller isn't let in.
 pub fn barred(area: Area, who: Who) -> Option<Refusal>
@@ -50,4 +57,30 @@ pub fn refused_name(name: &Text) -> Option<Refusal>
         return None;
     }
     Some(Refusal::Broken(Rule::B(2)))
+}
+
+/// Why a state document isn't looked at: its agent's identifier (P6), its media type (F4), its length.
+pub fn refused_document(agent: &Ifi, media: &Text, bytes: &[u8]) -> Option<Refusal>
+    ensures { result ≡ refused_document agent.now media.now bytes.now }
+{
+    if !agent.is_identifier() {
+        return Some(Refusal::Broken(Rule::P(6)));
+    }
+    if media.as_bytes().len() > LONGEST_MEDIA {
+        return Some(Refusal::Broken(Rule::F(4)));
+    }
+    if bytes.len() > LONGEST_DOCUMENT {
+        return Some(Refusal::TooLong);
+    }
+    None
+}
+
+/// Why state documents aren't looked for: their agent's identifier (P6).
+pub fn refused_agent(agent: &Ifi) -> Option<Refusal>
+    ensures { result ≡ refused_agent agent.now }
+{
+    if agent.is_identifier() {
+        return None;
+    }
+    Some(Refusal::Broken(Rule::P(6)))
 }

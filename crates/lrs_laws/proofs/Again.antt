@@ -30,7 +30,7 @@ use Rattle.xapi_format.specs.declared.authority.Authority.{Authority}
 use Rattle.xapi_index.specs.Batches.{WithId, given_ids, held_of, id_for, kept_by, with_ids, ids_under, supply_behind, with_given}
 use Rattle.lrs_ids.specs.Choices.{first_some, when}
 use Rattle.lrs_ids.specs.Ids.{Supply}
-use Rattle.xapi_index.specs.Statements.{add_each, is_held, new_ones}
+use Rattle.xapi_index.specs.Statements.{is_held, new_ones}
 use Rattle.xapi_statement.specs.Stored.{StoredStatement}
 use Rattle.xapi_statement.specs.Statement.{own_id}
 
@@ -42,11 +42,11 @@ at_once limit h caller write clock draw s is =
     ap (λ o. answer_of limit (end_place limit h) (outcome_by o e (write_said (effect (state h) e)))) is
 
 -- what is refused is told so
-said_refused : (st : State) (e : Entry) (r : Refusal) → refusal st e ≡ Some r → said_at_once st e ≡ Some (refused r)
+pub said_refused : (st : State) (e : Entry) (r : Refusal) → refusal st e ≡ Some r → said_at_once st e ≡ Some (refused r)
 said_refused st e r is = ap (λ o. option_or (option_map refused o) (when (changes_nothing (effect st e)) (write_said (effect st e)))) is
 
 -- what changes nothing is accepted at once
-said_unchanged : (st : State) (e : Entry) → refusal st e ≡ None → changes_nothing (effect st e) ≡ true → said_at_once st e ≡ Some (write_said (effect st e))
+pub said_unchanged : (st : State) (e : Entry) → refusal st e ≡ None → changes_nothing (effect st e) ≡ true → said_at_once st e ≡ Some (write_said (effect st e))
 said_unchanged st e none same =
     ap (λ o. option_or (option_map refused o) (when (changes_nothing (effect st e)) (write_said (effect st e)))) none
     ∙ ap (λ b. when b (write_said (effect st e))) same

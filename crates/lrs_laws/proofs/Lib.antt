@@ -4,3 +4,7 @@ pub mod NewIds
 pub mod WholeBatches
 pub mod Paging
 pub mod PageLaws
+pub mod HeldDocuments
+pub mod DocumentLaws
+pub mod DocumentIds
+pub mod MergedAgain

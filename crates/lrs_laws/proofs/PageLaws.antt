@@ -61,7 +61,7 @@ links query sight s after last some is = linked query.ascending (listing query s
 
 -- ---- following
 
--- what is given by one page and those behind it
+-- what is given by one page and those after it
 abbrev FollowsOf : Query → Sight → ℕ → List StoredStatement → List (List StoredStatement) → Option ℕ → List ℕ → Type 0
 FollowsOf query sight n s later after given =
     MatchOption (page_behind query sight s after).link (given ≡ (page_behind query sight s after).positions)
@@ -112,24 +112,24 @@ ends_from query sight n s (held ∷ later) after some grown fewer =
 -- ---- what is accepted stays
 
 -- a list that goes on with others
-abbrev GoesOn : {A : Type 0} → List A → List A → Type 0
-GoesOn {A} old new = (more : List A) × (new ≡ old ++ more)
+abbrev BeginsAs : {A : Type 0} → List A → List A → Type 0
+BeginsAs {A} old new = (more : List A) × (new ≡ old ++ more)
 
-on_and_on : {A : Type 0} (a b c : List A) → GoesOn a b → GoesOn b c → GoesOn a c
+on_and_on : {A : Type 0} (a b c : List A) → BeginsAs a b → BeginsAs b c → BeginsAs a c
 on_and_on a b c first next = (first.0 ++ next.0, next.1 ∙ (ap (λ xs. xs ++ next.0) first.1 ∙ append_assoc a first.0 next.0))
 
-add_on : (held : List StoredStatement) (s : StoredStatement) → GoesOn held (add held s)
+add_on : (held : List StoredStatement) (s : StoredStatement) → BeginsAs held (add held s)
 add_on held s = by_held (is_held s.id held)
   where
-    by_held : (b : Bool) → GoesOn held (if b then held else held ++ s ∷ [])
+    by_held : (b : Bool) → BeginsAs held (if b then held else held ++ s ∷ [])
     by_held true = ([], sym (append-nil held))
     by_held false = (s ∷ [], refl)
 
-each_on : (held more : List StoredStatement) → GoesOn held (add_each held more)
+each_on : (held more : List StoredStatement) → BeginsAs held (add_each held more)
 each_on held [] = ([], sym (append-nil held))
 each_on held (s ∷ more) = on_and_on held (add held s) (add_each (add held s) more) (add_on held s) (each_on (add held s) more)
 
-pub statements_on : (st : State) (more : List Entry) → GoesOn st.statements (state_from st more).statements
+pub statements_on : (st : State) (more : List Entry) → BeginsAs st.statements (state_from st more).statements
 statements_on st [] = ([], sym (append-nil st.statements))
 statements_on st (e ∷ more) = on_and_on st.statements (step st e).statements (state_from (step st e) more).statements (each_on st.statements (effect st e).statements) (statements_on (step st e) more)
 

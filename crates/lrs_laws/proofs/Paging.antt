@@ -7,7 +7,7 @@ use Rattle.std.proofs.lemmas.Bool.Decides.{nat_tests}
 use Rattle.std.proofs.lemmas.List.{length-take-le, reverse-append}
 use Rattle.xapi_pages.specs.Listings.{first_page, is_behind, last_of, positions_of}
 
--- each of them comes behind those before it
+-- each of them comes after those before it
 abbrev pub IsInOrder : Bool → List ℕ → Type 0
 IsInOrder ascending [] = Unit {0}
 IsInOrder ascending (k ∷ ks) = AllByRecursion (λ j. is_behind ascending (Some k) j ≡ true) ks × IsInOrder ascending ks
@@ -23,7 +23,7 @@ is_less a b is = grind (arith, nat_tests)
 isnt_less : (a b : ℕ) → b ≤ a → nat_lt a b ≡ false
 isnt_less a b is = grind (arith, nat_tests)
 
--- nothing comes behind itself, and of two only one behind the other
+-- nothing follows itself, and of two only one after the other
 pub apart : (ascending : Bool) (j k : ℕ) → is_behind ascending (Some j) k ≡ true → is_behind ascending (Some k) j ≡ false
 apart true j k is = let h = less j k is in isnt_less k j (omega arith)
 apart false j k is = let h = less k j is in isnt_less j k (omega arith)
@@ -85,7 +85,7 @@ filtered_in_order ascending test (k ∷ ks) order = by_test (test k) (filtered_i
     by_test true rest = (each_filtered (λ j. is_behind ascending (Some k) j ≡ true) test ks order.0, rest)
     by_test false rest = rest
 
--- ---- what comes behind
+-- ---- what follows
 
 filter_twice : (p q : ℕ → Bool) → ((k : ℕ) → p k ≡ true → q k ≡ true) → (ks : List ℕ) → filter p (filter q ks) ≡ filter p ks
 filter_twice p q narrower [] = refl
@@ -106,7 +106,7 @@ each_at P [] i x each at = cc at
 each_at P (y ∷ xs) zero x each at = let e : y ≡ x = cc at in subst P e each.0
 each_at P (y ∷ xs) (suc i) x each at = each_at P xs i x each.1 at
 
--- behind the last of the first ones come the others
+-- after the last of the first ones come the others
 rest_behind : (ascending : Bool) (ks : List ℕ) (m last : ℕ) → IsInOrder ascending ks → slice_get ks m ≡ Some last → filter (is_behind ascending (Some last)) ks ≡ drop (suc m) ks
 rest_behind ascending [] m last order at = cc
 rest_behind ascending (k ∷ ks) zero last order at =

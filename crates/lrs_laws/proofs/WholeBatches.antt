@@ -38,7 +38,7 @@ use Rattle.lrs_record.specs.declared.entry.Entry.{Entry}
 use Rattle.lrs_record.specs.declared.entry.Write.TheVariants.{Put, Post}
 use Rattle.lrs_replies.specs.declared.answered.Answered.{Answered}
 use Rattle.lrs_replies.specs.declared.answered.Refusal.{Refusal}
-use Rattle.lrs_replies.specs.declared.answered.Refusal.TheVariants.{Conflict, Full}
+use Rattle.lrs_replies.specs.declared.answered.Refusal.TheVariants.{Conflict}
 use Rattle.xapi_alike.specs.Same.{same, IsSameness}
 use Rattle.xapi_format.specs.declared.authority.Authority.{Authority}
 use Rattle.xapi_format.specs.declared.authority.Authority.TheVariants.{Admin, Provider}
@@ -73,16 +73,16 @@ none_new held xs is = by_new (new_ones held xs) is (add_each-new held xs)
     by_new [] is q = q
     by_new (n ∷ ns) is q = cc is
 
--- it isn't refused, what it is accepted with is told, and behind it these statements are held
-abbrev IsBehind : List Entry → Entry → Answered → List StoredStatement → Answer → Type 0
-IsBehind h x t xs a = (refusal (state h) x ≡ None) × (a.said ≡ t) × ((state (with_entry h a.entry)).statements ≡ add_each (state h).statements xs)
+-- it isn't refused, what it is accepted with is told, and after it these statements are held
+abbrev IsAcceptedWith : List Entry → Entry → Answered → List StoredStatement → Answer → Type 0
+IsAcceptedWith h x t xs a = (refusal (state h) x ≡ None) × (a.said ≡ t) × ((state (with_entry h a.entry)).statements ≡ add_each (state h).statements xs)
 
 is_behind_it : (limit place : ℕ) (h : List Entry) (x : Entry) (t : Answered) (xs : List StoredStatement) → (effect (state h) x).statements ≡ new_ones (state h).statements xs
     → IsAccepted (answer_by limit place x t (refusal (state h) x) (changes_nothing (effect (state h) x)))
-    → IsBehind h x t xs (answer_by limit place x t (refusal (state h) x) (changes_nothing (effect (state h) x)))
+    → IsAcceptedWith h x t xs (answer_by limit place x t (refusal (state h) x) (changes_nothing (effect (state h) x)))
 is_behind_it limit place h x t xs new =
     let held : List StoredStatement = (state h).statements in
-    by_answer (IsBehind h x t xs) limit place x t (refusal (state h) x) (changes_nothing (effect (state h) x))
+    by_answer (IsAcceptedWith h x t xs) limit place x t (refusal (state h) x) (changes_nothing (effect (state h) x))
     (λ none same. (none, refl, none_new held xs (ap (λ l. is_empty l) (sym new) ∙ and_right _ (is_empty (effect (state h) x).statements) same)))
     (λ none. (none, refl, ap (λ s. s.statements) (state_from-append nothing h (x ∷ [])) ∙ (ap (λ l. add_each held l) new ∙ add_each-new held xs)))
 
@@ -146,7 +146,7 @@ found_add held x new =
     ∙ (find-append (λ (s : StoredStatement). bytes_eq s.id x.id) held (x ∷ [])
     ∙ (ap (λ o. option_or o (held_under x.id (x ∷ []))) (none_held (held_under x.id held) new) ∙ ap (λ b. cond b (Some x) None) (nat_list_eq_equiv.refl x.id)))
 
--- those of which none is held are held behind
+-- those of which none is held are held after
 abbrev Added : ℕ → Authority → List StoredStatement → List WithId → WithId → Type 0
 Added moment by held ns n = is_held n.id held ≡ false → held_under n.id (add_each held (map (held_of moment by) ns)) ≡ Some (held_of moment by n)
 

@@ -1,6 +1,7 @@
--- What follows from the definitions over every history: an id names one statement, for good, a batch is kept whole, and the
--- pages of a list give it whole.
-use Rattle.std.specs.Prelude.{◌≡◌, ◌≢◌, ◌<◌, ◌≤◌, ◌+◌, ◌==◌, ℕ, List, [], ◌∷◌, ◌++◌, length, map, take, Option, Some, None, MatchOption, true, false, IsTrue}
+-- What follows from the definitions over every history: an id names one statement, for good, a batch is kept whole, and
+-- the pages of a list give it whole.
+use Rattle.std.specs.Prelude.{◌≡◌, ◌≢◌, ◌<◌, ◌≤◌, ◌+◌, ◌==◌, ℕ, List, [], ◌∷◌, ◌++◌, length, map, take, Option, Some}
+use Rattle.std.specs.Prelude.{None, MatchOption, true, false, IsTrue}
 use Rattle.std.specs.List.{AllByRecursion, IsDistinct}
 use Rattle.lrs_record.specs.declared.entry.Area.TheVariants.{Store}
 use Rattle.lrs_command.specs.declared.command.Command.{Command}
@@ -30,7 +31,7 @@ use Rattle.xapi_format.specs.declared.authority.Authority.{Authority}
 use Rattle.xapi_index.specs.Batches.{WithId, given_ids, with_ids, ids_under}
 use Rattle.lrs_ids.specs.Ids.{are_distinct}
 use Rattle.xapi_pages.specs.Listings.{is_behind, listing, listing_behind, page_behind, page_body}
-use Rattle.xapi_index.specs.Statements.{held_under, ids_of, is_held, is_voided}
+use Rattle.xapi_index.specs.Statements.{held_under, ids_of, is_voided}
 use Rattle.xapi_query.specs.declared.link.MoreLink.{MoreLink}
 use Rattle.xapi_query.specs.declared.query.Query.{Query}
 use Rattle.xapi_query.specs.declared.sight.Sight.{Sight}
@@ -88,12 +89,14 @@ IsSmall h trees = (used_in (state h)).count + length trees < WORDS
 
 -- whoever is let in has an authority, under which its statements are kept
 abbrev pub CallersHaveAuthority : Type 0
-CallersHaveAuthority = (h : List Entry) (caller : Caller) → IsLetIn h caller → (authority : Authority) × (authority_of (state h) (who_in h caller) ≡ Some authority)
+CallersHaveAuthority = (h : List Entry) (caller : Caller) → IsLetIn h caller → (authority : Authority)
+    × (authority_of (state h) (who_in h caller) ≡ Some authority)
 
 -- Who isn't let into an area is told so, whatever it asks there.
 abbrev pub StrangersAreToldAlike : Type 0
 StrangersAreToldAlike =
-    (limit : ℕ) (h : List Entry) (caller : Caller) (c : Command) (clock : ℕ) (draw : Draw) (refusal : Refusal) → barred (command_area c) (who_in h caller) ≡ Some refusal
+    (limit : ℕ) (h : List Entry) (caller : Caller) (c : Command) (clock : ℕ) (draw : Draw) (refusal : Refusal)
+    → barred (command_area c) (who_in h caller) ≡ Some refusal
     → answer limit h caller c clock draw ≡ only (refused refusal)
 
 -- ---- an id
@@ -102,40 +105,48 @@ StrangersAreToldAlike =
 abbrev pub NamesOne : Type 0
 NamesOne = (h : List Entry) → IsTrue (are_distinct (ids_of (state h).statements))
 
--- what an id names, it names behind every further entry
+-- what an id names, it names after every further entry
 abbrev pub NamesForGood : Type 0
-NamesForGood = (h more : List Entry) (id : List ℕ) (s : StoredStatement) → held_under id (state h).statements ≡ Some s → held_under id (state (h ++ more)).statements ≡ Some s
+NamesForGood = (h more : List Entry) (id : List ℕ) (s : StoredStatement) → held_under id (state h).statements ≡ Some s
+    → held_under id (state (h ++ more)).statements ≡ Some s
 
 -- what is voided stays so
 abbrev pub StaysVoided : Type 0
-StaysVoided = (h more : List Entry) (s : StoredStatement) → is_voided (state h).statements s ≡ true → is_voided (state (h ++ more)).statements s ≡ true
+StaysVoided = (h more : List Entry) (s : StoredStatement) → is_voided (state h).statements s ≡ true
+    → is_voided (state (h ++ more)).statements s ≡ true
 
 -- ---- a statement again
 
 -- the same one makes no entry
 abbrev pub RepeatsAreTaken : Type 0
 RepeatsAreTaken =
-    (limit : ℕ) (h : List Entry) (caller : Caller) (id : List ℕ) (t : Tree) (s : StoredStatement) (clock : ℕ) (draw : Draw) → ComesUnder h caller id t s
+    (limit : ℕ) (h : List Entry) (caller : Caller) (id : List ℕ) (t : Tree) (s : StoredStatement) (clock : ℕ)
+    (draw : Draw) → ComesUnder h caller id t s
     → same (view s.received) (view t) ≡ true → answer limit h caller (Write (Put id t)) clock draw ≡ only Same
 
 -- another one is told the id, and makes none
 abbrev pub ConflictsAreTold : Type 0
 ConflictsAreTold =
-    (limit : ℕ) (h : List Entry) (caller : Caller) (id : List ℕ) (t : Tree) (s : StoredStatement) (clock : ℕ) (draw : Draw) → ComesUnder h caller id t s
-    → same (view s.received) (view t) ≡ false → answer limit h caller (Write (Put id t)) clock draw ≡ only (refused (Conflict id))
+    (limit : ℕ) (h : List Entry) (caller : Caller) (id : List ℕ) (t : Tree) (s : StoredStatement) (clock : ℕ)
+    (draw : Draw) → ComesUnder h caller id t s
+    → same (view s.received) (view t) ≡ false
+    → answer limit h caller (Write (Put id t)) clock draw ≡ only (refused (Conflict id))
 
 -- a batch of which each is held is told its ids, and makes no entry
 abbrev pub RepeatedBatchesAreTaken : Type 0
 RepeatedBatchesAreTaken =
-    (limit : ℕ) (h : List Entry) (caller : Caller) (trees : List Tree) (clock : ℕ) (draw : Draw) → ComeTogether h caller trees → AllByRecursion (Repeats (state h).statements) trees
+    (limit : ℕ) (h : List Entry) (caller : Caller) (trees : List Tree) (clock : ℕ) (draw : Draw)
+    → ComeTogether h caller trees → AllByRecursion (Repeats (state h).statements) trees
     → answer limit h caller (Write (Post trees)) clock draw ≡ only (Shown (ids_body (given_ids trees)) None)
 
--- the first that meets another statement is told, where none before it is refused
+-- the first that meets another statement is told, if none before it is refused
 abbrev pub BatchConflictsAreTold : Type 0
 BatchConflictsAreTold =
-    (limit : ℕ) (h : List Entry) (caller : Caller) (before behind : List Tree) (t : Tree) (id : List ℕ) (clock : ℕ) (draw : Draw) → ComeTogether h caller (before ++ t ∷ behind)
+    (limit : ℕ) (h : List Entry) (caller : Caller) (before behind : List Tree) (t : Tree) (id : List ℕ)
+    (clock : ℕ) (draw : Draw) → ComeTogether h caller (before ++ t ∷ behind)
     → let at = occasion_of h caller (before ++ t ∷ behind) clock draw in
-    refused_in (state h) at (state h).statements (with_ids at.supply before) ≡ None → Contradicts (state h).statements t id
+    refused_in (state h) at (state h).statements (with_ids at.supply before) ≡ None
+    → Contradicts (state h).statements t id
     → answer limit h caller (Write (Post (before ++ t ∷ behind))) clock draw ≡ only (refused (Conflict id))
 
 -- ---- a batch
@@ -145,7 +156,8 @@ abbrev pub MadeIdsAreNew : Type 0
 MadeIdsAreNew =
     (h : List Entry) (trees : List Tree) (draw : Draw) → IsSmall h trees → refused_batch trees ≡ None
     → IsTrue (are_distinct (ids_under (batch_with_ids h trees draw)))
-    × AllByRecursion (λ (n : WithId). own_id (view n.tree) ≡ None → (used_in (state h)).is_used n.id ≡ false) (batch_with_ids h trees draw)
+    × AllByRecursion (λ (n : WithId). own_id (view n.tree) ≡ None → (used_in (state h)).is_used n.id ≡ false)
+    (batch_with_ids h trees draw)
 
 -- it isn't refused
 abbrev pub IsAccepted : Answer → Type 0
@@ -153,26 +165,31 @@ IsAccepted a = (r : Refusal) → a.said ≢ refused r
 
 -- under its id this statement is held, or the same one
 abbrev pub IsHeldSame : List StoredStatement → WithId → Type 0
-IsHeldSame held n = (s : StoredStatement) × (held_under n.id held ≡ Some s) × (same (view s.received) (view n.tree) ≡ true)
+IsHeldSame held n =
+    (s : StoredStatement) × (held_under n.id held ≡ Some s) × (same (view s.received) (view n.tree) ≡ true)
 
--- Behind a PUT that isn't refused its statement is held, or the same one.
+-- After a PUT that isn't refused its statement is held, or the same one.
 abbrev pub PutsAreHeld : Type 0
 PutsAreHeld =
-    (limit : ℕ) (h : List Entry) (caller : Caller) (id : List ℕ) (t : Tree) (clock : ℕ) (draw : Draw) → IsLawfulTree (view t)
-    → let a = answer limit h caller (Write (Put id t)) clock draw in IsAccepted a → IsHeldSame (state (with_entry h a.entry)).statements (record { id = id; tree = t })
+    (limit : ℕ) (h : List Entry) (caller : Caller) (id : List ℕ) (t : Tree) (clock : ℕ) (draw : Draw)
+    → IsLawfulTree (view t)
+    → let a = answer limit h caller (Write (Put id t)) clock draw in IsAccepted a
+    → IsHeldSame (state (with_entry h a.entry)).statements (record { id = id; tree = t })
 
--- Where a batch isn't refused, its caller is told its ids, and behind it each of its statements, or the same one, is held
+-- If a batch isn't refused, its caller is told its ids, and after it each of its statements, or the same one, is held
 -- under its id.
 abbrev pub BatchesAreWhole : Type 0
 BatchesAreWhole =
-    (limit : ℕ) (h : List Entry) (caller : Caller) (trees : List Tree) (clock : ℕ) (draw : Draw) → IsSmall h trees → AreLawfulTrees trees
+    (limit : ℕ) (h : List Entry) (caller : Caller) (trees : List Tree) (clock : ℕ) (draw : Draw) → IsSmall h trees
+    → AreLawfulTrees trees
     → let a = answer limit h caller (Write (Post trees)) clock draw in IsAccepted a
-    → (a.said ≡ Shown (ids_body (ids_under (batch_with_ids h trees draw))) None) × AllByRecursion (IsHeldSame (state (with_entry h a.entry)).statements) (batch_with_ids h trees draw)
+    → (a.said ≡ Shown (ids_body (ids_under (batch_with_ids h trees draw))) None)
+    × AllByRecursion (IsHeldSame (state (with_entry h a.entry)).statements) (batch_with_ids h trees draw)
 
 -- ---- pages
 
--- What is given from a position on by following the links until there is none: the positions of each page in turn. For each
--- page there are the statements that are held when it is asked for.
+-- What is given from a position on by following the links until there is none: the positions of each page in turn. For
+-- each page there are the statements that are held when it is asked for.
 abbrev pub Follows : Query → Sight → ℕ → List (List StoredStatement) → Option ℕ → List ℕ → Type 0
 Follows query sight n [] after given = ⊥
 Follows query sight n (held ∷ later) after given =
@@ -180,8 +197,8 @@ Follows query sight n (held ∷ later) after given =
     MatchOption page.link (given ≡ page.positions)
     (λ last. (rest : List ℕ) × (given ≡ page.positions ++ rest) × Follows query sight n later (Some last) rest)
 
--- The links from a first page on give the whole list as of that page, whatever is accepted between the pages: `grown` has for
--- each page the entries that were accepted since the history h.
+-- The links from a first page on give the whole list as of that page, whatever is accepted between the pages: `grown`
+-- has for each page the entries that were accepted since the history h.
 abbrev pub PagesGiveTheList : Type 0
 PagesGiveTheList =
     (h : List Entry) (grown : List (List Entry)) (query : Query) (sight : Sight) (given : List ℕ) → 0 < query.page
@@ -190,28 +207,31 @@ PagesGiveTheList =
 
 -- and each position once
 abbrev pub PositionsComeOnce : Type 0
-PositionsComeOnce = (query : Query) (sight : Sight) (statements : List StoredStatement) → IsDistinct (λ j k. j == k) (listing query sight statements)
+PositionsComeOnce = (query : Query) (sight : Sight) (statements : List StoredStatement)
+    → IsDistinct (λ j k. j == k) (listing query sight statements)
 
--- a link leads on: to what lies behind it, within the list
+-- a link leads on: to what follows it, within the list
 abbrev pub LinksGoOn : Type 0
 LinksGoOn =
     (query : Query) (sight : Sight) (statements : List StoredStatement) (after : Option ℕ) (last : ℕ) → 0 < query.page
     → (page_behind query sight statements after).link ≡ Some last
     → IsTrue (is_behind query.ascending after last) × (last < length statements)
 
--- There is a link exactly where something comes behind the page; without one the page has all that was left.
+-- There is a link exactly if something follows the page; without one the page has all that was left.
 abbrev pub LinksWhereMoreComes : Type 0
 LinksWhereMoreComes =
     (query : Query) (sight : Sight) (statements : List StoredStatement) (after : Option ℕ) → 0 < query.page
     → let page = page_behind query sight statements after in
-    MatchOption page.link (page.positions ≡ listing_behind query sight statements after) (λ last. listing_behind query sight statements (Some last) ≢ [])
+    MatchOption page.link (page.positions ≡ listing_behind query sight statements after)
+    (λ last. listing_behind query sight statements (Some last) ≢ [])
 
 -- Where more pages may be asked for than statements are listed, the way ends, and gives the list.
 abbrev pub PagesEnd : Type 0
 PagesEnd =
     (h : List Entry) (grown : List (List Entry)) (query : Query) (sight : Sight) → 0 < query.page
     → length (listing query sight (state h).statements) < length grown
-    → Follows query sight (length (state h).statements) (map (λ more. (state (h ++ more)).statements) grown) None (listing query sight (state h).statements)
+    → Follows query sight (length (state h).statements) (map (λ more. (state (h ++ more)).statements) grown) None
+    (listing query sight (state h).statements)
 
 -- ---- what callers are told of them
 
@@ -225,13 +245,17 @@ FirstPagesAreTold =
     (limit : ℕ) (h : List Entry) (caller : Caller) (query : Query) (clock : ℕ) (draw : Draw) → IsLetIn h caller
     → let all = (state h).statements in
     answer limit h caller (Read (read.Statements (Many query))) clock draw
-    ≡ only (Shown (page_body query (length all) all (page_behind query (sight_in h caller) all None)) (Some (state h).last))
+    ≡ only (Shown (page_body query (length all) all (page_behind query (sight_in h caller) all None))
+    (Some (state h).last))
 
--- A link is told the same page for ever, as the history h has it, whatever is accepted behind h.
+-- A link is told the same page for ever, as the history h has it, whatever is accepted after h.
 abbrev pub LinksStay : Type 0
 LinksStay =
-    (limit : ℕ) (h more : List Entry) (caller : Caller) (link : MoreLink) (clock : ℕ) (draw : Draw) → IsLegal limit h → IsLetIn h caller
+    (limit : ℕ) (h more : List Entry) (caller : Caller) (link : MoreLink) (clock : ℕ) (draw : Draw) → IsLegal limit h
+    → IsLetIn h caller
     → link.asof ≤ length (state h).statements
     → let all = (state h).statements in
     answer limit (h ++ more) caller (Read (read.More link)) clock draw
-    ≡ only (Shown (page_body link.query link.asof all (page_behind link.query (sight_in h caller) (take link.asof all) (Some link.after))) (Some (state (h ++ more)).last))
+    ≡ only (Shown
+    (page_body link.query link.asof all (page_behind link.query (sight_in h caller) (take link.asof all)
+    (Some link.after))) (Some (state (h ++ more)).last))

@@ -1,5 +1,5 @@
 -- The places of tokens in a register of providers.
-use Rattle.std.proofs.Common.{◌≡◌, ℕ, List, Bool, Option, Some, true, ap}
+use Rattle.std.proofs.Common.{◌≡◌, ℕ, List, Some, true, ap}
 use Rattle.std.specs.BTreeMap.{is_at}
 use Rattle.std.specs.Cmp.Lexicographic.{slice_cmp}
 use Rattle.std.specs.Ordering.{nat_cmp}

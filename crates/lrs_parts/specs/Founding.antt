@@ -1,5 +1,6 @@
 -- What a store is founded with: the admin's token, and the address that its own names begin with.
-use Rattle.std.specs.Prelude.{ℕ, ◌==◌, ◌&&◌, ◌||◌, nat_le, nat_eq, not, List, length, Bool, false, Option, Some, None, is_ok, codes, IsTrue}
+use Rattle.std.specs.Prelude.{ℕ, ◌==◌, ◌&&◌, ◌||◌, nat_le, nat_eq, not, List, length, Bool, false, Option, Some, None}
+use Rattle.std.specs.Prelude.{is_ok, codes, IsTrue}
 use Rattle.std.specs.List.{list_all, starts_with, ends_with}
 use Rattle.std.specs.Option.{option_or}
 use Rattle.std.specs.Str.{bytes_eq}
@@ -24,7 +25,8 @@ is_admin (Some founding) token = bytes_eq founding.admin token
 
 -- 8 to 64 letters and digits
 abbrev pub is_token : List ℕ → Bool
-is_token token = nat_le SHORTEST_TOKEN (length token) && nat_le (length token) LONGEST_TOKEN && list_all is_ascii_alphanumeric token
+is_token token = nat_le SHORTEST_TOKEN (length token) && nat_le (length token) LONGEST_TOKEN
+    && list_all is_ascii_alphanumeric token
 
 -- neither ? nor #
 abbrev pub is_no_separator : ℕ → Bool
@@ -35,9 +37,11 @@ is_of_the_web text = starts_with nat_eq text (codes "http://") || starts_with na
 
 -- what can be seen of an address without reading it as one
 abbrev pub has_base_form : List ℕ → Bool
-has_base_form text = is_of_the_web text && ends_with nat_eq text (codes "/") && list_all is_no_separator text && is_iri text
+has_base_form text =
+    is_of_the_web text && ends_with nat_eq text (codes "/") && list_all is_no_separator text && is_iri text
 
--- An address of the web that ends with a slash: http or https, an IRI, without query and fragment, and read by the URL Standard's parser.
+-- An address of the web that ends with a slash: http or https, an IRI, without query and fragment, and read by the URL
+-- Standard's parser.
 abbrev pub is_base : List ℕ → Bool
 is_base text = has_base_form text && is_ok (parse_url None text)
 

@@ -1,16 +1,47 @@
 -- The parts in memory, as the definitions see them, and room for an effect in each.
 use Rattle.std.specs.Prelude.{◌+◌, ◌<◌, ◌^◌}
-use Rattle.lrs_parts.specs.Rooms.{HasRoomForProvider}
+use Rattle.std.specs.Cmp.Lexicographic.{slice_cmp}
+use Rattle.std.specs.Ordering.{nat_cmp}
+use Rattle.lrs_parts.specs.Rooms.{HasRoomForProvider, MakesProviderPlace}
 use Rattle.lrs_parts.specs.State.{State}
 use Rattle.lrs_parts.specs.declared.effect.Effect.{Effect}
 use Rattle.lrs_parts.specs.declared.parts.Parts.{Parts}
+use Rattle.lrs_register.specs.Places.{AddsNoPlace, MakesPlaces}
+use Rattle.xapi_docs.specs.Docs as docs
+use Rattle.xapi_docs.specs.Docs.{HasRoomForDocuments, documents_in, is_written}
 use Rattle.xapi_index.specs.Index.{IsIndexReadyFor}
+use Rattle.xapi_index.specs.Statements.{is_held, is_target}
 
 abbrev pub state_of : Parts → State
-state_of parts = record { founding = parts.founding; providers = parts.providers.held; statements = parts.statements.held; length = parts.length; last = parts.last }
+state_of parts = record {
+  founding = parts.founding;
+  providers = parts.providers.held;
+  statements = parts.statements.held;
+  documents = documents_in parts.documents;
+  length = parts.length;
+  last = parts.last;
+}
 
 -- there is room for each of its changes, and one entry more can be counted
 pub record IsReadyFor (parts : Parts) (effect : Effect) : Type 0 where
   pub providers : HasRoomForProvider parts.providers effect.providers
   pub statements : IsIndexReadyFor parts.statements effect.statements
+  pub documents : HasRoomForDocuments parts.documents effect.documents
   pub length : parts.length + 1 < 2 ^ 64
+
+-- ---- places that are made ahead
+
+-- places were made for what an effect brings, and for nothing else
+pub record MakesPlacesFor (old new : Parts) (effect : Effect) : Type 0 where
+  pub providers : MakesProviderPlace old.providers new.providers effect.providers
+  pub ids : MakesPlaces (slice_cmp nat_cmp) (λ k. is_held k effect.statements) old.statements.ids new.statements.ids
+  pub targets : MakesPlaces (slice_cmp nat_cmp) (λ k. is_target k effect.statements) old.statements.targets
+      new.statements.targets
+  pub documents : docs.MakesPlaces (is_written effect.documents) old.documents new.documents
+
+-- no part has a place that it hadn't
+pub record AddsNoPlaces (old new : Parts) : Type 0 where
+  pub providers : AddsNoPlace (slice_cmp nat_cmp) old.providers.places new.providers.places
+  pub ids : AddsNoPlace (slice_cmp nat_cmp) old.statements.ids new.statements.ids
+  pub targets : AddsNoPlace (slice_cmp nat_cmp) old.statements.targets new.statements.targets
+  pub documents : docs.AddsNoPlace old.documents new.documents

@@ -9,6 +9,9 @@ use Rattle.lrs_ids.specs.Ids.{Used, those}
 use Rattle.lrs_parts.specs.declared.acceptance.Acceptance.TheVariants.{Plain}
 use Rattle.lrs_register.specs.Changes.{changes}
 use Rattle.xapi_index.specs.Statements.{add_each, ids_of}
+use Rattle.xapi_docs.specs.Changes.{changes_documents, documents_after}
+use Rattle.xapi_docs.specs.Documents.{Documents}
+use Rattle.xapi_docs.specs.declared.changes.DocumentsChange.TheVariants.{Unchanged}
 use Rattle.xapi_statement.specs.Stored.{StoredStatement}
 
 pub record State : Type 0 where
@@ -18,24 +21,34 @@ pub record State : Type 0 where
   pub providers : List HeldProvider
   -- the statements in the order in which they were accepted, each under an id of its own
   pub statements : List StoredStatement
+  -- the documents in the order of their keys, at most one under a key
+  pub documents : Documents
   -- how many entries there are
   pub length : ℕ
   -- the last entry's moment
   pub last : ℕ
 
 abbrev pub nothing : State
-nothing = record { founding = None; providers = []; statements = []; length = 0; last = 0 }
+nothing = record { founding = None; providers = []; statements = []; documents = []; length = 0; last = 0 }
 
 -- an entry of this moment that changes no part
 abbrev pub no_change : ℕ → Effect
-no_change moment = record { founding = None; providers = unchanged_providers; statements = []; moment = moment; acceptance = Plain }
+no_change moment = record {
+  founding = None;
+  providers = unchanged_providers;
+  statements = [];
+  documents = Unchanged;
+  moment = moment;
+  acceptance = Plain;
+}
 
 abbrev pub is_empty : {A : Type 0} → List A → Bool
 is_empty [] = true
 is_empty (x ∷ xs) = false
 
 abbrev pub changes_nothing : Effect → Bool
-changes_nothing x = is_none x.founding && not (changes x.providers) && is_empty x.statements
+changes_nothing x =
+    is_none x.founding && not (changes x.providers) && not (changes_documents x.documents) && is_empty x.statements
 
 -- Each part takes its own change in.
 abbrev pub apply : State → Effect → State
@@ -43,6 +56,7 @@ apply st x = record {
   founding = founding_after st.founding x.founding;
   providers = providers_after st.providers x.providers;
   statements = add_each st.statements x.statements;
+  documents = documents_after st.documents x.documents;
   length = st.length + 1;
   last = x.moment;
 }

@@ -5,6 +5,7 @@ use crate::{Acceptance, Founding, ProvidersChange};
 use lrs_json::Items;
 use lrs_time::Moment;
 use std::alloc::Global;
+use xapi_docs::DocumentsChange;
 use xapi_statement::StoredStatement;
 
 /// What an entry changes, with a field for each part; its moment; what is said to its caller beyond that it is kept.
@@ -13,6 +14,7 @@ pub struct Effect {
     pub founding: Option<Founding>,
     pub providers: ProvidersChange,
     pub statements: Items<StoredStatement>,
+    pub documents: DocumentsChange,
     pub moment: Moment,
     pub acceptance: Acceptance,
 }
@@ -26,6 +28,7 @@ impl Effect {
             founding: None,
             providers: ProvidersChange::none(),
             statements: Items::new(alloc),
+            documents: DocumentsChange::Unchanged,
             moment,
             acceptance: Acceptance::Plain,
         }
@@ -35,6 +38,9 @@ impl Effect {
     pub fn changes_nothing(&self) -> bool
         ensures { result ≡ changes_nothing self.now }
     {
-        self.founding.is_none() && !self.providers.changes() && self.statements.is_empty()
+        self.founding.is_none()
+            && !self.providers.changes()
+            && !self.documents.changes()
+            && self.statements.is_empty()
     }
 }

@@ -1,6 +1,6 @@
-//! What a store holds, in parts (what it was founded with, the providers, the statements), what an entry changes in
-//! them, and what is said to its caller. A part knows its own change, but no other part and no command. Begin with
-//! `effect`, then `parts`.
+//! What a store holds, in parts (what it was founded with, the providers, the statements, the documents), what an entry
+//! changes in them, and what is said to its caller. A part knows its own change, but no other part and no command.
+//! Begin with `effect`, then `parts`.
 #![tactic(auto)]
 
 mod acceptance;

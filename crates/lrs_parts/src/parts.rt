@@ -1,8 +1,9 @@
 // All parts together.
 ghost use Rattle.std.specs.Prelude.{◌≡◌, OnOk};
 ghost use Rattle.lrs_parts.specs.Founding.{founding_after};
-ghost use Rattle.lrs_parts.specs.Parts.{state_of, IsReadyFor};
+ghost use Rattle.lrs_parts.specs.Parts.{state_of, AddsNoPlaces, IsReadyFor, MakesPlacesFor};
 ghost use Rattle.lrs_parts.specs.State.{apply, nothing};
+ghost use Rattle.lrs_parts.specs.declared.parts.Parts.{Parts as SpecParts};
 
 use crate::{Effect, Founding, Providers};
 use lrs_ids::UsedIds;
@@ -10,6 +11,7 @@ use lrs_json::Memory;
 use lrs_names::Id;
 use lrs_time::Moment;
 use std::alloc::Global;
+use xapi_docs::Docs;
 use xapi_index::Index;
 
 /// All that a store holds.
@@ -18,6 +20,7 @@ pub struct Parts {
     pub founding: Option<Founding>,
     pub providers: Providers,
     pub statements: Index,
+    pub documents: Docs,
     /// How many entries there are.
     pub length: u64,
     /// The last entry's moment.
@@ -33,6 +36,7 @@ impl Parts {
             founding: None,
             providers: Providers::new(alloc),
             statements: Index::new(alloc),
+            documents: Docs::new(alloc),
             length: 0,
             last: Moment::clamp(0),
         }
@@ -42,12 +46,25 @@ impl Parts {
     pub fn ready(&mut self, effect: &Effect) -> Result<(), Memory>
         ensures same { state_of self.new ≡ state_of self.old }
         ensures ready { OnOk result (IsReadyFor self.new effect.now) }
+        ensures made { MakesPlacesFor self.old self.new effect.now }
     {
         if self.length == u64::MAX {
             return Err(Memory);
         }
         self.providers.ready(&effect.providers)?;
-        self.statements.ready(effect.statements.as_slice())
+        self.statements.ready(effect.statements.as_slice())?;
+        self.documents.ready_change(&effect.documents)
+    }
+
+    /// Takes back the places that were made for an effect which doesn't come: then there are none but those before.
+    pub fn release(&mut self, effect: &Effect)
+        ensures same { state_of self.new ≡ state_of self.old }
+        ensures undone { (before : SpecParts) → MakesPlacesFor before self.old effect.now
+            → AddsNoPlaces before self.new }
+    {
+        self.providers.release(&effect.providers);
+        self.statements.release(effect.statements.as_slice());
+        self.documents.release_change(&effect.documents);
     }
 
     /// Takes an effect in for which there is room. It takes no memory.
@@ -59,12 +76,14 @@ impl Parts {
             founding,
             providers,
             statements,
+            documents,
             moment,
             acceptance: _,
         } = effect;
         found(&mut self.founding, founding);
         self.providers.install(providers);
         self.statements.install(statements.into_vec());
+        self.documents.install_change(documents);
         self.length += 1;
         self.last = moment;
     }

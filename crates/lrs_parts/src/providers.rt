@@ -3,7 +3,7 @@ ghost use Rattle.std.specs.Prelude.{◌≡◌, [], length, slice_get, OnOk};
 ghost use Rattle.std.specs.List.{list_all};
 ghost use Rattle.std.specs.Option.{option_copied};
 ghost use Rattle.lrs_parts.specs.Providers.{providers_after, is_name, is_name_byte, place_of_token};
-ghost use Rattle.lrs_parts.specs.Rooms.{HasRoomForProvider};
+ghost use Rattle.lrs_parts.specs.Rooms.{HasRoomForProvider, MakesProviderPlace, TakesProviderPlaceBack};
 
 use lrs_json::{Memory, Text};
 use lrs_register::{Change, Keyed, Register};
@@ -92,12 +92,21 @@ impl Providers {
     pub fn ready(&mut self, change: &ProvidersChange) -> Result<(), Memory>
         ensures held { self.new.held ≡ self.old.held }
         ensures room { OnOk result (HasRoomForProvider self.new change.now) }
+        ensures made { MakesProviderPlace self.old self.new change.now }
     {
         if self.list.len() >= u32::MAX as usize {
             return Err(Memory);
         }
         self.list.ready_change(change)?;
         Ok(())
+    }
+
+    /// Takes back the place that was made for a change that didn't come.
+    pub fn release(&mut self, change: &ProvidersChange)
+        ensures held { self.new.held ≡ self.old.held }
+        ensures back { TakesProviderPlaceBack self.old self.new change.now }
+    {
+        self.list.release_change(change);
     }
 
     /// Takes a change in for which there is room. It takes no memory.

@@ -24,7 +24,7 @@ bad_always bytes (Ok entry) found none = absurd (none (entry, found.0, found.1))
 bad_always bytes (Err BadEntry) found none = inl refl
 bad_always bytes (Err Memory) found none = inr refl
 
--- Where JSON is read again, a refusal is want of memory.
+-- Where JSON is read again, a refusal says that memory ran out.
 pub refused_for_memory : (P : Entry → Type 0) (refused : ReadRefused) (result : Result Entry EntryRefused) → IsErrAnd result (λ e. e ≡ refused_as refused) → refused ≡ read.Memory
     → MatchResult result P (λ e. e ≡ Memory)
 refused_for_memory P refused (Ok entry) is memory = absurd is

@@ -8,6 +8,8 @@ pub mod Decimals
 pub mod Exactly
 pub mod ManyTrees
 pub mod Values
+pub mod Apart
+pub mod DocumentWrites
 pub mod Writes
 pub mod Readable
 pub mod ValueKinds

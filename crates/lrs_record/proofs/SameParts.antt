@@ -8,7 +8,7 @@ use Rattle.lrs_json.proofs.Views.{view-Number}
 same_pair : (a p : List ℕ × Json) → a.0 ≡ p.0 → a.1 ≡ p.1 → a ≡ p
 same_pair a p names values = ap (λ name. (name, a.1)) names ∙ ap (λ value. (p.0, value)) values
 
--- the first members are the same, and what stands behind them
+-- the first members are the same, and what follows them
 first_member : (a p : List ℕ × Json) (ms ns : Members) → member a.0 a.1 ms ≡ member p.0 p.1 ns → (a ≡ p) × (ms ≡ ns)
 first_member a p ms ns same =
     let names : a.0 ≡ p.0 = cc same in

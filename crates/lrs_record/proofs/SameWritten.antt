@@ -16,7 +16,7 @@ same_number a b r s x y ends stops e =
     let rest : r ≡ s = cc behind in
     (append_cancel_right a b s (ap (λ z. a ++ z) (sym rest) ∙ e), rest)
 
--- what is behind an element or a member ends a number
+-- what follows an element or a member ends a number
 elements_end : (js : Elements) (r : List ℕ) → Ends (elements_text true js ++ r)
 elements_end no_elements r = refl
 elements_end (element j js) r = refl
@@ -35,7 +35,7 @@ fits_as k n is fits = subst Fits (of_kind k n is) fits
 same_kind : (j k : Json) (r s : List ℕ) → Fits j → Fits k → written j ++ r ≡ written k ++ s → kind k ≡ kind j
 same_kind j k r s x y e = sym (kind_told k s y) ∙ sym (ap (λ text. kind_at (first text)) e) ∙ kind_told j r x
 
--- behind a comma or none, and the same text
+-- after a comma or none, and the same text
 behind_comma : (later : Bool) (a b c d r s : List ℕ) → comma_if later ++ a ++ b ++ r ≡ comma_if later ++ c ++ d ++ s → a ++ (b ++ r) ≡ c ++ (d ++ s)
 behind_comma true a b c d r s e =
     let inside : a ++ b ++ r ≡ c ++ d ++ s = cc e in sym (append_assoc a b r) ∙ inside ∙ append_assoc c d s

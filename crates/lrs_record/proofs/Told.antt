@@ -10,7 +10,7 @@ use Rattle.lrs_json.specs.Json.{number, string}
 use Rattle.lrs_names.specs.declared.draw.Draw.{Draw}
 use Rattle.lrs_names.proofs.WordBytes.{same_word, small_word_bytes}
 use Rattle.lrs_record.specs.Entries.{HoldsWrite, HoldsDraw, IsLawful, IsLawfulCaller, IsLawfulWrite, caller_text, write_json, draw_text, entry_json, fields, word_text, written_entry}
-use Rattle.lrs_record.specs.Writes.{members_for, values_in, write_fields, write_name, write_of}
+use Rattle.lrs_record.specs.Writes.{members_for, write_fields, write_in, write_name}
 use Rattle.lrs_record.specs.declared.entry.Caller.{Caller}
 use Rattle.lrs_record.specs.declared.entry.Caller.TheVariants.{Nobody, Operator, Token}
 use Rattle.lrs_record.specs.declared.entry.Write.{Write}
@@ -57,14 +57,14 @@ same_string a b e = cc e
 same_spelling : (a b : List ℕ) → number a ≡ number b → a ≡ b
 same_spelling a b e = cc e
 
--- The name and the values of the fields make the write again.
+-- The name and the fields make the write again.
 same_write : (a b : Write) → IsLawfulWrite a → IsLawfulWrite b → HoldsWrite a → HoldsWrite b → write_json a ≡ write_json b → a ≡ b
 same_write a b lawful good x y e =
     let parts = same_parts a b e in
     let members : members_for (write_fields a) ≡ members_for (write_fields b) = all_parts (members_for (write_fields a)) (members_for (write_fields b)) parts.1 in
     let again : Some a ≡ Some b =
-    sym (made_again a lawful x) ∙ ap (λ name. write_of name (values_in (members_for (write_fields a)))) parts.0
-    ∙ ap (λ ms. write_of (write_name b) (values_in ms)) members ∙ made_again b good y in
+    sym (made_again a lawful x) ∙ ap (λ name. write_in name (members_for (write_fields a))) parts.0
+    ∙ ap (λ ms. write_in (write_name b) ms) members ∙ made_again b good y in
     cc again
 
 told_by_json : (a b : Entry) → IsLawful a → IsLawful b → entry_json a ≡ entry_json b → a ≡ b

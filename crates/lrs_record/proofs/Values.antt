@@ -53,5 +53,5 @@ fit_members before (m ∷ ms) fits = (fits.2, fit_members (m.0 ∷ before) ms fi
 pub fit_values : (seen : Json) (ms : List (List ℕ × Json)) → seen ≡ object (members_of ms) → Fits seen → AllByRecursion Fits (values_in ms)
 fit_values seen ms is fits = let whole : Fits (object (members_of ms)) = subst Fits is fits in fit_members [] ms whole
 
-pub same_values : (seen : Json) (ms ns : List (List ℕ × Json)) → seen ≡ object (members_of ms) → seen ≡ object (members_of ns) → values_in ms ≡ values_in ns
-same_values seen ms ns x y = ap values_in (all_parts ms ns (sym x ∙ y))
+pub same_members : (seen : Json) (ms ns : List (List ℕ × Json)) → seen ≡ object (members_of ms) → seen ≡ object (members_of ns) → ms ≡ ns
+same_members seen ms ns x y = all_parts ms ns (sym x ∙ y)

@@ -6,7 +6,7 @@ use Rattle.std.proofs.lemmas.Bool.Decides.{nat_tests}
 use Rattle.std.proofs.Math.Seq.{take-append_seam, drop-append_seam}
 use Rattle.std.proofs.lemmas.Str.{IsUtf8-append, IsUtf8-from_ascii}
 use Rattle.std.proofs.lemmas.Str.Ascii.{IsAscii-cons, IsAscii-nil}
-use Rattle.hex.specs.Hex.{decode_sized, lower_digits}
+use Rattle.hex.specs.Hex.{decode_sized, encode_lower, lower_digits}
 use Rattle.hex.specs.declared.error.FromHexError.{FromHexError}
 use Rattle.hex.proofs.HexLemmas.{IsAscii-encode_with, decode_sized-encode_lower, length-encode_with}
 use Rattle.lrs_names.proofs.WordBytes.{small_word_bytes}
@@ -35,6 +35,9 @@ IsUtf8-small bs h = IsUtf8-from_ascii bs (IsAscii-small bs h)
 IsUtf8-word_text : (word : ℕ) → IsUtf8 (word_text word)
 unfolding word_text
 IsUtf8-word_text word = IsUtf8-from_ascii (word_text word) (IsAscii-encode_with lower_digits (to_be_bytes w128 word) (IsAscii-small lower_digits refl))
+
+pub IsUtf8-digits : (bytes : List ℕ) → IsUtf8 (encode_lower bytes)
+IsUtf8-digits bytes = IsUtf8-from_ascii (encode_lower bytes) (IsAscii-encode_with lower_digits bytes (IsAscii-small lower_digits refl))
 
 pub IsUtf8-draw_text : (draw : Draw) → IsUtf8 (draw_text draw)
 IsUtf8-draw_text draw = IsUtf8-append _ _ (IsUtf8-word_text draw.name) (IsUtf8-word_text draw.secret)

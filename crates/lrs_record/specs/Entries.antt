@@ -1,9 +1,11 @@
 -- The text of an entry: `{"caller":C,"moment":MS,"draw":HEX64,"command":{NAME:ARGS}}`, in the written form of JSON.
-use Rattle.std.specs.Prelude.{◌≡◌, ◌≢◌, ◌<◌, ◌≤◌, ◌^◌, ℕ, List, [], ◌∷◌, ◌++◌, codes, IsUtf8}
+use Rattle.std.specs.Prelude.{◌≡◌, ◌≢◌, ◌<◌, ◌≤◌, ◌^◌, ℕ, List, [], ◌∷◌, ◌++◌, codes, IsTrue, IsUtf8}
 use Rattle.std.specs.Fmt.{decimal}
 use Rattle.std.specs.Int.{to_be_bytes, w128}
 use Rattle.std.specs.List.{AllByRecursion}
-use Rattle.hex.specs.Hex.{encode_lower}
+use Rattle.hex.specs.Hex.{IsBytes, encode_lower}
+use Rattle.lrs_agents.specs.declared.identifiers.Ifi.{Ifi}
+use Rattle.lrs_agents.specs.declared.identifiers.Ifi.TheVariants.{Mbox, MboxSha1, OpenId, Account}
 use Rattle.lrs_json.specs.Fits.{IsReadable}
 use Rattle.lrs_json.specs.Json.{Json, number, string, object}
 use Rattle.lrs_json.specs.View.{view, members_of}
@@ -11,13 +13,15 @@ use Rattle.lrs_json.specs.Written.{written}
 use Rattle.lrs_json.specs.declared.tree.Tree.{Tree}
 use Rattle.lrs_json.specs.declared.limits.TheConstants.{DEPTH}
 use Rattle.lrs_names.specs.Ids.{IsId}
+use Rattle.lrs_names.specs.Iris.{is_iri}
 use Rattle.lrs_names.specs.declared.draw.Draw.{Draw}
 use Rattle.lrs_record.specs.declared.entry.Caller.{Caller}
 use Rattle.lrs_record.specs.declared.entry.Caller.TheVariants.{Nobody, Operator, Token}
 use Rattle.lrs_record.specs.declared.entry.Write.{Write}
 use Rattle.lrs_record.specs.declared.entry.Entry.{Entry}
 use Rattle.lrs_time.specs.declared.moments.TheConstants.{LATEST}
-use Rattle.lrs_record.specs.Writes.{Value, text_value, id_value, tree_value, trees_value, members_for, write_fields, write_name}
+use Rattle.lrs_record.specs.Writes.{Value, text_value, id_value, tree_value, trees_value, iri_value, agent_value}
+use Rattle.lrs_record.specs.Writes.{bytes_value, members_for, write_fields, write_name}
 
 -- an object of these members
 abbrev pub fields : List (List ℕ × Json) → Json
@@ -66,6 +70,9 @@ IsLawfulValue (text_value t) = Unit {0}
 IsLawfulValue (id_value i) = Unit {0}
 IsLawfulValue (tree_value t) = IsLawfulTree (view t)
 IsLawfulValue (trees_value ts) = AreLawfulTrees ts
+IsLawfulValue (iri_value t) = Unit {0}
+IsLawfulValue (agent_value ifi) = Unit {0}
+IsLawfulValue (bytes_value bytes) = Unit {0}
 
 -- Its trees are such as reading gives.
 abbrev pub IsLawfulWrite : Write → Type 0
@@ -77,12 +84,21 @@ HoldsCaller Nobody = Unit {0}
 HoldsCaller Operator = Unit {0}
 HoldsCaller (Token token) = IsUtf8 token
 
--- A text is UTF-8, and an id has its sixteen bytes.
+abbrev pub HoldsAgent : Ifi → Type 0
+HoldsAgent (Mbox text) = IsUtf8 text
+HoldsAgent (MboxSha1 text) = IsUtf8 text
+HoldsAgent (OpenId text) = IsUtf8 text
+HoldsAgent (Account home name) = IsUtf8 home × IsUtf8 name
+
+-- A text is UTF-8, an id has its sixteen bytes, an IRI is one, and bytes are such.
 abbrev pub HoldsValue : Value → Type 0
 HoldsValue (text_value t) = IsUtf8 t
 HoldsValue (id_value i) = IsId i
 HoldsValue (tree_value t) = Unit {0}
 HoldsValue (trees_value ts) = Unit {0}
+HoldsValue (iri_value t) = IsUtf8 t × IsTrue (is_iri t)
+HoldsValue (agent_value ifi) = HoldsAgent ifi
+HoldsValue (bytes_value bytes) = IsBytes bytes
 
 abbrev pub HoldsWrite : Write → Type 0
 HoldsWrite write = AllByRecursion (λ field. HoldsValue field.1) (write_fields write)

@@ -14,7 +14,7 @@ mod refused;
 mod writing;
 
 pub use digits::put_word;
-pub use entry::{Area, Caller, Entry, Write};
+pub use entry::{Area, Caller, Entry, How, Write};
 pub use lrs_time::Moment;
 pub use reading::read_entry;
 pub use refused::EntryRefused;

@@ -1,9 +1,11 @@
-ghost use Rattle.std.specs.Prelude.{◌≡◌, ◌≤◌, ℕ, Some, IfSome, MatchOption, codes};
+ghost use Rattle.std.specs.Prelude.{◌≡◌, ◌≤◌, ℕ, Some, IfOk, IfSome, MatchOption, codes};
 ghost use Rattle.std.specs.Fmt.{decimal};
+ghost use Rattle.std.specs.List.{AllByRecursion};
 ghost use Rattle.lrs_json.specs.Fits.{Fits};
 ghost use Rattle.lrs_json.specs.Json.{number, string};
 ghost use Rattle.lrs_json.specs.View.{member_view, view};
 ghost use Rattle.lrs_record.specs.Entries.{HoldsWrite, IsLawful, IsLawfulCaller, IsLawfulWrite, caller_text, draw_text, entry_json, write_json};
+ghost use Rattle.lrs_record.specs.Writes.{members_for, members_left, values_left, write_fields, write_name};
 ghost use Rattle.lrs_time.specs.declared.moments.TheConstants.{LATEST};
 ghost use Rattle.lrs_record.specs.declared.entry.Caller.{Caller as SpecCaller};
 ghost use Rattle.lrs_record.specs.declared.entry.Write.{Write as SpecWrite};
@@ -13,28 +15,43 @@ use crate::digits::draw_of;
 use crate::fields::Fields;
 use crate::members::{four, named, one, text};
 use crate::{Caller, Entry, Moment, Write};
-use lrs_json::{Member, Text, Tree};
+use lrs_json::{Member, Memory, Text, Tree};
 use lrs_names::Draw;
+use std::alloc::Global;
 
 // What these read may be spelled in other ways than an entry's text: the text, written again, tells.
 
 /// The entry whose text the tree is.
-pub fn entry_of(tree: Tree) -> Option<Entry>
+pub fn entry_of(alloc: Global, tree: Tree) -> Result<Option<Entry>, Memory>
     requires { Fits (view tree) }
-    ensures lawful { IfSome result (λ entry. IsLawfulCaller entry.caller × IsLawfulWrite entry.write) }
-    ensures all { (entry : SpecEntry) → IsLawful entry → view tree ≡ entry_json entry → result ≡ Some entry }
+    ensures lawful { IfOk result (λ found. IfSome found (λ entry. IsLawfulCaller entry.caller
+        × IsLawfulWrite entry.write)) }
+    ensures all { (entry : SpecEntry) → IsLawful entry → view tree ≡ entry_json entry
+        → IfOk result (λ found. found ≡ Some entry) }
 {
-    let (caller, moment, draw, command) = four(tree)?;
+    let Some((caller, moment, draw, command)) = four(tree) else {
+        return Ok(None);
+    };
     match heading_of(caller, moment, draw) {
-        Some((caller, moment, draw)) => Some(Entry {
-            caller,
-            moment,
-            draw,
-            write: write_of(command)?,
-        }),
+        Some((caller, moment, draw)) => match write_of(alloc, command) {
+            Ok(Some(write)) => Ok(Some(Entry {
+                caller,
+                write,
+                moment,
+                draw,
+            })),
+            Ok(None) => {
+                drop(caller);
+                Ok(None)
+            }
+            Err(refused) => {
+                drop(caller);
+                Err(refused)
+            }
+        },
         None => {
             drop(command);
-            None
+            Ok(None)
         }
     }
 }
@@ -80,13 +97,31 @@ fn moment_of(member: Member) -> Option<Moment>
     }
 }
 
-fn write_of(member: Member) -> Option<Write>
+fn write_of(alloc: Global, member: Member) -> Result<Option<Write>, Memory>
     requires { Fits (member_view member).1 }
-    ensures lawful { IfSome result IsLawfulWrite }
+    ensures lawful { IfOk result (λ found. IfSome found IsLawfulWrite) }
     ensures all { (write : SpecWrite) → IsLawfulWrite write → HoldsWrite write
-        → member_view member ≡ (codes "command", write_json write) → result ≡ Some write }
+        → member_view member ≡ (codes "command", write_json write) → IfOk result (λ found. found ≡ Some write) }
+{
+    match command_of(member) {
+        Some((name, mut fields)) => {
+            let found = Write::of(alloc, name.as_str(), &mut fields);
+            drop(fields);
+            found
+        }
+        None => Ok(None),
+    }
+}
+
+// The name and the fields of a write.
+fn command_of(member: Member) -> Option<(Text, Fields)>
+    requires { Fits (member_view member).1 }
+    ensures fit { IfSome result (λ found. AllByRecursion Fits (values_left found.1)) }
+    ensures all { (write : SpecWrite) → member_view member ≡ (codes "command", write_json write)
+        → MatchOption result ⊥ (λ found. (found.0 ≡ write_name write)
+        × (members_left found.1 ≡ members_for (write_fields write))) }
 {
     let Member { name, value } = one(named(member, "command")?)?;
-    let mut fields = Fields::of(value)?;
-    Write::of(name.as_str(), &mut fields)
+    let fields = Fields::of(value)?;
+    Some((name, fields))
 }

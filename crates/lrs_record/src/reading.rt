@@ -32,7 +32,7 @@ fn read_lawful(alloc: Global, bytes: &[u8]) -> Result<Entry, EntryRefused>
         (λ read. read ≡ entry) (λ refused. refused ≡ EntryRefused.Memory) }
 {
     let tree = read_to(alloc, bytes, ENTRY_DEPTH)?;
-    match entry_of(tree) {
+    match entry_of(alloc, tree)? {
         Some(entry) => match has_text(alloc, &entry, bytes) {
             Ok(true) => Ok(entry),
             Ok(false) => {

@@ -67,6 +67,23 @@ fn show_write(into: &mut String, write: &Write) -> Result<(), Fail> {
             into.push_str(str::from_utf8(&id.text())?)?;
         }
         Write::Post { statements } => write!(into, " {}", statements.len())?,
+        Write::State {
+            how,
+            key,
+            media,
+            bytes,
+        } => write!(
+            into,
+            " {} {:?} {:?} {}",
+            how.text(),
+            key.state.as_str(),
+            media.as_str(),
+            bytes.len()
+        )?,
+        Write::Drop { activity, .. } => {
+            into.push(' ')?;
+            into.push_str(activity.text().as_str())?;
+        }
     }
     Ok(())
 }
@@ -199,7 +216,7 @@ fn refuses_other_spellings(rt: HostRuntime) -> Result<(), Fail> {
 const NOBODY: &str =
     "{\"caller\":\"\",\"moment\":1,\"draw\":\"0000000000000000000000000000000000000000000000000000000000000000\",\"command\":";
 
-// What stands before and behind so many nested arrays, and whether that is an entry: a statement has 64 levels at
+// What stands before and after so many nested arrays, and whether that is an entry: a statement has 64 levels at
 // most, an id is written in lower case, and statements are an array.
 const NESTED: [(&str, usize, &str, bool); 6] = [
     (
@@ -252,5 +269,133 @@ fn first_wrong_limit(alloc: Global) -> Result<Option<usize>, Fail> {
 #[test]
 fn holds_statements_against_their_limits(rt: HostRuntime) -> Result<(), Fail> {
     assert_eq!(rt; first_wrong_limit(rt.alloc())?, None);
+    Ok(())
+}
+
+// The commands of documents: each of the four identifiers, a registration and a state id that are given and not given.
+const DOCUMENTS: [(&str, &str); 8] = [
+    (
+        "{\"state\":{\"how\":\"put\",\"activity\":\"http://a/1\",\"agent\":{\"account\":{\"homePage\":\"https://p.example\",\"name\":\"k1\"}},\"registration\":\"00000000-0000-4000-8000-00000000001a\",\"state\":\"b\",\"type\":\"text/plain\",\"bytes\":\"616263\"}}",
+        "state put \"b\" \"text/plain\" 3",
+    ),
+    (
+        "{\"state\":{\"how\":\"post\",\"activity\":\"http://a/1\",\"agent\":{\"mbox\":\"mailto:a@b\"},\"state\":\"b\",\"type\":\"application/json\",\"bytes\":\"7b7d\"}}",
+        "state post \"b\" \"application/json\" 2",
+    ),
+    (
+        "{\"state\":{\"how\":\"put\",\"activity\":\"http://a/1\",\"agent\":{\"mbox_sha1sum\":\"b3a8e0e1f9ab1bfe3a36f231f676f78bb30a519d\"},\"state\":\"\",\"type\":\"\",\"bytes\":\"\"}}",
+        "state put \"\" \"\" 0",
+    ),
+    (
+        "{\"state\":{\"how\":\"put\",\"activity\":\"http://a/1\",\"agent\":{\"openid\":\"https://o.example/\"},\"registration\":\"00000000-0000-4000-8000-00000000001a\",\"state\":\"\\u0001\",\"type\":\"t\",\"bytes\":\"00ff\"}}",
+        "state put \"\\u{1}\" \"t\" 2",
+    ),
+    (
+        "{\"drop\":{\"activity\":\"http://a/1\",\"agent\":{\"mbox\":\"mailto:a@b\"}}}",
+        "drop http://a/1",
+    ),
+    (
+        "{\"drop\":{\"activity\":\"http://a/2\",\"agent\":{\"openid\":\"https://o.example/\"},\"registration\":\"00000000-0000-4000-8000-00000000001a\"}}",
+        "drop http://a/2",
+    ),
+    (
+        "{\"drop\":{\"activity\":\"http://a/3\",\"agent\":{\"mbox_sha1sum\":\"b3a8e0e1f9ab1bfe3a36f231f676f78bb30a519d\"},\"state\":\"b\"}}",
+        "drop http://a/3",
+    ),
+    (
+        "{\"drop\":{\"activity\":\"http://a/4\",\"agent\":{\"account\":{\"homePage\":\"https://p.example\",\"name\":\"\"}},\"registration\":\"00000000-0000-4000-8000-00000000001a\",\"state\":\"\"}}",
+        "drop http://a/4",
+    ),
+];
+
+// Whether the command is read, says this, and is written again as it was.
+fn is_command(alloc: Global, command: &str, says: &str) -> Result<bool, Fail> {
+    let mut text = String::from_str(alloc, NOBODY)?;
+    text.push_str(command)?;
+    text.push('}')?;
+    let mut line = String::from_str(alloc, "\"\" at 1, drawn 0 and 0: ")?;
+    line.push_str(says)?;
+    comes_back(alloc, text.as_str(), line.as_str())
+}
+
+fn first_wrong_document(alloc: Global) -> Result<Option<usize>, Fail> {
+    for (i, (command, says)) in DOCUMENTS.iter().enumerate() {
+        if !is_command(alloc, command, says)? {
+            return Ok(Some(i));
+        }
+    }
+    Ok(None)
+}
+
+#[test]
+fn reads_documents_back(rt: HostRuntime) -> Result<(), Fail> {
+    assert_eq!(rt; first_wrong_document(rt.alloc())?, None);
+    Ok(())
+}
+
+// Which of the commands, and what is changed in it, so that it is none.
+const NO_DOCUMENTS: [(usize, &str, &str); 21] = [
+    (0, "616263", "6A6263"),
+    (0, "616263", "61626"),
+    (0, "616263", "6162 3"),
+    (0, "\"616263\"", "null"),
+    (0, "\"put\"", "\"PUT\""),
+    (0, "\"put\"", "\"delete\""),
+    (0, "\"http://a/1\"", "\"a\""),
+    (0, "\"account\":{", "\"objectType\":\"Agent\",\"account\":{"),
+    (0, "\"account\":", "\"accounts\":"),
+    (
+        0,
+        "\"homePage\":\"https://p.example\",\"name\":\"k1\"",
+        "\"name\":\"k1\",\"homePage\":\"https://p.example\"",
+    ),
+    (0, "00000000001a", "00000000001A"),
+    (0, "\"00000000-0000-4000-8000-00000000001a\"", "null"),
+    (
+        0,
+        "\"registration\":\"00000000-0000-4000-8000-00000000001a\",\"state\":\"b\"",
+        "\"state\":\"b\",\"registration\":\"00000000-0000-4000-8000-00000000001a\"",
+    ),
+    (0, "\"state\":\"b\",", ""),
+    (0, "\"type\":\"text/plain\",", ""),
+    (0, "\"616263\"", "\"616263\",\"more\":1"),
+    (
+        1,
+        "\"how\":\"post\",\"activity\":\"http://a/1\"",
+        "\"activity\":\"http://a/1\",\"how\":\"post\"",
+    ),
+    (4, "mailto:a@b\"}", "mailto:a@b\"},\"more\":1"),
+    (4, "{\"mbox\":\"mailto:a@b\"}", "{}"),
+    (5, "00000000001a\"", "00000000001a\",\"state\":null"),
+    (
+        7,
+        "\"registration\":\"00000000-0000-4000-8000-00000000001a\",\"state\":\"\"",
+        "\"state\":\"\",\"registration\":\"00000000-0000-4000-8000-00000000001a\"",
+    ),
+];
+
+fn changed(alloc: Global, of: usize, old: &str, new: &str) -> Result<String, Fail> {
+    let Some((command, _)) = DOCUMENTS.get(of) else {
+        return Err(Fail::new("no such command"));
+    };
+    let mut text = String::from_str(alloc, NOBODY)?;
+    text.push_str(command.replacen(alloc, old, new, 1)?.as_str())?;
+    text.push('}')?;
+    Ok(text)
+}
+
+fn first_document_let_through(alloc: Global) -> Result<Option<usize>, Fail> {
+    for (i, (of, old, new)) in NO_DOCUMENTS.iter().enumerate() {
+        let text = changed(alloc, *of, old, new)?;
+        if read(alloc, text.as_str()) != Err(EntryRefused::BadEntry) {
+            return Ok(Some(i));
+        }
+    }
+    Ok(None)
+}
+
+#[test]
+fn refuses_other_documents(rt: HostRuntime) -> Result<(), Fail> {
+    assert_eq!(rt; first_document_let_through(rt.alloc())?, None);
     Ok(())
 }

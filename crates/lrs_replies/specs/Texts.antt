@@ -1,7 +1,9 @@
 -- The texts that the store makes: tokens, and the bodies of its answers.
-use Rattle.std.specs.Prelude.{ℕ, List, [], ◌∷◌, ◌++◌, Bool, true, false, codes}
+use Rattle.std.specs.Prelude.{ℕ, List, [], ◌∷◌, ◌++◌, map, Bool, true, false, codes}
 use Rattle.std.specs.Fmt.{decimal}
-use Rattle.lrs_json.specs.Written.{comma_if}
+use Rattle.lrs_json.specs.Json.{array, string}
+use Rattle.lrs_json.specs.View.{elements_of}
+use Rattle.lrs_json.specs.Written.{comma_if, written}
 use Rattle.lrs_names.specs.Ids.{id_text}
 use Rattle.lrs_record.specs.Entries.{word_text}
 
@@ -25,3 +27,7 @@ ids_text later (id ∷ ids) = comma_if later ++ codes "\"" ++ id_text id ++ code
 -- ["ID","ID"]
 abbrev pub ids_body : List (List ℕ) → List ℕ
 ids_body ids = codes "[" ++ ids_text false ids
+
+-- the state ids of documents, each as a string of JSON
+abbrev pub states_body : List (List ℕ) → List ℕ
+states_body states = written (array (elements_of (map string states)))

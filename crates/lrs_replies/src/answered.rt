@@ -1,4 +1,4 @@
-use lrs_json::Items;
+use lrs_json::{Items, Text};
 use lrs_names::Id;
 use lrs_record::Moment;
 use lrs_rules::Rule;
@@ -15,6 +15,11 @@ pub enum Answered {
     Shown {
         text: Items<u8>,
         through: Option<Moment>,
+    },
+    /// The state document that was asked for: its bytes, under its own media type.
+    Document {
+        media: Text,
+        bytes: Items<u8>,
     },
     /// Nothing changes.
     Refused(Refusal),

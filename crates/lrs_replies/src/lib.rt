@@ -9,4 +9,4 @@ mod showing;
 pub use answered::{Answered, Refusal};
 pub use reply::{Body, Media, Reply, Trouble};
 pub use saying::{reply_to, status_in};
-pub use showing::{ids_text, provider_text, token_text, versions_text};
+pub use showing::{ids_text, provider_text, states_text, token_text, versions_text};

@@ -16,7 +16,7 @@ pub enum Media {
 /// The body of a reply. The two fixed ones take no memory.
 #[derive(Drop)]
 pub enum Body {
-    /// The bytes of a body that was made; none where there is none.
+    /// The bytes of a body that was made; none if there is none.
     Made(Items<u8>),
     /// `{"error":"disk"}`
     Disk,
@@ -31,7 +31,7 @@ pub struct Reply {
     pub status: u16,
     /// The body's type.
     pub media: Media,
-    /// What is sent behind the fields.
+    /// What is sent after the fields.
     pub body: Body,
     /// Of statements that were asked for: the moment up to which the answer is consistent.
     pub through: Option<Moment>,
@@ -40,7 +40,7 @@ pub struct Reply {
 /// Why the store can't say anything.
 #[derive(Clone, Copy, Debug, PartialEq, Eq)]
 pub enum Trouble {
-    /// Memory was wanting. Nothing has changed.
+    /// Memory ran out. Nothing has changed.
     Memory,
     /// The disk failed. What was to be kept may be in doubt.
     Disk,

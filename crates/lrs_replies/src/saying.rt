@@ -22,6 +22,7 @@ impl Answered {
                 text: _,
                 through: _,
             } => 200,
+            Answered::Document { media: _, bytes: _ } => 200,
             Answered::Refused(refusal) => refusal.status(),
         }
     }
@@ -152,7 +153,7 @@ pub fn status_in(said: &Result<Answered, Trouble>) -> u16
     }
 }
 
-/// The reply that says this. Only a refusal takes memory for its body; where that is wanting, the reply says so.
+/// The reply that says this. Only a refusal takes memory for its body; if there is none, the reply says so.
 pub fn reply_to(alloc: Global, said: Result<Answered, Trouble>) -> Reply
     ensures { IsReplyTo said result }
 {
@@ -163,6 +164,12 @@ pub fn reply_to(alloc: Global, said: Result<Answered, Trouble>) -> Reply
             media: Media::Json,
             body: Body::Made(text),
             through,
+        },
+        Ok(Answered::Document { media, bytes }) => Reply {
+            status: 200,
+            media: Media::Own(media),
+            body: Body::Made(bytes),
+            through: None,
         },
         Ok(Answered::Refused(refusal)) => match Reply::refusing(alloc, refusal) {
             Ok(reply) => reply,

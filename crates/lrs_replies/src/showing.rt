@@ -3,9 +3,9 @@ ghost use Rattle.std.specs.Prelude.{◌≡◌, ◌++◌, IfOk, OnOk, codes};
 ghost use Rattle.lrs_json.specs.Written.{comma_if};
 ghost use Rattle.lrs_names.specs.Ids.{id_text};
 ghost use Rattle.lrs_record.specs.Entries.{word_text};
-ghost use Rattle.lrs_replies.specs.Texts.{token_text, provider_body, ids_body, versions_body};
+ghost use Rattle.lrs_replies.specs.Texts.{token_text, provider_body, ids_body, states_body, versions_body};
 
-use lrs_json::appending::put_comma;
+use lrs_json::appending::{put_comma, put_quoted};
 use lrs_json::{Memory, Text, utf8_text};
 use lrs_names::Id;
 use lrs_record::put_word;
@@ -64,7 +64,7 @@ pub fn ids_text(alloc: Global, ids: &[Id]) -> Result<Vec<u8>, Memory>
     Ok(body)
 }
 
-// Puts an id behind the text so far, as a string.
+// Puts an id after the text so far, as a string.
 fn put_id(body: &mut Vec<u8>, later: bool, id: &Id) -> Result<(), Memory>
     ensures { OnOk result (body.new.items
         ≡ body.old.items ++ comma_if later ++ codes "\"" ++ id_text id.now ++ codes "\"") }
@@ -74,4 +74,17 @@ fn put_id(body: &mut Vec<u8>, later: bool, id: &Id) -> Result<(), Memory>
     body.extend_from_slice(&id.text())?;
     body.push(b'"')?;
     Ok(())
+}
+
+/// The body that tells the state ids of documents.
+pub fn states_text(alloc: Global, states: &[Text]) -> Result<Vec<u8>, Memory>
+    ensures { IfOk result (λ body. body.items ≡ states_body states.now) }
+{
+    let mut body = b"[".to_vec(alloc)?;
+    for (i, state) in states.iter().enumerate() {
+        put_comma(i > 0, &mut body)?;
+        put_quoted(state.as_str(), &mut body)?;
+    }
+    body.push(b']')?;
+    Ok(body)
 }

@@ -1,4 +1,4 @@
--- A request has one account, but where memory was wanting.
+-- A request has one account, unless memory ran out.
 use Rattle.std.proofs.Common.{◌≡◌, true, false, Option, Some, None, Result, Ok, Err, refl, sym, ap, ◌∙◌, subst, inl, inr, IsErrAnd, MatchResult}
 use Rattle.lrs_http.specs.declared.request.Request.{Request}
 use Rattle.lrs_command.specs.declared.command.Command.{Command}
@@ -117,7 +117,7 @@ module _ (request : Request) where
       let same : own ≡ routed = one_routed own routed (record { route = o.0; is = o.2; area = refl; caller = o.3 }) h in
       (ap (λ (r : Routed). r.caller) same, subst (λ (r : Routed). IsCommandOf request r asked.command) same o.4)
 
-  -- it asks for nothing only for want of memory
+  -- it asks for nothing only if memory runs out
   pub routed_refused : (routed : Routed) (e : RouteRefused) → IsRoutedAs request routed → IsAsked request (Err e) → e ≡ refused.Memory
   routed_refused routed refused.NoRoute h o = absurd (o h.route h.is.fits)
   routed_refused routed (refused.NoMethod allow) h o = absurd (method_missing o.0 h.route routed.operation o.1 h.is.fits o.2 h.is.is)

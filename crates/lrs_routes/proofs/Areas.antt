@@ -11,6 +11,7 @@ use Rattle.lrs_rules.specs.declared.rule.Rule.{Rule}
 use Rattle.lrs_http.specs.declared.request.Method.{Method}
 use Rattle.lrs_http.specs.declared.request.Method.TheVariants.{Get, Put, Post, Delete, Other}
 use Rattle.lrs_http.specs.declared.request.Request.{Request}
+use Rattle.lrs_record.specs.declared.entry.How.TheVariants as how
 use Rattle.lrs_record.specs.declared.entry.Write.TheVariants as write
 use Rattle.lrs_routes.specs.Asked.{IsCommandOf, IsRoutedAs, operation_at}
 use Rattle.lrs_routes.specs.Forms.{Means}
@@ -46,6 +47,15 @@ route_area route.Providers Post o e = same_area operation.MakeProvider o e
 route_area route.Providers m o e = absurd (none_some o e)
 route_area route.About Get o e = same_area operation.TellVersions o e
 route_area route.About m o e = absurd (none_some o e)
+route_area route.ActivityProfiles Get o e = same_area operation.GetProfile o e
+route_area route.ActivityProfiles m o e = absurd (none_some o e)
+route_area route.States Delete o e = same_area operation.DropDocuments o e
+route_area route.States Get o e = same_area operation.GetDocuments o e
+route_area route.States Post o e = same_area operation.PostDocument o e
+route_area route.States Put o e = same_area operation.PutDocument o e
+route_area route.States m o e = absurd (none_some o e)
+route_area route.AgentProfiles Get o e = same_area operation.GetProfile o e
+route_area route.AgentProfiles m o e = absurd (none_some o e)
 route_area route.MoreStatements Get o e = same_area operation.GetMoreStatements o e
 route_area route.MoreStatements m o e = absurd (none_some o e)
 route_area route.Statements Get o e = same_area operation.GetStatements o e
@@ -66,6 +76,15 @@ command_at operation.PostStatements q (body.Statements statements) c e = found (
 command_at operation.PostStatements q b c e = absurd (none_some c e)
 command_at operation.PutStatement (parameter.Id id) (body.Statement statement) c e = found (command.Write (write.Put id statement)) c e
 command_at operation.PutStatement q b c e = absurd (none_some c e)
+command_at operation.GetDocuments (parameter.Documents wanted) b c e = found (command.Read (read.Documents wanted)) c e
+command_at operation.GetDocuments q b c e = absurd (none_some c e)
+command_at operation.PutDocument (parameter.Document key) (body.Document media bytes) c e = found (command.Write (write.State how.Put key media bytes)) c e
+command_at operation.PutDocument q b c e = absurd (none_some c e)
+command_at operation.PostDocument (parameter.Document key) (body.Document media bytes) c e = found (command.Write (write.State how.Post key media bytes)) c e
+command_at operation.PostDocument q b c e = absurd (none_some c e)
+command_at operation.DropDocuments (parameter.Dropped d) b c e = found (command.Write (write.Drop d.activity d.agent d.registration d.state)) c e
+command_at operation.DropDocuments q b c e = absurd (none_some c e)
+command_at operation.GetProfile q b c e = found (command.Read read.Profile) c e
 command_at operation.MakeProvider q (body.Strings (name ∷ [])) c e = found (command.Write (write.Provider name)) c e
 command_at operation.MakeProvider q b c e = absurd (none_some c e)
 

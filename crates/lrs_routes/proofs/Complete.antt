@@ -198,7 +198,7 @@ module _ {K : Type 0} where
       skip_is (length path) params path ∙ (ap (λ (xs : List ℕ). seek 0 params xs) (drop-length path) ∙ own_is.1) in
       (own_is.0, rw (step_is, less) at_end)
 
-  -- a parameter with a slash behind it
+  -- a parameter with a slash after it
   inner_found : (fuel : ℕ) (params : RowsOf K) (b : ℕ) (path t part rest : List ℕ) (k : K) → length path ≤ fuel → Small params → AllNeat params
       → Has params (47 ∷ t) k → b ∷ path ≡ part ++ 47 ∷ rest → IsPart part → Fits (47 ∷ t) (47 ∷ rest) → Deeper fuel (47 ∷ t) k → ParamFound params b path
   inner_found fuel params b path t part rest k le small neat h e p fit deeper =

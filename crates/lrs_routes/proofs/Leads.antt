@@ -66,6 +66,9 @@ has_found (r ∷ ks) t k is = by_test (bytes_eq (row_of r).pattern t) refl is (�
 in_table : (k : Route) → Has patterns (row_of k).pattern k
 in_table route.Providers = has_found routes (row_of route.Providers).pattern route.Providers refl
 in_table route.About = has_found routes (row_of route.About).pattern route.About refl
+in_table route.ActivityProfiles = has_found routes (row_of route.ActivityProfiles).pattern route.ActivityProfiles refl
+in_table route.States = has_found routes (row_of route.States).pattern route.States refl
+in_table route.AgentProfiles = has_found routes (row_of route.AgentProfiles).pattern route.AgentProfiles refl
 in_table route.MoreStatements = has_found routes (row_of route.MoreStatements).pattern route.MoreStatements refl
 in_table route.Statements = has_found routes (row_of route.Statements).pattern route.Statements refl
 
@@ -91,6 +94,9 @@ neat_from (x ∷ t) e =
 neat_route : (k : Route) → Neat (row_of k).pattern
 neat_route route.Providers = neat_from (row_of route.Providers).pattern refl
 neat_route route.About = neat_from (row_of route.About).pattern refl
+neat_route route.ActivityProfiles = neat_from (row_of route.ActivityProfiles).pattern refl
+neat_route route.States = neat_from (row_of route.States).pattern refl
+neat_route route.AgentProfiles = neat_from (row_of route.AgentProfiles).pattern refl
 neat_route route.MoreStatements = neat_from (row_of route.MoreStatements).pattern refl
 neat_route route.Statements = neat_from (row_of route.Statements).pattern refl
 

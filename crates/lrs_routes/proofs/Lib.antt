@@ -5,6 +5,7 @@ pub mod Leads
 pub mod Stages
 pub mod Readings
 pub mod Batches
+pub mod OneDocument
 pub mod OneWanted
 pub mod Strings
 pub mod Looks

@@ -49,7 +49,7 @@ no_link number refused is e = let same : BadParameter number ≡ BadLink = sym i
 pub never_link : (own : Own) (now : List Pair) (number : ℕ) (refused : QueryRefused) → refused ≡ BadParameter number → refused ≡ BadLink → own (Some 14) now
 never_link own now number refused is e = absurd (no_link number refused is e)
 
--- ---- a look behind another
+-- ---- a look after another
 
 -- what tells the broken rules of the one look tells those of the other
 pub finds_by : {T : Type 0} (f g : Option Rule → Type 0) (P : T → Type 0) (r : Result T FormRefused) → ((b : Option Rule) → f b → g b) → Finds f P r → Finds g P r

@@ -1,4 +1,4 @@
--- A request asks one thing, but where memory is wanting.
+-- A request asks one thing, unless memory runs out.
 use Rattle.std.proofs.Common.{◌≡◌, ◌≤◌, ℕ, Bool, true, false, List, [], ◌∷◌, map, Option, Some, None, Result, Ok, Err, refl, sym, ap, ◌∙◌, subst, inl, inr, arith}
 use Rattle.std.specs.Prelude.{◌==◌, MatchBool, MatchOption, option_map}
 use Rattle.std.proofs.lemmas.Bool.{false≢true}
@@ -20,15 +20,17 @@ use Rattle.lrs_command.specs.declared.command.Command.{Command}
 use Rattle.lrs_command.specs.declared.command.Command.TheVariants as command
 use Rattle.lrs_record.specs.declared.entry.Area.{Area}
 use Rattle.lrs_rules.specs.declared.rule.Rule.{Rule}
+use Rattle.xapi_parameters.specs.Documents.{LeastOfDocument, LeastOfDocuments, LeastOfDrop}
 use Rattle.xapi_parameters.specs.Parameters.{LeastOfGet, LeastOfLink, LeastOfPut}
 use Rattle.xapi_parameters.specs.declared.pair.Pair.{Pair}
 use Rattle.xapi_parameters.proofs.Least.{get_once, link_once, put_once}
+use Rattle.xapi_parameters.proofs.Owners.{document_once, documents_get_once, drop_once}
 use Rattle.xapi_parameters.proofs.LinkAlone.{links_alone}
 use Rattle.lrs_routes.specs.Asked.{Agree, IsAsked}
 use Rattle.lrs_rules.specs.declared.rule.Rule.TheVariants as rule
 use Rattle.lrs_routes.specs.Fields.{allows_json}
 use Rattle.lrs_routes.specs.Forms.{AreStrings, BodyBreaks, FirstBroken, Decoded, IsCommand, LeastOfNone, Means, ParametersBreak, Spelled, StatementBody, Tested, first_unlike, has_just, parameters_of}
-use Rattle.lrs_routes.specs.Operations.{BodyForm, any_body, statement_body, statements_body, strings_body, ParameterForm, any_parameters, no_parameters, parameters_of_get, parameters_of_link, parameters_of_put, IsBodyValue, IsParameterValue, batch_of, command_of, form_of, names_of}
+use Rattle.lrs_routes.specs.Operations.{BodyForm, any_body, statement_body, statements_body, document_body, strings_body, ParameterForm, any_parameters, no_parameters, parameters_of_get, parameters_of_link, parameters_of_put, parameters_of_document, parameters_of_documents, parameters_of_drop, IsBodyValue, IsParameterValue, batch_of, command_of, form_of, names_of}
 use Rattle.lrs_routes.specs.declared.asked.Asked.{Asked}
 use Rattle.lrs_routes.specs.declared.asked.RouteRefused.{RouteRefused}
 use Rattle.lrs_routes.specs.declared.operation.Operation.{Operation}
@@ -38,6 +40,7 @@ use Rattle.lrs_routes.specs.declared.values.ParameterValue.{ParameterValue}
 use Rattle.lrs_routes.specs.declared.values.ParameterValue.TheVariants as parameter
 use Rattle.lrs_routes.proofs.Alone.{asked_alone, refused_alone}
 use Rattle.lrs_routes.proofs.Batches.{same_trees}
+use Rattle.lrs_routes.proofs.OneDocument.{one_dropped, one_key, one_wanted}
 use Rattle.lrs_routes.proofs.OneWanted.{decoded_least, wanted_once}
 use Rattle.xapi_parameters.proofs.OneJson.{one_json}
 
@@ -190,10 +193,11 @@ body_once : OneJson → (form : BodyForm) (request : Request) (a b : Broken) →
 body_once one any_body request a b h k = both a b None h k
 body_once one statement_body request a b h k = statement_once one request a b h k
 body_once one statements_body request a b h k = statement_once one request a b h k
+body_once one document_body request a b h k = both a b None h k
 body_once one (strings_body members) request a b h k =
     spelled_once one request.body (λ j x. AreStrings members j x) a b (λ j. strings_once members j a b) h k
 
--- the parameters tell one rule, where what stands behind does
+-- the parameters tell one rule, where what follows does
 parameters_once : (form : ParameterForm) (pairs : List Pair) (next : Broken → Type 0) (a b : Broken) → (next a → next b → a ≡ b)
     → ParametersBreak form pairs a (next a) → ParametersBreak form pairs b (next b) → a ≡ b
 parameters_once any_parameters pairs next a b once h k = once h k
@@ -201,6 +205,9 @@ parameters_once no_parameters pairs next a b once h k = decoded_once LeastOfNone
 parameters_once parameters_of_get pairs next a b once h k = decoded_once LeastOfGet pairs (get_once pairs) next a b once h k
 parameters_once parameters_of_link pairs next a b once h k = decoded_once LeastOfLink pairs (link_once pairs) next a b once h k
 parameters_once parameters_of_put pairs next a b once h k = decoded_once LeastOfPut pairs (put_once pairs) next a b once h k
+parameters_once parameters_of_document pairs next a b once h k = decoded_once LeastOfDocument pairs (document_once pairs) next a b once h k
+parameters_once parameters_of_documents pairs next a b once h k = decoded_once LeastOfDocuments pairs (documents_get_once pairs) next a b once h k
+parameters_once parameters_of_drop pairs next a b once h k = decoded_once LeastOfDrop pairs (drop_once pairs) next a b once h k
 
 first_once : OneJson → (o : Operation) (request : Request) (a b : Broken) → FirstBroken o request a → FirstBroken o request b → a ≡ b
 first_once one o request a b h k =
@@ -227,19 +234,23 @@ parameter_value_once parameters_of_get pairs next a b unbroken h k =
     h.2 ∙ ap parameter.Wanted (wanted_once pairs (decoded_least pairs next unbroken) h.0 k.0 h.1 k.1) ∙ sym k.2
 parameter_value_once parameters_of_link pairs next a b unbroken h k = h.2 ∙ ap parameter.Link (links_alone pairs h.0 k.0 h.1 k.1) ∙ sym k.2
 parameter_value_once parameters_of_put pairs next a b unbroken h k = h.2 ∙ ap parameter.Id (some_same h.0 k.0 (sym h.1 ∙ k.1)) ∙ sym k.2
+parameter_value_once parameters_of_document pairs next a b unbroken h k = h.2 ∙ ap parameter.Document (one_key pairs h.0 k.0 h.1 k.1) ∙ sym k.2
+parameter_value_once parameters_of_documents pairs next a b unbroken h k = h.2 ∙ ap parameter.Documents (one_wanted pairs h.0 k.0 h.1 k.1) ∙ sym k.2
+parameter_value_once parameters_of_drop pairs next a b unbroken h k = h.2 ∙ ap parameter.Dropped (one_dropped pairs h.0 k.0 h.1 k.1) ∙ sym k.2
 
 -- a body gives one value
-body_value_once : OneJson → (form : BodyForm) (bytes : List ℕ) (a b : BodyValue) → IsBodyValue form bytes a → IsBodyValue form bytes b → a ≡ b
-body_value_once one any_body bytes a b h k = h ∙ sym k
-body_value_once one statement_body bytes a b h k =
-    let trees : h.0 ≡ k.0 = same_tree h.0 k.0 (one_value one bytes (view h.0) (view k.0) h.1 k.1) in
+body_value_once : OneJson → (form : BodyForm) (request : Request) (a b : BodyValue) → IsBodyValue form request a → IsBodyValue form request b → a ≡ b
+body_value_once one any_body request a b h k = h ∙ sym k
+body_value_once one statement_body request a b h k =
+    let trees : h.0 ≡ k.0 = same_tree h.0 k.0 (one_value one request.body (view h.0) (view k.0) h.1 k.1) in
     h.2 ∙ ap body.Statement trees ∙ sym k.2
-body_value_once one statements_body bytes a b h k =
-    let values : h.1 ≡ k.1 = one_value one bytes h.1 k.1 h.2 k.2 in
+body_value_once one statements_body request a b h k =
+    let values : h.1 ≡ k.1 = one_value one request.body h.1 k.1 h.2 k.2 in
     let trees : h.0 ≡ k.0 = same_trees h.0 k.0 (h.3 ∙ ap batch_of values ∙ sym k.3) in
     h.4 ∙ ap body.Statements trees ∙ sym k.4
-body_value_once one (strings_body members) bytes a b h k =
-    let values : h.1 ≡ k.1 = one_value one bytes h.1 k.1 h.2 k.2 in
+body_value_once one document_body request a b h k = h ∙ sym k
+body_value_once one (strings_body members) request a b h k =
+    let values : h.1 ≡ k.1 = one_value one request.body h.1 k.1 h.2 k.2 in
     let texts : h.0 ≡ k.0 = some_texts h.0 k.0 (sym h.3 ∙ ap (λ (j : Json). map (λ member. text_under member.0 j) members) values ∙ k.3) in
     h.4 ∙ ap body.Strings texts ∙ sym k.4
 
@@ -248,7 +259,7 @@ means_once : OneJson → (o : Operation) (request : Request) (c d : Command) →
 means_once one o request c d unbroken h k =
     let pairs = parameters_of request.query in
     let queries : h.0 ≡ k.0 = parameter_value_once (form_of o).parameters pairs (BodyBreaks (form_of o).body request None) h.0 k.0 unbroken h.2 k.2 in
-    let bodies : h.1 ≡ k.1 = body_value_once one (form_of o).body request.body h.1 k.1 h.3 k.3 in
+    let bodies : h.1 ≡ k.1 = body_value_once one (form_of o).body request h.1 k.1 h.3 k.3 in
     let commands : command_of o h.0 h.1 ≡ command_of o k.0 k.1 = λ i. command_of o (queries i) (bodies i) in
     some_same c d (sym h.4 ∙ commands ∙ k.4)
 

@@ -42,7 +42,7 @@ segment_length (b ∷ rest) = elim (cases_Bool (b == 47)) [
       omega arith
 ]
 
--- the path that is left behind a parameter, as the search reads it
+-- the path that is left after a parameter, as the search reads it
 pub behind : (b : ℕ) (path : List ℕ) (n : ℕ) → 0 < n → drop n (b ∷ path) ≡ drop (n - 1) path
 behind b path zero h = absurd (omega arith)
 behind b path (suc n) h = ap (λ (m : ℕ). drop m path) (omega arith)

@@ -1,14 +1,15 @@
--- Looks, one behind the other: what the first finds, and what the next finds behind it.
+-- Looks, one after the other: what the first finds, and what the next finds after it.
 use Rattle.std.proofs.Common.{◌≡◌, ℕ, Bool, true, false, List, Option, Some, None, refl, sym, inl, inr}
 use Rattle.std.specs.Prelude.{MatchOption}
 use Rattle.std.proofs.lemmas.Bool.{false≢true}
 use Rattle.lrs_rules.specs.declared.rule.Rule.{Rule}
 use Rattle.lrs_rules.specs.declared.rule.Rule.TheVariants as rule
+use Rattle.xapi_parameters.specs.Documents.{LeastOfDocument, LeastOfDocuments, LeastOfDrop}
 use Rattle.xapi_parameters.specs.Pairs.{AreTexts}
 use Rattle.xapi_parameters.specs.Parameters.{LeastOfGet, LeastOfLink, LeastOfPut}
 use Rattle.xapi_parameters.specs.declared.pair.Pair.{Pair}
 use Rattle.lrs_routes.specs.Forms.{Decoded, LeastOfNone, Obeyed, ParametersBreak, Tested}
-use Rattle.lrs_routes.specs.Operations.{ParameterForm, any_parameters, no_parameters, parameters_of_get, parameters_of_link, parameters_of_put}
+use Rattle.lrs_routes.specs.Operations.{ParameterForm, any_parameters, no_parameters, parameters_of_get, parameters_of_link, parameters_of_put, parameters_of_document, parameters_of_documents, parameters_of_drop}
 use Rattle.lrs_routes.specs.Looks.{OnlyDecoded, OnlyParameters}
 
 abbrev Broken : Type 0
@@ -50,21 +51,27 @@ module _ (own : Option ℕ → List Pair → Type 0) (pairs : List Pair) where
       | inr bad ↦ absurd (none_some (rule.P 1) bad.1)
     ]
 
--- a rule on the parameters that is broken hides what stands behind
+-- a rule on the parameters that is broken hides what follows
 pub parameters_stop : (form : ParameterForm) (pairs : List Pair) (next : Type 0) (r : Rule) → OnlyParameters form pairs (Some r) → ParametersBreak form pairs (Some r) next
 parameters_stop any_parameters pairs next r h = absurd (some_none r h)
 parameters_stop no_parameters pairs next r h = decoded_stops LeastOfNone pairs next r h
 parameters_stop parameters_of_get pairs next r h = decoded_stops LeastOfGet pairs next r h
 parameters_stop parameters_of_link pairs next r h = decoded_stops LeastOfLink pairs next r h
 parameters_stop parameters_of_put pairs next r h = decoded_stops LeastOfPut pairs next r h
+parameters_stop parameters_of_document pairs next r h = decoded_stops LeastOfDocument pairs next r h
+parameters_stop parameters_of_documents pairs next r h = decoded_stops LeastOfDocuments pairs next r h
+parameters_stop parameters_of_drop pairs next r h = decoded_stops LeastOfDrop pairs next r h
 
--- where they break none, what stands behind decides
+-- where they break none, what follows decides
 pub parameters_pass : (form : ParameterForm) (pairs : List Pair) (next : Type 0) (b : Broken) → OnlyParameters form pairs None → next → ParametersBreak form pairs b next
 parameters_pass any_parameters pairs next b h later = later
 parameters_pass no_parameters pairs next b h later = decoded_passes LeastOfNone pairs next b h later
 parameters_pass parameters_of_get pairs next b h later = decoded_passes LeastOfGet pairs next b h later
 parameters_pass parameters_of_link pairs next b h later = decoded_passes LeastOfLink pairs next b h later
 parameters_pass parameters_of_put pairs next b h later = decoded_passes LeastOfPut pairs next b h later
+parameters_pass parameters_of_document pairs next b h later = decoded_passes LeastOfDocument pairs next b h later
+parameters_pass parameters_of_documents pairs next b h later = decoded_passes LeastOfDocuments pairs next b h later
+parameters_pass parameters_of_drop pairs next b h later = decoded_passes LeastOfDrop pairs next b h later
 
 -- ---- tests
 

@@ -3,6 +3,7 @@ use Rattle.std.proofs.Common.{◌≡◌, ℕ, false, List, length, map, Option, 
 use Rattle.std.specs.Prelude.{Result, Ok, Err, is_some, option_and_then}
 use Rattle.std.specs.Option.{option_map_or}
 use Rattle.std.proofs.lemmas.List.{length-map}
+use Rattle.lrs_http.specs.declared.request.Request.{Request}
 use Rattle.lrs_json.specs.Find.{find}
 use Rattle.lrs_json.specs.Json.{Json, null, boolean, number, string, array, object}
 use Rattle.lrs_json.specs.View.{view}
@@ -26,7 +27,7 @@ some_none r e = cc e
 abbrev Behind : List ℕ → Members → Option Rule → Type 0
 Behind bytes members broken = Spelled bytes broken (λ j. AreStrings members j broken)
 
--- a rule on JSON that is broken hides what stands behind
+-- a rule on JSON that is broken hides what follows
 pub spelled_stops : (bytes : List ℕ) (members : Members) (r : Rule) → OnlySpelled bytes (Some r) → Behind bytes members (Some r)
 spelled_stops bytes members r h = elim h [
   | inl good ↦ absurd (some_none r good.2)
@@ -39,17 +40,17 @@ as_many j members texts e =
     let same : length (texts_under members j) ≡ length (map Some texts) = ap (λ (os : List (Option (List ℕ))). length os) e in
     sym (length-map texts Some) ∙ sym same ∙ length-map members (λ (member : List ℕ × ℕ). text_under member.0 j)
 
-value_found : (bytes : List ℕ) (members : Members) (tree : Tree) (value : BodyValue) → IsTreeOf bytes tree → AreStringsOf members (view tree) value → IsInBody (strings_body members) bytes value
-value_found bytes members tree value of are = record {
+value_found : (request : Request) (members : Members) (tree : Tree) (value : BodyValue) → IsTreeOf request.body tree → AreStringsOf members (view tree) value → IsInBody (strings_body members) request value
+value_found request members tree value of are = record {
   is = (are.0, view tree, of.spelled, are.1, are.2);
   kind = subst (λ (v : BodyValue). OfBody (strings_body members) v) (sym are.2) (as_many (view tree) members are.0 are.1);
 }
 
-pub strings_found : (bytes : List ℕ) (members : Members) (tree : Tree) (r : Result BodyValue FormRefused) → IsTreeOf bytes tree
-    → Finds (AreStrings members (view tree)) (AreStringsOf members (view tree)) r → Finds (Behind bytes members) (IsInBody (strings_body members) bytes) r
-strings_found bytes members tree (Ok value) of h = (inl (view tree, of.spelled, h.0), value_found bytes members tree value of h.1)
-strings_found bytes members tree (Err (form_refused.Broken rule)) of h = (inl (view tree, of.spelled, h.0), h.1)
-strings_found bytes members tree (Err form_refused.Memory) of h = tt
+pub strings_found : (request : Request) (members : Members) (tree : Tree) (r : Result BodyValue FormRefused) → IsTreeOf request.body tree
+    → Finds (AreStrings members (view tree)) (AreStringsOf members (view tree)) r → Finds (Behind request.body members) (IsInBody (strings_body members) request) r
+strings_found request members tree (Ok value) of h = (inl (view tree, of.spelled, h.0), value_found request members tree value of h.1)
+strings_found request members tree (Err (form_refused.Broken rule)) of h = (inl (view tree, of.spelled, h.0), h.1)
+strings_found request members tree (Err form_refused.Memory) of h = tt
 
 -- ---- the texts, one after the other
 

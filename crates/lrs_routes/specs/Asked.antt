@@ -18,26 +18,29 @@ use Rattle.lrs_routes.specs.declared.table.Route.{Route}
 abbrev pub operation_at : Route → Method → Option Operation
 operation_at route method = operation_of (row_of route).methods method
 
--- the version is named where the route asks for it
+-- the version is named if the route asks for it
 abbrev pub has_version : Route → Option (List ℕ) → Bool
 has_version route version = not (row_of route).versioned || speaks version
 
 -- The path is one of the route, the method is for that there, and the version is named.
-pub record IsRouted (path : List ℕ) (method : Method) (version : Option (List ℕ)) (route : Route) (operation : Operation) : Type 0 where
+pub record IsRouted (path : List ℕ) (method : Method) (version : Option (List ℕ)) (route : Route)
+    (operation : Operation) : Type 0 where
   pub fits : Fits (row_of route).pattern path
   pub is : operation_at route method ≡ Some operation
   pub spoken : has_version route version ≡ true
 
--- Why a request is not routed, the first of these that holds. Want of memory is free.
+-- Why a request is not routed, the first of these that holds. Running out of memory is free.
 abbrev pub IsRouteRefused : List ℕ → Method → Option (List ℕ) → RouteRefused → Type 0
 IsRouteRefused path method version refused.NoRoute = (route : Route) → ¬ Fits (row_of route).pattern path
 IsRouteRefused path method version (refused.NoMethod allow) =
     (route : Route) × Fits (row_of route).pattern path × (operation_at route method ≡ None) × (allow ≡ allow_of route)
 IsRouteRefused path method version refused.NoVersion =
-    (route : Route) × (operation : Operation) × Fits (row_of route).pattern path × (operation_at route method ≡ Some operation) × (has_version route version ≡ false)
+    (route : Route) × (operation : Operation) × Fits (row_of route).pattern path
+    × (operation_at route method ≡ Some operation) × (has_version route version ≡ false)
 IsRouteRefused path method version refused.Memory = Unit {0}
 
--- what is known of a routed request before its parameters and its body are looked at: who asks, whom its route answers, and what its method is for there
+-- what is known of a routed request before its parameters and its body are looked at: who asks, whom its route answers,
+-- and what its method is for there
 pub record IsRoutedAs (request : Request) (routed : Routed) : Type 0 where
   pub route : Route
   pub is : IsRouted request.path request.method request.version route routed.operation
@@ -52,9 +55,10 @@ IsCommandOf request routed command = IsCommand routed.area routed.operation requ
 abbrev pub IsAsked : Request → Result Asked RouteRefused → Type 0
 IsAsked request (Ok asked) =
     (route : Route) × (operation : Operation) × IsRouted request.path request.method request.version route operation
-    × (asked.caller ≡ caller_of (row_of route).area request.credential) × IsCommand (row_of route).area operation request asked.command
+    × (asked.caller ≡ caller_of (row_of route).area request.credential)
+    × IsCommand (row_of route).area operation request asked.command
 IsAsked request (Err refused) = IsRouteRefused request.path request.method request.version refused
 
--- Two accounts of one request agree: they are one, but where memory was wanting.
+-- Two accounts of one request agree: they are one, unless memory ran out.
 abbrev pub Agree : Result Asked RouteRefused → Result Asked RouteRefused → Type 0
 Agree a b = (a ≡ b) ⊎ ((a ≡ Err refused.Memory) ⊎ (b ≡ Err refused.Memory))

@@ -1,8 +1,9 @@
 -- What the fields of a request say: the version, the credential, the media type of the body.
-use Rattle.std.specs.Prelude.{ℕ, ◌==◌, ◌&&◌, ◌||◌, Bool, true, false, List, [], length, Option, Some, None, if◌then◌else◌, nat_eq, nat_lt, codes}
+use Rattle.std.specs.Prelude.{ℕ, ◌==◌, ◌&&◌, ◌||◌, Bool, true, false, List, [], length, Option, Some, None}
+use Rattle.std.specs.Prelude.{if◌then◌else◌, nat_eq, nat_lt, codes}
 use Rattle.std.specs.List.{after_first, before_first, position_or_len, starts_with}
 use Rattle.std.specs.Str.{bytes_eq, str_eq_ignore_ascii_case}
-use Rattle.lrs_http.specs.Fields.{trims_to}
+use Rattle.lrs_media.specs.Media.{is_json}
 use Rattle.lrs_record.specs.declared.entry.Caller.{Caller}
 use Rattle.lrs_record.specs.declared.entry.Caller.TheVariants.{Nobody, Token}
 use Rattle.lrs_record.specs.declared.entry.Area.{Area}
@@ -23,10 +24,11 @@ speaks (Some version) = is_version version
 abbrev pub is_space : ℕ → Bool
 is_space b = b == 32
 
--- the scheme, a space, and what stands behind it
+-- the scheme, a space, and what follows it
 abbrev pub has_token : List ℕ → Bool
 has_token credential =
-    nat_lt (position_or_len is_space credential) (length credential) && str_eq_ignore_ascii_case (before_first is_space credential) (codes "Basic")
+    nat_lt (position_or_len is_space credential) (length credential)
+    && str_eq_ignore_ascii_case (before_first is_space credential) (codes "Basic")
 
 -- Nobody is meant by an empty token, and by the one that the journal has for the program itself.
 abbrev pub caller_of_token : List ℕ → Caller
@@ -36,24 +38,13 @@ abbrev pub presented : Option (List ℕ) → Caller
 presented None = Nobody
 presented (Some credential) = if has_token credential then caller_of_token (after_first is_space credential) else Nobody
 
--- where anyone may ask, nothing is presented
+-- if anyone may ask, nothing is presented
 abbrev pub caller_of : Area → Option (List ℕ) → Caller
 caller_of Free credential = Nobody
 caller_of Store credential = presented credential
 caller_of Desk credential = presented credential
 
 -- ---- the media type (RFC 9110, section 8.3.1)
-
-abbrev pub is_semicolon : ℕ → Bool
-is_semicolon b = b == 59
-
--- the word in any case, with nothing but white space round it
-abbrev pub is_json_name : List ℕ → Bool
-is_json_name name = trims_to name (codes "application/json")
-
--- JSON with or without parameters
-abbrev pub is_json : List ℕ → Bool
-is_json media = is_json_name (before_first is_semicolon media)
 
 -- a type that isn't given, or JSON
 abbrev pub allows_json : Option (List ℕ) → Bool

@@ -14,7 +14,7 @@ refused_of_query (query.BadParameter number) = form_refused.Broken (rule.P numbe
 refused_of_query query.BadLink = form_refused.Broken (rule.P 14)
 refused_of_query query.Memory = form_refused.Memory
 
--- none is for want of memory
+-- none says that memory ran out
 abbrev pub fault_of_rule : Option Rule → FormRefused
 fault_of_rule None = form_refused.Memory
 fault_of_rule (Some r) = form_refused.Broken r

@@ -1,5 +1,7 @@
--- The form of a request: the rules that it may break, in the order in which they are looked at, and the command that it means where it breaks none.
-use Rattle.std.specs.Prelude.{◌≡◌, ◌⊎◌, ℕ, Bool, ◌&&◌, List, [], ◌∷◌, Option, Some, None, if◌then◌else◌, option_map, MatchBool, MatchOption}
+-- The form of a request: the rules that it may break, in the order in which they are looked at, and the command that it
+-- means if it breaks none.
+use Rattle.std.specs.Prelude.{◌≡◌, ◌⊎◌, ℕ, Bool, ◌&&◌, List, [], ◌∷◌, Option, Some, None, if◌then◌else◌, option_map}
+use Rattle.std.specs.Prelude.{MatchBool, MatchOption}
 use Rattle.std.specs.List.{list_all}
 use Rattle.lrs_http.specs.declared.request.Request.{Request}
 use Rattle.lrs_json.specs.Json.{Json}
@@ -12,16 +14,21 @@ use Rattle.lrs_command.specs.declared.command.Command.{Command}
 use Rattle.lrs_command.specs.declared.command.Command.TheVariants.{Refused}
 use Rattle.lrs_rules.specs.declared.rule.Rule.{Rule}
 use Rattle.lrs_rules.specs.declared.rule.Rule.TheVariants as rule
+use Rattle.xapi_parameters.specs.Documents.{LeastOfDocument, LeastOfDocuments, LeastOfDrop}
 use Rattle.xapi_parameters.specs.Pairs.{AreTexts, pairs_of}
 use Rattle.xapi_parameters.specs.Parameters.{Demands, LeastOfGet, LeastOfLink, LeastOfPut}
 use Rattle.xapi_parameters.specs.declared.pair.Pair.{Pair}
 use Rattle.lrs_routes.specs.Fields.{allows_json}
-use Rattle.lrs_routes.specs.Operations.{ParameterForm, any_parameters, no_parameters, parameters_of_get, parameters_of_link, parameters_of_put, BodyForm, any_body, statement_body, statements_body, strings_body, IsParameterValue, IsBodyValue, command_of, form_of, names_of}
+use Rattle.lrs_routes.specs.Operations.{ParameterForm, any_parameters, no_parameters, parameters_of_get}
+use Rattle.lrs_routes.specs.Operations.{parameters_of_link, parameters_of_put, parameters_of_document}
+use Rattle.lrs_routes.specs.Operations.{parameters_of_documents, parameters_of_drop, BodyForm, any_body, statement_body}
+use Rattle.lrs_routes.specs.Operations.{statements_body, document_body, strings_body, IsParameterValue, IsBodyValue}
+use Rattle.lrs_routes.specs.Operations.{command_of, form_of, names_of}
 use Rattle.lrs_routes.specs.declared.operation.Operation.{Operation}
 use Rattle.lrs_routes.specs.declared.values.BodyValue.{BodyValue}
 use Rattle.lrs_routes.specs.declared.values.ParameterValue.{ParameterValue}
 
--- ---- what is looked at, each behind the one before: it is in order and the rest tells what is broken, or this is
+-- ---- what is looked at, each after the one before: it is in order and the rest tells what is broken, or this is
 
 -- it passes the test, or breaks this rule
 abbrev pub Tested : Bool → Rule → Option Rule → Type 0 → Type 0
@@ -32,21 +39,24 @@ abbrev pub parameters_of : Option (List ℕ) → List Pair
 parameters_of None = []
 parameters_of (Some query) = pairs_of query
 
--- where there are to be no parameters, the least rule that they break
+-- if there are to be no parameters, the least rule that they break
 abbrev pub LeastOfNone : Option ℕ → List Pair → Type 0
 LeastOfNone found pairs = Demands 2 (pairs ≡ []) found (found ≡ None)
 
 -- they break none of the form's own rules, or this is the least that they break
 abbrev pub Obeyed : (Option ℕ → List Pair → Type 0) → List Pair → Option Rule → Type 0 → Type 0
-Obeyed own pairs broken rest = (found : Option ℕ) × own found pairs × MatchOption found rest (λ number. broken ≡ Some (rule.P number))
+Obeyed own pairs broken rest =
+    (found : Option ℕ) × own found pairs × MatchOption found rest (λ number. broken ≡ Some (rule.P number))
 
--- the same behind the first rule, that they are texts
+-- the same after the first rule, that they are texts
 abbrev pub Decoded : (Option ℕ → List Pair → Type 0) → List Pair → Option Rule → Type 0 → Type 0
-Decoded own pairs broken rest = (AreTexts pairs × Obeyed own pairs broken rest) ⊎ ((¬ AreTexts pairs) × (broken ≡ Some (rule.P 1)))
+Decoded own pairs broken rest = (AreTexts pairs × Obeyed own pairs broken rest)
+    ⊎ ((¬ AreTexts pairs) × (broken ≡ Some (rule.P 1)))
 
 -- they spell a value, or break a rule on JSON
 abbrev pub Spelled : List ℕ → Option Rule → (Json → Type 0) → Type 0
-Spelled bytes broken rest = ((j : Json) × Spells DEPTH bytes j × rest j) ⊎ ((r : Rule) × BreaksJson bytes r × (broken ≡ Some r))
+Spelled bytes broken rest = ((j : Json) × Spells DEPTH bytes j × rest j)
+    ⊎ ((r : Rule) × BreaksJson bytes r × (broken ≡ Some r))
 
 -- an object that has these members, and no others
 abbrev pub has_just : List (List ℕ) → Json → Bool
@@ -55,7 +65,8 @@ has_just names j = has_only names j && list_all (λ name. has_member name j) nam
 -- the rule of the first member that is no string
 abbrev pub first_unlike : List (List ℕ × ℕ) → Json → Option ℕ
 first_unlike [] j = None
-first_unlike (member ∷ members) j = if has_member_that member.0 is_string j then first_unlike members j else Some member.1
+first_unlike (member ∷ members) j = if has_member_that member.0 is_string j then first_unlike members j
+    else Some member.1
 
 -- ---- the first rule that is broken
 
@@ -66,35 +77,44 @@ ParametersBreak no_parameters pairs broken rest = Decoded LeastOfNone pairs brok
 ParametersBreak parameters_of_get pairs broken rest = Decoded LeastOfGet pairs broken rest
 ParametersBreak parameters_of_link pairs broken rest = Decoded LeastOfLink pairs broken rest
 ParametersBreak parameters_of_put pairs broken rest = Decoded LeastOfPut pairs broken rest
+ParametersBreak parameters_of_document pairs broken rest = Decoded LeastOfDocument pairs broken rest
+ParametersBreak parameters_of_documents pairs broken rest = Decoded LeastOfDocuments pairs broken rest
+ParametersBreak parameters_of_drop pairs broken rest = Decoded LeastOfDrop pairs broken rest
 
 -- the body of a statement, or of statements
 abbrev pub StatementBody : Request → Option Rule → Type 0
-StatementBody request broken = Tested (allows_json request.media) (rule.F 3) broken (Spelled request.body broken (λ statement. broken ≡ None))
+StatementBody request broken =
+    Tested (allows_json request.media) (rule.F 3) broken (Spelled request.body broken (λ statement. broken ≡ None))
 
 -- an object of just these strings
 abbrev pub AreStrings : List (List ℕ × ℕ) → Json → Option Rule → Type 0
 AreStrings members j broken =
-    Tested (has_just (names_of members) j) (rule.B 1) broken (broken ≡ option_map (λ number. rule.B number) (first_unlike members j))
+    Tested (has_just (names_of members) j) (rule.B 1) broken
+    (broken ≡ option_map (λ number. rule.B number) (first_unlike members j))
 
 -- of the form of the body
 abbrev pub BodyBreaks : BodyForm → Request → Option Rule → Type 0
 BodyBreaks any_body request broken = broken ≡ None
 BodyBreaks statement_body request broken = StatementBody request broken
 BodyBreaks statements_body request broken = StatementBody request broken
+BodyBreaks document_body request broken = broken ≡ None
 BodyBreaks (strings_body members) request broken = Spelled request.body broken (λ j. AreStrings members j broken)
 
--- The first rule that the request's form breaks, None where it breaks none.
+-- The first rule that the request's form breaks, None if it breaks none.
 abbrev pub FirstBroken : Operation → Request → Option Rule → Type 0
 FirstBroken operation request broken =
-    ParametersBreak (form_of operation).parameters (parameters_of request.query) broken (BodyBreaks (form_of operation).body request broken)
+    ParametersBreak (form_of operation).parameters (parameters_of request.query) broken
+    (BodyBreaks (form_of operation).body request broken)
 
--- What the request means, where its form breaks no rule.
+-- What the request means, if its form breaks no rule.
 abbrev pub Means : Operation → Request → Command → Type 0
 Means operation request command =
-    (q : ParameterValue) × (b : BodyValue) × IsParameterValue (form_of operation).parameters (parameters_of request.query) q
-    × IsBodyValue (form_of operation).body request.body b × (command_of operation q b ≡ Some command)
+    (q : ParameterValue) × (b : BodyValue) × IsParameterValue (form_of operation).parameters
+    (parameters_of request.query) q
+    × IsBodyValue (form_of operation).body request b × (command_of operation q b ≡ Some command)
 
--- The command of a request to a route of that area: what it means, or the refusal by the first rule that its form breaks.
+-- The command of a request to a route of that area: what it means, or the refusal by the first rule that its form
+-- breaks.
 abbrev pub IsCommand : Area → Operation → Request → Command → Type 0
 IsCommand area operation request command =
     (broken : Option Rule) × FirstBroken operation request broken

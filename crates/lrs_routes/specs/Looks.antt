@@ -14,7 +14,8 @@ use Rattle.lrs_rules.specs.declared.rule.Rule.{Rule}
 use Rattle.lrs_rules.specs.declared.rule.Rule.TheVariants as rule
 use Rattle.xapi_parameters.specs.declared.pair.Pair.{Pair}
 use Rattle.lrs_routes.specs.Forms.{Decoded, Means, ParametersBreak, Spelled}
-use Rattle.lrs_routes.specs.Operations.{AreTextsOf, BodyForm, ParameterForm, IsBodyValue, IsParameterValue, OfBody, OfParameters}
+use Rattle.lrs_routes.specs.Operations.{AreTextsOf, BodyForm, ParameterForm, IsBodyValue, IsParameterValue, OfBody}
+use Rattle.lrs_routes.specs.Operations.{OfParameters}
 use Rattle.lrs_routes.specs.declared.form_refused.FormRefused.{FormRefused}
 use Rattle.lrs_routes.specs.declared.form_refused.FormRefused.TheVariants as form_refused
 use Rattle.lrs_routes.specs.declared.operation.Operation.{Operation}
@@ -35,7 +36,7 @@ abbrev pub HasFormRule : Command → Type 0
 HasFormRule (Refused area status rule) = (status ≡ 400) × IsTrue (is_form_rule rule)
 HasFormRule other = Unit {0}
 
--- What comes of a look: a value, where nothing is broken, or the first rule that is. Want of memory is free.
+-- What comes of a look: a value, if nothing is broken, or the first rule that is. Running out of memory is free.
 abbrev pub Finds : {T : Type 0} → (Option Rule → Type 0) → (T → Type 0) → Result T FormRefused → Type 0
 Finds first IsValue (Ok value) = first None × IsValue value
 Finds first IsValue (Err (form_refused.Broken rule)) = first (Some rule) × IsTrue (is_form_rule rule)
@@ -46,7 +47,7 @@ abbrev pub IfBroken : FormRefused → (Rule → Type 0) → Type 0
 IfBroken (form_refused.Broken rule) P = P rule
 IfBroken form_refused.Memory P = Unit {0}
 
--- with nothing to look at behind the parameters
+-- with nothing to look at after the parameters
 abbrev pub OnlyParameters : ParameterForm → List Pair → Option Rule → Type 0
 OnlyParameters form pairs broken = ParametersBreak form pairs broken (broken ≡ None)
 
@@ -68,8 +69,8 @@ pub record IsInParameters (form : ParameterForm) (pairs : List Pair) (value : Pa
   pub kind : OfParameters form value
 
 -- what the body gives, and such as its form gives
-pub record IsInBody (form : BodyForm) (bytes : List ℕ) (value : BodyValue) : Type 0 where
-  pub is : IsBodyValue form bytes value
+pub record IsInBody (form : BodyForm) (request : Request) (value : BodyValue) : Type 0 where
+  pub is : IsBodyValue form request value
   pub kind : OfBody form value
 
 -- the value of the strings of those members

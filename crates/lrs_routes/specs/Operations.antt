@@ -1,4 +1,5 @@
--- The operations: a row for each, with what it asks of the parameters and of the body, and the command of what the two give.
+-- The operations: a row for each, with what it asks of the parameters and of the body, and the command of what the two
+-- give.
 use Rattle.std.specs.Prelude.{◌≡◌, ℕ, List, [], ◌∷◌, map, length, Option, Some, None, codes}
 use Rattle.lrs_json.specs.Fits.{IsReadable}
 use Rattle.lrs_json.specs.Json.{Json, null, boolean, number, string, array, object, Elements, no_elements, element}
@@ -8,14 +9,21 @@ use Rattle.lrs_json.specs.declared.tree.Tree.{Tree}
 use Rattle.lrs_json.specs.declared.limits.TheConstants.{DEPTH}
 use Rattle.lrs_names.specs.Members.{text_under}
 use Rattle.lrs_record.specs.Entries.{AreLawfulTrees}
-use Rattle.lrs_record.specs.declared.entry.Write.TheVariants.{Provider, Put, Post}
+use Rattle.lrs_http.specs.declared.request.Request.{Request}
+use Rattle.lrs_record.specs.declared.entry.How.{How}
+use Rattle.lrs_record.specs.declared.entry.How.TheVariants as how
+use Rattle.lrs_record.specs.declared.entry.Write.TheVariants.{Provider, Put, Post, State, Drop}
 use Rattle.lrs_command.specs.declared.command.Command.{Command}
 use Rattle.lrs_command.specs.declared.command.Command.TheVariants.{Write, Read}
 use Rattle.lrs_command.specs.declared.command.Read.TheVariants as read
+use Rattle.xapi_keys.specs.declared.state_key.StateKey.{StateKey}
+use Rattle.xapi_keys.specs.declared.wanted.WantedDocuments.{WantedDocuments}
+use Rattle.xapi_parameters.specs.Documents.{AreDropped, AreWanted, IsKey}
 use Rattle.xapi_parameters.specs.Links.{IsLink}
 use Rattle.xapi_parameters.specs.Queries.{id_under}
 use Rattle.xapi_parameters.specs.Wants.{IsWanted}
 use Rattle.xapi_query.specs.declared.link.MoreLink.{MoreLink}
+use Rattle.xapi_parameters.specs.declared.dropped.DroppedDocuments.{DroppedDocuments}
 use Rattle.xapi_parameters.specs.declared.pair.Pair.{Pair}
 use Rattle.xapi_query.specs.declared.wanted.Wanted.{Wanted}
 use Rattle.lrs_routes.specs.declared.operation.Operation.{Operation}
@@ -34,12 +42,17 @@ pub data ParameterForm : Type 0 where
   parameters_of_get : ParameterForm
   parameters_of_link : ParameterForm
   parameters_of_put : ParameterForm
+  parameters_of_document : ParameterForm
+  parameters_of_documents : ParameterForm
+  parameters_of_drop : ParameterForm
 
--- What the body is to be: any, as it isn't looked at; a statement; statements; or an object of just these members, each a string, and each with the number of the rule that it breaks where it is none.
+-- What the body is to be: any, as it isn't looked at; a statement; statements; any bytes, which are a document; or an
+-- object of just these members, each a string, and each with the number of the rule that it breaks where it is none.
 pub data BodyForm : Type 0 where
   any_body : BodyForm
   statement_body : BodyForm
   statements_body : BodyForm
+  document_body : BodyForm
   strings_body : List (List ℕ × ℕ) → BodyForm
 
 abbrev pub names_of : List (List ℕ × ℕ) → List (List ℕ)
@@ -58,15 +71,33 @@ form_of operation.GetStatements = form parameters_of_get any_body
 form_of operation.GetMoreStatements = form parameters_of_link any_body
 form_of operation.PostStatements = form no_parameters statements_body
 form_of operation.PutStatement = form parameters_of_put statement_body
+form_of operation.GetDocuments = form parameters_of_documents any_body
+form_of operation.PutDocument = form parameters_of_document document_body
+form_of operation.PostDocument = form parameters_of_document document_body
+form_of operation.DropDocuments = form parameters_of_drop any_body
+form_of operation.GetProfile = form any_parameters any_body
 form_of operation.MakeProvider = form no_parameters (strings_body ((codes "name", 2) ∷ []))
 
--- The command of what the parameters and the body give. None where these aren't what the row asks for.
+-- the write of a document
+abbrev pub written : How → ParameterValue → BodyValue → Option Command
+written h (parameter.Document key) (body.Document media bytes) = Some (Write (State h key media bytes))
+written h other b = None
+
+abbrev pub dropping : DroppedDocuments → Command
+dropping dropped = Write (Drop dropped.activity dropped.agent dropped.registration dropped.state)
+
+-- The command of what the parameters and the body give. None if these aren't what the row asks for.
 abbrev pub command_of : Operation → ParameterValue → BodyValue → Option Command
 command_of operation.TellVersions q b = Some (Read read.About)
 command_of operation.GetStatements (parameter.Wanted wanted) b = Some (Read (read.Statements wanted))
 command_of operation.GetMoreStatements (parameter.Link link) b = Some (Read (read.More link))
 command_of operation.PostStatements q (body.Statements statements) = Some (Write (Post statements))
 command_of operation.PutStatement (parameter.Id id) (body.Statement statement) = Some (Write (Put id statement))
+command_of operation.GetDocuments (parameter.Documents wanted) b = Some (Read (read.Documents wanted))
+command_of operation.PutDocument q b = written how.Put q b
+command_of operation.PostDocument q b = written how.Post q b
+command_of operation.DropDocuments (parameter.Dropped dropped) b = Some (dropping dropped)
+command_of operation.GetProfile q b = Some (Read read.Profile)
 command_of operation.MakeProvider q (body.Strings (name ∷ [])) = Some (Write (Provider name))
 command_of other q b = None
 
@@ -75,9 +106,17 @@ command_of other q b = None
 abbrev pub IsParameterValue : ParameterForm → List Pair → ParameterValue → Type 0
 IsParameterValue any_parameters pairs value = value ≡ parameter.Nothing
 IsParameterValue no_parameters pairs value = value ≡ parameter.Nothing
-IsParameterValue parameters_of_get pairs value = (wanted : Wanted) × IsWanted pairs wanted × (value ≡ parameter.Wanted wanted)
+IsParameterValue parameters_of_get pairs value = (wanted : Wanted) × IsWanted pairs wanted
+    × (value ≡ parameter.Wanted wanted)
 IsParameterValue parameters_of_link pairs value = (link : MoreLink) × IsLink pairs link × (value ≡ parameter.Link link)
-IsParameterValue parameters_of_put pairs value = (id : List ℕ) × (id_under (codes "statementId") pairs ≡ Some id) × (value ≡ parameter.Id id)
+IsParameterValue parameters_of_put pairs value = (id : List ℕ) × (id_under (codes "statementId") pairs ≡ Some id)
+    × (value ≡ parameter.Id id)
+IsParameterValue parameters_of_document pairs value = (key : StateKey) × IsKey pairs key
+    × (value ≡ parameter.Document key)
+IsParameterValue parameters_of_documents pairs value = (wanted : WantedDocuments) × AreWanted pairs wanted
+    × (value ≡ parameter.Documents wanted)
+IsParameterValue parameters_of_drop pairs value = (dropped : DroppedDocuments) × AreDropped pairs dropped
+    × (value ≡ parameter.Dropped dropped)
 
 -- ---- what the body gives
 
@@ -97,13 +136,22 @@ texts_under members j = map (λ member. text_under member.0 j) members
 abbrev pub AreTextsOf : List (List ℕ × ℕ) → Json → List (List ℕ) → Type 0
 AreTextsOf members j texts = texts_under members j ≡ map Some texts
 
-abbrev pub IsBodyValue : BodyForm → List ℕ → BodyValue → Type 0
-IsBodyValue any_body bytes value = value ≡ body.Nothing
-IsBodyValue statement_body bytes value = (tree : Tree) × Spells DEPTH bytes (view tree) × (value ≡ body.Statement tree)
-IsBodyValue statements_body bytes value =
-    (trees : List Tree) × (j : Json) × Spells DEPTH bytes j × (elements_of (map view trees) ≡ batch_of j) × (value ≡ body.Statements trees)
-IsBodyValue (strings_body members) bytes value =
-    (texts : List (List ℕ)) × (j : Json) × Spells DEPTH bytes j × AreTextsOf members j texts × (value ≡ body.Strings texts)
+-- the type of a body; where none is given, that of any bytes
+abbrev pub media_of : Option (List ℕ) → List ℕ
+media_of None = codes "application/octet-stream"
+media_of (Some media) = media
+
+abbrev pub IsBodyValue : BodyForm → Request → BodyValue → Type 0
+IsBodyValue any_body request value = value ≡ body.Nothing
+IsBodyValue statement_body request value = (tree : Tree) × Spells DEPTH request.body (view tree)
+    × (value ≡ body.Statement tree)
+IsBodyValue statements_body request value =
+    (trees : List Tree) × (j : Json) × Spells DEPTH request.body j × (elements_of (map view trees) ≡ batch_of j)
+    × (value ≡ body.Statements trees)
+IsBodyValue document_body request value = value ≡ body.Document (media_of request.media) request.body
+IsBodyValue (strings_body members) request value =
+    (texts : List (List ℕ)) × (j : Json) × Spells DEPTH request.body j × AreTextsOf members j texts
+    × (value ≡ body.Strings texts)
 
 -- ---- the kinds of values
 
@@ -114,6 +162,9 @@ OfParameters no_parameters parameter.Nothing = Unit {0}
 OfParameters parameters_of_get (parameter.Wanted value) = Unit {0}
 OfParameters parameters_of_link (parameter.Link value) = Unit {0}
 OfParameters parameters_of_put (parameter.Id value) = Unit {0}
+OfParameters parameters_of_document (parameter.Document key) = Unit {0}
+OfParameters parameters_of_documents (parameter.Documents wanted) = Unit {0}
+OfParameters parameters_of_drop (parameter.Dropped dropped) = Unit {0}
 OfParameters form value = ⊥
 
 -- such a value as a body of this form gives; its trees are such as reading gives
@@ -121,5 +172,6 @@ abbrev pub OfBody : BodyForm → BodyValue → Type 0
 OfBody any_body body.Nothing = Unit {0}
 OfBody statement_body (body.Statement tree) = IsReadable DEPTH (view tree)
 OfBody statements_body (body.Statements trees) = AreLawfulTrees trees
+OfBody document_body (body.Document media bytes) = Unit {0}
 OfBody (strings_body members) (body.Strings texts) = length texts ≡ length members
 OfBody form value = ⊥

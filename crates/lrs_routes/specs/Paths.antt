@@ -12,5 +12,6 @@ abbrev pub Fits : List ℕ → List ℕ → Type 0
 Fits [] path = path ≡ []
 Fits (x ∷ pattern) path =
     ((rest : List ℕ) × (path ≡ x ∷ rest) × Fits pattern rest)
-    ⊎ (((x ≡ param_token) × ((part : List ℕ) × (rest : List ℕ) × (path ≡ part ++ rest) × IsPart part × Fits pattern rest))
+    ⊎ (((x ≡ param_token) × ((part : List ℕ) × (rest : List ℕ) × (path ≡ part ++ rest) × IsPart part
+    × Fits pattern rest))
     ⊎ ((x ≡ catch_all_token) × (pattern ≡ []) × (0 < length path)))

@@ -14,7 +14,7 @@ use Rattle.lrs_routes.specs.declared.table.Route.TheVariants as route
 pub record Row : Type 0 where
   -- the path, where a parameter stands for a part of it
   pub pattern : List ℕ
-  -- whom it answers; where anyone may ask, no credential is looked at
+  -- whom it answers; if anyone may ask, no credential is looked at
   pub area : Area
   -- it asks for the version of xAPI
   pub versioned : Bool
@@ -27,12 +27,23 @@ row pattern area versioned methods = record { pattern = pattern; area = area; ve
 abbrev pub row_of : Route → Row
 row_of route.Providers = row (codes "/desk/callers") area.Desk false ((Post, operation.MakeProvider) ∷ [])
 row_of route.About = row (codes "/xapi/about") area.Free false ((Get, operation.TellVersions) ∷ [])
-row_of route.MoreStatements = row (codes "/xapi/statements/more") area.Store true ((Get, operation.GetMoreStatements) ∷ [])
-row_of route.Statements = row (codes "/xapi/statements") area.Store true ((Get, operation.GetStatements) ∷ (Post, operation.PostStatements) ∷ (Put, operation.PutStatement) ∷ [])
+row_of route.ActivityProfiles =
+    row (codes "/xapi/activities/profile") area.Store true ((Get, operation.GetProfile) ∷ [])
+row_of route.States = row (codes "/xapi/activities/state") area.Store true
+    ((Delete, operation.DropDocuments) ∷ (Get, operation.GetDocuments) ∷ (Post, operation.PostDocument)
+    ∷ (Put, operation.PutDocument) ∷ [])
+row_of route.AgentProfiles = row (codes "/xapi/agents/profile") area.Store true ((Get, operation.GetProfile) ∷ [])
+row_of route.MoreStatements =
+    row (codes "/xapi/statements/more") area.Store true ((Get, operation.GetMoreStatements) ∷ [])
+row_of route.Statements = row (codes "/xapi/statements") area.Store true
+    ((Get, operation.GetStatements) ∷ (Post, operation.PostStatements) ∷ (Put, operation.PutStatement) ∷ [])
 
 -- each route, in the order in which the router has their paths: a longer one before its beginning
 abbrev pub routes : List Route
-routes = route.Providers ∷ route.About ∷ route.MoreStatements ∷ route.Statements ∷ []
+routes =
+    route.Providers ∷ route.About ∷ route.ActivityProfiles ∷ route.States ∷ route.AgentProfiles ∷ route.MoreStatements
+    ∷ route.Statements
+    ∷ []
 
 -- the routes' patterns, as the router has them
 abbrev pub patterns : List (List ℕ × Route)

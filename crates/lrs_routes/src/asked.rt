@@ -30,7 +30,7 @@ pub enum RouteRefused {
     NoMethod { allow: Allow },
     /// The version of xAPI isn't named, or another one is: 400, rule V1.
     NoVersion,
-    /// Want of memory.
+    /// Out of memory.
     Memory,
 }
 

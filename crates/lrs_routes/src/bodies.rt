@@ -5,7 +5,7 @@ ghost use Rattle.lrs_json.specs.View.{elements_of, member_view, members_of, view
 ghost use Rattle.lrs_names.specs.Members.{are_named_by, has_member, has_only, is_one_of};
 ghost use Rattle.lrs_rules.specs.declared.rule.Rule.TheVariants as rule;
 ghost use Rattle.lrs_routes.specs.Forms.{AreStrings, BodyBreaks, StatementBody, first_unlike, has_just};
-ghost use Rattle.lrs_routes.specs.Operations.{AreTextsOf, batch_of, names_of, statement_body, statements_body, strings_body};
+ghost use Rattle.lrs_routes.specs.Operations.{AreTextsOf, batch_of, document_body, media_of, names_of, statement_body, statements_body, strings_body};
 ghost use Rattle.lrs_routes.specs.Looks.{AreStringsOf, Finds, IsInBody, IsTreeOf, OnlySpelled};
 
 use crate::fields::allows_json;
@@ -20,7 +20,7 @@ use std::alloc::Global;
 
 /// The body as a statement that isn't looked into.
 pub(crate) fn statement_in(alloc: Global, request: &Request) -> Result<BodyValue, FormRefused>
-    ensures { Finds (BodyBreaks statement_body request.now) (IsInBody statement_body request.now.body) result }
+    ensures { Finds (BodyBreaks statement_body request.now) (IsInBody statement_body request.now) result }
 {
     let body = statement_tree(alloc, request)?;
     Ok(BodyValue::Statement(body))
@@ -28,22 +28,47 @@ pub(crate) fn statement_in(alloc: Global, request: &Request) -> Result<BodyValue
 
 /// The body as statements that aren't looked into: an array of them, or one alone.
 pub(crate) fn statements_in(alloc: Global, request: &Request) -> Result<BodyValue, FormRefused>
-    ensures { Finds (BodyBreaks statements_body request.now) (IsInBody statements_body request.now.body) result }
+    ensures { Finds (BodyBreaks statements_body request.now) (IsInBody statements_body request.now) result }
 {
     let body = statement_tree(alloc, request)?;
     let statements = batch_of(alloc, body)?;
     Ok(BodyValue::Statements(statements))
 }
 
+/// The body as a document: its bytes, with their media type.
+pub(crate) fn document_in(alloc: Global, request: &Request) -> Result<BodyValue, FormRefused>
+    ensures { Finds (BodyBreaks document_body request.now) (IsInBody document_body request.now) result }
+{
+    let media = media_of(alloc, &request.media)?;
+    let bytes = copied(alloc, request.body.as_slice())?;
+    Ok(BodyValue::Document { media, bytes })
+}
+
+// The type of a body; where none is given, that of any bytes.
+fn media_of(alloc: Global, media: &Option<Text>) -> Result<Text, Memory>
+    ensures { IfOk result (λ text. text ≡ media_of media.now) }
+{
+    match media {
+        Some(media) => Ok(media.clone()?),
+        None => Text::of(alloc, "application/octet-stream"),
+    }
+}
+
+fn copied(alloc: Global, bytes: &[u8]) -> Result<Items<u8>, Memory>
+    ensures { IfOk result (λ copy. copy ≡ bytes.now) }
+{
+    Ok(Items::from_vec(bytes.to_vec(alloc)?))
+}
+
 /// The body as an object of just these members, each a string, and each with the number of the rule that it breaks
-/// where it is none.
+/// if it is none.
 pub(crate) fn strings_in(
     alloc: Global,
     request: &Request,
     members: &[(&str, u8)],
 ) -> Result<BodyValue, FormRefused>
     ensures { Finds (BodyBreaks (strings_body (map (λ m. (m.0.now, m.1)) members.now)) request.now)
-        (IsInBody (strings_body (map (λ m. (m.0.now, m.1)) members.now)) request.now.body) result }
+        (IsInBody (strings_body (map (λ m. (m.0.now, m.1)) members.now)) request.now) result }
 {
     let body = tree(alloc, request.body.as_slice())?;
     let strings = strings_of(alloc, &body, members);

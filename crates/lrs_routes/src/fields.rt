@@ -1,11 +1,11 @@
 // What the fields of a request say.
 ghost use Rattle.std.specs.Prelude.{◌≡◌, IfOk, Some};
 ghost use Rattle.lrs_record.specs.Entries.{IsLawfulCaller};
-ghost use Rattle.lrs_routes.specs.Fields.{allows_json, caller_of, caller_of_token, is_json, is_json_name, is_version, presented, speaks};
+ghost use Rattle.lrs_routes.specs.Fields.{allows_json, caller_of, caller_of_token, is_version, presented, speaks};
 
 use lrs_command::Area;
-use lrs_http::trims_to;
 use lrs_json::{Memory, Text};
+use lrs_media::is_json;
 use lrs_record::Caller;
 use std::alloc::Global;
 
@@ -25,7 +25,7 @@ fn is_version(version: &str) -> bool
     version == "1.0" || version.starts_with("1.0.")
 }
 
-/// Who asks, by the credential; nobody where the area lets anyone ask.
+/// Who asks, by the credential; nobody if the area lets anyone ask.
 pub fn caller_of(alloc: Global, area: Area, credential: &Option<Text>) -> Result<Caller, Memory>
     ensures is { IfOk result (λ caller. caller ≡ caller_of area credential.now) }
     ensures lawful { IfOk result IsLawfulCaller }
@@ -72,19 +72,4 @@ pub fn allows_json(media: &Option<Text>) -> bool
         Some(media) => is_json(media.as_str()),
         None => true,
     }
-}
-
-fn is_json(media: &str) -> bool
-    ensures { result ≡ is_json media.now }
-{
-    match media.split_once(';') {
-        Some((name, _)) => is_json_name(name.as_bytes()),
-        None => is_json_name(media.as_bytes()),
-    }
-}
-
-fn is_json_name(name: &[u8]) -> bool
-    ensures { result ≡ is_json_name name.now }
-{
-    trims_to(name, b"application/json")
 }

@@ -8,7 +8,7 @@ use xapi_parameters::QueryRefused;
 pub enum FormRefused {
     /// Its form breaks this rule, and none before it.
     Broken(Rule),
-    /// Want of memory.
+    /// Out of memory.
     Memory,
 }
 

@@ -28,7 +28,7 @@ pub struct Routes {
 }
 
 impl Routes {
-    /// The table, whole; only memory can be wanting.
+    /// The table, whole; only memory can run out.
     pub fn new(alloc: Global) -> Result<Routes, Memory> {
         match router(alloc) {
             Ok(router) => Ok(Routes { router }),
@@ -147,6 +147,9 @@ fn router(alloc: Global) -> Result<Router<Route>, InsertError>
     let mut router = Router::new(alloc);
     router.insert("/desk/callers", Route::Providers)?;
     router.insert("/xapi/about", Route::About)?;
+    router.insert("/xapi/activities/profile", Route::ActivityProfiles)?;
+    router.insert("/xapi/activities/state", Route::States)?;
+    router.insert("/xapi/agents/profile", Route::AgentProfiles)?;
     router.insert("/xapi/statements", Route::Statements)?;
     router.insert("/xapi/statements/more", Route::MoreStatements)?;
     Ok(router)

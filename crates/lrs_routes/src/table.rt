@@ -10,6 +10,9 @@ use lrs_http::Method;
 pub(crate) enum Route {
     Providers,
     About,
+    ActivityProfiles,
+    States,
+    AgentProfiles,
     MoreStatements,
     Statements,
 }
@@ -27,7 +30,9 @@ impl Allow {
     {
         match self.route {
             Route::Providers => "POST",
-            Route::About | Route::MoreStatements => "GET",
+            Route::About | Route::ActivityProfiles | Route::AgentProfiles | Route::MoreStatements =>
+                "GET",
+            Route::States => "DELETE, GET, POST, PUT",
             Route::Statements => "GET, POST, PUT",
         }
     }
@@ -41,7 +46,11 @@ impl Route {
         match self {
             Route::Providers => Area::Desk,
             Route::About => Area::Free,
-            Route::MoreStatements | Route::Statements => Area::Store,
+            Route::ActivityProfiles
+            | Route::States
+            | Route::AgentProfiles
+            | Route::MoreStatements
+            | Route::Statements => Area::Store,
         }
     }
 
@@ -50,7 +59,11 @@ impl Route {
         ensures { result ≡ (row_of self).versioned }
     {
         match self {
-            Route::MoreStatements | Route::Statements => true,
+            Route::ActivityProfiles
+            | Route::States
+            | Route::AgentProfiles
+            | Route::MoreStatements
+            | Route::Statements => true,
             Route::Providers | Route::About => false,
         }
     }
@@ -63,6 +76,12 @@ impl Route {
         match (self, method) {
             (Route::Providers, Method::Post) => Ok(Operation::MakeProvider),
             (Route::About, Method::Get) => Ok(Operation::TellVersions),
+            (Route::ActivityProfiles, Method::Get) => Ok(Operation::GetProfile),
+            (Route::States, Method::Delete) => Ok(Operation::DropDocuments),
+            (Route::States, Method::Get) => Ok(Operation::GetDocuments),
+            (Route::States, Method::Post) => Ok(Operation::PostDocument),
+            (Route::States, Method::Put) => Ok(Operation::PutDocument),
+            (Route::AgentProfiles, Method::Get) => Ok(Operation::GetProfile),
             (Route::MoreStatements, Method::Get) => Ok(Operation::GetMoreStatements),
             (Route::Statements, Method::Get) => Ok(Operation::GetStatements),
             (Route::Statements, Method::Post) => Ok(Operation::PostStatements),

@@ -3,6 +3,8 @@ ghost use Rattle.std.specs.Prelude.{◌≡◌, ◌∷◌, ◌<◌, length};
 
 use lrs_json::{Items, Text, Tree};
 use lrs_names::Id;
+use xapi_keys::{StateKey, WantedDocuments};
+use xapi_parameters::DroppedDocuments;
 use xapi_query::{MoreLink, Wanted};
 
 /// What the parameters give.
@@ -16,6 +18,12 @@ pub(crate) enum ParameterValue {
     Link(MoreLink),
     /// The id of a statement.
     Id(Id),
+    /// The key of a state document.
+    Document(StateKey),
+    /// What a GET of state documents asks for.
+    Documents(WantedDocuments),
+    /// The state documents that are dropped.
+    Dropped(DroppedDocuments),
 }
 
 /// What the body gives.
@@ -27,6 +35,8 @@ pub(crate) enum BodyValue {
     Statement(Tree),
     /// Statements that aren't looked into.
     Statements(Items<Tree>),
+    /// Its bytes, with their media type.
+    Document { media: Text, bytes: Items<u8> },
     /// The strings of an object, in the order of the operation's members.
     Strings(Items<Text>),
 }

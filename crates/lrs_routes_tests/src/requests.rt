@@ -2,12 +2,13 @@
 use lrs_command::{Command, Read};
 use lrs_http::{Method, Request};
 use lrs_json::{Items, Text};
-use lrs_names::Id;
+use lrs_names::{Id, Iri};
 use lrs_record::Write;
 use lrs_routes::{Asked, RouteRefused, Routes};
 use std::alloc::Global;
 use std::fmt::Write as _;
 use std::test::Fail;
+use xapi_keys::WantedDocuments;
 use xapi_query::{Format, Wanted};
 
 const PUT: &str = "statementId=11111111-1111-4111-8111-111111111111";
@@ -78,7 +79,30 @@ fn show_write(write: &Write, into: &mut String) -> Result<(), Fail> {
             text_of_id(id, into)?;
         }
         Write::Post { statements } => write!(into, "post {}", statements.len())?,
-        _ => into.push_str(write.name())?,
+        Write::State {
+            how,
+            key,
+            media,
+            bytes,
+        } => {
+            let text = str::from_utf8(bytes.as_slice())?;
+            let state = key.state.as_str();
+            write!(into, "{} {state} [{}] {text}", how.text(), media.as_str())?;
+        }
+        Write::Drop {
+            activity,
+            state,
+            ..
+        } => show_dropped(activity, state, into)?,
+        Write::Found { .. } => into.push_str("found")?,
+    }
+    Ok(())
+}
+
+fn show_dropped(activity: &Iri, state: &Option<Text>, into: &mut String) -> Result<(), Fail> {
+    match state {
+        Some(state) => write!(into, "drop {}", state.as_str())?,
+        None => write!(into, "drop all of {}", activity.text().as_str())?,
     }
     Ok(())
 }
@@ -100,6 +124,15 @@ fn show_read(read: &Read, into: &mut String) -> Result<(), Fail> {
         }
         Read::Statements(Wanted::Many(query)) => write!(into, "list {}", query.page)?,
         Read::More(link) => write!(into, "more {} {}", link.asof, link.after)?,
+        Read::Documents(WantedDocuments::One(key)) => {
+            into.push_str("document ")?;
+            into.push_str(key.state.as_str())?;
+        }
+        Read::Documents(WantedDocuments::Ids { activity, .. }) => {
+            into.push_str("document ids of ")?;
+            into.push_str(activity.text().as_str())?;
+        }
+        Read::Profile => into.push_str("profile")?,
     }
     Ok(())
 }
@@ -160,7 +193,7 @@ fn asks(alloc: Global, routes: &Routes, sent: Sent<'_>, expected: &str) -> Resul
 }
 
 // Paths are compared whole and undecoded. At `about` nobody is presented, and no version is asked for.
-const ROUTES: [(Method, &str, &str); 26] = [
+const ROUTES: [(Method, &str, &str); 41] = [
     (Method::Get, "/xapi/about", ": about"),
     (Method::Delete, "/xapi/about", "only GET"),
     (Method::Other, "/xapi/about", "only GET"),
@@ -191,6 +224,41 @@ const ROUTES: [(Method, &str, &str); 26] = [
     (Method::Post, "/desk/callers", "token-1: Desk 400 J2"),
     (Method::Get, "/desk/callers", "only POST"),
     (Method::Put, "/desk/callers", "only POST"),
+    (
+        Method::Get,
+        "/xapi/activities/state",
+        "token-1: Store 400 P4",
+    ),
+    (
+        Method::Put,
+        "/xapi/activities/state",
+        "token-1: Store 400 P4",
+    ),
+    (
+        Method::Post,
+        "/xapi/activities/state",
+        "token-1: Store 400 P4",
+    ),
+    (
+        Method::Delete,
+        "/xapi/activities/state",
+        "token-1: Store 400 P4",
+    ),
+    (
+        Method::Other,
+        "/xapi/activities/state",
+        "only DELETE, GET, POST, PUT",
+    ),
+    (Method::Get, "/xapi/activities/state/", "NoRoute"),
+    (Method::Get, "/xapi/activities/states", "NoRoute"),
+    (Method::Get, "/xapi/activities", "NoRoute"),
+    (Method::Get, "/xapi/activities/profile", "token-1: profile"),
+    (Method::Put, "/xapi/activities/profile", "only GET"),
+    (Method::Other, "/xapi/activities/profile", "only GET"),
+    (Method::Get, "/xapi/agents/profile", "token-1: profile"),
+    (Method::Post, "/xapi/agents/profile", "only GET"),
+    (Method::Delete, "/xapi/agents/profile", "only GET"),
+    (Method::Get, "/xapi/agents", "NoRoute"),
 ];
 
 fn first_wrong_route(alloc: Global) -> Result<Option<usize>, Fail> {
@@ -215,8 +283,8 @@ fn finds_routes_and_methods(rt: HostRuntime) -> Result<(), Fail> {
     Ok(())
 }
 
-// The version goes behind the method and before all else. The other routes ask for none.
-const VERSIONS: [(Method, &str, &str, &str); 18] = [
+// The version goes after the method and before all else. The other routes ask for none.
+const VERSIONS: [(Method, &str, &str, &str); 22] = [
     (Method::Get, "/xapi/statements", ABSENT, "NoVersion"),
     (Method::Get, "/xapi/statements", "", "NoVersion"),
     (Method::Get, "/xapi/statements", "1", "NoVersion"),
@@ -252,6 +320,15 @@ const VERSIONS: [(Method, &str, &str, &str); 18] = [
         "/xapi/statements",
         ABSENT,
         "only GET, POST, PUT",
+    ),
+    (Method::Get, "/xapi/activities/state", ABSENT, "NoVersion"),
+    (Method::Get, "/xapi/activities/profile", ABSENT, "NoVersion"),
+    (Method::Get, "/xapi/agents/profile", "2.0.0", "NoVersion"),
+    (
+        Method::Other,
+        "/xapi/activities/state",
+        ABSENT,
+        "only DELETE, GET, POST, PUT",
     ),
     (Method::Get, "/xapi/about", ABSENT, ": about"),
     (
@@ -565,6 +642,218 @@ fn first_wrong_link(alloc: Global) -> Result<Option<usize>, Fail> {
 #[test]
 fn reads_links(rt: HostRuntime) -> Result<(), Fail> {
     assert_eq!(rt; first_wrong_link(rt.alloc())?, None);
+    Ok(())
+}
+
+// What stands before the parameters of each row.
+const OWNERS: &str = "activityId=http://a/1&agent=%7B%22mbox%22:%22mailto:a@b%22%7D";
+
+// A document is written with the media type as it was sent, in brackets here, and with any body. The media type and the
+// body of other requests aren't looked at.
+const DOCUMENTS: [(Method, &str, &str, &str, &str); 23] = [
+    (
+        Method::Put,
+        "&stateId=b",
+        "text/plain",
+        "abc",
+        "token-1: put b [text/plain] abc",
+    ),
+    (
+        Method::Put,
+        "&stateId=b",
+        ABSENT,
+        "abc",
+        "token-1: put b [application/octet-stream] abc",
+    ),
+    (Method::Put, "&stateId=b", "", "", "token-1: put b [] "),
+    (Method::Put, "&stateId=", "?", "{", "token-1: put  [?] {"),
+    (
+        Method::Post,
+        "&stateId=b",
+        "Application/JSON;  Charset=UTF-8",
+        "{}",
+        "token-1: post b [Application/JSON;  Charset=UTF-8] {}",
+    ),
+    (
+        Method::Post,
+        "&stateId=b",
+        ABSENT,
+        "",
+        "token-1: post b [application/octet-stream] ",
+    ),
+    (
+        Method::Post,
+        "&stateId=b&registration=11111111-1111-4111-8111-111111111111",
+        "",
+        "[1,]",
+        "token-1: post b [] [1,]",
+    ),
+    (
+        Method::Put,
+        "",
+        "text/plain",
+        "abc",
+        "token-1: Store 400 P4",
+    ),
+    (
+        Method::Post,
+        "",
+        "text/plain",
+        "abc",
+        "token-1: Store 400 P4",
+    ),
+    (
+        Method::Put,
+        "&stateId=b&since=2023-11-14T22:13:20Z",
+        ABSENT,
+        "",
+        "token-1: Store 400 P2",
+    ),
+    (
+        Method::Post,
+        "&stateId=b&registration=1",
+        ABSENT,
+        "",
+        "token-1: Store 400 P5",
+    ),
+    (
+        Method::Put,
+        "&stateId=%FF",
+        ABSENT,
+        "",
+        "token-1: Store 400 P1",
+    ),
+    (
+        Method::Get,
+        "&stateId=b",
+        "text/plain",
+        "{",
+        "token-1: document b",
+    ),
+    (
+        Method::Get,
+        "",
+        "",
+        "{",
+        "token-1: document ids of http://a/1",
+    ),
+    (
+        Method::Get,
+        "&since=2023-11-14T22:13:20Z",
+        ABSENT,
+        "",
+        "token-1: document ids of http://a/1",
+    ),
+    (
+        Method::Get,
+        "&since=now",
+        ABSENT,
+        "",
+        "token-1: Store 400 P9",
+    ),
+    (
+        Method::Get,
+        "&stateId=b&since=2023-11-14T22:13:20Z",
+        ABSENT,
+        "",
+        "token-1: Store 400 P2",
+    ),
+    (
+        Method::Get,
+        "&stateId=b&stateId=b",
+        ABSENT,
+        "",
+        "token-1: Store 400 P3",
+    ),
+    (
+        Method::Delete,
+        "&stateId=b",
+        "text/plain",
+        "{",
+        "token-1: drop b",
+    ),
+    (Method::Delete, "&stateId=", ABSENT, "", "token-1: drop "),
+    (
+        Method::Delete,
+        "",
+        ABSENT,
+        "",
+        "token-1: drop all of http://a/1",
+    ),
+    (
+        Method::Delete,
+        "&since=2023-11-14T22:13:20Z",
+        ABSENT,
+        "",
+        "token-1: Store 400 P2",
+    ),
+    (
+        Method::Delete,
+        "&since=%FF",
+        ABSENT,
+        "",
+        "token-1: Store 400 P1",
+    ),
+];
+
+fn first_wrong_document(alloc: Global) -> Result<Option<usize>, Fail> {
+    let routes = Routes::new(alloc)?;
+    for (i, (method, query, media, body, expected)) in DOCUMENTS.iter().enumerate() {
+        let fields = Fields {
+            media: given(media),
+            ..FIELDS
+        };
+        let query = format!(in alloc; "{OWNERS}{query}")?;
+        let sent = Sent {
+            method: *method,
+            target: ("/xapi/activities/state", Some(query.as_str())),
+            fields,
+            body: *body,
+        };
+        if !asks(alloc, &routes, sent, expected)? {
+            return Ok(Some(i));
+        }
+    }
+    Ok(None)
+}
+
+#[test]
+fn reads_documents(rt: HostRuntime) -> Result<(), Fail> {
+    assert_eq!(rt; first_wrong_document(rt.alloc())?, None);
+    Ok(())
+}
+
+// Of no profile a document is held. Neither the parameters nor the body are looked at.
+const PROFILES: [(&str, &str, &str); 4] = [
+    ("/xapi/activities/profile", "a=%FF", "token-1: profile"),
+    (
+        "/xapi/activities/profile",
+        "profileId=a&activityId=a",
+        "token-1: profile",
+    ),
+    ("/xapi/agents/profile", "a=%FF", "token-1: profile"),
+    ("/xapi/agents/profile", "a&a", "token-1: profile"),
+];
+
+fn first_wrong_profile(alloc: Global) -> Result<Option<usize>, Fail> {
+    let routes = Routes::new(alloc)?;
+    for (i, (path, query, expected)) in PROFILES.iter().enumerate() {
+        let sent = Sent {
+            method: Method::Get,
+            target: (*path, Some(*query)),
+            fields: FIELDS,
+            body: "{",
+        };
+        if !asks(alloc, &routes, sent, expected)? {
+            return Ok(Some(i));
+        }
+    }
+    Ok(None)
+}
+
+#[test]
+fn reads_profiles(rt: HostRuntime) -> Result<(), Fail> {
+    assert_eq!(rt; first_wrong_profile(rt.alloc())?, None);
     Ok(())
 }
 

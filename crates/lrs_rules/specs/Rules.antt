@@ -5,10 +5,10 @@ use Rattle.lrs_json_reader.specs.declared.reading.ReadRefused.{ReadRefused}
 use Rattle.lrs_json_reader.specs.declared.reading.ReadRefused.TheVariants as read
 use Rattle.lrs_json_reader.specs.Refusals.{IsBad, OutOfRangeAt, RepeatedAt, is_too_deep}
 use Rattle.lrs_rules.specs.declared.rule.Rule.{Rule}
-use Rattle.lrs_rules.specs.declared.rule.Rule.TheVariants.{A, B, C, F, J, P, S}
+use Rattle.lrs_rules.specs.declared.rule.Rule.TheVariants.{A, B, C, F, J, P, S, T}
 use Rattle.lrs_json.specs.declared.limits.TheConstants.{DEPTH}
 
--- the letter of its family, A, B, C, F, J, P or S, by its code in ASCII
+-- the letter of its family, A, B, C, F, J, P, S or T, by its code in ASCII
 abbrev pub letter_of : Rule → ℕ
 letter_of (A n) = 65
 letter_of (B n) = 66
@@ -17,6 +17,7 @@ letter_of (F n) = 70
 letter_of (J n) = 74
 letter_of (P n) = 80
 letter_of (S n) = 83
+letter_of (T n) = 84
 
 abbrev pub number_of : Rule → ℕ
 number_of (A n) = n
@@ -26,6 +27,7 @@ number_of (F n) = n
 number_of (J n) = n
 number_of (P n) = n
 number_of (S n) = n
+number_of (T n) = n
 
 -- its letter and its number, such as S4
 abbrev pub rule_text : Rule → List ℕ
@@ -39,7 +41,7 @@ BreaksJson bytes r =
     ⊎ (((r ≡ J 3) × ((place : ℕ) × RepeatedAt DEPTH bytes place))
     ⊎ ((r ≡ J 4) × ((place : ℕ) × OutOfRangeAt DEPTH bytes place))))
 
--- the rule that a refusal means; none is for want of memory
+-- the rule that a refusal means; none means that memory ran out
 abbrev pub json_rule : ReadRefused → Option Rule
 json_rule read.TooDeep = Some (J 1)
 json_rule read.Bad = Some (J 2)

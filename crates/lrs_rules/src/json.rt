@@ -4,7 +4,7 @@ ghost use Rattle.lrs_rules.specs.Rules.{json_rule};
 use crate::Rule;
 use lrs_json_reader::ReadRefused;
 
-/// The rule on JSON that a refusal means. None is for want of memory.
+/// The rule on JSON that a refusal means. None means that memory ran out.
 pub fn json_rule(refused: ReadRefused) -> Option<Rule>
     ensures { result ≡ json_rule refused }
 {

@@ -21,6 +21,8 @@ pub enum Rule {
     P(u8),
     /// On statements.
     S(u8),
+    /// On state documents.
+    T(u8),
 }
 
 impl Rule {
@@ -36,6 +38,7 @@ impl Rule {
             Rule::J(_) => b'J',
             Rule::P(_) => b'P',
             Rule::S(_) => b'S',
+            Rule::T(_) => b'T',
         }
     }
 
@@ -50,7 +53,8 @@ impl Rule {
             | Rule::F(number)
             | Rule::J(number)
             | Rule::P(number)
-            | Rule::S(number) => *number,
+            | Rule::S(number)
+            | Rule::T(number) => *number,
         }
     }
 

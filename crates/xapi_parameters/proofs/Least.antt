@@ -21,10 +21,10 @@ once_at true false rule demand a b R S p q others left right = absurd (left righ
 once_at false true rule demand a b R S p q others left right = absurd (right left.0)
 once_at false false rule demand a b R S p q others left right = others left.1 right.1
 
-once : (rule : ℕ) (demand : Type 0) (a b : Option ℕ) (R S : Type 0) → (R → S → a ≡ b) → Demands rule demand a R → Demands rule demand b S → a ≡ b
+pub once : (rule : ℕ) (demand : Type 0) (a b : Option ℕ) (R S : Type 0) → (R → S → a ≡ b) → Demands rule demand a R → Demands rule demand b S → a ≡ b
 once rule demand a b R S others left right = once_at (is_rule rule a) (is_rule rule b) rule demand a b R S refl refl others left right
 
-both_none : (a b : Option ℕ) → a ≡ None → b ≡ None → a ≡ b
+pub both_none : (a b : Option ℕ) → a ≡ None → b ≡ None → a ≡ b
 both_none a b p q = p ∙ sym q
 
 pub put_once : (pairs : List Pair) (a b : Option ℕ) → LeastOfPut a pairs → LeastOfPut b pairs → a ≡ b
@@ -85,11 +85,11 @@ get_filters pairs least = (meets get_names pairs _ least).filters
 pub link_filters : (pairs : List Pair) → LeastOfLink None pairs → AreFilters pairs
 link_filters pairs least = (meets link_names pairs _ least).filters
 
-left : (p q : Bool) → (p && q) ≡ true → p ≡ true
+pub left : (p q : Bool) → (p && q) ≡ true → p ≡ true
 left true q is = refl
 left false q is = absurd (false≢true is)
 
-right : (p q : Bool) → (p && q) ≡ true → q ≡ true
+pub right : (p q : Bool) → (p && q) ≡ true → q ≡ true
 right true q is = is
 right false q is = absurd (false≢true is)
 
@@ -115,13 +115,13 @@ asks_for_many pairs least none neither =
     let other = not_given (given (codes "voidedStatementId") pairs) (right _ _ ids) neither in
     rw (one, other) refl
 
--- ---- the rules of a list, and those behind them
+-- ---- the rules of a list, and those after them
 
 more_at : (x : Bool) (demand R S : Type 0) → (R → S) → MatchBool x (¬ demand) (demand × R) → MatchBool x (¬ demand) (demand × S)
 more_at true demand R S f broken = broken
 more_at false demand R S f met = (met.0, f met.1)
 
-more : (rule : ℕ) (demand : Type 0) (found : Option ℕ) (R S : Type 0) → (R → S) → Demands rule demand found R → Demands rule demand found S
+pub more : (rule : ℕ) (demand : Type 0) (found : Option ℕ) (R S : Type 0) → (R → S) → Demands rule demand found R → Demands rule demand found S
 more rule demand found R S f = more_at (is_rule rule found) demand R S f
 
 list_more : (names : List (List ℕ)) (pairs : List Pair) (found : Option ℕ) (R S : Type 0) → (R → S) → DemandsOfList names pairs found R → DemandsOfList names pairs found S
@@ -129,19 +129,19 @@ list_more names pairs found R S f =
     more 2 _ found _ _ (more 3 _ found _ _ (more 5 _ found _ _ (more 6 _ found _ _ (more 7 _ found _ _ (more 8 _ found _ _
     (more 9 _ found _ _ (more 10 _ found _ _ (more 11 _ found R S f))))))))
 
-not_true : (b : Bool) → b ≡ false → ¬ (b ≡ true)
+pub not_true : (b : Bool) → b ≡ false → ¬ (b ≡ true)
 not_true true is = cc is
 not_true false is = λ e. false≢true e
 
 module _ (given names : List (List ℕ)) (pairs : List Pair) (found : Option ℕ) (same : given ≡ names) (least : DemandsOfList given pairs found (found ≡ None)) where
-  -- one of them is broken: those behind them don't count
+  -- one of them is broken: those after them don't count
   list_broken : (rule : ℕ) (S : Type 0) → found ≡ Some rule → DemandsOfList names pairs (Some rule) S
   list_broken rule S is =
       let P : List (List ℕ) → Type 0 = λ ns. DemandsOfList ns pairs found (found ≡ None) in
       let Q : Option ℕ → Type 0 = λ o. DemandsOfList names pairs o (o ≡ None) in
       list_more names pairs (Some rule) (Some rule ≡ None) S (λ none. absurd (cc none)) (subst Q is (subst P same least))
 
-  -- none of them is broken: those behind them decide
+  -- none of them is broken: those after them decide
   list_met : (S : Type 0) → found ≡ None → S → DemandsOfList names pairs None S
   list_met S is s =
       let P : List (List ℕ) → Type 0 = λ ns. DemandsOfList ns pairs found (found ≡ None) in

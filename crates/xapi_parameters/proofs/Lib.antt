@@ -1,5 +1,6 @@
 pub mod Actors
 pub mod Least
+pub mod Owners
 pub mod PairLemmas
 pub mod Numbers
 pub mod Bytes

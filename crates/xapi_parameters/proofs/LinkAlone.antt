@@ -18,7 +18,7 @@ use Rattle.xapi_parameters.proofs.OneJson.{one_json}
 one_value : (text : List ℕ) (j k : Json) → Spells DEPTH text j → Spells DEPTH text k → j ≡ k
 one_value text j k a b = sym a.is ∙ ap plain (one_json text a.placed b.placed a.spelled b.spelled) ∙ b.is
 
-one_actor : (text : List ℕ) (a b : Ifi) → IsActorOf text a → IsActorOf text b → a ≡ b
+pub one_actor : (text : List ℕ) (a b : Ifi) → IsActorOf text a → IsActorOf text b → a ≡ b
 one_actor text a b x y =
     let same = one_value text x.0 y.0 x.1 y.1 in
     let both : ◌≡◌ {A = Option Ifi} (Some a) (Some b) = sym x.3 ∙ ap identifier_of same ∙ y.3 in cc both

@@ -80,7 +80,7 @@ number_at q left n bs r s v w =
     let f = starts (number left n) bs r v in
     only_number q f.0 (starts_at q bs f.1 s f.0 f.2 w) (number_first f.0 110 f.3 refl) (number_first f.0 116 f.3 refl) (number_first f.0 102 f.3 refl) (number_first f.0 34 f.3 refl) (number_first f.0 91 f.3 refl) (number_first f.0 123 f.3 refl)
 
--- the bytes behind a comma, where there has to be one
+-- the bytes after a comma, where there has to be one
 one_comma : (later : Bool) (bs a b : List ℕ) → Comma later bs a → Comma later bs b → a ≡ b
 one_comma false bs a b h k = sym h ∙ k
 one_comma true bs a b h k = tail_is 44 44 a b (one_space bs (44 ∷ a) (44 ∷ b) h k refl refl)

@@ -4,3 +4,4 @@ pub mod Parameters
 pub mod Queries
 pub mod Wants
 pub mod Links
+pub mod Documents

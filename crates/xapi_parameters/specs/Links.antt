@@ -15,7 +15,8 @@ pub record IsLink (pairs : List Pair) (link : MoreLink) : Type 0 where
 
 -- ---- written and read
 
--- It may stand in a page: its query is one that a request for a list or a link asked for, and it goes on within the list.
+-- It may stand in a page: its query is one that a request for a list or a link asked for, and it goes on within the
+-- list.
 pub record IsWritable (link : MoreLink) : Type 0 where
   pub pairs : List Pair
   pub texts : AreTexts pairs
@@ -28,7 +29,8 @@ pub record IsWritable (link : MoreLink) : Type 0 where
 abbrev pub LinksAreReadBack : Type 0
 LinksAreReadBack =
     (link : MoreLink) → IsWritable link
-    → AreTexts (pairs_of (link_query link)) × LeastOfLink None (pairs_of (link_query link)) × IsLink (pairs_of (link_query link)) link
+    → AreTexts (pairs_of (link_query link)) × LeastOfLink None (pairs_of (link_query link))
+    × IsLink (pairs_of (link_query link)) link
 
 -- and as no other
 abbrev pub LinksAreReadAlone : Type 0

@@ -20,7 +20,7 @@ IsText pair = IsUtf8 pair.name × IsUtf8 pair.value
 abbrev pub AreTexts : List Pair → Type 0
 AreTexts pairs = All IsText pairs
 
--- the text that the bytes decode to, or P1 where they decode to none
+-- the text that the bytes decode to, or P1 if they decode to none
 abbrev pub Decodes : List ℕ → Result (List ℕ) QueryRefused → Type 0
 Decodes bytes result =
     MatchResult result (λ text. (text ≡ decode bytes) × IsUtf8 text)

@@ -1,5 +1,6 @@
 -- The rules P2 to P14 on the parameters of a request, by their numbers; P1 is that they are texts.
-use Rattle.std.specs.Prelude.{◌≡◌, ℕ, nat_lt, Bool, true, false, not, ◌&&◌, ◌||◌, ◌==◌, List, [], ◌∷◌, Option, Some, None, is_some, codes, IsTrue, MatchBool, MatchOption, Result, Ok, Err, if◌then◌else◌}
+use Rattle.std.specs.Prelude.{◌≡◌, ℕ, nat_lt, Bool, true, false, not, ◌&&◌, ◌||◌, ◌==◌, List, [], ◌∷◌, Option, Some}
+use Rattle.std.specs.Prelude.{None, is_some, codes, IsTrue, MatchBool, MatchOption, Result, Ok, Err, if◌then◌else◌}
 use Rattle.std.specs.Option.{option_map_or}
 use Rattle.std.specs.Str.{bytes_eq}
 use Rattle.std.specs.Str.Parse.{digits_value}
@@ -8,7 +9,8 @@ use Rattle.lrs_names.specs.Members.{is_one_of}
 use Rattle.xapi_parameters.specs.declared.pair.Pair.{Pair}
 use Rattle.xapi_parameters.specs.declared.refused.QueryRefused.{QueryRefused}
 use Rattle.xapi_parameters.specs.declared.refused.QueryRefused.TheVariants.{BadLink, BadParameter, Memory}
-use Rattle.xapi_parameters.specs.Values.{IsActor, is_format, is_id, is_limit, is_no, is_link_number, is_timestamp, is_truth}
+use Rattle.xapi_parameters.specs.Values.{IsActor, is_format, is_id, is_limit, is_no, is_link_number, is_timestamp}
+use Rattle.xapi_parameters.specs.Values.{is_truth}
 
 -- ---- the names of parameters
 
@@ -19,14 +21,17 @@ put_names = codes "statementId" ∷ []
 -- of a GET of statements
 abbrev pub get_names : List (List ℕ)
 get_names =
-    codes "statementId" ∷ codes "voidedStatementId" ∷ codes "agent" ∷ codes "verb" ∷ codes "activity" ∷ codes "registration"
-    ∷ codes "related_activities" ∷ codes "related_agents" ∷ codes "since" ∷ codes "until" ∷ codes "limit" ∷ codes "ascending"
+    codes "statementId" ∷ codes "voidedStatementId" ∷ codes "agent" ∷ codes "verb" ∷ codes "activity"
+    ∷ codes "registration"
+    ∷ codes "related_activities" ∷ codes "related_agents" ∷ codes "since" ∷ codes "until" ∷ codes "limit"
+    ∷ codes "ascending"
     ∷ codes "format" ∷ codes "attachments" ∷ []
 
 -- of a more link
 abbrev pub link_names : List (List ℕ)
 link_names =
-    codes "asof" ∷ codes "after" ∷ codes "agent" ∷ codes "verb" ∷ codes "activity" ∷ codes "registration" ∷ codes "related_activities"
+    codes "asof" ∷ codes "after" ∷ codes "agent" ∷ codes "verb" ∷ codes "activity" ∷ codes "registration"
+    ∷ codes "related_activities"
     ∷ codes "related_agents" ∷ codes "since" ∷ codes "until" ∷ codes "limit" ∷ codes "ascending" ∷ codes "format" ∷ []
 
 -- of a GET of one statement
@@ -40,7 +45,7 @@ abbrev pub are_among : List (List ℕ) → List Pair → Bool
 are_among names [] = true
 are_among names (pair ∷ pairs) = is_one_of names pair.name && are_among names pairs
 
--- The value that is given under a name: the first, where the name stands twice, which rule 3 refuses.
+-- The value that is given under a name: the first, if the name stands twice, which rule 3 refuses.
 abbrev pub given : List ℕ → List Pair → Option (List ℕ)
 given name [] = None
 given name (pair ∷ pairs) = if bytes_eq pair.name name then Some pair.value else given name pairs
@@ -53,7 +58,7 @@ abbrev pub are_distinct : List Pair → Bool
 are_distinct [] = true
 are_distinct (pair ∷ pairs) = not (has pair.name pairs) && are_distinct pairs
 
--- the value passes, where one is given under that name
+-- the value passes, if one is given under that name
 abbrev pub passes : (List ℕ → Bool) → List ℕ → List Pair → Bool
 passes test name pairs = option_map_or test (given name pairs) true
 
@@ -61,14 +66,16 @@ abbrev pub Passes : (List ℕ → Type 0) → List ℕ → List Pair → Type 0
 Passes test name pairs = MatchOption (given name pairs) (Unit {0}) test
 
 abbrev pub has_ids : List Pair → Bool
-has_ids pairs = passes is_id (codes "statementId") pairs && passes is_id (codes "voidedStatementId") pairs && passes is_id (codes "registration") pairs
+has_ids pairs = passes is_id (codes "statementId") pairs && passes is_id (codes "voidedStatementId") pairs
+    && passes is_id (codes "registration") pairs
 
 abbrev pub has_iris : List Pair → Bool
 has_iris pairs = passes is_iri (codes "verb") pairs && passes is_iri (codes "activity") pairs
 
 abbrev pub has_truths : List Pair → Bool
 has_truths pairs =
-    passes is_truth (codes "related_agents") pairs && passes is_truth (codes "related_activities") pairs && passes is_truth (codes "ascending") pairs
+    passes is_truth (codes "related_agents") pairs && passes is_truth (codes "related_activities") pairs
+    && passes is_truth (codes "ascending") pairs
 
 abbrev pub has_timestamps : List Pair → Bool
 has_timestamps pairs = passes is_timestamp (codes "since") pairs && passes is_timestamp (codes "until") pairs
@@ -103,7 +110,7 @@ is_rule rule (Some n) = n == rule
 abbrev pub Demands : ℕ → Type 0 → Option ℕ → Type 0 → Type 0
 Demands rule demand found others = MatchBool (is_rule rule found) (¬ demand) (demand × others)
 
--- The least rule that the parameters of a PUT of a statement break, None where they break none.
+-- The least rule that the parameters of a PUT of a statement break, None if they break none.
 abbrev pub LeastOfPut : Option ℕ → List Pair → Type 0
 LeastOfPut found pairs =
     Demands 2 (IsTrue (are_among put_names pairs)) found
@@ -125,7 +132,7 @@ DemandsOfList names pairs found others =
     (Demands 10 (IsTrue (passes is_limit (codes "limit") pairs)) found
     (Demands 11 (IsTrue (passes is_format (codes "format") pairs)) found others))))))))
 
--- The least rule that the parameters of a GET of statements break, None where they break none.
+-- The least rule that the parameters of a GET of statements break, None if they break none.
 abbrev pub LeastOfGet : Option ℕ → List Pair → Type 0
 LeastOfGet found pairs =
     DemandsOfList get_names pairs found
@@ -133,15 +140,16 @@ LeastOfGet found pairs =
     (Demands 13 (IsTrue (asks_for_one pairs)) found
     (found ≡ None)))
 
--- The least rule that the parameters of a more link break, None where they break none. Its names leave nothing for P12 and
+-- The least rule that the parameters of a more link break, None if they break none. Its names leave nothing for P12 and
 -- P13.
 abbrev pub LeastOfLink : Option ℕ → List Pair → Type 0
-LeastOfLink found pairs = DemandsOfList link_names pairs found (Demands 14 (IsTrue (has_link_numbers pairs)) found (found ≡ None))
+LeastOfLink found pairs =
+    DemandsOfList link_names pairs found (Demands 14 (IsTrue (has_link_numbers pairs)) found (found ≡ None))
 
 -- ---- answers
 
--- It is the answer where that rule, or none, is the least that is broken: want of memory alone is free. A link out of form
--- breaks rule 14.
+-- It is the answer if that rule, or none, is the least that is broken: only running out of memory is free. A link out
+-- of form breaks rule 14.
 abbrev pub TellsLeast : {T : Type 0} → Option ℕ → Result T QueryRefused → Type 0
 TellsLeast None (Ok value) = Unit {0}
 TellsLeast None (Err (BadParameter number)) = ⊥

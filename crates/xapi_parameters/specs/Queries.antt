@@ -1,5 +1,6 @@
 -- What the parameters of a list of statements ask for: each filter as it was given, and what it means.
-use Rattle.std.specs.Prelude.{◌≡◌, ℕ, ℤ, ◌==◌, ◌||◌, nat_lt, Bool, false, List, Option, Some, None, option_map, option_and_then, codes, IsTrue, if◌then◌else◌}
+use Rattle.std.specs.Prelude.{◌≡◌, ℕ, ℤ, ◌==◌, ◌||◌, nat_lt, Bool, false, List, Option, Some, None, option_map}
+use Rattle.std.specs.Prelude.{option_and_then, codes, IsTrue, if◌then◌else◌}
 use Rattle.std.specs.Option.{option_map_or}
 use Rattle.std.specs.Result.{result_ok}
 use Rattle.std.specs.Str.{bytes_eq}

@@ -19,7 +19,8 @@ is_id text = is_some (id_of text)
 
 -- JSON of an agent, or of a group, with this identifier
 abbrev pub IsActorOf : List ℕ → Ifi → Type 0
-IsActorOf text ifi = (j : Json) × Spells DEPTH text j × (least (agent_or_group_faults 6 j) ≡ None) × (identifier_of j ≡ Some ifi)
+IsActorOf text ifi = (j : Json) × Spells DEPTH text j × (least (agent_or_group_faults 6 j) ≡ None)
+    × (identifier_of j ≡ Some ifi)
 
 abbrev pub IsActor : List ℕ → Type 0
 IsActor text = (ifi : Ifi) × IsActorOf text ifi

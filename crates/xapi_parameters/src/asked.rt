@@ -1,4 +1,4 @@
-// What each parameter of a list asks for, where its value is one.
+// What each parameter of a list asks for, if its value is one.
 ghost use Rattle.std.specs.Prelude.{◌≡◌, ◌≤◌, IfOk, IsTrue, codes, length};
 ghost use Rattle.lrs_names.specs.Iris.{is_iri};
 ghost use Rattle.xapi_parameters.specs.Parameters.{Passes, given, has_link_number, has_link_numbers, number_under, passes};

@@ -56,7 +56,7 @@ pub fn broken_by_link(alloc: Global, pairs: &[Pair]) -> Result<Option<u8>, Memor
     }
 }
 
-// The least of the rules P2 to P11, where these are the names that there are.
+// The least of the rules P2 to P11, if these are the names that there are.
 fn broken_by_list(alloc: Global, pairs: &[Pair], names: &[&str]) -> Result<Option<u8>, Memory>
     ensures { IfOk result (λ found.
         DemandsOfList (map (λ name. name.now) names.now) pairs.now found (found ≡ None)) }

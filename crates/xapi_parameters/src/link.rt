@@ -13,7 +13,7 @@ use xapi_query::MoreLink;
 pub fn read_link(alloc: Global, pairs: &[Pair]) -> Result<MoreLink, QueryRefused>
     ensures link { IfOk result (λ link. LeastOfLink None pairs.now × IsLink pairs.now link) }
 
-    // The least broken rule, and a refusal by a rule only where one is broken.
+    // The least broken rule, and a refusal by a rule only if one is broken.
     ensures broken { (rule : ℕ) → result ≡ Err (QueryRefused.BadParameter rule) → LeastOfLink (Some rule) pairs.now
         × (rule ≢ 14) }
     ensures bad { result ≡ Err QueryRefused.BadLink → LeastOfLink (Some 14) pairs.now }

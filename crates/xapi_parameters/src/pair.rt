@@ -16,12 +16,12 @@ pub struct Pair {
     pub value: Text,
 }
 
-/// The pairs of a query, which is what stands behind the first `?` of a request's target, in the form
+/// The pairs of a query, which is what follows the first `?` of a request's target, in the form
 /// `name=value&name=value` (URL Standard, section 5.1): `+` is a space, and `%41` stands for the byte 0x41.
 pub fn pairs(alloc: Global, query: &Text) -> Result<Vec<Pair>, QueryRefused>
     ensures pairs { IfOk result (λ pairs. pairs.items ≡ pairs_of query.now) }
 
-    // P1 exactly where a name or a value isn't UTF-8.
+    // P1 exactly if a name or a value isn't UTF-8.
     ensures texts { IfOk result (λ pairs. AreTexts (pairs_of query.now)) }
     ensures bad { IfErr result (λ refused. (refused ≡ QueryRefused.Memory)
         ⊎ ((refused ≡ QueryRefused.BadParameter 1) × (¬ AreTexts (pairs_of query.now)))) }

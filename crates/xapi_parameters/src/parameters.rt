@@ -7,7 +7,7 @@ use crate::Pair;
 use lrs_json::Text;
 use lrs_names::is_one_of;
 
-/// The value that is given under that name, the first where there are two.
+/// The value that is given under that name, the first if there are two.
 pub fn given<'a>(pairs: &'a [Pair], name: &str) -> Option<&'a Text>
     ensures { option_copied result ≡ given name.now pairs.now }
 {
@@ -37,7 +37,7 @@ pub fn are_among(pairs: &[Pair], names: &[&str]) -> bool
     true
 }
 
-/// Whether no name stands twice. Where there are few names, a second one is found soon.
+/// Whether no name stands twice. If there are few names, a second one is found soon.
 pub fn are_distinct(pairs: &[Pair]) -> bool
     ensures { result ≡ are_distinct pairs.now }
 {

@@ -8,7 +8,7 @@ pub enum QueryRefused {
     BadParameter { number: u8 },
     /// Those of a more link break P14, and none of a lesser number.
     BadLink,
-    /// Want of memory.
+    /// Out of memory.
     Memory,
 }
 

@@ -1,4 +1,4 @@
-// What each value has to be, where it is given.
+// What each value has to be, if it is given.
 ghost use Rattle.std.specs.Prelude.{◌≡◌, IfOk, MatchBool, MatchOption, codes};
 ghost use Rattle.std.specs.Char.{is_ascii_digit};
 ghost use Rattle.std.specs.List.{list_all};
@@ -83,7 +83,7 @@ pub fn has_iris(pairs: &[Pair]) -> bool
     passes_iri(pairs, "verb") && passes_iri(pairs, "activity")
 }
 
-fn passes_iri(pairs: &[Pair], name: &str) -> bool
+pub fn passes_iri(pairs: &[Pair], name: &str) -> bool
     ensures { result ≡ passes is_iri name.now pairs.now }
 {
     match given(pairs, name) {
@@ -117,7 +117,7 @@ pub fn has_timestamps(pairs: &[Pair]) -> bool
     passes_timestamp(pairs, "since") && passes_timestamp(pairs, "until")
 }
 
-fn passes_timestamp(pairs: &[Pair], name: &str) -> bool
+pub fn passes_timestamp(pairs: &[Pair], name: &str) -> bool
     ensures { result ≡ passes is_timestamp name.now pairs.now }
 {
     match given(pairs, name) {

@@ -16,7 +16,7 @@ use xapi_query::Wanted;
 pub fn read_wanted(alloc: Global, pairs: &[Pair]) -> Result<Wanted, QueryRefused>
     ensures wanted { IfOk result (λ wanted. LeastOfGet None pairs.now × IsWanted pairs.now wanted) }
 
-    // The least broken rule, and a refusal by a rule only where one is broken.
+    // The least broken rule, and a refusal by a rule only if one is broken.
     ensures broken { (rule : ℕ) → result ≡ Err (QueryRefused.BadParameter rule) → LeastOfGet (Some rule) pairs.now }
     ensures plain { result ≢ Err QueryRefused.BadLink }
     ensures always { (found : Option ℕ) → LeastOfGet found pairs.now → TellsLeast found result }
@@ -60,7 +60,7 @@ pub fn put_id(pairs: &[Pair]) -> Result<Id, QueryRefused>
     }
 }
 
-/// For a route without parameters: P2 exactly where there is one.
+/// For a route without parameters: P2 exactly if there is one.
 pub fn no_parameters(pairs: &[Pair]) -> Result<(), QueryRefused>
     ensures { MatchResult result (λ _. pairs.now ≡ []) (λ refused. (refused ≡ QueryRefused.BadParameter 2)
         × (pairs.now ≢ [])) }

@@ -12,7 +12,7 @@ fn found_pairs(alloc: Global, query: &str) -> Result<Vec<Pair>, Fail> {
     Ok(pairs(alloc, &Text::of(alloc, query)?)?)
 }
 
-// The number of the rule by which something was refused; 0 where memory was wanting.
+// The number of the rule by which something was refused; 0 if memory ran out.
 fn broken_by<T>(found: &Result<T, QueryRefused>) -> Option<u8> {
     match found {
         Ok(_) => None,
@@ -88,7 +88,7 @@ fn refuses_pairs_that_are_no_texts(rt: HostRuntime) -> Result<(), Fail> {
 
 // ---- one statement
 
-// What stands behind `statementId=` and an id, and the least rule that is broken then.
+// What follows `statementId=` and an id, and the least rule that is broken then.
 const GETS: [(&str, Option<u8>); 17] = [
     ("", None),
     ("&format=exact&attachments=false", None),
@@ -115,7 +115,7 @@ const GETS: [(&str, Option<u8>); 17] = [
     ),
 ];
 
-// What stands behind `voidedStatementId=` and an id, and the least rule that is broken then.
+// What follows `voidedStatementId=` and an id, and the least rule that is broken then.
 const GETS_OF_VOIDED: [(&str, Option<u8>); 6] = [
     ("", None),
     ("&format=exact&attachments=false", None),
@@ -214,7 +214,7 @@ fn reads_the_parameters_of_writes(rt: HostRuntime) -> Result<(), Fail> {
 
 // ---- lists and links
 
-// What a list is asked for with, the least rule that is broken, and what the link behind the ninth of ten statements is.
+// What a list is asked for with, the least rule that is broken, and what the link after the ninth of ten statements is.
 const LISTS: [(&str, Option<u8>, &str); 31] = [
     ("", None, ""),
     (
@@ -297,7 +297,7 @@ fn is_text_of(alloc: Global, link: &MoreLink, behind: &str) -> Result<bool, Fail
     Ok(text.as_str() == expected.as_str() && is_read_back(alloc, &link.query, text.as_str())?)
 }
 
-// Whether that is the link behind the ninth of ten statements, and is read as itself.
+// Whether that is the link after the ninth of ten statements, and is read as itself.
 fn is_linked(alloc: Global, query: Query, number: Option<u8>, behind: &str) -> Result<bool, Fail> {
     let link = MoreLink {
         query,

@@ -1,26 +1,12 @@
-use Rattle.std.proofs.Common.{◌≡◌, rules, ap, sym, ◌∙◌}
-use Rattle.std.proofs.lemmas.Bool.{false≢true}
-use Rattle.lrs_json.specs.Json.{object}
-use Rattle.lrs_json.specs.View.{member_view, members_of, view}
-use Rattle.lrs_json.specs.declared.tree.Tree.{the_lemmas}
-use Rattle.lrs_record.specs.Entries.{fields, write_json}
-use Rattle.lrs_record.specs.Writes.{members_for, values_left, write_fields, write_name, write_of}
-use Rattle.lrs_record.proofs.SameParts.{one_part, value_of_member}
+use Rattle.std.proofs.Common.{◌≡◌, Option, IfOk, ap, ◌∙◌, subst}
+use Rattle.lrs_record.specs.Writes.{members_left, write_in, write_name}
+use Rattle.lrs_record.specs.declared.entry.Write.{Write}
 use Rattle.lrs_record.proofs.Writes.{made_again}
 use Rattle.lrs_record.proofs.pieces.write_of.Goals as goal
 
-pub returns-in_err-named-clause-all : goal.returns-in_err-named-clause-all
-returns-in_err-named-clause-all c = λ write lawful holds is. absurd (false≢true (c.in_err-named.ensures.all _ is))
-
-pub returns-clause-all : goal.returns-clause-all
-returns-clause-all c = λ write lawful holds is.
-    let seen : view c.in_ok-named.field-0 ≡ write_json write = value_of_member _ _ _ _ c.in_ok-named.ensures.found is in
-    let part = one_part _ (member_view c.in_ok-name.field-0) (write_name write, fields (members_for (write_fields write))) c.in_ok-name.ensures.found seen in
-    let split : member_view c.in_ok-name.field-0 ≡ (c.in_ok-name.field-0.name, view c.in_ok-name.field-0.value) = search (rules, the_lemmas) in
-    let whole = sym split ∙ part in
-    let name : c.in_ok-name.field-0.name ≡ write_name write = ap (λ pair. pair.0) whole in
-    let value : view c.in_ok-name.field-0.value ≡ object (members_of (members_for (write_fields write))) = ap (λ pair. pair.1) whole in
-    let values = c.in_ok-fields.ensures.all (members_for (write_fields write)) value in
-    let named : c.as_str.result.now ≡ write_name write = cc (c.as_str.ensures.lent, name, c.in_ok-name.name-is) in
-    c.of-2.ensures.is ∙ ap (λ n. write_of n (values_left c.in_ok-fields.fields)) named
-    ∙ ap (λ vs. write_of (write_name write) vs) values ∙ made_again write lawful holds
+pub returns-in-Some-clause-all : goal.returns-in-Some-clause-all
+returns-in-Some-clause-all c = λ write lawful holds is.
+    let parts = c.in-Some.ensures.all write is in
+    let named : c.as_str.result.now ≡ write_name write = cc (c.as_str.ensures.lent, parts.0, c.in-Some.name-is) in
+    let again = ap (λ n. write_in n (members_left c.in-Some.fields)) named ∙ ap (λ ms. write_in (write_name write) ms) parts.1 ∙ made_again write lawful holds in
+    subst (λ (found : Option Write). IfOk c.of-found.result (λ own. own ≡ found)) again c.of-found.ensures.is

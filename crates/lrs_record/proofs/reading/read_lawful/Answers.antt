@@ -12,15 +12,15 @@ returns-in_err-tree-clause-again c = λ entry lawful is.
 pub returns-in-None-clause-again : goal.returns-in-None-clause-again
 returns-in-None-clause-again c = λ entry lawful is.
     let seen = c.in_ok-tree.ensures.all (entry_json entry) (entry_is_spelled entry _ lawful is) in
-    absurd (cc (c.in-None.ensures.all entry lawful seen))
+    absurd (cc (sym c.in-None.is ∙ c.in_ok-entry.ensures.all entry lawful seen))
 
 pub returns-in-Ok-true-clause-again : goal.returns-in-Ok-true-clause-again
 returns-in-Ok-true-clause-again c = λ entry lawful is.
     let seen = c.in_ok-tree.ensures.all (entry_json entry) (entry_is_spelled entry _ lawful is) in
-    cc (c.in-Some.ensures.all entry lawful seen)
+    cc (sym c.in-Some.is ∙ c.in_ok-entry.ensures.all entry lawful seen)
 
 pub returns-in-Ok-false-clause-again : goal.returns-in-Ok-false-clause-again
 returns-in-Ok-false-clause-again c = λ entry lawful is.
     let seen = c.in_ok-tree.ensures.all (entry_json entry) (entry_is_spelled entry _ lawful is) in
-    let same : c.in-Some.entry ≡ entry = cc (c.in-Some.ensures.all entry lawful seen) in
+    let same : c.in-Some.entry ≡ entry = cc (sym c.in-Some.is ∙ c.in_ok-entry.ensures.all entry lawful seen) in
     absurd (false≢true (sym c.in-Ok-false.field-0-test ∙ c.in-Ok-false.ensures.same.1 (ap written_entry same ∙ is)))

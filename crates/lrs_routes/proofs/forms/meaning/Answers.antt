@@ -31,5 +31,5 @@ returns-in-Err c =
     let request = c.args.request.now in
     let form = form_of c.args.operation in
     let pairs = parameters_of request.query in
-    finds_refused (BodyBreaks form.body request) (FirstBroken c.args.operation request) (IsInBody form.body request.body) (IsMeant c.args.operation request) c.in-Err.refused
+    finds_refused (BodyBreaks form.body request) (FirstBroken c.args.operation request) (IsInBody form.body request) (IsMeant c.args.operation request) c.in-Err.refused
     (λ rule h. parameters_pass form.parameters pairs (BodyBreaks form.body request (Some rule)) (Some rule) c.in_ok-query.ensures.0 h) c.in-Err.ensures

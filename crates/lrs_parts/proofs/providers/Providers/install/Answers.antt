@@ -1,4 +1,4 @@
-use Rattle.std.proofs.Common.{◌≡◌, ℕ, List, ◌∙◌, ap, arith, length}
+use Rattle.std.proofs.Common.{ℕ, List, ◌∙◌, ap, arith, length}
 use Rattle.lrs_parts.proofs.Tokens.{change_told}
 use Rattle.lrs_parts.specs.Providers.{providers_after, has_token_of}
 use Rattle.lrs_parts.specs.declared.providers.HeldProvider.{HeldProvider}

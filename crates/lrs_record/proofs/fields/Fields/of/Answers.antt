@@ -5,7 +5,7 @@ use Rattle.lrs_json.specs.Fits.{Fits}
 use Rattle.lrs_json.specs.View.{member_view, members_of}
 use Rattle.lrs_record.specs.Widths.{count_of, width}
 use Rattle.lrs_record.specs.Writes.{values_in}
-use Rattle.lrs_record.proofs.Values.{fit_values, same_values}
+use Rattle.lrs_record.proofs.Values.{fit_values, same_members}
 use Rattle.lrs_record.proofs.fields.Fields.of.Goals as goal
 
 pub returns-in_err-members-clause-all : goal.returns-in_err-members-clause-all
@@ -13,8 +13,8 @@ returns-in_err-members-clause-all c = λ fields is. absurd (false≢true (c.in_e
 
 pub returns-clause-fit : goal.returns-clause-fit
 returns-clause-fit c =
-    subst (λ items. AllByRecursion Fits (values_in (map member_view items))) (sym c.into_iter-left.ensures.rest) (fit_values _ _ c.in_ok-members.ensures.found c.requires)
+    subst (λ items. AllByRecursion Fits (values_in (map member_view items))) (sym c.from-left.ensures.0) (fit_values _ _ c.in_ok-members.ensures.found c.requires)
 
 pub returns-clause-all : goal.returns-clause-all
 returns-clause-all c = λ fields is.
-    ap (λ items. values_in (map member_view items)) c.into_iter-left.ensures.rest ∙ same_values _ _ fields c.in_ok-members.ensures.found is
+    ap (λ items. map member_view items) c.from-left.ensures.0 ∙ same_members _ _ fields c.in_ok-members.ensures.found is
