@@ -1,4 +1,4 @@
--- What is true of a desk, its clock and its disk behind a whole conversation, and behind all talks of a worker.
+-- What is true of a desk, its clock and its disk after a whole conversation, and after all talks of a worker.
 use Rattle.std.proofs.Common.{arith, ◌≡◌, ◌≢◌, ◌⊎◌, ◌≤◌, ◌+◌, ℕ, List, [], ◌∷◌, ◌++◌, length, take, Bool, false, Option, Some, None, Result, Ok, Err, subst, sym, ◌∙◌, ap, refl, inl, inr, append_assoc, append-nil}
 use Rattle.std.specs.Prelude.{if◌then◌else◌, MatchBool}
 use Rattle.lrs_disk.specs.Readings.{AddsReading}
@@ -58,7 +58,7 @@ alike_then (Some x) (Some y) (Some z) first second = tt
 
 -- ---- what stays
 
--- What is true of a desk behind a whole conversation.
+-- What is true of a desk after a whole conversation.
 pub record Stays {D : Type 0} (told : D → Option (List ℕ)) (image : D → List ℕ → Type 0) (time : D → ℕ) (since : D → ℕ → List ℕ → Type 0) (old new : Desk D) : Type 0 where
   pub begins : BeginsWith old.line new.line
   pub limit : new.limit ≡ old.limit

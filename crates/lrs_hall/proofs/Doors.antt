@@ -8,7 +8,7 @@ use Rattle.lrs_disk.specs.Faults.{Rises}
 use Rattle.lrs_hall.specs.declared.talk.Finish.{Finish}
 use Rattle.lrs_hall.specs.declared.talk.Finish.TheVariants as finish
 use Rattle.lrs_hall.specs.Conversation.{ActOn, Worker}
-use Rattle.lrs_hall.specs.Serving.{AreOver, Brought, EndsServing, IsWholeTalk, IsOver, is_fault, BringsOne}
+use Rattle.lrs_hall.specs.Serving.{AreOnLinks, Brought, EndsServing, IsWholeTalk, IsOnLink, is_fault, BringsOne}
 use Rattle.lrs_hall.specs.declared.serving.ServeEnd.{ServeEnd}
 use Rattle.lrs_hall.specs.declared.serving.ServeEnd.TheVariants as serve
 use Rattle.lrs_hall.specs.Steps.{HasFinishCause, PassesOne, Served}
@@ -35,7 +35,7 @@ rose_by before now finish.Memory zero cause = unrisen before now zero cause
 -- a talk over a link that came new and was given back
 pub is_over : {X : Type 0} (acts : ActOn X) (talk : Talk) (old new : Worker X) (left stream brought before now : Option (List ℕ)) (out : List ℕ) (fresh faults : ℕ)
     → left ≡ brought → stream ≡ brought → IfSome before (λ bytes. bytes ≡ []) → now ≡ option_map (λ bytes. bytes ++ out) before → fresh ≡ 0 → HasFinishCause fresh faults talk.finish
-    → IsWholeTalk acts left talk out old new → IsOver acts talk (link_returned stream now faults) old new
+    → IsWholeTalk acts left talk out old new → IsOnLink acts talk (link_returned stream now faults) old new
 is_over acts talk old new left stream brought before now out fresh faults unread kept unwritten sent zero cause talks = record {
   out = out;
   taken = taken_all before now out unwritten sent;
@@ -49,12 +49,12 @@ brings_one stream link own None now is brings = brings
 brings_one stream link own (Some []) now is brings = brings
 brings_one stream link own (Some (first ∷ rest)) now is brings = (is ∙ brings.0, brings.1)
 
--- ---- one talk behind the other
+-- ---- one talk after the other
 
 -- Talks so far, so that what follows makes all of them.
 pub record ServedSoFar {X : Type 0} (acts : ActOn X) (start now : Worker X) (before behind : DoorState) (talks : List Talk) : Type 0 where
   pub links : List Returned
-  pub over : (more : List Talk) (others : List Returned) (end : Worker X) → AreOver acts more others now end → AreOver acts (talks ++ more) (links ++ others) start end
+  pub on_links : (more : List Talk) (others : List Returned) (end : Worker X) → AreOnLinks acts more others now end → AreOnLinks acts (talks ++ more) (links ++ others) start end
   pub out : behind.out ≡ None
   pub returned : behind.returned ≡ option_map (λ (so_far : List Returned). so_far ++ links) before.returned
   pub streams : (others : List Returned) (last : Option (List (List ℕ))) → Brought behind.streams others last → Brought before.streams (links ++ others) last
@@ -71,7 +71,7 @@ map_two (Some links) a b = ap Some (append_assoc links a b)
 pub served_none : {X : Type 0} (acts : ActOn X) (start : Worker X) (before : DoorState) (talks : List Talk) → talks ≡ [] → before.out ≡ None → ServedSoFar acts start start before before talks
 served_none acts start before talks none out = record {
   links = [];
-  over = λ more others end is. subst (λ ts. AreOver acts (ts ++ more) others start end) (sym none) is;
+  on_links = λ more others end is. subst (λ ts. AreOnLinks acts (ts ++ more) others start end) (sym none) is;
   out = out;
   returned = map_none before.returned;
   streams = λ others last is. is;
@@ -79,14 +79,14 @@ served_none acts start before talks none out = record {
 }
 
 pub served_one : {X : Type 0} (acts : ActOn X) (start now new : Worker X) (before behind later : DoorState) (talks : List Talk) (talk : Talk) (link : Returned) (all : List Talk)
-    → ServedSoFar acts start now before behind talks → IsOver acts talk link now new → PassesOne behind later link → all ≡ talks ++ talk ∷ [] → ServedSoFar acts start new before later all
-served_one acts start now new before behind later talks talk link all so over passes is = record {
+    → ServedSoFar acts start now before behind talks → IsOnLink acts talk link now new → PassesOne behind later link → all ≡ talks ++ talk ∷ [] → ServedSoFar acts start new before later all
+served_one acts start now new before behind later talks talk link all so on_links passes is = record {
   links = so.links ++ link ∷ [];
-  over = λ more others end more_over.
-      subst (λ ts. AreOver acts (ts ++ more) ((so.links ++ link ∷ []) ++ others) start end) (sym is)
-      (subst (λ ts. AreOver acts ts ((so.links ++ link ∷ []) ++ others) start end) (sym (append_assoc talks (talk ∷ []) more))
-      (subst (λ ls. AreOver acts (talks ++ talk ∷ more) ls start end) (sym (append_assoc so.links (link ∷ []) others))
-      (so.over (talk ∷ more) (link ∷ others) end (new, over, more_over))));
+  on_links = λ more others end more_over.
+      subst (λ ts. AreOnLinks acts (ts ++ more) ((so.links ++ link ∷ []) ++ others) start end) (sym is)
+      (subst (λ ts. AreOnLinks acts ts ((so.links ++ link ∷ []) ++ others) start end) (sym (append_assoc talks (talk ∷ []) more))
+      (subst (λ ls. AreOnLinks acts (talks ++ talk ∷ more) ls start end) (sym (append_assoc so.links (link ∷ []) others))
+      (so.on_links (talk ∷ more) (link ∷ others) end (new, on_links, more_over))));
   out = passes.out;
   returned = passes.returned ∙ ap (option_map (λ (so_far : List Returned). so_far ++ link ∷ [])) so.returned ∙ map_two before.returned so.links (link ∷ []);
   streams = λ others last brought.
@@ -94,16 +94,16 @@ served_one acts start now new before behind later talks talk link all so over pa
   faults = passes.faults ∙ so.faults;
 }
 
--- serving ends behind the talks so far, where the door and the worker are as they were
+-- serving ends after the talks so far, where the door and the worker are as they were
 pub served_so : {X : Type 0} (acts : ActOn X) (connections : ℕ) (start now new : Worker X) (before behind later : DoorState) (talks all : List Talk) (end : ServeEnd)
     → ServedSoFar acts start now before behind talks → new ≡ now → later.out ≡ None → later.returned ≡ behind.returned → later.streams ≡ behind.streams
     → all ≡ talks → EndsServing connections (length talks) before later end → Served acts connections start new before later all end
 served_so acts connections start now new before behind later talks all end so same out returned streams is why =
-    let over : AreOver acts (talks ++ []) (so.links ++ []) start now = so.over [] [] now refl in
+    let on_links : AreOnLinks acts (talks ++ []) (so.links ++ []) start now = so.on_links [] [] now refl in
     record {
       links = so.links;
-      over = subst (λ ts. AreOver acts ts so.links start new) (append-nil talks ∙ sym is)
-          (subst (λ ls. AreOver acts (talks ++ []) ls start new) (append-nil so.links) (subst (λ w. AreOver acts (talks ++ []) (so.links ++ []) start w) (sym same) over));
+      on_links = subst (λ ts. AreOnLinks acts ts so.links start new) (append-nil talks ∙ sym is)
+          (subst (λ ls. AreOnLinks acts (talks ++ []) ls start new) (append-nil so.links) (subst (λ w. AreOnLinks acts (talks ++ []) (so.links ++ []) start w) (sym same) on_links));
       passes = record {
         out = out;
         returned = returned ∙ so.returned;

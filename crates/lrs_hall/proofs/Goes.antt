@@ -5,7 +5,7 @@ use Rattle.lrs_http.specs.Stream.{most_requests}
 use Rattle.lrs_machine.specs.Acts.{Receipt}
 use Rattle.lrs_hall.specs.declared.exchange.Exchanged.TheVariants.{Next, Last}
 use Rattle.lrs_hall.specs.declared.talk.Finish.{Finish}
-use Rattle.lrs_hall.specs.Conversation.{ActOn, Worker, going, over, Converses, EndsOpen}
+use Rattle.lrs_hall.specs.Conversation.{ActOn, Worker, going, ended_with, Converses, EndsOpen}
 use Rattle.lrs_hall.specs.Serving.{IsWholeTalk}
 use Rattle.lrs_hall.specs.Steps.{Exchanges}
 use Rattle.lrs_hall.specs.Talks.{Talk}
@@ -60,7 +60,7 @@ held_last acts start now new stream before left after taken took most receipts r
   turn.2 ∙ ap (λ o. option_map (λ bytes. bytes ++ o) taken) (sym (append-nil turn.0)) ∙ ap (option_map (λ bytes. bytes ++ (turn.0 ++ []))) so.sent ∙ map_more before so.out (turn.0 ++ []),
   subst (λ rs. Converses acts (going most_requests stream) rs (so.out ++ (turn.0 ++ [])) talk.finish start new) (sym told)
       (subst (λ g. Converses acts (going most_requests stream) (receipts ++ receipt ∷ []) (so.out ++ (turn.0 ++ [])) g start new) (sym ends)
-      (so.goes (receipt ∷ []) (turn.0 ++ []) f new (turn.0, [], over f, new, refl, turn.1, (refl, refl, refl)))),
+      (so.goes (receipt ∷ []) (turn.0 ++ []) f new (turn.0, [], ended_with f, new, refl, turn.1, (refl, refl, refl)))),
 )
 
 pub held_silent : {X : Type 0} (acts : ActOn X) (start now new : Worker X) (stream before left taken took : Option (List ℕ)) (most : ℕ) (receipts : List Receipt) (f : Finish) (talk : Talk)

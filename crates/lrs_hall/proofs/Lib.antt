@@ -8,6 +8,7 @@ pub mod Lines
 pub mod Talking
 pub mod Translating
 pub mod Conversing
+pub mod AfterTalks
 pub mod Counting
 pub mod Once
 pub mod Doors

@@ -21,7 +21,7 @@ use Rattle.lrs_replies.specs.declared.reply.Trouble.{Trouble}
 use Rattle.lrs_replies.specs.declared.reply.Trouble.TheVariants.{Memory, Disk}
 use Rattle.lrs_replies.specs.Replies.{Says}
 use Rattle.lrs_hall.specs.Acts.{ActsIn, Reach}
-use Rattle.lrs_hall.specs.Laws.{AreInOrder, EntriesOnce, GoesOn, InOrder, IsKept, KeepsPromises, OwnEntries, entries_at, entries_in, is_at, least_of, promised}
+use Rattle.lrs_hall.specs.Laws.{AreInOrder, EntriesOnce, IsAnsweredBefore, InOrder, IsKept, KeepsPromises, OwnEntries, entries_at, entries_in, is_at, least_of, promised}
 use Rattle.lrs_hall.specs.Serving.{worker_at}
 use Rattle.lrs_hall.proofs.Lines.{count_next, get_last, get_past, get_some, get_take, last_of, length_take, one_has, one_length, take_next}
 use Rattle.lrs_hall.proofs.Talking.{Carries, over_all}
@@ -112,7 +112,7 @@ module _ (limit : ℕ) (line : List Record) (caller : Caller) (command : Command
           let count : entries_in new.records line ≡ entries_in (suc old.records) line = ap (λ (n : ℕ). entries_in n line) s.1 in
           omega (arith, next, count)
 
-  -- what was seen goes behind the own entry
+  -- what was seen goes after the own entry
   step_own : IsSome receipt.entry → receipt.point < entries_in new.records line
   step_own = by_entry receipt.entry refl
     where
@@ -227,10 +227,10 @@ entries_once limit line talks links draws behind a b start end place over high l
 -- ---- in order
 
 -- the act was answered over all these entries
-abbrev IsBehind : ℕ → Receipt → Type 0
-IsBehind n receipt = receipt.acted ≡ true → n ≤ receipt.point
+abbrev HasPointFrom : ℕ → Receipt → Type 0
+HasPointFrom n receipt = receipt.acted ≡ true → n ≤ receipt.point
 
-behind_all : (n m : ℕ) (receipts : List Receipt) → n ≤ m → AllByRecursion (IsBehind m) receipts → AllByRecursion (IsBehind n) receipts
+behind_all : (n m : ℕ) (receipts : List Receipt) → n ≤ m → AllByRecursion (HasPointFrom m) receipts → AllByRecursion (HasPointFrom n) receipts
 behind_all n m [] le all = tt
 behind_all n m (receipt ∷ receipts) le all = (
   λ acted.
@@ -239,7 +239,7 @@ behind_all n m (receipt ∷ receipts) le all = (
   behind_all n m receipts le all.1,
 )
 
-goes_all : (n : ℕ) (first : Receipt) (receipts : List Receipt) → first.point ≤ n → (IsSome first.entry → first.point < n) → AllByRecursion (IsBehind n) receipts → AllByRecursion (GoesOn first) receipts
+goes_all : (n : ℕ) (first : Receipt) (receipts : List Receipt) → first.point ≤ n → (IsSome first.entry → first.point < n) → AllByRecursion (HasPointFrom n) receipts → AllByRecursion (IsAnsweredBefore first) receipts
 goes_all n first [] le low all = tt
 goes_all n first (receipt ∷ receipts) le low all = (
   λ mine acted.
@@ -248,7 +248,7 @@ goes_all n first (receipt ∷ receipts) le low all = (
   goes_all n first receipts le low all.1,
 )
 
-goes_none : (first : Receipt) (receipts : List Receipt) → first.acted ≡ false → AllByRecursion (GoesOn first) receipts
+goes_none : (first : Receipt) (receipts : List Receipt) → first.acted ≡ false → AllByRecursion (IsAnsweredBefore first) receipts
 goes_none first [] none = tt
 goes_none first (receipt ∷ receipts) none = (
   λ acted other.
@@ -258,9 +258,9 @@ goes_none first (receipt ∷ receipts) none = (
 )
 
 module _ (limit : ℕ) (line : List Record) where
-  -- behind all that was seen, and in order
+  -- after all that was seen, and in order
   abbrev OrderIn : List Receipt → Reach → Reach → Type 0
-  OrderIn receipts old new = AllByRecursion (IsBehind (entries_in old.records line)) receipts × AreInOrder receipts
+  OrderIn receipts old new = AllByRecursion (HasPointFrom (entries_in old.records line)) receipts × AreInOrder receipts
 
   order_in : Carries (ActsIn limit line) OrderIn
   order_in = record {

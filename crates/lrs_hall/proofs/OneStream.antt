@@ -29,8 +29,8 @@ use Rattle.lrs_routes.proofs.Alone.{one_routed, routed_refused}
 use Rattle.lrs_hall.specs.declared.talk.Finish.{Finish}
 use Rattle.lrs_hall.specs.declared.talk.Finish.TheVariants as finish
 use Rattle.lrs_hall.specs.Acts.{ActsIn, Reach}
-use Rattle.lrs_hall.specs.Conversation.{ActOn, AnswersTo, AnswersUnread, Worker, Phase, going, over, ServesAsked, ServesRequest, with_command, closes_behind, phase_behind, Responds, Converses, EndsOpen, SendsResponse}
-use Rattle.lrs_hall.specs.Draws.{draw_at, draws_behind}
+use Rattle.lrs_hall.specs.Conversation.{ActOn, AnswersTo, AnswersUnread, Worker, Phase, going, ended_with, ServesAsked, ServesRequest, with_command, closes_after, phase_after, Responds, Converses, EndsOpen, SendsResponse}
+use Rattle.lrs_hall.specs.Draws.{draw_at, next_draws}
 use Rattle.lrs_hall.specs.Laws.{OneAsked, OneText}
 use Rattle.lrs_hall.specs.Responses.{FixedResponse, IsFixed, IsFraming, IsReplyText, IsThrough, framing_response, media_text, route_response}
 use Rattle.lrs_hall.specs.Serving.{clocks}
@@ -52,16 +52,16 @@ known acts stream (Err request.LinkFault) after closes r text old new next answe
 known acts stream (Err request.Memory) after closes r text old new next answers calm = absurd (calm (ap (λ (a : Receipt). a.status) answers.0.0))
 known acts stream (Err e) after closes r text old new next answers calm = next
 
-after_free : (most : ℕ) (e : RequestRefused) (a b : Option (List ℕ)) → phase_behind most (Err e) a ≡ phase_behind most (Err e) b
+after_free : (most : ℕ) (e : RequestRefused) (a b : Option (List ℕ)) → phase_after most (Err e) a ≡ phase_after most (Err e) b
 after_free most request.Memory a b = refl
 after_free most e a b = refl
 
-pub same_heard : (stream : List ℕ) (most : ℕ) (x y : Result Request RequestRefused) (a b : Option (List ℕ)) → Known stream x a → Known stream y b → (x ≡ y) × (phase_behind most x a ≡ phase_behind most y b)
+pub same_heard : (stream : List ℕ) (most : ℕ) (x y : Result Request RequestRefused) (a b : Option (List ℕ)) → Known stream x a → Known stream y b → (x ≡ y) × (phase_after most x a ≡ phase_after most y b)
 same_heard stream most (Ok q) (Ok p) a b k l =
     let e : ◌≡◌ {A = Item} (Ok (q, k.0)) (Ok (p, l.0)) = one_item stream (Ok (q, k.0)) (Ok (p, l.0)) k.1 l.1 in
     let pair : ◌≡◌ {A = Request × List ℕ} (q, k.0) (p, l.0) = cc e in (
       ap (λ (z : Request × List ℕ). Ok z.0) pair,
-      ap (phase_behind most (Ok q)) k.2 ∙ ap (λ (z : Request × List ℕ). phase_behind most (Ok z.0) (Some z.1)) pair ∙ ap (phase_behind most (Ok p)) (sym l.2),
+      ap (phase_after most (Ok q)) k.2 ∙ ap (λ (z : Request × List ℕ). phase_after most (Ok z.0) (Some z.1)) pair ∙ ap (phase_after most (Ok p)) (sym l.2),
     )
 same_heard stream most (Ok q) (Err f) a b k l =
     let e : ◌≡◌ {A = Item} (Ok (q, k.0)) (Err f) = one_item stream (Ok (q, k.0)) (Err f) k.1 l in
@@ -74,7 +74,7 @@ same_heard stream most (Err e) (Ok p) a b k l =
 same_heard stream most (Err e) (Err f) a b k l =
     let both : ◌≡◌ {A = Item} (Err e) (Err f) = one_item stream (Err e) (Err f) k l in
     let same : e ≡ f = cc both in
-    (ap (λ (z : RequestRefused). Err z) same, ap (λ (z : RequestRefused). phase_behind most (Err z) a) same ∙ after_free most f a b)
+    (ap (λ (z : RequestRefused). Err z) same, ap (λ (z : RequestRefused). phase_after most (Err z) a) same ∙ after_free most f a b)
 
 -- ---- what was said
 
@@ -117,14 +117,14 @@ pub act_says : (limit : ℕ) (line : List Record) (g : List Entry) (caller : Cal
     → Said limit g caller command r.clock draw reply (entries (take new.records line))
 act_says limit line g caller command draw reply r old new act at calm =
     let ok = said_ok act.said reply act.says (λ e. calm (act.status ∙ e)) in
-    let over : take r.point (entries line) ≡ g = ap (λ (n : ℕ). take n (entries line)) act.acts.point ∙ sym (entries_take line old.records) ∙ at in
+    let at_point : take r.point (entries line) ≡ g = ap (λ (n : ℕ). take n (entries line)) act.acts.point ∙ sym (entries_take line old.records) ∙ at in
     let mine : Answer = answer limit (take r.point (entries line)) caller command r.clock draw in
     let tells : Tells mine r.point (in_doubt (take old.records line)) (in_doubt (take new.records line)) r.entry (Ok ok.0) =
     subst (λ (s : Result Answered Trouble). Tells mine r.point (in_doubt (take old.records line)) (in_doubt (take new.records line)) r.entry s) ok.1 act.acts.tells in
     let behind : entries (take new.records line) ≡ with_entry g mine.entry =
     ap entries act.acts.line ∙ entries_behind (take old.records line) mine r r.point tells.1 ∙ ap (λ (h : List Entry). with_entry h mine.entry) at in
-    subst (λ (h : List Entry). Said limit h caller command r.clock draw reply (entries (take new.records line))) over
-    (subst (λ (s : Answered). Says (Ok s) reply) tells.0 (subst (λ (s : Result Answered Trouble). Says s reply) ok.1 act.says), behind ∙ ap (λ (h : List Entry). with_entry h mine.entry) (sym over))
+    subst (λ (h : List Entry). Said limit h caller command r.clock draw reply (entries (take new.records line))) at_point
+    (subst (λ (s : Answered). Says (Ok s) reply) tells.0 (subst (λ (s : Result Answered Trouble). Says s reply) ok.1 act.says), behind ∙ ap (λ (h : List Entry). with_entry h mine.entry) (sym at_point))
 
 same_reply : (p q : Reply) → p.status ≡ q.status → p.media ≡ q.media → p.body ≡ q.body → p.through ≡ q.through → p ≡ q
 same_reply p q a b c d = λ i. record { status = a i; media = b i; body = c i; through = d i }
@@ -152,12 +152,12 @@ pub record Alike (la lb : List Record) (r s : Receipt) (t u : List ℕ) (new_a n
   pub text : t ≡ u
   pub acted : r.acted ≡ s.acted
   pub draws : new_a.draws ≡ new_b.draws
-  pub at : entries (take new_a.store.records la) ≡ entries (take new_b.store.records lb)
+  pub at : entries (take new_a.reached.records la) ≡ entries (take new_b.reached.records lb)
 
 -- both stand at one history
 pub record Together (la lb : List Record) (a b : Worker Reach) : Type 0 where
   pub draws : a.draws ≡ b.draws
-  pub at : entries (take a.store.records la) ≡ entries (take b.store.records lb)
+  pub at : entries (take a.reached.records la) ≡ entries (take b.reached.records lb)
 
 fixed_alike : (la lb : List Record) (f : FixedResponse) (closes : Bool) (r s : Receipt) (t u : List ℕ) (a b new_a new_b : Worker Reach)
     → Together la lb a b → IsFixed f closes r t → IsFixed f closes s u → new_a ≡ a → new_b ≡ b → Alike la lb r s t u new_a new_b
@@ -165,7 +165,7 @@ fixed_alike la lb f closes r s t u a b new_a new_b so x y same_a same_b = record
   text = x.1 ∙ sym y.1;
   acted = ap (λ (z : Receipt). z.acted) x.0 ∙ sym (ap (λ (z : Receipt). z.acted) y.0);
   draws = ap (λ (w : Worker Reach). w.draws) same_a ∙ so.draws ∙ sym (ap (λ (w : Worker Reach). w.draws) same_b);
-  at = ap (λ (w : Worker Reach). entries (take w.store.records la)) same_a ∙ so.at ∙ sym (ap (λ (w : Worker Reach). entries (take w.store.records lb)) same_b);
+  at = ap (λ (w : Worker Reach). entries (take w.reached.records la)) same_a ∙ so.at ∙ sym (ap (λ (w : Worker Reach). entries (take w.reached.records lb)) same_b);
 }
 
 framed_alike : (la lb : List Record) (f : Option FixedResponse) (r s : Receipt) (t u : List ℕ) (a b new_a new_b : Worker Reach)
@@ -178,21 +178,21 @@ served_alike : OneText → (limit : ℕ) (la lb : List Record) (closes : Bool) (
     → (r.acted ≡ true → s.acted ≡ true → r.clock ≡ s.clock) → Alike la lb r s t u new_a new_b
 served_alike one_text limit la lb closes (Err e) r s t u a b new_a new_b so x y calm quiet clock = fixed_alike la lb (route_response e) closes r s t u a b new_a new_b so x.0 y.0 x.1 y.1
 served_alike one_text limit la lb closes (Ok asked) r s t u a b new_a new_b so x y calm quiet clock =
-    let g : List Entry = entries (take b.store.records lb) in
-    let says_a = act_says limit la g asked.caller asked.command (draw_at a.draws) x.0 r a.store new_a.store x.1 so.at calm in
-    let says_b = act_says limit lb g asked.caller asked.command (draw_at b.draws) y.0 s b.store new_b.store y.1 refl quiet in
+    let g : List Entry = entries (take b.reached.records lb) in
+    let says_a = act_says limit la g asked.caller asked.command (draw_at a.draws) x.0 r a.reached new_a.reached x.1 so.at calm in
+    let says_b = act_says limit lb g asked.caller asked.command (draw_at b.draws) y.0 s b.reached new_b.reached y.1 refl quiet in
     let time : r.clock ≡ s.clock = clock x.1.acts.acted y.1.acts.acted in
-    let Q : ℕ → Draw → Type 0 = λ k d. Said limit g asked.caller asked.command k d y.0 (entries (take new_b.store.records lb)) in
+    let Q : ℕ → Draw → Type 0 = λ k d. Said limit g asked.caller asked.command k d y.0 (entries (take new_b.reached.records lb)) in
     let mine : Q r.clock (draw_at a.draws) = subst (λ k. Q k (draw_at a.draws)) (sym time) (subst (λ d. Q s.clock (draw_at d)) (sym so.draws) says_b) in
     let answered : Answer = answer limit g asked.caller asked.command r.clock (draw_at a.draws) in
     record {
       text = one_reply_text one_text x.0 y.0 closes t u (one_reply answered.said x.0 y.0 says_a.0 mine.0) x.3 y.3;
       acted = x.1.acts.acted ∙ sym y.1.acts.acted;
-      draws = x.2 ∙ ap draws_behind so.draws ∙ sym y.2;
+      draws = x.2 ∙ ap next_draws so.draws ∙ sym y.2;
       at = says_a.1 ∙ sym mine.1;
     }
 
--- want of memory is answered 503
+-- out of memory is answered 503
 memory_calm : (acts : ActOn Reach) (closes : Bool) (asked : Result Asked RouteRefused) (r : Receipt) (t : List ℕ) (a new_a : Worker Reach) → ServesAsked acts closes asked r t a new_a → r.status ≢ 503 → asked ≡ Err refused.Memory → ⊥
 memory_calm acts closes asked r t a new_a serves calm is =
     let wanting : ServesAsked acts closes (Err refused.Memory) r t a new_a = subst (λ z. ServesAsked acts closes z r t a new_a) is serves in
@@ -245,18 +245,18 @@ answered_alike one_asked one_text limit la lb closes (Err e) r s t u a b new_a n
 abbrev pub IsKnown : Phase → Type 0
 IsKnown (going most None) = ⊥
 IsKnown (going most (Some stream)) = Unit {0}
-IsKnown (over f) = Unit {0}
+IsKnown (ended_with f) = Unit {0}
 
-closed_or : (closes : Bool) (most : ℕ) (after : Option (List ℕ)) (rest : List ℕ) → after ≡ Some rest → IsKnown (if closes then over finish.Closed else going most after)
+closed_or : (closes : Bool) (most : ℕ) (after : Option (List ℕ)) (rest : List ℕ) → after ≡ Some rest → IsKnown (if closes then ended_with finish.Closed else going most after)
 closed_or true most after rest is = tt
 closed_or false most after rest is = subst (λ o. IsKnown (going most o)) (sym is) tt
 
-known_behind : (stream : List ℕ) (most : ℕ) (heard : Result Request RequestRefused) (after : Option (List ℕ)) → Known stream heard after → IsKnown (phase_behind most heard after)
+known_behind : (stream : List ℕ) (most : ℕ) (heard : Result Request RequestRefused) (after : Option (List ℕ)) → Known stream heard after → IsKnown (phase_after most heard after)
 known_behind stream most (Ok q) after k = closed_or (q.closes || most == 1) (most - 1) after k.0 k.2
 known_behind stream most (Err request.Memory) after k = tt
 known_behind stream most (Err e) after k = tt
 
-cut_off : {X : Type 0} (acts : ActOn X) (rs : List Receipt) (out : List ℕ) (f : Finish) (old new : Worker X) → Converses acts (over finish.LinkFault) rs out f old new → f ≡ finish.LinkFault
+cut_off : {X : Type 0} (acts : ActOn X) (rs : List Receipt) (out : List ℕ) (f : Finish) (old new : Worker X) → Converses acts (ended_with finish.LinkFault) rs out f old new → f ≡ finish.LinkFault
 cut_off acts [] out f old new talks = talks.1
 cut_off acts (r ∷ rs) out f old new talks = absurd talks.5
 
@@ -300,7 +300,7 @@ clocks_step false true c d xs ys readings a b = (
 
 -- ---- the ends
 
--- a talk that ended without memory wanting and a fault of the link
+-- a talk that ended though memory lasted and the link didn't fail
 abbrev pub IsCalm : Finish → Type 0
 IsCalm f = (f ≢ finish.Memory) × (f ≢ finish.LinkFault)
 
@@ -347,12 +347,12 @@ end_unanswered acts closes e r text old new answers none = subst (λ f. IsFramin
 unanswered : (acts : ActOn Reach) (stream : List ℕ) (most : ℕ) (f : Finish) (r : Receipt) (front : List ℕ) (old new : Worker Reach) (phase : Phase)
     → EndsOpen (Some stream) f → IsCalm f → Responds acts most (Some stream) r front old new phase → r.status ≢ 503 → ⊥
 unanswered acts stream most f r front old new phase ends calm responds quiet =
-    let k = known acts stream responds.heard responds.after (closes_behind most responds.heard) r responds.text old new responds.next responds.answered quiet in
+    let k = known acts stream responds.heard responds.after (closes_after most responds.heard) r responds.text old new responds.next responds.answered quiet in
     elim (end_item stream f ends calm) [
-      | inl a ↦ end_unanswered acts (closes_behind most responds.heard) request.End r responds.text old new
-          (subst (λ h. ServesRequest acts (closes_behind most responds.heard) h r responds.text old new) (heard_end stream responds.heard responds.after request.End k a.0) responds.answered) refl
-      | inr a ↦ end_unanswered acts (closes_behind most responds.heard) request.Cut r responds.text old new
-          (subst (λ h. ServesRequest acts (closes_behind most responds.heard) h r responds.text old new) (heard_end stream responds.heard responds.after request.Cut k a.0) responds.answered) refl
+      | inl a ↦ end_unanswered acts (closes_after most responds.heard) request.End r responds.text old new
+          (subst (λ h. ServesRequest acts (closes_after most responds.heard) h r responds.text old new) (heard_end stream responds.heard responds.after request.End k a.0) responds.answered) refl
+      | inr a ↦ end_unanswered acts (closes_after most responds.heard) request.Cut r responds.text old new
+          (subst (λ h. ServesRequest acts (closes_after most responds.heard) h r responds.text old new) (heard_end stream responds.heard responds.after request.Cut k a.0) responds.answered) refl
     ]
 
 -- ---- whole talks
@@ -365,9 +365,9 @@ pub agree : OneAsked → OneText → (limit : ℕ) (la lb : List Record) (phase 
     → Converses (ActsIn limit la) phase xs out_x f a end_a → Converses (ActsIn limit lb) phase ys out_y k b end_b
     → AreCalm xs → AreCalm ys → IsCalm f → IsCalm k → (out_x ≡ out_y) × (f ≡ k)
 agree one_asked one_text limit la lb (going most None) xs ys out_x out_y f k a b end_a end_b readings so told fx fy x y cx cy calm quiet = absurd told
-agree one_asked one_text limit la lb (over h) [] [] out_x out_y f k a b end_a end_b readings so told fx fy x y cx cy calm quiet = (x.0 ∙ sym y.0, x.1 ∙ sym y.1)
-agree one_asked one_text limit la lb (over h) (r ∷ rs) ys out_x out_y f k a b end_a end_b readings so told fx fy x y cx cy calm quiet = absurd x.5
-agree one_asked one_text limit la lb (over h) [] (s ∷ ss) out_x out_y f k a b end_a end_b readings so told fx fy x y cx cy calm quiet = absurd y.5
+agree one_asked one_text limit la lb (ended_with h) [] [] out_x out_y f k a b end_a end_b readings so told fx fy x y cx cy calm quiet = (x.0 ∙ sym y.0, x.1 ∙ sym y.1)
+agree one_asked one_text limit la lb (ended_with h) (r ∷ rs) ys out_x out_y f k a b end_a end_b readings so told fx fy x y cx cy calm quiet = absurd x.5
+agree one_asked one_text limit la lb (ended_with h) [] (s ∷ ss) out_x out_y f k a b end_a end_b readings so told fx fy x y cx cy calm quiet = absurd y.5
 agree one_asked one_text limit la lb (going most (Some stream)) [] [] out_x out_y f k a b end_a end_b readings so told fx fy x y cx cy calm quiet =
     (x.0 ∙ sym y.0, ends_alike stream f k x.1 y.1 calm quiet)
 agree one_asked one_text limit la lb (going most (Some stream)) [] (s ∷ ss) out_x out_y f k a b end_a end_b readings so told fx fy x y cx cy calm quiet =
@@ -377,17 +377,17 @@ agree one_asked one_text limit la lb (going most (Some stream)) (r ∷ rs) [] ou
 agree one_asked one_text limit la lb (going most (Some stream)) (r ∷ rs) (s ∷ ss) out_x out_y f k a b end_a end_b readings so told fx fy x y cx cy calm quiet =
     let p = x.5 in
     let q = y.5 in
-    let known_x = known (ActsIn limit la) stream p.heard p.after (closes_behind most p.heard) r p.text a x.3 p.next p.answered cx.0 in
-    let known_y = known (ActsIn limit lb) stream q.heard q.after (closes_behind most q.heard) s q.text b y.3 q.next q.answered cy.0 in
+    let known_x = known (ActsIn limit la) stream p.heard p.after (closes_after most p.heard) r p.text a x.3 p.next p.answered cx.0 in
+    let known_y = known (ActsIn limit lb) stream q.heard q.after (closes_after most q.heard) s q.text b y.3 q.next q.answered cy.0 in
     let same = same_heard stream most p.heard q.heard p.after q.after known_x known_y in
     let clock = clocks_step r.acted s.acted r.clock s.clock (clocks rs) (clocks ss) readings fx fy in
-    let alike = answered_alike one_asked one_text limit la lb (closes_behind most q.heard) q.heard r s p.text q.text a b x.3 y.3 so
-    (subst (λ h. ServesRequest (ActsIn limit la) (closes_behind most h) h r p.text a x.3) same.0 p.answered) q.answered cx.0 cy.0 clock.0 in
-    let whole_x = went_whole (ActsIn limit la) p.text x.0 (phase_behind most p.heard p.after) x.2 rs x.1 f x.3 end_a p.sent x.6 calm.1 in
-    let whole_y = went_whole (ActsIn limit lb) q.text y.0 (phase_behind most q.heard q.after) y.2 ss y.1 k y.3 end_b q.sent y.6 quiet.1 in
+    let alike = answered_alike one_asked one_text limit la lb (closes_after most q.heard) q.heard r s p.text q.text a b x.3 y.3 so
+    (subst (λ h. ServesRequest (ActsIn limit la) (closes_after most h) h r p.text a x.3) same.0 p.answered) q.answered cx.0 cy.0 clock.0 in
+    let whole_x = went_whole (ActsIn limit la) p.text x.0 (phase_after most p.heard p.after) x.2 rs x.1 f x.3 end_a p.sent x.6 calm.1 in
+    let whole_y = went_whole (ActsIn limit lb) q.text y.0 (phase_after most q.heard q.after) y.2 ss y.1 k y.3 end_b q.sent y.6 quiet.1 in
     let fronts = clock.1 alike.acted in
     let so_on : Together la lb x.3 y.3 = record { draws = alike.draws; at = alike.at } in
-    let more = agree one_asked one_text limit la lb (phase_behind most q.heard q.after) rs ss x.1 y.1 f k x.3 y.3 end_a end_b fronts.0 so_on
+    let more = agree one_asked one_text limit la lb (phase_after most q.heard q.after) rs ss x.1 y.1 f k x.3 y.3 end_a end_b fronts.0 so_on
     (known_behind stream most q.heard q.after known_y) fronts.1 fronts.2
     (subst (λ z. Converses (ActsIn limit la) z rs x.1 f x.3 end_a) (whole_x.1 ∙ same.1) x.6)
     (subst (λ z. Converses (ActsIn limit lb) z ss y.1 k y.3 end_b) whole_y.1 y.6)

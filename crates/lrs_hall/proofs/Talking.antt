@@ -12,10 +12,10 @@ use Rattle.lrs_command.specs.declared.command.Command.{Command}
 use Rattle.lrs_routes.specs.declared.asked.Asked.{Asked}
 use Rattle.lrs_routes.specs.declared.asked.RouteRefused.{RouteRefused}
 use Rattle.lrs_hall.specs.declared.talk.Finish.{Finish}
-use Rattle.lrs_hall.specs.Conversation.{ActOn, Worker, Phase, going, over, ServesAsked, ServesRequest, closes_behind, with_command, RespondsIn, Converses}
+use Rattle.lrs_hall.specs.Conversation.{ActOn, Worker, Phase, going, ended_with, ServesAsked, ServesRequest, closes_after, with_command, RespondsIn, Converses}
 use Rattle.lrs_hall.specs.Draws.{draw_at}
 use Rattle.lrs_hall.specs.Responses.{FixedResponse, IsFraming, framing_response, route_response}
-use Rattle.lrs_hall.specs.Serving.{AreOver, all_receipts}
+use Rattle.lrs_hall.specs.Serving.{AreOnLinks, all_receipts}
 use Rattle.lrs_hall.specs.Talks.{Talk}
 use Rattle.lrs_hall.proofs.Unread.{any_command}
 
@@ -24,7 +24,7 @@ use Rattle.lrs_hall.proofs.Unread.{any_command}
 module _ {X : Type 0} (acts : ActOn X) where
   abbrev pub ActsOnce : Receipt → Worker X → Worker X → Type 0
   ActsOnce receipt old new =
-      ((caller : Caller) × (command : Command) × (draw : Draw) × (reply : Reply) × acts caller command draw reply receipt old.store new.store)
+      ((caller : Caller) × (command : Command) × (draw : Draw) × (reply : Reply) × acts caller command draw reply receipt old.reached new.reached)
       ⊎ ((status : ℕ) × (receipt ≡ plain_receipt status) × (new ≡ old))
 
   once_served : (closes : Bool) (asked : Result Asked RouteRefused) (receipt : Receipt) (text : List ℕ) (old new : Worker X)
@@ -45,8 +45,8 @@ module _ {X : Type 0} (acts : ActOn X) where
 
   once : (phase : Phase) (receipt : Receipt) (front : List ℕ) (old new : Worker X) (behind : Phase) → RespondsIn acts phase receipt front old new behind → ActsOnce receipt old new
   once (going most stream) receipt front old new behind responds =
-      once_answered (closes_behind most responds.heard) responds.heard receipt responds.text old new responds.answered
-  once (over f) receipt front old new behind responds = absurd responds
+      once_answered (closes_after most responds.heard) responds.heard receipt responds.text old new responds.answered
+  once (ended_with f) receipt front old new behind responds = absurd responds
 
 -- ---- from one act to the next
 
@@ -58,25 +58,25 @@ pub record Carries {X : Type 0} (acts : ActOn X) (P : List Receipt → X → X �
       → acts caller command draw reply receipt old mid → P receipts mid new → P (receipt ∷ receipts) old new
 
 module _ {X : Type 0} (acts : ActOn X) (P : List Receipt → X → X → Type 0) (carries : Carries acts P) where
-  carried_once : (receipt : Receipt) (receipts : List Receipt) (old mid new : Worker X) → ActsOnce acts receipt old mid → P receipts mid.store new.store → P (receipt ∷ receipts) old.store new.store
-  carried_once receipt receipts old mid new (inl act) more = carries.act act.0 act.1 act.2 act.3 receipt receipts old.store mid.store new.store act.4 more
+  carried_once : (receipt : Receipt) (receipts : List Receipt) (old mid new : Worker X) → ActsOnce acts receipt old mid → P receipts mid.reached new.reached → P (receipt ∷ receipts) old.reached new.reached
+  carried_once receipt receipts old mid new (inl act) more = carries.act act.0 act.1 act.2 act.3 receipt receipts old.reached mid.reached new.reached act.4 more
   carried_once receipt receipts old mid new (inr none) more =
-      carries.plain none.0 receipt receipts old.store new.store none.1 (subst (λ (w : Worker X). P receipts w.store new.store) none.2 more)
+      carries.plain none.0 receipt receipts old.reached new.reached none.1 (subst (λ (w : Worker X). P receipts w.reached new.reached) none.2 more)
 
   pub over_talk : (phase : Phase) (receipts later : List Receipt) (out : List ℕ) (f : Finish) (old mid new : Worker X)
-      → Converses acts phase receipts out f old mid → P later mid.store new.store → P (receipts ++ later) old.store new.store
-  over_talk phase [] later out f old mid new talks more = subst (λ (w : Worker X). P later w.store new.store) talks.2 more
+      → Converses acts phase receipts out f old mid → P later mid.reached new.reached → P (receipts ++ later) old.reached new.reached
+  over_talk phase [] later out f old mid new talks more = subst (λ (w : Worker X). P later w.reached new.reached) talks.2 more
   over_talk phase (receipt ∷ receipts) later out f old mid new talks more =
       carried_once receipt (receipts ++ later) old talks.3 new (once acts phase receipt talks.0 old talks.3 talks.2 talks.5)
       (over_talk talks.2 receipts later talks.1 f talks.3 mid new talks.6 more)
 
   pub over_whole : (phase : Phase) (receipts : List Receipt) (out : List ℕ) (f : Finish) (old new : Worker X)
-      → Converses acts phase receipts out f old new → P receipts old.store new.store
+      → Converses acts phase receipts out f old new → P receipts old.reached new.reached
   over_whole phase receipts out f old new talks =
-      subst (λ (l : List Receipt). P l old.store new.store) (append-nil receipts) (over_talk phase receipts [] out f old new new talks (carries.none new.store))
+      subst (λ (l : List Receipt). P l old.reached new.reached) (append-nil receipts) (over_talk phase receipts [] out f old new new talks (carries.none new.reached))
 
-  pub over_all : (talks : List Talk) (links : List Returned) (old new : Worker X) → AreOver acts talks links old new → P (all_receipts talks) old.store new.store
-  over_all [] [] old new is = subst (λ (w : Worker X). P [] old.store w.store) (sym is) (carries.none old.store)
+  pub over_all : (talks : List Talk) (links : List Returned) (old new : Worker X) → AreOnLinks acts talks links old new → P (all_receipts talks) old.reached new.reached
+  over_all [] [] old new is = subst (λ (w : Worker X). P [] old.reached w.reached) (sym is) (carries.none old.reached)
   over_all [] (link ∷ links) old new is = absurd is
   over_all (talk ∷ talks) [] old new is = absurd is
   over_all (talk ∷ talks) (link ∷ links) old new is =
@@ -84,48 +84,48 @@ module _ {X : Type 0} (acts : ActOn X) (P : List Receipt → X → X → Type 0)
 
 -- ---- other acts
 
--- Acts on X are acts on what f sees of it, where Q holds of it behind them; and Q held before.
+-- Acts on X are acts on what f sees of it, where Q holds of it after them; and Q held before.
 module _ {X Y : Type 0} (f : X → Y) (own : ActOn X) (acts : ActOn Y) (Q : X → Type 0)
     (back : (caller : Caller) (command : Command) (draw : Draw) (reply : Reply) (receipt : Receipt) (old new : X) → own caller command draw reply receipt old new → Q new → Q old)
     (seen : (caller : Caller) (command : Command) (draw : Draw) (reply : Reply) (receipt : Receipt) (old new : X) → own caller command draw reply receipt old new → Q new → acts caller command draw reply receipt (f old) (f new)) where
   abbrev pub at : Worker X → Worker Y
-  at w = record { draws = w.draws; store = f w.store }
+  at w = record { draws = w.draws; reached = f w.reached }
 
-  serves_seen : (closes : Bool) (asked : Result Asked RouteRefused) (receipt : Receipt) (text : List ℕ) (old new : Worker X) → Q new.store
+  serves_seen : (closes : Bool) (asked : Result Asked RouteRefused) (receipt : Receipt) (text : List ℕ) (old new : Worker X) → Q new.reached
       → ServesAsked own closes asked receipt text old new → ServesAsked acts closes asked receipt text (at old) (at new)
   serves_seen closes (Ok asked) receipt text old new q serves =
-      (serves.0, seen asked.caller asked.command (draw_at old.draws) serves.0 receipt old.store new.store serves.1 q, serves.2, serves.3)
+      (serves.0, seen asked.caller asked.command (draw_at old.draws) serves.0 receipt old.reached new.reached serves.1 q, serves.2, serves.3)
   serves_seen closes (Err refusal) receipt text old new q serves = (serves.0, ap at serves.1)
 
-  answers_seen : (closes : Bool) (heard : Result Request RequestRefused) (receipt : Receipt) (text : List ℕ) (old new : Worker X) → Q new.store
+  answers_seen : (closes : Bool) (heard : Result Request RequestRefused) (receipt : Receipt) (text : List ℕ) (old new : Worker X) → Q new.reached
       → ServesRequest own closes heard receipt text old new → ServesRequest acts closes heard receipt text (at old) (at new)
   answers_seen closes (Ok request) receipt text old new q (inl answers) = inl (answers.0, answers.1, serves_seen closes answers.0 receipt text old new q answers.2)
   answers_seen closes (Ok request) receipt text old new q (inr unread) =
       inr (unread.0, unread.1, λ c of. serves_seen closes (Ok (with_command unread.0 c)) receipt text old new q (unread.2 c of))
   answers_seen closes (Err refusal) receipt text old new q answers = (answers.0, ap at answers.1)
 
-  responds_seen : (phase : Phase) (receipt : Receipt) (front : List ℕ) (old new : Worker X) (behind : Phase) → Q new.store
+  responds_seen : (phase : Phase) (receipt : Receipt) (front : List ℕ) (old new : Worker X) (behind : Phase) → Q new.reached
       → RespondsIn own phase receipt front old new behind → RespondsIn acts phase receipt front (at old) (at new) behind
   responds_seen (going most stream) receipt front old new behind q responds = record {
     heard = responds.heard;
     after = responds.after;
     next = responds.next;
     text = responds.text;
-    answered = answers_seen (closes_behind most responds.heard) responds.heard receipt responds.text old new q responds.answered;
+    answered = answers_seen (closes_after most responds.heard) responds.heard receipt responds.text old new q responds.answered;
     sent = responds.sent;
   }
-  responds_seen (over g) receipt front old new behind q responds = absurd responds
+  responds_seen (ended_with g) receipt front old new behind q responds = absurd responds
 
-  back_once : (receipt : Receipt) (old new : Worker X) → ActsOnce own receipt old new → Q new.store → Q old.store
-  back_once receipt old new (inl act) q = back act.0 act.1 act.2 act.3 receipt old.store new.store act.4 q
-  back_once receipt old new (inr none) q = subst (λ (w : Worker X). Q w.store) none.2 q
+  back_once : (receipt : Receipt) (old new : Worker X) → ActsOnce own receipt old new → Q new.reached → Q old.reached
+  back_once receipt old new (inl act) q = back act.0 act.1 act.2 act.3 receipt old.reached new.reached act.4 q
+  back_once receipt old new (inr none) q = subst (λ (w : Worker X). Q w.reached) none.2 q
 
-  back_talk : (phase : Phase) (receipts : List Receipt) (out : List ℕ) (g : Finish) (old new : Worker X) → Converses own phase receipts out g old new → Q new.store → Q old.store
-  back_talk phase [] out g old new talks q = subst (λ (w : Worker X). Q w.store) talks.2 q
+  back_talk : (phase : Phase) (receipts : List Receipt) (out : List ℕ) (g : Finish) (old new : Worker X) → Converses own phase receipts out g old new → Q new.reached → Q old.reached
+  back_talk phase [] out g old new talks q = subst (λ (w : Worker X). Q w.reached) talks.2 q
   back_talk phase (receipt ∷ receipts) out g old new talks q =
       back_once receipt old talks.3 (once own phase receipt talks.0 old talks.3 talks.2 talks.5) (back_talk talks.2 receipts talks.1 g talks.3 new talks.6 q)
 
-  pub talk_seen : (phase : Phase) (receipts : List Receipt) (out : List ℕ) (g : Finish) (old new : Worker X) → Q new.store
+  pub talk_seen : (phase : Phase) (receipts : List Receipt) (out : List ℕ) (g : Finish) (old new : Worker X) → Q new.reached
       → Converses own phase receipts out g old new → Converses acts phase receipts out g (at old) (at new)
   talk_seen phase [] out g old new q talks = (talks.0, talks.1, ap at talks.2)
   talk_seen phase (receipt ∷ receipts) out g old new q talks =
@@ -139,14 +139,14 @@ module _ {X Y : Type 0} (f : X → Y) (own : ActOn X) (acts : ActOn Y) (Q : X �
         talk_seen talks.2 receipts talks.1 g talks.3 new q talks.6,
       )
 
-  back_all : (talks : List Talk) (links : List Returned) (old new : Worker X) → AreOver own talks links old new → Q new.store → Q old.store
-  back_all [] [] old new is q = subst (λ (w : Worker X). Q w.store) is q
+  back_all : (talks : List Talk) (links : List Returned) (old new : Worker X) → AreOnLinks own talks links old new → Q new.reached → Q old.reached
+  back_all [] [] old new is q = subst (λ (w : Worker X). Q w.reached) is q
   back_all [] (link ∷ links) old new is q = absurd is
   back_all (talk ∷ talks) [] old new is q = absurd is
   back_all (talk ∷ talks) (link ∷ links) old new is q =
       back_talk (going most_requests link.stream) talk.receipts is.1.out talk.finish old is.0 is.1.talks (back_all talks links is.0 new is.2 q)
 
-  pub all_seen : (talks : List Talk) (links : List Returned) (old new : Worker X) → Q new.store → AreOver own talks links old new → AreOver acts talks links (at old) (at new)
+  pub all_seen : (talks : List Talk) (links : List Returned) (old new : Worker X) → Q new.reached → AreOnLinks own talks links old new → AreOnLinks acts talks links (at old) (at new)
   all_seen [] [] old new q is = ap at is
   all_seen [] (link ∷ links) old new q is = absurd is
   all_seen (talk ∷ talks) [] old new q is = absurd is

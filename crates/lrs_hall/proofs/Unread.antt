@@ -20,7 +20,7 @@ use Rattle.lrs_replies.specs.declared.answered.Refusal.{Refusal}
 use Rattle.lrs_replies.specs.declared.reply.Reply.{Reply}
 use Rattle.lrs_routes.proofs.Alone.{asked_routed, routed_asks}
 use Rattle.lrs_routes.proofs.Areas.{goes_there}
-use Rattle.lrs_routes.specs.Asked.{IsAsked, IsCommandOf, IsRoutedAs}
+use Rattle.lrs_routes.specs.Asked.{IsAsked, IsRoutedAs}
 use Rattle.lrs_routes.specs.declared.asked.Asked.{Asked}
 use Rattle.lrs_routes.specs.declared.asked.Routed.{Routed}
 use Rattle.lrs_hall.specs.Acts.{ActsOn, DeskAndClock}
@@ -71,7 +71,7 @@ module _ {D : Type 0} (told : D → Option (List ℕ)) (image : D → List ℕ �
 
   -- an act with the request's command, or with one of the area where the caller isn't let in
   pub serves_for : (closes : Bool) (request : Request) (routed : Routed) (c : Command) (receipt : Receipt) (text : List ℕ) (old new : Worker (DeskAndClock D))
-      → IsRoutedAs request routed → IsCommandFor (history old.store.desk) request routed c
+      → IsRoutedAs request routed → IsCommandFor (history old.reached.desk) request routed c
       → ServesAsked (ActsOn told image time since faults) closes (Ok (with_command routed c)) receipt text old new
       → ServesRequest (ActsOn told image time since faults) closes (Ok request) receipt text old new
   serves_for closes request routed c receipt text old new h (inl is) serves = inl (Ok (with_command routed c), routed_asks request routed c h is, serves)
@@ -80,8 +80,8 @@ module _ {D : Type 0} (told : D → Option (List ℕ)) (image : D → List ℕ �
     h,
     λ d of. (
       serves.0,
-      acts_alike routed.caller c d (draw_at old.draws) serves.0 receipt old.store new.store
-          (told_alike old.store.desk.limit (history old.store.desk) routed.caller routed.area c d receipt.clock (draw_at old.draws) out.1 out.0 of) serves.1,
+      acts_alike routed.caller c d (draw_at old.draws) serves.0 receipt old.reached new.reached
+          (told_alike old.reached.desk.limit (history old.reached.desk) routed.caller routed.area c d receipt.clock (draw_at old.draws) out.1 out.0 of) serves.1,
       serves.2,
       serves.3,
     ),

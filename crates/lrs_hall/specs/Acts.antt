@@ -28,7 +28,7 @@ reach_behind receipt old = record {
   moment = receipt.disk;
 }
 
--- An act on the records of the one line that the worker has seen, after which it has seen those behind the act. The
+-- An act on the records of the one line that the worker has seen, after which it has seen those after the act. The
 -- abstract store answers it over the entries before its point.
 pub record ActsIn (limit : ℕ) (line : List Record) (caller : Caller) (command : Command) (draw : Draw) (reply : Reply)
     (receipt : Receipt) (old new : Reach) : Type 0 where
@@ -63,7 +63,7 @@ pub record ActsOn {D : Type 0} (told : D → Option (List ℕ)) (image : D → L
   pub opened_at : new.desk.opened_at ≡ old.desk.opened_at
   pub later : time old.desk.disk ≤ time new.desk.disk
   pub tells : TellsAlike (told old.desk.disk) (told new.desk.disk)
-  -- what a stop leaves at any moment of it, and behind it
+  -- what a stop leaves at any moment of it, and after it
   pub stops : StopsWithin told time since old.desk new.desk
   pub durable : IsOnDisk told image time since new.desk
   pub read : AddsReading old.readings new.readings receipt.clock

@@ -26,6 +26,6 @@ draw_at p = record {
   secret = four_words p.key p.stream (8 * p.number + 4);
 }
 
--- behind the draw at a place
-abbrev pub draws_behind : Draws → Draws
-draws_behind p = record p { number = (p.number + 1) % 2 ^ 65 }
+-- after the draw at a place
+abbrev pub next_draws : Draws → Draws
+next_draws p = record p { number = (p.number + 1) % 2 ^ 65 }

@@ -1,5 +1,6 @@
 -- Laws of acts over one line, and of one stream, which is answered in one way, however the links cut it.
-use Rattle.std.specs.Prelude.{◌≡◌, ◌≢◌, ◌≤◌, ◌<◌, ◌+◌, ◌==◌, ℕ, List, [], ◌∷◌, length, take, slice_get, Bool, true, false, if◌then◌else◌, Option, Some, None, IsSome, Result, Ok}
+use Rattle.std.specs.Prelude.{◌≡◌, ◌≢◌, ◌≤◌, ◌<◌, ◌+◌, ◌==◌, ℕ, List, [], ◌∷◌, length, take, slice_get, Bool, true}
+use Rattle.std.specs.Prelude.{false, if◌then◌else◌, Option, Some, None, IsSome, Result, Ok}
 use Rattle.std.specs.List.{AllByRecursion}
 use Rattle.lrs_disk.specs.Door.{Returned}
 use Rattle.lrs_history.specs.History.{answer}
@@ -18,7 +19,7 @@ use Rattle.lrs_time.specs.Timestamp.{IsMomentText}
 use Rattle.lrs_hall.specs.Acts.{ActsIn, Reach}
 use Rattle.lrs_hall.specs.Conversation.{AnswersTo, ServesRequest, Worker}
 use Rattle.lrs_hall.specs.Draws.{Draws}
-use Rattle.lrs_hall.specs.Serving.{AreOver, IsWholeTalk, all_receipts, clocks, worker_at}
+use Rattle.lrs_hall.specs.Serving.{AreOnLinks, IsWholeTalk, all_receipts, clocks, worker_at}
 use Rattle.lrs_hall.specs.Talks.{Talk}
 use Rattle.lrs_hall.specs.declared.talk.Finish.TheVariants as finish
 
@@ -53,32 +54,32 @@ abbrev pub entries_at : ℕ → List Receipt → ℕ
 entries_at place [] = 0
 entries_at place (receipt ∷ receipts) = (if is_at receipt.entry place then 1 else 0) + entries_at place receipts
 
--- Where a worker's talks go from a records of the line to b, each entry that these made is that of just one receipt.
+-- If a worker's talks go from a records of the line to b, each entry that these made is that of just one receipt.
 abbrev pub EntriesOnce : Type 0
 EntriesOnce =
     (limit : ℕ) (line : List Record) (talks : List Talk) (links : List Returned) (draws behind : Draws)
     (a b start end place : ℕ)
-    → AreOver (ActsIn limit line) talks links (worker_at draws a start) (worker_at behind b end)
+    → AreOnLinks (ActsIn limit line) talks links (worker_at draws a start) (worker_at behind b end)
     → entries_in a line ≤ place → place < entries_in b line → entries_at place (all_receipts talks) ≡ 1
 
 -- ---- in order
 
 -- The second act was answered over no fewer entries than the first, and over the first one's own.
-abbrev pub GoesOn : Receipt → Receipt → Type 0
-GoesOn first second =
+abbrev pub IsAnsweredBefore : Receipt → Receipt → Type 0
+IsAnsweredBefore first second =
     first.acted ≡ true → second.acted ≡ true
     → (first.point ≤ second.point) × (IsSome first.entry → first.point < second.point)
 
 -- each goes on from all before it
 abbrev pub AreInOrder : List Receipt → Type 0
 AreInOrder [] = Unit {0}
-AreInOrder (receipt ∷ receipts) = AllByRecursion (GoesOn receipt) receipts × AreInOrder receipts
+AreInOrder (receipt ∷ receipts) = AllByRecursion (IsAnsweredBefore receipt) receipts × AreInOrder receipts
 
 -- All acts of a worker go on, each from those before it.
 abbrev pub InOrder : Type 0
 InOrder =
     (limit : ℕ) (line : List Record) (talks : List Talk) (links : List Returned) (old new : Worker Reach)
-    → AreOver (ActsIn limit line) talks links old new → AreInOrder (all_receipts talks)
+    → AreOnLinks (ActsIn limit line) talks links old new → AreInOrder (all_receipts talks)
 
 -- ---- what was acknowledged is kept
 
@@ -102,12 +103,12 @@ KeepsPromises now since =
     (limit : ℕ) (line : List Record) (talks : List Talk) (links : List Returned) (draws behind : Draws)
     (a b start end : ℕ)
     → KeepsLine limit now since line → 1 ≤ a
-    → AreOver (ActsIn limit line) talks links (worker_at draws a start) (worker_at behind b end)
+    → AreOnLinks (ActsIn limit line) talks links (worker_at draws a start) (worker_at behind b end)
     → AllByRecursion (IsKept limit since line) (all_receipts talks)
 
 -- ---- one stream
 
--- Where a request asks something, it is answered as that, whether or not it is read behind its head.
+-- If a request asks something, it is answered as that, whether or not it is read after its head.
 abbrev pub AnswersAsAsked : Type 0
 AnswersAsAsked =
     (limit : ℕ) (line : List Record) (closes : Bool) (request : Request) (asked : Asked) (receipt : Receipt)
@@ -119,17 +120,18 @@ AnswersAsAsked =
 abbrev pub OneText : Type 0
 OneText = (moment : ℕ) (a b : List ℕ) → IsMomentText moment a → IsMomentText moment b → a ≡ b
 
--- a request asks one thing, but where memory is wanting
+-- a request asks one thing, unless memory runs out
 abbrev pub OneAsked : Type 0
 OneAsked = (request : Request) (a b : Result Asked RouteRefused) → IsAsked request a → IsAsked request b → Agree a b
 
--- No memory was wanting, and neither the disk nor the link failed.
+-- Memory didn't run out, and neither the disk nor the link failed.
 pub record IsSmooth (talk : Talk) : Type 0 where
   pub statuses : AllByRecursion (λ (receipt : Receipt). receipt.status ≢ 503) talk.receipts
   pub memory : talk.finish ≢ finish.Memory
   pub link : talk.finish ≢ finish.LinkFault
 
--- Two smooth talks over one stream, from one history, with one clock and one draw after the other, send the same bytes and end alike.
+-- Two smooth talks over one stream, from one history, with one clock and one draw after the other, send the same bytes
+-- and end alike.
 abbrev pub OneStream : Type 0
 OneStream =
     (limit : ℕ) (line_a line_b : List Record) (records_a records_b start_a start_b : ℕ) (stream : List ℕ)

@@ -18,7 +18,7 @@ media_text Json = codes "application/json"
 media_text (Own text) = text
 media_text Empty = []
 
--- the text of a moment, where there is one
+-- the text of a moment, if there is one
 abbrev pub IsThrough : Option ℕ → Option (List ℕ) → Type 0
 IsThrough None None = Unit {0}
 IsThrough None (Some text) = ⊥
@@ -43,7 +43,7 @@ fixed status error = record { status = status; error = error; allow = [] }
 abbrev pub fixed_text : FixedResponse → Bool → List ℕ
 fixed_text f closes = response_of f.status (codes "application/json") (error_body f.error []) None f.allow closes
 
--- want of memory
+-- out of memory
 abbrev pub memory_response : FixedResponse
 memory_response = fixed 503 (codes "memory")
 
@@ -58,7 +58,7 @@ route_response route.Memory = memory_response
 abbrev pub form_error : ℕ → List ℕ
 form_error rule = if rule == 1 then codes "F1" else codes "F2"
 
--- what is answered where no request is read; the end of the input gets no response
+-- what is answered if no request is read; the end of the input gets no response
 abbrev pub framing_response : RequestRefused → Option FixedResponse
 framing_response request.End = None
 framing_response request.Cut = None
@@ -74,7 +74,7 @@ framing_response request.Memory = Some memory_response
 abbrev pub IsFixed : FixedResponse → Bool → Receipt → List ℕ → Type 0
 IsFixed f closes receipt text = (receipt ≡ plain_receipt f.status) × (text ≡ fixed_text f closes)
 
--- where no request is read, the response says that the connection ends
+-- if no request is read, the response says that the connection ends
 abbrev pub IsFraming : Option FixedResponse → Receipt → List ℕ → Type 0
 IsFraming None receipt text = ⊥
 IsFraming (Some f) receipt text = IsFixed f true receipt text

@@ -1,5 +1,5 @@
 ghost use Rattle.std.specs.Prelude.{◌≡◌, ◌+◌, ◌*◌, ◌/◌, ◌%◌, ◌^◌, ◌<◌};
-ghost use Rattle.lrs_hall.specs.Draws.{draw_at, four_words, Draws as SpecDraws, draws_behind, start_of};
+ghost use Rattle.lrs_hall.specs.Draws.{draw_at, four_words, Draws as SpecDraws, next_draws, start_of};
 
 use lrs_names::Draw;
 use rand_chacha::ChaCha20Rng;
@@ -39,7 +39,7 @@ impl Draws {
     #[allow(clippy::should_implement_trait)]
     pub fn next(&mut self) -> Draw
         ensures drawn { result ≡ draw_at self.old }
-        ensures moved { self.new ≡ draws_behind self.old }
+        ensures moved { self.new ≡ next_draws self.old }
     {
         let name = number(&mut self.words);
         let secret = number(&mut self.words);

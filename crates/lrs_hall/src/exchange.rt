@@ -6,9 +6,9 @@ ghost use Rattle.lrs_machine.specs.Desk.{history};
 ghost use Rattle.lrs_record.specs.Entries.{IsLawfulCaller};
 ghost use Rattle.lrs_routes.specs.Asked.{IsRoutedAs};
 ghost use Rattle.lrs_hall.specs.Acts.{ActsOn};
-ghost use Rattle.lrs_hall.specs.Conversation.{ServesRequest, closes_behind};
+ghost use Rattle.lrs_hall.specs.Conversation.{ServesRequest, closes_after};
 ghost use Rattle.lrs_hall.specs.Responses.{IsFixed, route_response};
-ghost use Rattle.lrs_hall.specs.Steps.{worker, Wrote, Exchanges, HasExchangeCause, finish_behind, exchanged_of, RefusesRequest, IsCommandFor, IsRefusalCause};
+ghost use Rattle.lrs_hall.specs.Steps.{worker, Wrote, Exchanges, HasExchangeCause, finish_after, exchanged_of, RefusesRequest, IsCommandFor, IsRefusalCause};
 
 use crate::answering::{framing_response, route_response, write_fixed, write_reply};
 use crate::{Draws, Finish};
@@ -162,8 +162,8 @@ fn answered(receipt: Receipt, sent: Result<(), LinkFault>, closes: bool, due: Fi
 }
 
 // How a conversation ends when no request could be read.
-fn finish_behind(refused: RequestRefused) -> Finish
-    ensures { result ≡ finish_behind refused }
+fn finish_after(refused: RequestRefused) -> Finish
+    ensures { result ≡ finish_after refused }
 {
     match refused {
         RequestRefused::End => Finish::Ended,
@@ -186,7 +186,7 @@ fn refuse<L: Link>(link: &mut L, refused: RequestRefused) -> Exchanged
     ensures name_kept { L.name link.new ≡ L.name link.old }
     ensures cause { IsRefusalCause refused (L.fault_count link.old) (L.fault_count link.new) result }
 {
-    let due = finish_behind(refused);
+    let due = finish_after(refused);
     match framing_response(refused) {
         Some(response) => {
             let sent = write_fixed(link, &response, true);
@@ -197,8 +197,8 @@ fn refuse<L: Link>(link: &mut L, refused: RequestRefused) -> Exchanged
 }
 
 // Whether the connection ends after the response to a request.
-fn closes_behind(most: u16, request: &Request) -> bool
-    ensures { result ≡ closes_behind most (Ok request.now) }
+fn closes_after(most: u16, request: &Request) -> bool
+    ensures { result ≡ closes_after most (Ok request.now) }
 {
     request.closes || most == 1
 }
@@ -226,7 +226,7 @@ pub(crate) fn exchange<D: Disk, O: Door>(
 {
     match read_request(alloc, link, kept) {
         Ok(request) => {
-            let closes = closes_behind(most, &request);
+            let closes = closes_after(most, &request);
             let (receipt, sent) = serve(alloc, desk, door, link, routes, draws, request, closes);
             answered(receipt, sent, closes, Finish::Closed)
         }

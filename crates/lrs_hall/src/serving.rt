@@ -6,7 +6,7 @@ ghost use Rattle.lrs_journal.specs.Journal.{TellsAlike};
 ghost use Rattle.lrs_machine.specs.Desk.{IsOnDisk, StopsWithin};
 ghost use Rattle.lrs_hall.specs.Acts.{ActsOn};
 ghost use Rattle.lrs_hall.specs.Draws.{start_of};
-ghost use Rattle.lrs_hall.specs.Serving.{AddsReadings, AreConversations, AreWithin, Counts, EndsServing, IsOver, Passes, all_receipts, clocks, mark_of};
+ghost use Rattle.lrs_hall.specs.Serving.{AddsReadings, AreConversations, AreWithin, Counts, EndsServing, IsOnLink, Passes, all_receipts, clocks, mark_of};
 ghost use Rattle.lrs_hall.specs.Steps.{worker, EndsTurn, PassesOne, Served};
 
 use crate::conversation::{has_room, hold};
@@ -41,7 +41,7 @@ fn serve_one<D: Disk, O: Door>(
 ) -> Result<Talk, ServeEnd>
     requires { (O.state door.old).out ≡ None }
     ensures { MatchResult result
-        (λ talk. (link : Returned) × IsOver (ActsOn D.told D.image D.time D.image_since D.fault_count) talk link
+        (λ talk. (link : Returned) × IsOnLink (ActsOn D.told D.image D.time D.image_since D.fault_count) talk link
         (worker draws.old desk.old (O.state door.old).readings) (worker draws.new desk.new (O.state door.new).readings)
         × PassesOne (O.state door.old) (O.state door.new) link)
         (λ end. (worker draws.new desk.new (O.state door.new).readings

@@ -7,16 +7,16 @@ use Rattle.lrs_disk.specs.declared.failed.Failed.{Failed}
 use Rattle.lrs_fold.specs.Outcomes.{IsAccepted, IsOutcome}
 use Rattle.lrs_fold.specs.declared.outcome.Accepted.{Accepted as Made}
 use Rattle.lrs_fold.specs.declared.outcome.Outcome.TheVariants as made
-use Rattle.lrs_history.specs.History.{Answer, Outcome, Said, Accepted, answer_of, need, refused}
+use Rattle.lrs_history.specs.History.{Answer, Outcome, Said, Accepted, answer_of, refused}
 use Rattle.lrs_history.proofs.Room.{room_is, full_is}
 use Rattle.lrs_journal.specs.Journal.{need_of, Journal, frames_of, IsJournal, IsUnchanged, IsAppended, IsAppendFailed, StandsForFrames}
 use Rattle.lrs_journal.specs.Store.{IsBeforeOrAfter, Stands, need_at, need_told}
 use Rattle.lrs_journal.specs.declared.sizes.TheConstants.{FRAME_HEAD}
 use Rattle.lrs_machine.specs.Acts.{landed_among}
-use Rattle.lrs_machine.specs.Steps.{Does, GrewBy, HoldsFrames, LeavesFrames, Says, landed_of, one_of, sure_of}
+use Rattle.lrs_machine.specs.Steps.{Does, GrewBy, HoldsFrames, LeavesFrames, CarriesOut, landed_of, one_of, sure_of}
 use Rattle.lrs_machine.proofs.Prefixes.{frames_around, frames_less, frames_more, frames_stand, rests, run_then, weaker}
 use Rattle.lrs_parts.specs.State.{State, apply}
-use Rattle.lrs_record.specs.Entries.{IsLawful, written_entry}
+use Rattle.lrs_record.specs.Entries.{written_entry}
 use Rattle.lrs_record.specs.declared.entry.Entry.{Entry}
 use Rattle.lrs_replies.specs.declared.answered.Answered.{Answered}
 use Rattle.lrs_replies.specs.declared.answered.Refusal.TheVariants as refusal
@@ -51,7 +51,7 @@ said_does told image time since only_now journal st s (Said t) sound is settled 
 }
 said_does told image time since only_now journal st s (Accepted e t) sound is settled = absurd is
 
--- memory was wanting
+-- memory ran out
 pub wanting_does : {D : Type 0} (told : D → Option (List ℕ)) (image : D → List ℕ → Type 0) (time : D → ℕ) (since : D → ℕ → List ℕ → Type 0) → ((d : D) (c : List ℕ) → since d (time d) c → image d c)
     → (journal : Journal D) (st su : State) (v : Outcome) → IsJournal told image journal → su ≡ st → journal.doubt ≡ false → Does told time since journal journal st su v (Err trouble.Memory) None
 wanting_does told image time since only_now journal st su v sound same settled = record {
@@ -70,7 +70,7 @@ full_does told image time since only_now journal st a n l (Said t) sound is sett
 full_does told image time since only_now journal st a n l (Accepted e t) sound is settled exceeds of_need of_limit = record {
   grew = unchanged told journal;
   folds = refl;
-  says = subst (λ (w : Answer). Says w journal.doubt journal.doubt None (Ok (refused (refusal.Full n l)))) (sym (full_is journal.limit journal.end t e (subst (λ f. journal.limit < need_at journal.end f) is.text exceeds)))
+  says = subst (λ (w : Answer). CarriesOut w journal.doubt journal.doubt None (Ok (refused (refusal.Full n l)))) (sym (full_is journal.limit journal.end t e (subst (λ f. journal.limit < need_at journal.end f) is.text exceeds)))
       (number n l (of_need ∙ ap (λ f. need_told journal.end f) is.text) of_limit, refl, settled);
   later = omega arith;
   leaves = stands_still told image time since only_now journal sound;
@@ -85,11 +85,11 @@ full_does told image time since only_now journal st a n l (Accepted e t) sound i
 added : {D : Type 0} (told : D → Option (List ℕ)) (time : D → ℕ) (since : D → ℕ → List ℕ → Type 0) (old new : Journal D) (st su : State) (a : Made) (e : Entry) (t : Answered) (said : Result Answered Trouble)
     → IsAccepted st e t a → old.doubt ≡ false → need_of old a.text ≤ old.limit → IsAppended told old new a.text → su ≡ apply st a.effect → time old.disk ≤ time new.disk
     → ForSome (frames_of told old) (λ ps. LeavesOnly time since old.disk new.disk (IsBeforeOrAfter old.limit ps a.text))
-    → Says (record { said = t; entry = Some e }) old.doubt new.doubt (Some e) said → Does told time since old new st su (Accepted e t) said (Some a.entry.value)
+    → CarriesOut (record { said = t; entry = Some e }) old.doubt new.doubt (Some e) said → Does told time since old new st su (Accepted e t) said (Some a.entry.value)
 added told time since old new st su a e t said is settled fits more folds later leaves says = subst (λ x. Does told time since old new st su (Accepted e t) said (Some x)) (sym is.entry) (record {
   grew = (is.lawful, subst (λ f. IsAppended told old new f) is.text more);
   folds = folds ∙ ap (λ x. apply st x) is.effect;
-  says = subst (λ (w : Answer). Says w old.doubt new.doubt (Some e) said) (sym (room_is old.limit old.end t e (subst (λ f. need_at old.end f ≤ old.limit) is.text fits))) says;
+  says = subst (λ (w : Answer). CarriesOut w old.doubt new.doubt (Some e) said) (sym (room_is old.limit old.end t e (subst (λ f. need_at old.end f ≤ old.limit) is.text fits))) says;
   later = later;
   leaves = λ ps there.
       weaker time since old.disk new.disk (IsBeforeOrAfter old.limit ps a.text) (HoldsFrames old.limit (sure_of old.doubt (length ps)) (ps ++ written_entry e ∷ [])) (leaves ps there)
@@ -130,7 +130,7 @@ failed_does told time since old new st su v settled none same folds later leaves
       (subst (λ d. HoldsFrames old.limit (sure_of d (length ps)) ps c) (sym settled) (frames_stand old.limit false ps c held)));
 }
 
--- ---- behind the settling
+-- ---- after the settling
 
 unchanged_then : {D : Type 0} (told : D → Option (List ℕ)) (old mid new : Journal D) → IsUnchanged told old mid → IsUnchanged told mid new → IsUnchanged told old new
 unchanged_then told old mid new a b = record { frames = b.frames ∙ a.frames; number = b.number ∙ a.number; end = b.end ∙ a.end; limit = b.limit ∙ a.limit }
@@ -183,14 +183,14 @@ unsettled_does told time since old new st v same doubt later leaves = record {
     no : (b : Bool) → b ≡ true → b ≡ false → ⊥
     no b is isnt = cc
 
--- an act behind the settling
+-- an act after the settling
 pub settled_does : {D : Type 0} (told : D → Option (List ℕ)) (time : D → ℕ) (since : D → ℕ → List ℕ → Type 0) (old mid new : Journal D) (st su : State) (v : Outcome) (said : Result Answered Trouble) (made : Option Entry)
     → IsUnchanged told old mid → mid.doubt ≡ false → time old.disk ≤ time mid.disk → ForSome (frames_of told old) (λ ps. LeavesOnly time since old.disk mid.disk (StandsForFrames old.limit old.doubt ps))
     → Does told time since mid new st su v said made → Does told time since old new st su v said made
 settled_does told time since old mid new st su v said made same settled later leaves does = record {
   grew = grown made does.grew;
   folds = does.folds;
-  says = said_then said (subst (λ (l : ℕ). Says (answer_of l old.end v) mid.doubt new.doubt made said) same.limit (subst (λ (p : ℕ). Says (answer_of mid.limit p v) mid.doubt new.doubt made said) same.end does.says));
+  says = said_then said (subst (λ (l : ℕ). CarriesOut (answer_of l old.end v) mid.doubt new.doubt made said) same.limit (subst (λ (p : ℕ). CarriesOut (answer_of mid.limit p v) mid.doubt new.doubt made said) same.end does.says));
   later = omega (arith, later, does.later);
   leaves = λ ps there.
       run_then time since old.disk mid.disk new.disk (HoldsFrames old.limit (sure_of old.doubt (length ps)) (ps ++ map written_entry (one_of made)))
@@ -209,7 +209,7 @@ settled_does told time since old mid new st su v said made same settled later le
     sures : (n : ℕ) → sure_of old.doubt n ≤ sure_of mid.doubt n
     sures n = let s = sure_least old.doubt n in let e : sure_of mid.doubt n ≡ n = ap (λ (d : Bool). sure_of d n) settled in omega (arith, s, e)
 
-    said_then : (r : Result Answered Trouble) → Says (answer_of old.limit old.end v) mid.doubt new.doubt made r → Says (answer_of old.limit old.end v) old.doubt new.doubt made r
+    said_then : (r : Result Answered Trouble) → CarriesOut (answer_of old.limit old.end v) mid.doubt new.doubt made r → CarriesOut (answer_of old.limit old.end v) old.doubt new.doubt made r
     said_then (Ok s) k = k
     said_then (Err trouble.Memory) k = k
     said_then (Err trouble.Disk) (inl k) = inl (k.0, λ _. k.1 settled)
@@ -229,7 +229,7 @@ some_landed old new made doubt only = by_all old.doubt new.doubt (is_some made) 
 none_landed : {D : Type 0} (old new : Journal D) (made : Option Entry) → old.doubt ≡ false → landed_of old new made ≡ None
 none_landed old new made settled = ap (λ (d : Bool). landed_among old.number d new.doubt (is_some made)) settled
 
-says_only : (a : Answer) (d₁ : Bool) (made : Option Entry) (said : Result Answered Trouble) → Says a false d₁ made said → d₁ ≡ true → is_some made ≡ true
+says_only : (a : Answer) (d₁ : Bool) (made : Option Entry) (said : Result Answered Trouble) → CarriesOut a false d₁ made said → d₁ ≡ true → is_some made ≡ true
 says_only a true None (Ok s) says at = absurd (let k = says.2 in cc)
 says_only a true None (Err trouble.Memory) says at = absurd (let k = says.1 in cc)
 says_only a true None (Err trouble.Disk) (inl k) at = absurd (let f = k.1 refl in cc)
@@ -241,7 +241,7 @@ says_only a true None (Err trouble.Disk) (inr k) at = some None a.entry k.0 k.1
 says_only a d₁ (Some e) said says at = refl
 says_only a false None said says at = absurd (cc)
 
--- behind a settling that went well
+-- after a settling that went well
 pub landed_does : {D : Type 0} (told : D → Option (List ℕ)) (time : D → ℕ) (since : D → ℕ → List ℕ → Type 0) (old mid new : Journal D) (st su : State) (v : Outcome) (said : Result Answered Trouble) (made : Option Entry)
     (r : Result (Option ℕ) Failed) (k : Option ℕ) → r ≡ Ok k → (old.doubt ≡ false → (r ≡ Ok None) × (mid ≡ old)) → (old.doubt ≡ true → IfOk r (λ frame. (frame ≡ Some (old.number - 1)) × (mid.doubt ≡ false)))
     → Does told time since mid new st su v said made → k ≡ landed_of old new made
@@ -257,9 +257,9 @@ landed_does told time since old mid new st su v said made r k is none some does 
     by_doubt false at = one k None (sym is ∙ (none at).0) ∙ sym (none_landed old new made at)
     by_doubt true at =
         (subst (λ q. IfOk q (λ frame. (frame ≡ Some (old.number - 1)) × (mid.doubt ≡ false))) is (some at)).0
-        ∙ sym (some_landed old new made at (λ d. says_only (answer_of mid.limit mid.end v) new.doubt made said (subst (λ (b : Bool). Says (answer_of mid.limit mid.end v) b new.doubt made said) settled does.says) d))
+        ∙ sym (some_landed old new made at (λ d. says_only (answer_of mid.limit mid.end v) new.doubt made said (subst (λ (b : Bool). CarriesOut (answer_of mid.limit mid.end v) b new.doubt made said) settled does.says) d))
 
--- behind one that failed
+-- after one that failed
 pub unlanded : {D : Type 0} (told : D → Option (List ℕ)) (old new : Journal D) → new.doubt ≡ true → None ≡ landed_of old new None
 unlanded told old new doubt = by_all old.doubt new.doubt doubt
   where

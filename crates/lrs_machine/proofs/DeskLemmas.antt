@@ -11,14 +11,14 @@ use Rattle.lrs_history.proofs.Room.{no_room, kept_answer}
 use Rattle.lrs_machine.specs.Acts.{Acts, HasDiskCause, Receipt, Tells, landed_among, line_behind, made_by, place_where}
 use Rattle.lrs_machine.specs.Desk.{Desk, added_place, history, landed_place, receipt_of}
 use Rattle.lrs_machine.specs.Line.{Record, entries, in_doubt}
-use Rattle.lrs_machine.specs.Steps.{Happens, Says, line_after, one_of}
+use Rattle.lrs_machine.specs.Steps.{Happens, CarriesOut, line_after, one_of}
 use Rattle.lrs_machine.proofs.Lines.{Goes, entries_goes, goes, none_some}
 use Rattle.lrs_machine.proofs.Tied.{entry_of_says}
 use Rattle.lrs_names.specs.declared.draw.Draw.{Draw}
 use Rattle.lrs_parts.specs.State.{State}
 use Rattle.lrs_record.specs.declared.entry.Caller.{Caller}
 use Rattle.lrs_record.specs.declared.entry.Entry.{Entry}
-use Rattle.lrs_replies.specs.Replies.{IsRefusal, IsReplyTo, Says as Replies, status_in}
+use Rattle.lrs_replies.specs.Replies.{IsRefusal, IsReplyTo, Says, status_in}
 use Rattle.lrs_replies.specs.declared.answered.Answered.{Answered}
 use Rattle.lrs_replies.specs.declared.answered.Answered.TheVariants as said
 use Rattle.lrs_replies.specs.declared.answered.Refusal.TheVariants as refusal
@@ -44,7 +44,7 @@ put_said limit place (Accepted e t) says = by_room (nat_lt limit (need place e))
 
 -- the operator's put shows no text, and is never answered as of somebody who isn't let in, or as of no command
 pub act_put : (limit place : ℕ) (st : State) (caller : Caller) (c : Command) (clock : ℕ) (draw : Draw) (d₀ d₁ : Bool) (made : Option Entry) (r : Result Answered Trouble)
-    → Says (answer_of limit place (outcome st caller c clock draw)) d₀ d₁ made r → IsPut caller c → IfOk r IsOfPut
+    → CarriesOut (answer_of limit place (outcome st caller c clock draw)) d₀ d₁ made r → IsPut caller c → IfOk r IsOfPut
 act_put limit place st caller c clock draw d₀ d₁ made (Ok s) says put = subst IsOfPut (sym says.0) (put_said limit place (outcome st caller c clock draw) (put_says st caller c clock draw put))
 act_put limit place st caller c clock draw d₀ d₁ made (Err t) says put = tt
 
@@ -82,7 +82,7 @@ receipt_made time faults old new receipt status point clock was landed is at cou
 
 -- ---- acts
 
-tells : (a : Answer) (point : ℕ) (d₀ d₁ : Bool) (made : Option Entry) (said : Result Answered Trouble) (own : Option ℕ) → own ≡ place_where (is_some made) point → Says a d₀ d₁ made said → Tells a point d₀ d₁ own said
+tells : (a : Answer) (point : ℕ) (d₀ d₁ : Bool) (made : Option Entry) (said : Result Answered Trouble) (own : Option ℕ) → own ≡ place_where (is_some made) point → CarriesOut a d₀ d₁ made said → Tells a point d₀ d₁ own said
 tells a point d₀ d₁ made (Ok s) own is says = (says.0, is ∙ ap (λ (o : Option Entry). place_where (is_some o) point) says.1, says.2)
 tells a point d₀ d₁ made (Err trouble.Memory) own is says = (is ∙ ap (λ (o : Option Entry). place_where (is_some o) point) says.0, says.1)
 tells a point d₀ d₁ made (Err trouble.Disk) own is (inl none) = inl (is ∙ ap (λ (o : Option Entry). place_where (is_some o) point) none.0, none.1)
@@ -98,6 +98,7 @@ ok_status : (said : Result Answered Trouble) → not (status_in said == 503) ≡
 ok_status (Ok said.Kept) = refl
 ok_status (Ok said.Same) = refl
 ok_status (Ok (said.Shown text through)) = refl
+ok_status (Ok (said.Document media bytes)) = refl
 ok_status (Ok (said.Refused (refusal.Conflict id))) = refl
 ok_status (Ok (said.Refused (refusal.Full n l))) = refl
 ok_status (Ok (said.Refused (refusal.Broken rule))) = refl
@@ -107,7 +108,7 @@ ok_status (Ok (said.Refused (refusal.Forbidden rule))) = refl
 ok_status (Ok (said.Refused refusal.NotFound)) = refl
 ok_status (Err t) = refl
 
-made_is : (a : Answer) (d₀ d₁ : Bool) (made : Option Entry) (said : Result Answered Trouble) → Says a d₀ d₁ made said → (if is_some made then a.entry else None) ≡ made
+made_is : (a : Answer) (d₀ d₁ : Bool) (made : Option Entry) (said : Result Answered Trouble) → CarriesOut a d₀ d₁ made said → (if is_some made then a.entry else None) ≡ made
 made_is a d₀ d₁ None said says = refl
 made_is a d₀ d₁ (Some e) said says = entry_of_says a d₀ d₁ e said says
 
@@ -153,7 +154,7 @@ unkept_entry (Accepted e t) limit place s keeps is refuses = by_test (nat_lt lim
     by_test true q = refl
     by_test false q = absurd (keeps e t refl (subst (λ u. IsRefusal (Ok u)) q refuses))
 
--- where memory was wanting for the body of a refusal
+-- where there was no memory for the body of a refusal
 wanting : (a : Answer) (s : Answered) (landed : Option ℕ) (moment : ℕ) (old new : List Record) → a.entry ≡ None → Happens a (Ok s) landed moment old new → Happens a (Err trouble.Memory) landed moment old new
 wanting a s landed moment old new none h = record {
   made = h.made;
@@ -167,7 +168,7 @@ wanting a s landed moment old new none h = record {
     unmade None is = refl
     unmade (Some e) is = absurd (none_some e (sym is))
 
-status_says : (said : Result Answered Trouble) (reply : Reply) → Replies said reply → reply.status ≡ status_in said
+status_says : (said : Result Answered Trouble) (reply : Reply) → Says said reply → reply.status ≡ status_in said
 status_says (Ok s) reply says = says.0
 status_says (Err trouble.Memory) reply says = says.0
 status_says (Err trouble.Disk) reply says = says.0
@@ -175,7 +176,7 @@ status_says (Err trouble.Disk) reply says = says.0
 pub act_acts : (limit : ℕ) (caller : Caller) (c : Command) (clock : ℕ) (draw : Draw) (said : Result Answered Trouble) (reply : Reply) (landed : Option ℕ) (old new : List Record) (receipt : Receipt)
     → Happens (answer limit (entries old) caller c clock draw) said landed receipt.disk old new → IsReplyTo said reply → receipt.acted ≡ true → receipt.status ≡ reply.status → receipt.point ≡ length (entries old)
     → receipt.entry ≡ place_where (nat_lt receipt.point (length (entries new))) receipt.point → receipt.landed ≡ landed → HasDiskCause receipt.was receipt.is said
-    → (told : Result Answered Trouble) × Replies told reply × Acts (answer limit (entries old) caller c clock draw) told receipt old new
+    → (told : Result Answered Trouble) × Says told reply × Acts (answer limit (entries old) caller c clock draw) told receipt old new
 act_acts limit caller c clock draw said reply landed old new receipt h (inl says) acted status point entry lands cause =
     (said, says, acts_of (answer limit (entries old) caller c clock draw) said landed old new receipt h acted (status ∙ status_says said reply says) point entry lands cause)
 act_acts limit caller c clock draw (Ok s) reply landed old new receipt h (inr k) acted status point entry lands cause = (
@@ -200,6 +201,6 @@ module _ {D : Type 0} (time faults : D → ℕ) (old new : Desk D) (caller : Cal
       (acts_of a said landed old.line new.line (receipt_of time faults old new (status_in said) clock) h refl refl refl refl (sym (landed_is a said landed (time new.disk) old new h)) cause)
 
   pub act_told : (reply : Reply) (receipt : Receipt) → receipt ≡ receipt_of time faults old new reply.status clock → Happens a said landed (time new.disk) old.line new.line → HasDiskCause (faults old.disk) (faults new.disk) said
-      → IsReplyTo said reply → (told : Result Answered Trouble) × Replies told reply × Acts a told receipt old.line new.line
-  act_told reply receipt is h cause replied = subst (λ (r : Receipt). (told : Result Answered Trouble) × Replies told reply × Acts a told r old.line new.line) (sym is)
+      → IsReplyTo said reply → (told : Result Answered Trouble) × Says told reply × Acts a told receipt old.line new.line
+  act_told reply receipt is h cause replied = subst (λ (r : Receipt). (told : Result Answered Trouble) × Says told reply × Acts a told r old.line new.line) (sym is)
       (act_acts old.limit caller c clock draw said reply landed old.line new.line (receipt_of time faults old new reply.status clock) h replied refl refl refl refl (sym (landed_is a said landed (time new.disk) old new h)) cause)

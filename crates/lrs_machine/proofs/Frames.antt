@@ -8,7 +8,7 @@ frames-more : (ps : List (List ℕ)) (p : List ℕ) → frames (ps ++ p ∷ []) 
 frames-more [] p = append-nil (1 ∷ body p)
 frames-more (q ∷ ps) p = ap (λ t. (1 ∷ body q) ++ t) (frames-more ps p) ∙ sym (append_assoc (1 ∷ body q) (frames ps) (1 ∷ body p))
 
-length-body : (p : List ℕ) → length (body p) ≡ 4 + length p
+pub length-body : (p : List ℕ) → length (body p) ≡ 4 + length p
 length-body p = omega arith
 
 pub length-store-more : (limit : ℕ) (ps : List (List ℕ)) (p : List ℕ) → length (store limit (ps ++ p ∷ [])) ≡ length (store limit ps) + (FRAME_HEAD + length p)

@@ -4,6 +4,7 @@ pub mod Lines
 pub mod Prefixes
 pub mod ActLemmas
 pub mod Tied
+pub mod Counts
 pub mod Following
 pub mod ReplayLemmas
 pub mod OpenLemmas

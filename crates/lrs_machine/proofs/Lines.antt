@@ -1,6 +1,6 @@
 -- Lines with one record more, fronts of lines, and the line of an opening.
 use Rattle.std.proofs.Common.{◌≡◌, ℕ, zero, suc, ◌+◌, ◌-◌, ◌<◌, ◌≤◌, List, [], ◌∷◌, ◌++◌, length, map, take, drop, Option, Some, None, Bool, true, false, ◌&&◌, not, Result, Ok, Err, refl, sym, ap, ◌∙◌, subst, inl, inr, arith, length-append, append_assoc}
-use Rattle.std.specs.Prelude.{◌⊎◌, ◌||◌, is_some, is_ok, slice_get, IsSome, if◌then◌else◌}
+use Rattle.std.specs.Prelude.{◌⊎◌, ◌||◌, is_some, is_ok, option_map, slice_get, IsNone, IsSome, if◌then◌else◌}
 use Rattle.std.proofs.lemmas.List.{append-nil, take-append-le, take-append-drop}
 use Rattle.std.proofs.lemmas.Option.{slice_get_within}
 use Rattle.lrs_history.specs.History.{Answer}
@@ -10,7 +10,7 @@ use Rattle.lrs_replies.specs.declared.reply.Trouble.{Trouble}
 use Rattle.lrs_replies.specs.declared.reply.Trouble.TheVariants as trouble
 use Rattle.lrs_machine.specs.Acts.{landed_among}
 use Rattle.lrs_machine.specs.Line.{Record, with_made, entries, doubt_behind, doubt_from, in_doubt, sure, opening_record, opened_line, line_of, AreBefore, BeginsWith}
-use Rattle.lrs_machine.specs.Steps.{Says, one_of, sure_of, record_made, line_after}
+use Rattle.lrs_machine.specs.Steps.{CarriesOut, one_of, sure_of, record_made, line_after}
 
 pub some_same : {A : Type 0} (x y : A) → Some x ≡ Some y → x ≡ y
 some_same x y e = cc
@@ -73,7 +73,7 @@ sure_more line (r ∷ rest) =
 pub sure_front : (k : ℕ) (line : List Record) → sure (take k line) ≤ sure line
 sure_front k line = subst (λ (l : List Record). sure (take k line) ≤ sure l) (take-append-drop k line) (sure_more (take k line) (drop k line))
 
--- ---- the line behind an act
+-- ---- the line after an act
 
 -- the same line, or one record more with this moment
 abbrev pub Goes : List Record → Option Entry → ℕ → List Record → Type 0
@@ -90,12 +90,21 @@ entries_goes line next made moment (inr more) =
     let r = more.0 in
     ap entries more.3 ∙ entries_append line (r ∷ []) ∙ ap (λ (l : List Entry). entries line ++ l) (entries_one r ∙ ap one_of more.1)
 
+-- a line with no more entries than before is behind an act that made none
+pub not_longer : {A : Type 0} (f : A → Entry) (line next : List Record) (made : Option A) (acknowledged : Bool) (landed : Option ℕ) (moment : ℕ)
+    → next ≡ line_after line (option_map f made) acknowledged landed moment → length (entries next) ≡ length (entries line) → IsNone made
+not_longer f line next None acknowledged landed moment is same = refl
+not_longer f line next (Some s) acknowledged landed moment is same =
+    let g : Goes line (Some (f s)) moment next = subst (λ (l : List Record). Goes line (Some (f s)) moment l) (sym is) (goes line (Some (f s)) acknowledged landed moment) in
+    let n : length (entries next) ≡ length (entries line) + 1 = ap length (entries_goes line next (Some (f s)) moment g) ∙ length-append (entries line) (f s ∷ []) in
+    absurd (omega (arith, n, same))
+
 pub sure_goes : (line next : List Record) (made : Option Entry) (moment : ℕ) → Goes line made moment next → sure line ≤ sure next
 sure_goes line next made moment (inl same) = rw (same.1) (omega arith)
 sure_goes line next made moment (inr more) = rw (more.3) (sure_one line more.0)
 
--- the doubt behind it
-pub doubt_with : (line : List Record) (said : Result Answered Trouble) (made : Option Entry) (d₀ d₁ : Bool) (a : Answer) (n moment : ℕ) → in_doubt line ≡ d₀ → Says a d₀ d₁ made said
+-- the doubt after it
+pub doubt_with : (line : List Record) (said : Result Answered Trouble) (made : Option Entry) (d₀ d₁ : Bool) (a : Answer) (n moment : ℕ) → in_doubt line ≡ d₀ → CarriesOut a d₀ d₁ made said
     → in_doubt (line_after line made (is_ok said) (landed_among n d₀ d₁ (is_some made)) moment) ≡ d₁
 doubt_with line (Ok said) (Some e) d₀ d₁ a n moment d says = doubt_append false line (_ ∷ []) ∙ sym says.2
 doubt_with line (Ok said) None true true a n moment d says = d
@@ -173,7 +182,7 @@ place_of line r q k at =
       | inr last ↦ inr (last, some_same q r (sym at ∙ ap (λ (n : ℕ). slice_get (line ++ r ∷ []) n) last ∙ get_last line r))
     ]
 
--- no record of the line behind an act is of a later moment
+-- no record of the line after an act is of a later moment
 pub before_goes : (line next : List Record) (made : Option Entry) (before now : ℕ) → before ≤ now → Goes line made now next → AreBefore before line → AreBefore now next
 before_goes line next made before now le (inl same) early k r at = (let old = early k r (ap (λ (l : List Record). slice_get l k) (sym same.1) ∙ at) in omega (arith, old, le))
 before_goes line next made before now le (inr more) early k r at =
@@ -196,6 +205,13 @@ pub moment_opened : (t : ℕ) (h : List Entry) (k : ℕ) (r : Record) → slice_
 moment_opened t [] k r at = absurd (none_some r at)
 moment_opened t (e ∷ h) zero r at = sym (ap (λ (w : Record). w.moment) (some_same (opening_record t e) r at))
 moment_opened t (e ∷ h) (suc k) r at = moment_opened t h k r at
+
+-- the entries of an opening are among those of its line
+pub opened_within : (t n : ℕ) (h : List Entry) (acts : List Record) → n ≡ length h → n ≤ length (entries (line_of t h acts))
+opened_within t n h acts is =
+    let more : length (entries (line_of t h acts)) ≡ length (h ++ entries acts) =
+    ap length (entries_append (opened_line t h) acts) ∙ ap (λ (l : List Entry). length (l ++ entries acts)) (entries_opened t h) in
+    omega (arith, is, more, length-append h (entries acts))
 
 -- a line begins with that of its opening
 pub begins_opened : (t n : ℕ) (h : List Entry) (acts : List Record) → n ≡ length h → BeginsWith (opened_line t (take n (entries (line_of t h acts)))) (line_of t h acts)

@@ -27,7 +27,7 @@ use Rattle.lrs_fold.proofs.Founded.{founding_judged}
 use Rattle.lrs_machine.specs.declared.opening.FoundRefused.TheVariants as found
 use Rattle.lrs_machine.specs.Desk.{IsStoreOf, LeavesStore, IsDeskRefused, IsNotFounded, IsSameStore, MakesOnly, OpensOnly, HoldsPrefix, KeepsLine}
 use Rattle.lrs_machine.specs.Line.{Record, entries, in_doubt, sure}
-use Rattle.lrs_machine.specs.Steps.{IsOpened, IsTied}
+use Rattle.lrs_machine.specs.Steps.{HoldsEntries, IsTied}
 use Rattle.lrs_machine.specs.Replays.{HasReadAll, IsReplayed, opening_refusal, founding_refusal}
 use Rattle.lrs_machine.proofs.ActLemmas.{settled_leaves}
 use Rattle.lrs_machine.proofs.Lines.{some_same, none_some}
@@ -51,7 +51,7 @@ told_back None (Some d) c alike is = absurd alike
 pub finish_opened : {D : Type 0} (told : D → Option (List ℕ)) (image : D → List ℕ → Type 0) (replay : Replay D) (journal : Journal D) (st : State) (h : List Entry) → IsReplayed replay st h → 0 < length h
     → ForSome (told replay.disk) (λ bytes. HasReadAll bytes replay h) → TellsAlike (told replay.disk) (told journal.disk)
     → ForSome (told replay.disk) (λ bytes. (payloads : List (List ℕ)) → HasRead bytes replay payloads → frames_of told journal ≡ Some payloads)
-    → (journal.doubt ≡ false) × (journal.limit ≡ replay.limit) × (journal.end ≡ replay.place) × (journal.number ≡ replay.number) → IsJournal told image journal → IsOpened told image journal st h
+    → (journal.doubt ≡ false) × (journal.limit ≡ replay.limit) × (journal.end ≡ replay.place) × (journal.number ≡ replay.number) → IsJournal told image journal → HoldsEntries told image journal st h
 finish_opened told image replay journal st h replayed some read alike finished fields sound = record {
   sound = sound;
   folded = replayed.folded;
@@ -68,8 +68,8 @@ finish_opened told image replay journal st h replayed some read alike finished f
 -- the journal of a new store
 pub create_opened : {D : Type 0} (told : D → Option (List ℕ)) (image : D → List ℕ → Type 0) (o : Option (List ℕ)) (journal : Journal D) (st : State) (limit : ℕ) (frame : List ℕ) (e : Entry) (h : List Entry) → h ≡ e ∷ [] → frame ≡ written_entry e
     → frames_of told journal ≡ option_map (λ _. frame ∷ []) o → IsJournal told image journal → IsLawful e → IsFounding e → st ≡ state (e ∷ [])
-    → (journal.doubt ≡ false) × (journal.limit ≡ limit) × (journal.end ≡ HEADER + FRAME_HEAD + length frame) × (journal.number ≡ 1) → IsOpened told image journal st h
-create_opened told image o journal st limit frame e h is text frames sound lawful founding folds fields = subst (λ (g : List Entry). IsOpened told image journal st g) (sym is) (record {
+    → (journal.doubt ≡ false) × (journal.limit ≡ limit) × (journal.end ≡ HEADER + FRAME_HEAD + length frame) × (journal.number ≡ 1) → HoldsEntries told image journal st h
+create_opened told image o journal st limit frame e h is text frames sound lawful founding folds fields = subst (λ (g : List Entry). HoldsEntries told image journal st g) (sym is) (record {
   sound = sound;
   folded = folds;
   legal = (omega arith, (lawful, founding, tt));
@@ -224,7 +224,7 @@ pub opens_weaker : {D : Type 0} (told : D → Option (List ℕ)) (image : D → 
     → ForSome (told old) (λ bytes. (after : List ℕ) → P bytes after → Q bytes after) → OpensOnly told image time since old new Q
 opens_weaker told image time since old new P Q opens so = λ synced bytes there. weaker time since old new (P bytes) (Q bytes) (opens synced bytes there) (λ c held. so bytes there c held)
 
--- and behind the reading the end is closed
+-- and after the reading the end is closed
 pub opens_finish : {D : Type 0} (told : D → Option (List ℕ)) (image : D → List ℕ → Type 0) (time : D → ℕ) (since : D → ℕ → List ℕ → Type 0) (old mid new : D) (limit : ℕ) (h : List Entry)
     → OpensOnly told image time since old mid (λ bytes after. after ≡ bytes) → told mid ≡ told old → ForSome (told mid) (λ bytes. Stands bytes limit (map written_entry h)) → IsLegal limit h
     → ForSome (told mid) (λ _. LeavesOnly time since mid new (λ image. Stands image limit (map written_entry h))) → OpensOnly told image time since old new (λ bytes after. IsStoreOf after limit h)

@@ -19,7 +19,7 @@ use Rattle.lrs_machine.proofs.Lines.{take_front, take_whole}
 pub weaker : {D : Type 0} (time : D → ℕ) (since : D → ℕ → List ℕ → Type 0) (old new : D) (P Q : List ℕ → Type 0) → LeavesOnly time since old new P → ((c : List ℕ) → P c → Q c) → LeavesOnly time since old new Q
 weaker time since old new P Q run so = record { later = run.later; each = λ c left. so c (run.each c left); before = λ t c le left. ⊎_elim (λ p. inl p) (λ p. inr (so c p)) (run.before t c le left) }
 
--- one run behind another
+-- one run after another
 pub run_then : {D : Type 0} (time : D → ℕ) (since : D → ℕ → List ℕ → Type 0) (old mid new : D) (P Q : List ℕ → Type 0) → LeavesOnly time since old mid P → LeavesOnly time since mid new Q → ((c : List ℕ) → Q c → P c)
     → LeavesOnly time since old new P
 run_then time since old mid new P Q first second so = record {
@@ -62,7 +62,7 @@ prefix_on limit least h g c goes held = subst (λ (l : List Entry). HoldsPrefix 
 pub prefix_whole : (limit least : ℕ) (h : List Entry) (c : List ℕ) → least ≤ length h → IsStoreOf c limit h → HoldsPrefix limit least h c
 prefix_whole limit least h c le is = (length h, le, omega arith, subst (λ (l : List Entry). IsStoreOf c limit l) (sym (take_whole h (length h) (omega arith))) is)
 
--- what calls leave, one behind the other
+-- what calls leave, one after the other
 pub stops_then : {D : Type 0} (told : D → Option (List ℕ)) (time : D → ℕ) (since : D → ℕ → List ℕ → Type 0) (old mid new : Desk D) → TellsAlike (told old.disk) (told mid.disk) → mid.limit ≡ old.limit
     → BeginsWith (history mid) (history new) → sure old.line ≤ sure mid.line → StopsWithin told time since old mid → StopsWithin told time since mid new → StopsWithin told time since old new
 stops_then told time since old mid new alike limit goes sures first second = λ b there.

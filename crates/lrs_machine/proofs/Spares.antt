@@ -1,4 +1,4 @@
--- The store of a legal history is refused only for a fault or for want of memory.
+-- The store of a legal history is refused only for a fault or if memory runs out.
 use Rattle.std.proofs.Common.{◌≡◌, ℕ, ◌<◌, List, [], ◌∷◌, ◌++◌, length, map, drop, refl, sym, ◌∙◌, ap, subst, inl, inr, arith, append_assoc}
 use Rattle.std.specs.Prelude.{◌⊎◌}
 use Rattle.std.specs.List.{AllByRecursion}
@@ -23,7 +23,7 @@ first_frames (p ∷ ps) (q ∷ qs) x r fp fq ends e =
     let more = first_frames ps qs x r fp.1 fq.1 ends both.1 in
     (more.0, ap (λ (y : List ℕ). y ∷ qs) (sym both.0) ∙ ap (λ (ys : List (List ℕ)). p ∷ ys) more.1)
 
--- the entry behind the first ones of a legal history came next
+-- the entry after the first ones of a legal history came next
 next_in : (l m : ℕ) (b c h k : List Entry) (f : List ℕ) (rest : List (List ℕ)) → IsLegalFrom l b h → IsLegalFrom m c k → map written_entry h ≡ (map written_entry k ++ f ∷ []) ++ rest
     → (e : Entry) × IsLawful e × (written_entry e ≡ f) × ComesNext l (b ++ k) e
 next_in l m b c [] [] f rest legal so_far is = cc is

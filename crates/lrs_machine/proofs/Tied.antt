@@ -1,4 +1,4 @@
--- Behind each act the journal, the fold and the line tell of one history.
+-- After each act the journal, the fold and the line tell of one history.
 use Rattle.std.proofs.Common.{◌≡◌, ℕ, ◌+◌, ◌-◌, ◌<◌, ◌≤◌, List, [], ◌∷◌, ◌++◌, length, map, take, Option, Some, None, Bool, true, false, Result, Ok, Err, refl, sym, ap, ◌∙◌, subst, inl, inr, arith, length-append, nat_lt}
 use Rattle.std.specs.Prelude.{◌⊎◌, option_map, is_some, is_ok, slice_get, IsSome, if◌then◌else◌}
 use Rattle.std.specs.Option.{ForSome}
@@ -22,11 +22,12 @@ use Rattle.lrs_replies.specs.declared.reply.Trouble.{Trouble}
 use Rattle.lrs_replies.specs.declared.reply.Trouble.TheVariants as trouble
 use Rattle.lrs_machine.specs.Acts.{landed_among}
 use Rattle.lrs_machine.specs.Desk.{Desk, HoldsPrefix, IsOnDisk, KeepsLine}
+use Rattle.lrs_parts.specs.declared.parts.Parts.{Parts}
 use Rattle.lrs_machine.specs.Line.{Record, entries, in_doubt, sure, opened_line, line_of, AreBefore}
-use Rattle.lrs_machine.specs.Steps.{Does, GrewBy, HoldsFrames, Happens, IsOpened, LeavesFrames, IsTied, Says, folded, landed_of, line_after, one_of, sure_of}
+use Rattle.lrs_machine.specs.Steps.{Does, GrewBy, HoldsFrames, Happens, HoldsEntries, LeavesFrames, IsTied, CarriesOut, folded, landed_of, line_after, one_of, sure_of}
 use Rattle.lrs_machine.proofs.Frames.{length-store-more}
 use Rattle.lrs_machine.proofs.Histories.{state_from-more, map-more, legal_with}
-use Rattle.lrs_machine.proofs.Lines.{Goes, before_goes, begins_opened, doubt_opened, doubt_with, entries_goes, entries_opened, front_after, goes, moment_opened, none_some, place_of, some_same, sure_front, sure_goes, take_whole}
+use Rattle.lrs_machine.proofs.Lines.{Goes, before_goes, begins_opened, opened_within, doubt_opened, doubt_with, entries_goes, entries_opened, front_after, goes, moment_opened, none_some, place_of, some_same, sure_front, sure_goes, take_whole}
 use Rattle.lrs_machine.proofs.Prefixes.{frames_stand, prefix_less, prefix_more, prefix_of, weaker}
 
 -- ---- what is told
@@ -92,14 +93,14 @@ before told (Some e) old new ps grew there = by_old (frames_of told old) (sym gr
     by_old None is = absurd (none_some ps is)
     by_old (Some front) is = (front, refl, some_same ps (front ++ written_entry e ∷ []) (sym is))
 
-pub entry_of_says : (a : Answer) (d₀ d₁ : Bool) (e : Entry) (said : Result Answered Trouble) → Says a d₀ d₁ (Some e) said → a.entry ≡ Some e
+pub entry_of_says : (a : Answer) (d₀ d₁ : Bool) (e : Entry) (said : Result Answered Trouble) → CarriesOut a d₀ d₁ (Some e) said → a.entry ≡ Some e
 entry_of_says a d₀ d₁ e (Ok s) says = sym says.1
 entry_of_says a d₀ d₁ e (Err trouble.Memory) says = absurd (none_some e (sym says.0))
 entry_of_says a d₀ d₁ e (Err trouble.Disk) (inl none) = absurd (none_some e (sym none.0))
 entry_of_says a d₀ d₁ e (Err trouble.Disk) (inr doubtful) = sym doubtful.1
 
 -- the answer's entry was accepted, and has room
-accepted_by : (limit place : ℕ) (v : Outcome) (e : Entry) → (answer_of limit place v).entry ≡ Some e → (t : Answered) × (v ≡ Accepted e t) × (need place e ≤ limit)
+pub accepted_by : (limit place : ℕ) (v : Outcome) (e : Entry) → (answer_of limit place v).entry ≡ Some e → (t : Answered) × (v ≡ Accepted e t) × (need place e ≤ limit)
 accepted_by limit place (Said s) e is = absurd (none_some e is)
 accepted_by limit place (Accepted x t) e is = by_room (nat_lt limit (need place x)) refl is
   where
@@ -111,7 +112,7 @@ accepted_by limit place (Accepted x t) e is = by_room (nat_lt limit (need place 
         (t, ap (λ (y : Entry). Accepted y t) same, subst (λ (y : Entry). need place y ≤ limit) same fits)
 
 comes_next : (limit end : ℕ) (h : List Entry) (st : State) (caller : Caller) (c : Command) (clock : ℕ) (draw : Draw) (d₀ d₁ : Bool) (e : Entry) (said : Result Answered Trouble) → IsLegal limit h → st ≡ state h
-    → end ≡ end_place limit h → IsLawful e → Says (answer_of limit end (outcome st caller c clock draw)) d₀ d₁ (Some e) said → ComesNext limit h e
+    → end ≡ end_place limit h → IsLawful e → CarriesOut (answer_of limit end (outcome st caller c clock draw)) d₀ d₁ (Some e) said → ComesNext limit h e
 comes_next limit end h st caller c clock draw d₀ d₁ e said legal folds place lawful says =
     let a = accepted_by limit end (outcome st caller c clock draw) e (entry_of_says (answer_of limit end (outcome st caller c clock draw)) d₀ d₁ e said says) in
     kept_again limit h caller c clock draw e a.0 legal (subst (λ (z : State). outcome z caller c clock draw ≡ Accepted e a.0) folds a.1) (subst (λ (p : ℕ). need p e ≤ limit) place a.2) lawful.values.moment
@@ -257,7 +258,7 @@ module _ {D : Type 0} (told : D → Option (List ℕ)) (image : D → List ℕ �
       legal = subst (λ (h : List Entry). IsLegal old.limit h) (sym (entries_goes line next made (time new.disk) goes)) (by_made made does.grew does.says);
     }
       where
-        by_made : (m : Option Entry) → GrewBy told m old new → Says (answer_of old.limit old.end v) old.doubt new.doubt m said → IsLegal old.limit (entries line ++ one_of m)
+        by_made : (m : Option Entry) → GrewBy told m old new → CarriesOut (answer_of old.limit old.end v) old.doubt new.doubt m said → IsLegal old.limit (entries line ++ one_of m)
         by_made None grew says = subst (λ (h : List Entry). IsLegal old.limit h) (sym (append-nil (entries line))) tied.legal
         by_made (Some e) grew says =
             legal_with old.limit (entries line) e tied.legal grew.0
@@ -274,8 +275,8 @@ module _ {D : Type 0} (told : D → Option (List ℕ)) (image : D → List ℕ �
       doubt,
       record {
         made = made;
-        says = subst (λ (a : Answer). Says a (in_doubt line) (in_doubt next) made said) (answer_is tied)
-            (subst (λ (d : Bool). Says (answer_of old.limit old.end v) (in_doubt line) d made said) (sym doubt) (subst (λ (d : Bool). Says (answer_of old.limit old.end v) d new.doubt made said) tied.doubts does.says));
+        says = subst (λ (a : Answer). CarriesOut a (in_doubt line) (in_doubt next) made said) (answer_is tied)
+            (subst (λ (d : Bool). CarriesOut (answer_of old.limit old.end v) (in_doubt line) d made said) (sym doubt) (subst (λ (d : Bool). CarriesOut (answer_of old.limit old.end v) d new.doubt made said) tied.doubts does.says));
         lands = lands ∙ ap (λ (n : ℕ). landed_among n old.doubt new.doubt (is_some made)) tied.counts ∙ ap (λ (d : Bool). landed_among (length (entries line)) d new.doubt (is_some made)) tied.doubts
             ∙ ap (λ (d : Bool). landed_among (length (entries line)) (in_doubt line) d (is_some made)) (sym doubt);
         line = is;
@@ -300,12 +301,12 @@ module _ {D : Type 0} (told : D → Option (List ℕ)) (image : D → List ℕ �
 
   -- ---- what is true of every desk
 
-  pub on_disk : ((d : D) (c : List ℕ) → image d c → IsSome (told d)) → (journal : Journal D) (st : State) (t n : ℕ) (opening : List Entry) (acts : List Record) → IsTied told image time since journal st (line_of t opening acts)
+  pub on_disk : ((d : D) (c : List ℕ) → image d c → IsSome (told d)) → (journal : Journal D) (st : State) (parts : Parts) (t n : ℕ) (opening : List Entry) (acts : List Record) → IsTied told image time since journal st (line_of t opening acts)
       → n ≡ length opening → 0 < n
-      → IsOnDisk told image time since (record { disk = journal.disk; limit = journal.limit; opened_at = t; opened = n; line = line_of t opening acts })
-  on_disk tells journal st t n opening acts tied is some = record {
+      → IsOnDisk told image time since (record { disk = journal.disk; limit = journal.limit; opened_at = t; opened = n; line = line_of t opening acts; parts = parts })
+  on_disk tells journal st parts t n opening acts tied is some = record {
     legal = tied.legal;
-    opening = (some, begins_opened t n opening acts is);
+    opening = (some, opened_within t n opening acts is, begins_opened t n opening acts is);
     moments = tied.moments;
     reads = λ bytes there.
         let f = frames_told told journal bytes there in
@@ -330,7 +331,7 @@ module _ {D : Type 0} (told : D → Option (List ℕ)) (image : D → List ℕ �
 
   -- ---- the opening
 
-  pub opened_tied : (journal : Journal D) (st : State) (t : ℕ) (h : List Entry) (acts : List Record) → IsOpened told image journal st h → t ≡ time journal.disk → acts ≡ [] → IsTied told image time since journal st (line_of t h acts)
+  pub opened_tied : (journal : Journal D) (st : State) (t : ℕ) (h : List Entry) (acts : List Record) → HoldsEntries told image journal st h → t ≡ time journal.disk → acts ≡ [] → IsTied told image time since journal st (line_of t h acts)
   opened_tied journal st t h acts opened at none =
       let whole : line_of t h acts ≡ opened_line t h = ap (λ (a : List Record). opened_line t h ++ a) none ∙ append-nil (opened_line t h) in
       subst (λ (l : List Record). IsTied told image time since journal st l) (sym whole) (record {

@@ -1,5 +1,6 @@
--- What an act on a desk does, by its receipt and by the lines before it and behind it.
-use Rattle.std.specs.Prelude.{◌≡◌, ◌⊎◌, ◌≤◌, ◌-◌, ◌==◌, ◌&&◌, ◌||◌, not, ℕ, List, [], ◌∷◌, ◌++◌, length, Option, Some, None, IsSome, is_some, Bool, true, false, if◌then◌else◌, Result, Ok, Err}
+-- What an act on a desk does, by its receipt and by the lines before and after it.
+use Rattle.std.specs.Prelude.{◌≡◌, ◌⊎◌, ◌≤◌, ◌-◌, ◌==◌, ◌&&◌, ◌||◌, not, ℕ, List, [], ◌∷◌, ◌++◌, length, Option, Some}
+use Rattle.std.specs.Prelude.{None, IsSome, is_some, Bool, true, false, if◌then◌else◌, Result, Ok, Err}
 use Rattle.lrs_disk.specs.Faults.{Rises}
 use Rattle.lrs_history.specs.History.{Answer}
 use Rattle.lrs_record.specs.declared.entry.Entry.{Entry}
@@ -26,13 +27,23 @@ pub record Receipt : Type 0 where
   pub clock : ℕ
   -- the disk's moment at the act's end
   pub disk : ℕ
-  -- the disk's count of faults before the act and behind it
+  -- the disk's count of faults before the act and after it
   pub was : ℕ
   pub is : ℕ
 
 -- a response without an act
 abbrev pub plain_receipt : ℕ → Receipt
-plain_receipt status = record { acted = false; status = status; point = 0; entry = None; landed = None; clock = 0; disk = 0; was = 0; is = 0 }
+plain_receipt status = record {
+  acted = false;
+  status = status;
+  point = 0;
+  entry = None;
+  landed = None;
+  clock = 0;
+  disk = 0;
+  was = 0;
+  is = 0;
+}
 
 abbrev pub place_where : Bool → ℕ → Option ℕ
 place_where stands place = if stands then Some place else None
@@ -42,7 +53,7 @@ place_where stands place = if stands then Some place else None
 abbrev pub landed_among : ℕ → Bool → Bool → Bool → Option ℕ
 landed_among entries was is added = place_where (was && not (is && not added)) (entries - 1)
 
--- ---- the line behind an act
+-- ---- the line after an act
 
 -- the act changed the journal
 abbrev pub changed : Receipt → Bool
@@ -60,7 +71,7 @@ record_of made receipt = record {
   moment = receipt.disk;
 }
 
--- one record more where the act changed the journal
+-- one record more if the act changed the journal
 abbrev pub line_with : List Record → Option Entry → Receipt → List Record
 line_with line made receipt = if changed receipt then line ++ record_of made receipt ∷ [] else line
 
@@ -77,13 +88,13 @@ Tells a point old new own (Err Memory) = (own ≡ None) × (new ≡ false)
 Tells a point old new own (Err Disk) =
     ((own ≡ None) × (old ≡ false → new ≡ false)) ⊎ (IsSome a.entry × (own ≡ Some point) × (new ≡ true))
 
--- the disk's trouble is told exactly where its count rose in the act
+-- the disk's trouble is told exactly if its count rose in the act
 abbrev pub HasDiskCause : ℕ → ℕ → Result Answered Trouble → Type 0
 HasDiskCause before now (Ok said) = now ≡ before
 HasDiskCause before now (Err Memory) = now ≡ before
 HasDiskCause before now (Err Disk) = (before ≤ now) × Rises before now
 
--- An act that the abstract store answers by a, of which this was said, by the lines before it and behind it.
+-- An act that the abstract store answers by a, of which this was said, by the lines before and after it.
 pub record Acts (a : Answer) (said : Result Answered Trouble) (receipt : Receipt) (old new : List Record) : Type 0 where
   pub acted : receipt.acted ≡ true
   pub point : receipt.point ≡ length (entries old)

@@ -1,5 +1,6 @@
 -- What the desk's calls promise.
-use Rattle.std.specs.Prelude.{◌≡◌, ◌⊎◌, ◌<◌, ◌≤◌, ◌+◌, ℕ, List, [], ◌∷◌, ◌++◌, length, map, take, slice_get, Option, Some, Bool, true, false, is_some, is_none, nat_lt}
+use Rattle.std.specs.Prelude.{◌≡◌, ◌⊎◌, ◌<◌, ◌≤◌, ◌+◌, ℕ, List, [], ◌∷◌, ◌++◌, length, map, take, slice_get, Option}
+use Rattle.std.specs.Prelude.{Some, Bool, true, false, is_some, is_none, nat_lt}
 use Rattle.std.specs.Option.{ForSome}
 use Rattle.std.specs.List.{AllByRecursion}
 use Rattle.lrs_disk.specs.Disk.{LeavesOnly}
@@ -13,6 +14,8 @@ use Rattle.lrs_history.specs.History.{state, ComesNext, IsLegal, IsLegalFrom}
 use Rattle.lrs_history.specs.Refusals.{barred}
 use Rattle.lrs_history.specs.Whose.{who_is}
 use Rattle.lrs_record.specs.declared.entry.Caller.{Caller}
+use Rattle.lrs_parts.specs.Parts.{AddsNoPlaces}
+use Rattle.lrs_parts.specs.declared.parts.Parts.{Parts}
 use Rattle.lrs_machine.specs.Line.{Record, entries, in_doubt, sure, opened_line, AreBefore, BeginsWith}
 use Rattle.lrs_machine.specs.Acts.{Receipt, landed_among, place_where}
 use Rattle.lrs_machine.specs.declared.opening.DeskRefused.{DeskRefused}
@@ -30,6 +33,8 @@ pub record Desk (D : Type 0) : Type 0 where
   pub opened : ℕ
   -- the records of these entries, and one for each act since then that changed the journal
   pub line : List Record
+  -- what is held in memory, with the places that were made ahead
+  pub parts : Parts
 
 -- the one history of a desk, with an entry that is in doubt
 abbrev pub history : {D : Type 0} → Desk D → List Entry
@@ -51,29 +56,40 @@ LeavesStore told disk limit doubt h = TellsStore (told disk) limit doubt (map wr
 abbrev pub HoldsPrefix : ℕ → ℕ → List Entry → List ℕ → Type 0
 HoldsPrefix limit least h bytes = (n : ℕ) × (least ≤ n) × (n ≤ length h) × IsStoreOf bytes limit (take n h)
 
--- A crash at any moment since old leaves the first entries of the history behind new, at least all that stood without
+-- A crash at any moment since old leaves the first entries of the history of new, at least all that stood without
 -- doubt in old.
-abbrev pub StopsWithin : {D : Type 0} → (D → Option (List ℕ)) → (D → ℕ) → (D → ℕ → List ℕ → Type 0) → Desk D → Desk D → Type 0
+abbrev pub StopsWithin : {D : Type 0} → (D → Option (List ℕ)) → (D → ℕ) → (D → ℕ → List ℕ → Type 0) → Desk D
+    → Desk D → Type 0
 StopsWithin told time image_since old new =
-    ForSome (told old.disk) (λ _. LeavesOnly time image_since old.disk new.disk (HoldsPrefix old.limit (sure old.line) (history new)))
+    ForSome (told old.disk) (λ _. LeavesOnly time image_since old.disk new.disk
+    (HoldsPrefix old.limit (sure old.line) (history new)))
 
--- Each image since the moment of a record holds all entries that stood without doubt behind it, whatever came later.
+-- Each image since the moment of a record holds all entries that stood without doubt after it, whatever came later.
 abbrev pub KeepsLine : ℕ → ℕ → (ℕ → List ℕ → Type 0) → List Record → Type 0
 KeepsLine limit now since line =
     (k : ℕ) (r : Record) → slice_get line k ≡ Some r
-    → (r.moment ≤ now) × ((bytes : List ℕ) → since r.moment bytes → HoldsPrefix limit (sure (take (k + 1) line)) (entries line) bytes)
+    → (r.moment ≤ now) × ((bytes : List ℕ) → since r.moment bytes
+    → HoldsPrefix limit (sure (take (k + 1) line)) (entries line) bytes)
 
 -- What is true of every desk. Its history can have come about, and goes on from that of the opening. What a read of the
 -- disk gives, and each image that a crash now may leave, stands for it, or in doubt for it without its last entry.
-pub record IsOnDisk {D : Type 0} (told : D → Option (List ℕ)) (image : D → List ℕ → Type 0) (time : D → ℕ) (image_since : D → ℕ → List ℕ → Type 0) (desk : Desk D) : Type 0 where
+pub record IsOnDisk {D : Type 0} (told : D → Option (List ℕ)) (image : D → List ℕ → Type 0) (time : D → ℕ)
+    (image_since : D → ℕ → List ℕ → Type 0) (desk : Desk D) : Type 0 where
   pub legal : IsLegal desk.limit (history desk)
-  pub opening : (0 < desk.opened) × BeginsWith (opened_line desk.opened_at (take desk.opened (history desk))) desk.line
+  pub opening : (0 < desk.opened) × (desk.opened ≤ length (history desk))
+      × BeginsWith (opened_line desk.opened_at (take desk.opened (history desk))) desk.line
   pub moments : AreBefore (time desk.disk) desk.line
   pub reads : (bytes : List ℕ) → told desk.disk ≡ Some bytes
       → StandsForFrames desk.limit (in_doubt desk.line) (map written_entry (history desk)) bytes
   pub each : (bytes : List ℕ) → image desk.disk bytes
       → StandsForFrames desk.limit (in_doubt desk.line) (map written_entry (history desk)) bytes
   pub kept : ForSome (told desk.disk) (λ _. KeepsLine desk.limit (time desk.disk) (image_since desk.disk) desk.line)
+
+-- ---- what an act leaves in memory
+
+-- Where no entry came of it, no place is in memory that wasn't there before.
+abbrev pub Spares : {D : Type 0} → Desk D → Desk D → Type 0
+Spares old new = length (history new) ≡ length (history old) → AddsNoPlaces old.parts new.parts
 
 -- ---- who is let in
 
@@ -110,15 +126,17 @@ receipt_of time faults old new status clock = record {
 abbrev pub IsNotFounded : List ℕ → ℕ → Entry → FoundRefused → Type 0
 IsNotFounded bytes limit e found.AlreadyStore = IsStore bytes
 IsNotFounded bytes limit e found.Foreign = IsForeign bytes
-IsNotFounded bytes limit e (found.Full need most) = IsOpenTo bytes × (need ≡ need_of_first (written_entry e)) × (most ≡ limit) × (limit < need)
+IsNotFounded bytes limit e (found.Full need most) = IsOpenTo bytes × (need ≡ need_of_first (written_entry e))
+    × (most ≡ limit) × (limit < need)
 IsNotFounded bytes limit e found.Failed = Unit {0}
 IsNotFounded bytes limit e found.Memory = Unit {0}
 
 -- the bytes begin with a store's header and the whole open frames of these payloads
 abbrev pub BeginsWithFrames : List ℕ → ℕ → List (List ℕ) → Type 0
-BeginsWithFrames bytes limit payloads = HasHeader bytes limit × AllByRecursion IsPayload payloads × ((rest : List ℕ) × (bytes ≡ store limit payloads ++ rest))
+BeginsWithFrames bytes limit payloads = HasHeader bytes limit × AllByRecursion IsPayload payloads
+    × ((rest : List ℕ) × (bytes ≡ store limit payloads ++ rest))
 
--- Behind the frames of h stands a whole one that is no entry, or not one that may come next.
+-- After the frames of h stands a whole one that is no entry, or not one that may come next.
 pub record IsIllegalBehind (bytes : List ℕ) (limit : ℕ) (h : List Entry) : Type 0 where
   pub frame : List ℕ
   pub begins : BeginsWithFrames bytes limit (map written_entry h ++ frame ∷ [])
@@ -126,12 +144,14 @@ pub record IsIllegalBehind (bytes : List ℕ) (limit : ℕ) (h : List Entry) : T
 
 -- the first k frames are those of entries of which each may come next
 abbrev pub HasLegalFrames : List ℕ → ℕ → ℕ → List Entry → Type 0
-HasLegalFrames bytes limit k h = (length h ≡ k) × IsLegalFrom limit [] h × BeginsWithFrames bytes limit (map written_entry h)
+HasLegalFrames bytes limit k h =
+    (length h ≡ k) × IsLegalFrom limit [] h × BeginsWithFrames bytes limit (map written_entry h)
 
 -- why a disk of these bytes isn't opened
 abbrev pub IsDeskRefused : List ℕ → DeskRefused → Type 0
 IsDeskRefused bytes desk.NotAStore = (limit : ℕ) → HasHeader bytes limit → ⊥
-IsDeskRefused bytes (desk.Damaged k) = (limit : ℕ) × (h : List Entry) × HasLegalFrames bytes limit k h × IsDamaged bytes limit (map written_entry h)
+IsDeskRefused bytes (desk.Damaged k) = (limit : ℕ) × (h : List Entry) × HasLegalFrames bytes limit k h
+    × IsDamaged bytes limit (map written_entry h)
 IsDeskRefused bytes (desk.IllegalEntry k) = (limit : ℕ) × (h : List Entry) × HasLegalFrames bytes limit k h
     × (IsIllegalBehind bytes limit h ⊎ ((h ≡ []) × Stands bytes limit []))
 IsDeskRefused bytes desk.Failed = Unit {0}
@@ -145,7 +165,7 @@ IsFree (desk.IllegalEntry k) = ⊥
 IsFree desk.Failed = Unit {0}
 IsFree desk.Memory = Unit {0}
 
--- the store of a legal history is refused only for a fault or for want of memory
+-- the store of a legal history is refused only for a fault or if memory runs out
 abbrev pub SparesLegal : List ℕ → DeskRefused → Type 0
 SparesLegal bytes refused = (limit : ℕ) (h : List Entry) → IsStoreOf bytes limit h → IsFree refused
 
@@ -153,16 +173,19 @@ SparesLegal bytes refused = (limit : ℕ) (h : List Entry) → IsStoreOf bytes l
 
 -- The disk was taken with nothing pending, and held no store: a crash at any moment since then leaves none, or the one
 -- of this entry.
-abbrev pub MakesOnly : {D : Type 0} → (D → Option (List ℕ)) → (D → List ℕ → Type 0) → (D → ℕ) → (D → ℕ → List ℕ → Type 0) → ℕ → Entry → D → D → Type 0
+abbrev pub MakesOnly : {D : Type 0} → (D → Option (List ℕ)) → (D → List ℕ → Type 0) → (D → ℕ)
+    → (D → ℕ → List ℕ → Type 0) → ℕ → Entry → D → D → Type 0
 MakesOnly told image time image_since limit e old new = IsSynced told image old
-    → ForSome (told old) (λ bytes. (IsStore bytes → ⊥) → LeavesOnly time image_since old new (IsMade limit (written_entry e)))
+    → ForSome (told old) (λ bytes. (IsStore bytes → ⊥)
+    → LeavesOnly time image_since old new (IsMade limit (written_entry e)))
 
 -- both are stores of one legal history
 abbrev pub AreOneStore : List ℕ → List ℕ → Type 0
 AreOneStore a b = (limit : ℕ) × (h : List Entry) × IsStoreOf a limit h × IsStoreOf b limit h
 
 -- The disk was taken with nothing pending: a crash at any moment since then leaves bytes that are to these as P says.
-abbrev pub OpensOnly : {D : Type 0} → (D → Option (List ℕ)) → (D → List ℕ → Type 0) → (D → ℕ) → (D → ℕ → List ℕ → Type 0) → D → D → (List ℕ → List ℕ → Type 0) → Type 0
+abbrev pub OpensOnly : {D : Type 0} → (D → Option (List ℕ)) → (D → List ℕ → Type 0) → (D → ℕ)
+    → (D → ℕ → List ℕ → Type 0) → D → D → (List ℕ → List ℕ → Type 0) → Type 0
 OpensOnly told image time image_since old new P = IsSynced told image old
     → ForSome (told old) (λ bytes. LeavesOnly time image_since old new (P bytes))
 

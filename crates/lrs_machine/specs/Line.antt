@@ -1,5 +1,6 @@
 -- The line of a desk: what became of each act that changed its journal, and the history that these made.
-use Rattle.std.specs.Prelude.{◌≡◌, ◌≤◌, ◌-◌, ◌&&◌, not, ℕ, List, [], ◌∷◌, ◌++◌, length, map, slice_get, Bool, true, false, if◌then◌else◌, Option, Some, None, is_some}
+use Rattle.std.specs.Prelude.{◌≡◌, ◌≤◌, ◌-◌, ◌&&◌, not, ℕ, List, [], ◌∷◌, ◌++◌, length, map, slice_get, Bool, true}
+use Rattle.std.specs.Prelude.{false, if◌then◌else◌, Option, Some, None, is_some}
 use Rattle.lrs_record.specs.declared.entry.Entry.{Entry}
 
 -- What became of an act that changed the journal, or of an entry that stood at the opening.
@@ -22,7 +23,7 @@ abbrev pub entries : List Record → List Entry
 entries [] = []
 entries (r ∷ line) = with_made r.made (entries line)
 
--- An entry is in doubt behind a record: its own where it isn't acknowledged, and an earlier one where it didn't land.
+-- An entry is in doubt after a record: its own if it isn't acknowledged, and an earlier one if it didn't land.
 abbrev pub doubt_behind : Bool → Record → Bool
 doubt_behind doubt r = if is_some r.made then not r.acknowledged else (doubt && not r.landed)
 

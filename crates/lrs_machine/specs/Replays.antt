@@ -1,5 +1,6 @@
 -- What the desk's private functions say of reading a store's frames into the fold.
-use Rattle.std.specs.Prelude.{◌≡◌, ◌+◌, ◌==◌, ◌&&◌, ◌||◌, nat_lt, ℕ, List, [], ◌∷◌, ◌++◌, length, map, Option, Bool, true, false, Result, Ok, Err}
+use Rattle.std.specs.Prelude.{◌≡◌, ◌+◌, ◌==◌, ◌&&◌, ◌||◌, nat_lt, ℕ, List, [], ◌∷◌, ◌++◌, length, map, Option, Bool}
+use Rattle.std.specs.Prelude.{true, false, Result, Ok, Err}
 use Rattle.std.specs.Option.{ForSome}
 use Rattle.lrs_journal.specs.Store.{Stands}
 use Rattle.lrs_journal.specs.Replay.{Replay, HasRead}
@@ -19,18 +20,20 @@ use Rattle.lrs_machine.specs.declared.opening.FoundRefused.TheVariants as found
 use Rattle.lrs_machine.specs.declared.opening.DeskRefused.{DeskRefused}
 use Rattle.lrs_machine.specs.declared.opening.DeskRefused.TheVariants as desk
 
--- Whether a frame may end there, where its end gate's place is that: the first one anywhere, since founding made room for it.
+-- Whether a frame may end there, where its end gate's place is that: the first one anywhere, since founding made room
+-- for it.
 abbrev pub has_room : Bool → ℕ → ℕ → Bool
 has_room first limit place = first || nat_lt place limit
 
 -- Whether an entry comes next in a file of this limit. The flag: it is the first. The place: where the end gate stands
--- behind its frame.
+-- after its frame.
 abbrev pub may_follow : Bool → ℕ → ℕ → State → Entry → Bool
 may_follow first limit place st e = may_come first st e && has_room first limit place
 
--- what reading a frame into the fold does, where k frames were taken in before
+-- what reading a frame into the fold does, if k frames were taken in before
 abbrev pub TakesEntry : List ℕ → ℕ → ℕ → ℕ → State → State → List Entry → List Entry → Result Unit DeskRefused → Type 0
-TakesEntry frame k limit place st su old new (Ok _) = (e : Entry) × IsLawful e × (written_entry e ≡ frame) × (may_follow (k == 0) limit place st e ≡ true) × (su ≡ step st e) × (new ≡ old ++ e ∷ [])
+TakesEntry frame k limit place st su old new (Ok _) = (e : Entry) × IsLawful e × (written_entry e ≡ frame)
+    × (may_follow (k == 0) limit place st e ≡ true) × (su ≡ step st e) × (new ≡ old ++ e ∷ [])
 TakesEntry frame k limit place st su old new (Err (desk.IllegalEntry j)) = (j ≡ k)
     × ((e : Entry) → IsLawful e → written_entry e ≡ frame → may_follow (k == 0) limit place st e ≡ false)
 TakesEntry frame k limit place st su old new (Err desk.Memory) = Unit {0}
@@ -53,8 +56,10 @@ HasReadAll bytes replay h = HasReadEntries bytes replay h × Stands bytes replay
 
 -- the next frame was taken in, or the list ended
 abbrev pub TakesFrame : {D : Type 0} → (D → Option (List ℕ)) → Replay D → State → ℕ → List Entry → Bool → Type 0
-TakesFrame told new su k h true = (length h ≡ k + 1) × IsReplayed new su h × ForSome (told new.disk) (λ bytes. HasReadEntries bytes new h)
-TakesFrame told new su k h false = (length h ≡ k) × IsReplayed new su h × ForSome (told new.disk) (λ bytes. HasReadAll bytes new h)
+TakesFrame told new su k h true =
+    (length h ≡ k + 1) × IsReplayed new su h × ForSome (told new.disk) (λ bytes. HasReadEntries bytes new h)
+TakesFrame told new su k h false =
+    (length h ≡ k) × IsReplayed new su h × ForSome (told new.disk) (λ bytes. HasReadAll bytes new h)
 
 -- a frame that isn't read
 abbrev pub refusal_of : ReplayRefused → DeskRefused

@@ -1,11 +1,12 @@
 // An act on the journal and the fold: first a doubt is ended, then the command is answered.
-ghost use Rattle.std.specs.Prelude.{◌≡◌, option_map, false};
+ghost use Rattle.std.specs.Prelude.{◌≡◌, option_map, IsNone, false};
 ghost use Rattle.lrs_command.specs.Commands.{HasReadTrees};
 ghost use Rattle.lrs_history.specs.History.{outcome};
 ghost use Rattle.lrs_journal.specs.Journal.{IsJournal};
 ghost use Rattle.lrs_machine.specs.Acts.{HasDiskCause};
 ghost use Rattle.lrs_machine.specs.Fold.{state_of};
 ghost use Rattle.lrs_machine.specs.Steps.{Does, landed_of};
+ghost use Rattle.lrs_parts.specs.Parts.{AddsNoPlaces};
 ghost use Rattle.lrs_record.specs.Entries.{IsLawfulCaller};
 
 use crate::keeping::keep;
@@ -48,6 +49,8 @@ pub(crate) fn act<D: Disk>(
     ensures sound { IsJournal D.told D.image journal.new }
     ensures cause { HasDiskCause (D.fault_count journal.old.disk) (D.fault_count journal.new.disk) result.said }
     ensures landed { result.landed ≡ landed_of journal.old journal.new (option_map (λ s. s.value) result.made) }
+    // An act that makes no entry leaves no place behind, so a store that can't write doesn't grow by places.
+    ensures spared { IsNone result.made → AddsNoPlaces fold.old.parts fold.new.parts }
 {
     match journal.settle() {
         Ok(landed) => {
@@ -84,6 +87,7 @@ fn answer<D: Disk>(
         (outcome (state_of fold.old) caller command clock draw.now) result.0 (option_map (λ s. s.value) result.1) }
     ensures sound { IsJournal D.told D.image journal.new }
     ensures cause { HasDiskCause (D.fault_count journal.old.disk) (D.fault_count journal.new.disk) result.0 }
+    ensures spared { IsNone result.1 → AddsNoPlaces fold.old.parts fold.new.parts }
 {
     match fold.outcome(alloc, caller, command, clock, draw) {
         Ok(Outcome::Said(said)) => (Ok(said), None),

@@ -1,5 +1,5 @@
 // The desk: a journal, the fold over its entries, and the line, which says what became of each act.
-ghost use Rattle.std.specs.Prelude.{◌≡◌, ◌≤◌, List, ℕ, Some, None, Result, length, map, option_map, true, false, nat_lt, if◌then◌else◌, IfOk, IfErr};
+ghost use Rattle.std.specs.Prelude.{◌≡◌, ◌<◌, ◌≤◌, ◌+◌, ◌-◌, ◌^◌, List, ℕ, Some, None, Result, length, map, option_map, true, false, nat_lt, if◌then◌else◌, IfOk, IfErr};
 ghost use Rattle.std.specs.Option.{ForSome};
 ghost use Rattle.lrs_disk.specs.Disk.{LeavesOnly};
 ghost use Rattle.lrs_disk.specs.Faults.{Rises};
@@ -16,7 +16,7 @@ ghost use Rattle.lrs_replies.specs.declared.reply.Trouble.{Trouble};
 ghost use Rattle.lrs_fold.specs.Own.{put_of, IsOfPut, IsPut};
 ghost use Rattle.lrs_machine.specs.Line.{in_doubt, sure};
 ghost use Rattle.lrs_machine.specs.Acts.{Acts, HasDiskCause};
-ghost use Rattle.lrs_machine.specs.Desk.{history, HoldsPrefix, IsOnDisk, KeepsLine, LeavesStore, StopsWithin, lets_in, receipt_of};
+ghost use Rattle.lrs_machine.specs.Desk.{history, HoldsPrefix, IsOnDisk, KeepsLine, LeavesStore, Spares, StopsWithin, lets_in, receipt_of};
 ghost use Rattle.lrs_machine.specs.Steps.{Happens, line_after};
 
 use crate::acting::{Done, act};
@@ -44,6 +44,8 @@ pub struct Desk<D: Disk> {
     /// The disk's moment at the end of the opening, and how many entries stood then.
     pub(crate) opened_at: u64,
     pub(crate) opened: u64,
+    /// How many records the line has.
+    pub(crate) records: u64,
     pub(crate) opening: Noted<Entry>,
     pub(crate) acts: Noted<Record>,
 }
@@ -54,7 +56,7 @@ impl<D: Disk> Model for Desk<D> {
     ghost use Rattle.lrs_machine.specs.Desk.{Desk as SpecDesk};
     ghost use Rattle.lrs_machine.specs.Fold.{state_of};
     ghost use Rattle.lrs_machine.specs.Line.{line_of};
-    ghost use Rattle.lrs_machine.specs.Steps.{IsBegun, IsTied};
+    ghost use Rattle.lrs_machine.specs.Steps.{IsBegun, IsCounted, IsTied};
 
     ghost Value = { SpecDesk D };
 
@@ -66,22 +68,27 @@ impl<D: Disk> Model for Desk<D> {
       opened_at = d.opened_at;
       opened = d.opened;
       line = line_of d.opened_at d.opening.items d.acts.items;
+      parts = d.fold.parts;
     } };
 
     ghost invariant = { λ d. IsTied D.told D.image D.time D.image_since d.journal (state_of d.fold)
-        (line_of d.opened_at d.opening.items d.acts.items) × IsBegun d.opened d.opening.items };
+        (line_of d.opened_at d.opening.items d.acts.items) × IsBegun d.opened d.opening.items
+        × IsCounted d.records (line_of d.opened_at d.opening.items d.acts.items) };
 }
 
-// Adds the record of an act that changed the journal. At run time nothing is done.
+// Adds the record of an act that changed the journal. At run time it is only counted.
 fn note(
     acts: &mut Noted<Record>,
+    records: &mut u64,
     made: Option<Snapshot<Entry>>,
     acknowledged: bool,
     landed: Option<u64>,
     moment: u64,
 )
-    ensures { acts.new.items
+    requires { records.old < 2 ^ 64 - 1 }
+    ensures noted { acts.new.items
         ≡ line_after acts.old.items (option_map (λ s. s.value) made) acknowledged landed moment }
+    ensures counted { records.new + length acts.old.items ≡ records.old + length acts.new.items }
 {
     if made.is_some() || landed.is_some() {
         let record = Record {
@@ -91,6 +98,7 @@ fn note(
             moment,
         };
         *acts = acts.and(&record);
+        *records += 1;
     }
 }
 
@@ -100,6 +108,14 @@ impl<D: Disk> Desk<D> {
         ensures { result ≡ length (history self.now) }
     {
         self.journal.length()
+    }
+
+    /// The number of records of its line: the entries that stood at its opening, and the acts since then that changed
+    /// the journal.
+    pub fn records(&self) -> u64
+        ensures { result ≡ length self.now.line }
+    {
+        self.records
     }
 
     /// The bytes that the journal's file may have.
@@ -141,6 +157,7 @@ impl<D: Disk> Desk<D> {
         ensures tells { TellsAlike (D.told self.old.disk) (D.told self.new.disk) }
         ensures later { D.time self.old.disk ≤ D.time self.new.disk }
         ensures stops { StopsWithin D.told D.time D.image_since self.old self.new }
+        ensures spared { Spares self.old self.new }
         ensures durable { IsOnDisk D.told D.image D.time D.image_since self.new }
     {
         let Done { said, made, landed } = act(
@@ -154,6 +171,7 @@ impl<D: Disk> Desk<D> {
         );
         note(
             &mut self.acts,
+            &mut self.records,
             made,
             said.is_ok(),
             landed,
@@ -208,6 +226,7 @@ impl<D: Disk> Desk<D> {
         ensures tells { TellsAlike (D.told self.old.disk) (D.told self.new.disk) }
         ensures later { D.time self.old.disk ≤ D.time self.new.disk }
         ensures stops { StopsWithin D.told D.time D.image_since self.old self.new }
+        ensures spared { Spares self.old self.new }
         ensures durable { IsOnDisk D.told D.image D.time D.image_since self.new }
         ensures receipt { result.1 ≡ receipt_of D.time D.fault_count self.old self.new (status_in result.0) clock }
     {
@@ -240,6 +259,7 @@ impl<D: Disk> Desk<D> {
         ensures later { D.time self.old.disk ≤ D.time self.new.disk }
         // A crash at any moment of the act leaves the first entries, at least all that stood without doubt before.
         ensures stops { StopsWithin D.told D.time D.image_since self.old self.new }
+        ensures spared { Spares self.old self.new }
         ensures durable { IsOnDisk D.told D.image D.time D.image_since self.new }
         ensures receipt { result.1 ≡ receipt_of D.time D.fault_count self.old self.new result.0.status clock }
     {
@@ -281,6 +301,7 @@ impl<D: Disk> Desk<D> {
             alloc: _,
             opened_at: _,
             opened: _,
+            records: _,
             opening: _,
             acts: _,
         } = self;

@@ -1,5 +1,5 @@
 // Adding an accepted entry to the journal and the fold.
-ghost use Rattle.std.specs.Prelude.{◌≡◌, ◌≤◌, option_map, false};
+ghost use Rattle.std.specs.Prelude.{◌≡◌, ◌≤◌, option_map, IsNone, false};
 ghost use Rattle.lrs_fold.specs.Outcomes.{IsOutcome};
 ghost use Rattle.lrs_fold.specs.declared.outcome.Outcome.TheVariants as made;
 ghost use Rattle.lrs_history.specs.History.{Outcome};
@@ -7,7 +7,8 @@ ghost use Rattle.lrs_journal.specs.Journal.{need_of, IsJournal};
 ghost use Rattle.lrs_machine.specs.Acts.{HasDiskCause};
 ghost use Rattle.lrs_machine.specs.Fold.{state_of};
 ghost use Rattle.lrs_machine.specs.Steps.{Does};
-ghost use Rattle.lrs_parts.specs.Parts.{IsReadyFor};
+ghost use Rattle.lrs_parts.specs.Parts.{AddsNoPlaces, IsReadyFor, MakesPlacesFor};
+ghost use Rattle.lrs_parts.specs.declared.parts.Parts.{Parts};
 
 use lrs_disk::Disk;
 use lrs_fold::{Accepted, Fold};
@@ -17,7 +18,7 @@ use lrs_replies::{Answered, Refusal, Trouble};
 use std::snapshot::Snapshot;
 
 /// Keeps an accepted entry if there is room, and says whether it was made. All memory is taken before the frame is
-/// written.
+/// written. Where none was made, no place is left of what was made ready for it.
 pub(crate) fn keep<D: Disk>(
     journal: &mut Journal<D>,
     fold: &mut Fold,
@@ -30,6 +31,7 @@ pub(crate) fn keep<D: Disk>(
         result.0 (option_map (λ s. s.value) result.1) }
     ensures sound { IsJournal D.told D.image journal.new }
     ensures cause { HasDiskCause (D.fault_count journal.old.disk) (D.fault_count journal.new.disk) result.0 }
+    ensures spared { IsNone result.1 → AddsNoPlaces fold.old.parts fold.new.parts }
 {
     if let Err(Full { need, limit }) = journal.room(accepted.text.as_slice()) {
         drop(accepted);
@@ -38,6 +40,7 @@ pub(crate) fn keep<D: Disk>(
     match fold.ready(&accepted.effect) {
         Ok(()) => append(journal, fold, accepted),
         Err(refused) => {
+            fold.release(&accepted.effect);
             drop(accepted);
             (Err(Trouble::from(refused)), None)
         }
@@ -59,6 +62,8 @@ fn append<D: Disk>(
         result.0 (option_map (λ s. s.value) result.1) }
     ensures sound { IsJournal D.told D.image journal.new }
     ensures cause { HasDiskCause (D.fault_count journal.old.disk) (D.fault_count journal.new.disk) result.0 }
+    ensures spared { IsNone result.1 → (before : Parts) → MakesPlacesFor before fold.old.parts accepted.effect
+        → AddsNoPlaces before fold.new.parts }
 {
     let Accepted {
         entry,
@@ -72,6 +77,7 @@ fn append<D: Disk>(
             (Ok(said), Some(entry))
         }
         Err(AppendRefused::Full { need, limit }) => {
+            fold.release(&effect);
             drop(effect);
             drop(said);
             (Ok(Answered::Refused(Refusal::Full { need, limit })), None)
@@ -82,6 +88,7 @@ fn append<D: Disk>(
                 fold.install(effect);
                 (Err(Trouble::Disk), Some(entry))
             } else {
+                fold.release(&effect);
                 drop(effect);
                 (Err(Trouble::Disk), None)
             }

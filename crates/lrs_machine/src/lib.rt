@@ -1,5 +1,7 @@
 //! The desk: it keeps a history of accepted writes in a journal, and answers each command over it. Begin with `desk`;
-//! `acting` and `keeping` are the steps of an act, `opening` and `replaying` those of a recovery.
+//! `acting` and `keeping` are the steps of an act, `opening` and `replaying` those of a recovery. A `record` says what
+//! became of an act that changed the journal, and a `receipt` what is kept of a response, to compare it with the
+//! history.
 #![tactic(auto)]
 
 mod acting;

@@ -17,7 +17,7 @@ ghost use Rattle.lrs_machine.specs.Line.{in_doubt, opened_line};
 ghost use Rattle.lrs_machine.specs.Desk.{history, IsOnDisk, IsStoreOf, LeavesStore, IsDeskRefused, SparesLegal, IsNotFounded, MakesOnly, OpensOnly, IsSameStore};
 ghost use Rattle.lrs_fold.specs.Own.{founding_entry};
 ghost use Rattle.lrs_machine.specs.Fold.{state_of};
-ghost use Rattle.lrs_machine.specs.Steps.{IsOpened};
+ghost use Rattle.lrs_machine.specs.Steps.{HoldsEntries};
 ghost use Rattle.lrs_machine.specs.Replays.{IsReplayed, HasReadAll, founding_refusal, opening_refusal};
 
 use crate::Desk;
@@ -216,7 +216,7 @@ fn finish<D: Disk>(
 
 // The desk over a journal with these entries, of which none is in doubt.
 fn opened<D: Disk>(alloc: Global, journal: Journal<D>, fold: Fold, opening: Noted<Entry>) -> Desk<D>
-    requires opened { IsOpened D.told D.image journal (state_of fold) opening.items }
+    requires opened { HoldsEntries D.told D.image journal (state_of fold) opening.items }
     ensures line { result.line ≡ opened_line result.opened_at opening.items }
     ensures fields { (result.limit ≡ journal.limit) × (in_doubt result.line ≡ false)
         × (result.opened ≡ length opening.items) }
@@ -232,6 +232,7 @@ fn opened<D: Disk>(alloc: Global, journal: Journal<D>, fold: Fold, opening: Note
         alloc,
         opened_at,
         opened,
+        records: opened,
         opening,
         acts: Noted::new(),
     }

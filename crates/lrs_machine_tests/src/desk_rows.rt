@@ -1,7 +1,7 @@
 // What one desk answers in a test, as a text of rows.
 //
-// A row says who asks (`admin`, `provider` or `operator`), what, and behind `=>` what is answered: the status, the body,
-// and whether an entry is kept. A line behind `//` is none. What is asked:
+// A row says who asks (`admin`, `provider` or `operator`), what, and after `=>` what is answered: the status, the body,
+// and whether an entry is kept. A line after `//` is none. What is asked:
 //
 //   provider NAME           a provider of that name
 //   put ID STATEMENT        to keep a statement under an id
@@ -13,20 +13,29 @@
 //                           ids aren't told
 //   get TARGET              what a target names. Of a list is told the last digit of each id's first part, and the link
 //   whole TARGET            the same, and a list is told as it is
+//   state HOW DOCUMENT TYPE BYTES   a document is written; `state_later` a second later. `documents_asked` says the words
+//   drop DOCUMENT           documents go
+//   document DOCUMENT       a document, of which its type and its bytes are told
+//   length DOCUMENT         the same, and its bytes are counted
+//   ids DOCUMENT MOMENT     the ids of documents
+//   profile                 the document of a profile
+//
+// Where there is no room the body isn't told.
 //
 // `Z1` to `Z9` stand for the ids that are written with that digit. A statement is its verb and its object, `v/1 a/1`, or
-// a reference in place of the activity, `v/1 Z2`, or its target, `voided Z2`, with its own id behind where it gives one;
+// a reference in place of the activity, `v/1 Z2`, or its target, `voided Z2`, followed by its own id if it gives one;
 // or it is a text without spaces.
 ghost use Rattle.std.specs.Prelude.{IfOk, OnOk};
 ghost use Rattle.lrs_json.specs.View.{view};
 ghost use Rattle.lrs_record.specs.Entries.{AreLawfulTrees, IsLawfulCaller, IsLawfulTree};
 ghost use Rattle.lrs_command.specs.Commands.{HasReadTrees};
 
+use crate::documents_asked::{document, drop_of, ids, state};
 use lrs_command::{Command, Read};
 use lrs_in_memory::MemDisk;
 use lrs_json::{Items, Text, Tree};
 use lrs_json_reader::read;
-use lrs_machine::{Body, Desk, Reply, is_base, is_token};
+use lrs_machine::{Body, Desk, Media, Reply, is_base, is_token};
 use lrs_names::{Draw, Id};
 use lrs_record::{Caller, Write};
 use std::alloc::Global;
@@ -42,25 +51,39 @@ const NOW: u64 = 1_700_000_000_000;
 
 /// A new desk over a disk of which the calls with these numbers fail.
 pub(crate) fn founded(alloc: Global, failing: Vec<u64>) -> Result<Desk<MemDisk>, Fail> {
+    founded_in(alloc, failing, 1_048_576)
+}
+
+/// The same, with a file of at most so many bytes.
+pub(crate) fn founded_in(
+    alloc: Global,
+    failing: Vec<u64>,
+    limit: u64,
+) -> Result<Desk<MemDisk>, Fail> {
     let admin = Text::of(alloc, ADMIN)?;
     let base = Text::of(alloc, "http://127.0.0.1:8080/")?;
-    founded_by(alloc, failing, &admin, &base)
+    founded_by(alloc, failing, limit, &admin, &base)
 }
 
 fn founded_by(
     alloc: Global,
     failing: Vec<u64>,
+    limit: u64,
     admin: &Text,
     base: &Text,
 ) -> Result<Desk<MemDisk>, Fail> {
+    if limit < 512 || limit > 1_073_741_824 {
+        return Err(Fail::from("no limit"));
+    }
     if !is_token(admin) {
         return Err(Fail::from("no token"));
     }
     if !is_base(alloc, base)? {
         return Err(Fail::from("no base"));
     }
-    let disk = MemDisk::new(alloc, Vec::new(alloc), failing, 999, 999_999)?;
-    match Desk::found(alloc, disk, 1_048_576, admin, base, NOW) {
+    let written = limit.max(999_999);
+    let disk = MemDisk::new(alloc, Vec::new(alloc), failing, 999, written)?;
+    match Desk::found(alloc, disk, limit, admin, base, NOW) {
         Ok(desk) => Ok(desk),
         Err(refused) => {
             drop(refused);
@@ -71,7 +94,12 @@ fn founded_by(
 
 /// Fails with the first row that a new desk answers otherwise, and its answer.
 pub(crate) fn check_rows(alloc: Global, rows: &str) -> Result<(), Fail> {
-    let wrong = first_wrong(alloc, rows)?;
+    check_rows_in(alloc, 1_048_576, rows)
+}
+
+/// The same over a file of at most so many bytes.
+pub(crate) fn check_rows_in(alloc: Global, limit: u64, rows: &str) -> Result<(), Fail> {
+    let wrong = first_wrong(alloc, limit, rows)?;
     if wrong.is_empty() {
         Ok(())
     } else {
@@ -80,14 +108,19 @@ pub(crate) fn check_rows(alloc: Global, rows: &str) -> Result<(), Fail> {
 }
 
 // That row, or no text.
-fn first_wrong(alloc: Global, rows: &str) -> Result<String, Fail> {
-    let mut desk = founded(alloc, Vec::new(alloc))?;
+fn first_wrong(alloc: Global, limit: u64, rows: &str) -> Result<String, Fail> {
+    let mut desk = founded_in(alloc, Vec::new(alloc), limit)?;
     let wrong = first_wrong_of(alloc, &mut desk, rows);
     drop(desk);
     wrong
 }
 
-fn first_wrong_of(alloc: Global, desk: &mut Desk<MemDisk>, rows: &str) -> Result<String, Fail> {
+/// The first row that this desk answers otherwise, and its answer, or no text.
+pub(crate) fn first_wrong_of(
+    alloc: Global,
+    desk: &mut Desk<MemDisk>,
+    rows: &str,
+) -> Result<String, Fail> {
     for row in rows.lines() {
         let wrong = wrong_row(alloc, desk, row)?;
         if !wrong.is_empty() {
@@ -97,7 +130,7 @@ fn first_wrong_of(alloc: Global, desk: &mut Desk<MemDisk>, rows: &str) -> Result
     Ok(String::new(alloc))
 }
 
-/// What was asked and answered in this row, where something else was expected.
+/// What was asked and answered in this row, if something else was expected.
 pub(crate) fn wrong_row(
     alloc: Global,
     desk: &mut Desk<MemDisk>,
@@ -112,7 +145,7 @@ pub(crate) fn wrong_row(
     difference(alloc, asked, found.as_str(), expected.as_str())
 }
 
-// What was asked and found, where something else was expected.
+// What was asked and found, if something else was expected.
 fn difference(alloc: Global, asked: &str, found: &str, expected: &str) -> Result<String, Fail> {
     if found == expected {
         Ok(String::new(alloc))
@@ -121,8 +154,8 @@ fn difference(alloc: Global, asked: &str, found: &str, expected: &str) -> Result
     }
 }
 
-// A word, and what stands behind the space after it.
-fn first_word(text: &str) -> (&str, &str) {
+// A word, and what follows the space after it.
+pub(crate) fn first_word(text: &str) -> (&str, &str) {
     text.split_once(' ').unwrap_or((text, ""))
 }
 
@@ -169,12 +202,30 @@ fn reply_text(alloc: Global, word: &str, reply: &Reply, kept: &str) -> Result<St
         Body::Memory => br#"{"error":"memory"}"#.as_slice(),
     };
     let status = reply.status;
-    let told = told(alloc, word, body)?;
+    let told = match &reply.media {
+        Media::Own(media) if word == "length" => {
+            format!(in alloc; " {} {}", media.as_str(), body.len())?
+        }
+        Media::Own(media) => document_told(alloc, media.as_str(), body)?,
+        _ => told(alloc, word, status, body)?,
+    };
     Ok(format!(in alloc; "{status}{told}{kept}")?)
 }
 
+// Its type and its bytes.
+fn document_told(alloc: Global, media: &str, body: &[u8]) -> Result<String, Fail> {
+    let media = if media.is_empty() { "-" } else { media };
+    let text = str::from_utf8(body)?;
+    let space = if text.is_empty() { "" } else { " " };
+    Ok(format!(in alloc; " {media}{space}{text}")?)
+}
+
 fn clock_at(word: &str) -> u64 {
-    if word == "later" { NOW + 1_000 } else { NOW }
+    if word == "later" || word == "state_later" {
+        NOW + 1_000
+    } else {
+        NOW
+    }
 }
 
 fn draw_at(word: &str) -> Draw {
@@ -214,6 +265,20 @@ fn command(alloc: Global, word: &str, behind: &str) -> Result<Command, Fail>
         "times" => times(alloc, behind),
         "many" => many(alloc, behind),
         "get" | "whole" => get(alloc, behind),
+        "profile" => Ok(Command::Read(Read::Profile)),
+        _ => of_documents(alloc, word, behind),
+    }
+}
+
+fn of_documents(alloc: Global, word: &str, behind: &str) -> Result<Command, Fail>
+    ensures { IfOk result HasReadTrees }
+{
+    let behind = expanded(alloc, behind)?;
+    match word {
+        "state" | "state_later" => state(alloc, behind.as_str()),
+        "drop" => drop_of(alloc, behind.as_str()),
+        "document" | "length" => document(alloc, behind.as_str()),
+        "ids" => ids(alloc, behind.as_str()),
         _ => Err(Fail::from("no such question")),
     }
 }
@@ -283,7 +348,7 @@ fn batch(alloc: Global, statements: &str) -> Result<Items<Tree>, Fail>
     Ok(trees)
 }
 
-// Adds a statement, where there is one.
+// Adds a statement, if there is one.
 #[tactic(auto, using(crate::proofs::Trees::lawful_more))]
 fn add(alloc: Global, trees: &mut Items<Tree>, statement: &str) -> Result<(), Fail>
     requires { AreLawfulTrees trees.old }
@@ -297,7 +362,7 @@ fn add(alloc: Global, trees: &mut Items<Tree>, statement: &str) -> Result<(), Fa
     Ok(())
 }
 
-fn number(text: &str) -> Result<usize, Fail> {
+pub(crate) fn number(text: &str) -> Result<usize, Fail> {
     match text.parse::<usize>() {
         Ok(number) => Ok(number),
         Err(_) => Err(Fail::from("no number")),
@@ -376,7 +441,7 @@ fn statement_text(alloc: Global, short: &str) -> Result<String, Fail> {
     expanded(alloc, text.as_str())
 }
 
-// The statement of this verb, about an activity or a statement, with its own id where it has one.
+// The statement of this verb, about an activity or a statement, with its own id if it has one.
 fn written_out<'a>(
     alloc: Global,
     verb: &'a str,
@@ -436,11 +501,11 @@ fn expanded_by(alloc: Global, text: &str, digit: &str) -> Result<String, Fail> {
     Ok(text.replace(alloc, short.as_str(), id.as_str())?)
 }
 
-fn told(alloc: Global, word: &str, body: &[u8]) -> Result<String, Fail> {
+fn told(alloc: Global, word: &str, status: u16, body: &[u8]) -> Result<String, Fail> {
     let text = str::from_utf8(body)?;
     if word == "get" && text.starts_with("{\"statements\":") {
         list(alloc, body)
-    } else if text.is_empty() || word == "many" {
+    } else if text.is_empty() || word == "many" || status == 507 {
         Ok(String::new(alloc))
     } else {
         Ok(format!(in alloc; " {text}")?)

@@ -5,6 +5,10 @@
 #[cfg(test)]
 mod desk_rows;
 #[cfg(test)]
+mod documents;
+#[cfg(test)]
+mod documents_asked;
+#[cfg(test)]
 mod listings;
 #[cfg(test)]
 mod statements;

@@ -19,7 +19,7 @@ fn a_repeat_is_taken_as_such_and_a_conflict_told(rt: HostRuntime) -> Result<(), 
     check_rows(rt.alloc(), REPEATS)
 }
 
-// One that voids before its target comes, one that would void a voiding statement, and one behind its target. A provider
+// One that voids before its target comes, one that would void a voiding statement, and one after its target. A provider
 // may not void, but may repeat.
 const VOIDING: &str = r#"
 admin provider p.1 => 200 {"caller":0,"token":"00000000000000000000000000000005-1"} kept
@@ -70,7 +70,7 @@ admin post v/1 a/1 Z1 => 200 ["Z1"]
 admin post v/1 a/1 => 200 ["00000000-0000-4000-8000-000000000050"] kept
 // made ids pass over what is held, what the batch names and what it was given
 admin post v/1 a/1;v/1 a/1 00000000-0000-4000-8000-000000000052;v/1 a/1 => 200 ["00000000-0000-4000-8000-000000000051","00000000-0000-4000-8000-000000000052","00000000-0000-4000-8000-000000000053"] kept
-// the last word of all, and the first one behind it
+// the last word of all, and the first one after it
 admin last v/1 a/1;v/1 a/1 => 200 ["ffffffff-ffff-4fff-bfff-ffffffffffff","00000000-0000-4000-8000-000000000000"] kept
 admin post v/1 a/1 Z2;v/1 a/1 Z2 => 400 {"error":"B9"}
 // one id in two cases
@@ -99,7 +99,7 @@ fn too_many_statements_are_told_first(rt: HostRuntime) -> Result<(), Fail> {
     check_rows(rt.alloc(), TOO_MANY)
 }
 
-// A statement that is too long, behind one that breaks a rule.
+// A statement that is too long, after one that breaks a rule.
 fn check_a_long_one(alloc: Global) -> Result<(), Fail> {
     let text = "x".repeat(alloc, 262_144)?;
     let row = format!(in alloc;

@@ -1,4 +1,4 @@
-// A script of acts over one desk: what is left of it where it is stopped at any moment, and what comes of it where a
+// A script of acts over one desk: what is left of it if it is stopped at any moment, and what comes of it if a
 // call of the disk fails.
 use crate::desk_rows::{answered, founded, wrong_row};
 use lrs_command::{Command, Read};
@@ -11,7 +11,8 @@ use std::alloc::Global;
 use std::slice::from_ref;
 use std::test::Fail;
 
-// Each statement has an id of its own, so that what is sent again is known.
+// Each statement has an id of its own, so that what is sent again is known. A document is written again, but becomes what
+// it was.
 const SCRIPT: &str = r#"
 admin provider p.1 => 200 {"caller":0,"token":"00000000000000000000000000000005-1"} kept
 admin put Z1 v/1 a/1 => 204 kept
@@ -26,6 +27,12 @@ admin put Z5 voided Z6 => 204 kept
 provider put Z6 v/1 a/1 => 204 kept
 operator post v/4 Z6 Z7;v/1 a/1 Z3;v/5 a/1 Z8 => 409 {"error":"409","id":"Z3"}
 operator post v/4 Z6 Z7;v/5 a/1 Z8;v/2 Z1 Z2 => 200 ["Z7","Z8","Z2"] kept
+provider state put b application/json {"a":1} => 204 kept
+admin state post b text/plain x => 400 {"error":"T1"}
+admin state post b application/json {"b":2} => 204 kept
+admin state put c text/plain x => 204 kept
+provider drop b:Z1 => 204
+provider drop c => 204 kept
 "#;
 
 const QUESTIONS: &str = r#"admin whole ?ascending=true
@@ -33,6 +40,9 @@ admin whole ?voidedStatementId=Z1
 admin whole ?voidedStatementId=Z6
 admin whole ?verb=http://v/1
 provider whole ?ascending=true
+admin ids -
+admin document b
+admin document c
 "#;
 
 const PENDING: [Pending; 4] = [
@@ -42,7 +52,7 @@ const PENDING: [Pending; 4] = [
     Pending::Torn(255),
 ];
 
-// All that a desk tells of its statements.
+// All that a desk tells of its statements and documents.
 fn told(alloc: Global, desk: &mut Desk<MemDisk>) -> Result<String, Fail> {
     let mut told = String::new(alloc);
     for question in QUESTIONS.lines() {
@@ -59,7 +69,7 @@ fn moment(desk: &mut Desk<MemDisk>) -> u64 {
     receipt.disk()
 }
 
-// How far a desk has come behind an act.
+// How far a desk has come after an act.
 #[derive(Drop)]
 struct Stage {
     moment: u64,
@@ -76,7 +86,7 @@ fn stage_of(alloc: Global, desk: &mut Desk<MemDisk>) -> Result<Stage, Fail> {
     })
 }
 
-// The stage behind a row that is answered as it should be.
+// The stage after a row that is answered as it should be.
 fn next_stage(alloc: Global, desk: &mut Desk<MemDisk>, row: &str) -> Result<Stage, Fail> {
     let wrong = wrong_row(alloc, desk, row)?;
     if wrong.is_empty() {
@@ -86,7 +96,7 @@ fn next_stage(alloc: Global, desk: &mut Desk<MemDisk>, row: &str) -> Result<Stag
     }
 }
 
-// The stage behind each row of the script, of which the first is empty.
+// The stage after each row of the script, of which the first is empty.
 fn stages(alloc: Global, desk: &mut Desk<MemDisk>) -> Result<Vec<Stage>, Fail> {
     let mut stages = Vec::new(alloc);
     for row in SCRIPT.lines() {
@@ -95,7 +105,7 @@ fn stages(alloc: Global, desk: &mut Desk<MemDisk>) -> Result<Vec<Stage>, Fail> {
     Ok(stages)
 }
 
-// Sends it, and once more where the disk fails.
+// Sends it, and once more if the disk fails.
 fn send(alloc: Global, desk: &mut Desk<MemDisk>, asked: &str) -> Result<(), Fail> {
     let failed = answered(alloc, desk, asked)?.starts_with("503");
     if failed && answered(alloc, desk, asked)?.starts_with("503") {
@@ -113,7 +123,7 @@ fn send_all(alloc: Global, desk: &mut Desk<MemDisk>) -> Result<(), Fail> {
     Ok(())
 }
 
-// What is told behind the whole script.
+// What is told after the whole script.
 fn told_behind(alloc: Global, desk: &mut Desk<MemDisk>) -> Result<String, Fail> {
     send_all(alloc, desk)?;
     told(alloc, desk)
@@ -229,7 +239,7 @@ fn a_stop_leaves_the_acknowledged_acts(rt: HostRuntime) -> Result<(), Fail> {
     Ok(())
 }
 
-// What came of the script where a call of the disk failed and each 503 was sent once more.
+// What came of the script if a call of the disk failed and each 503 was sent once more.
 #[derive(Drop)]
 struct Retried {
     /// How many calls failed.
@@ -273,7 +283,7 @@ fn retry(alloc: Global, failing: Vec<u64>) -> Result<Retried, Fail> {
     retried
 }
 
-// The number of the first call of the disk behind a founding.
+// The number of the first call of the disk after a founding.
 fn first_call(alloc: Global) -> Result<u64, Fail> {
     let mut desk = founded(alloc, Vec::new(alloc))?;
     let first = moment(&mut desk);

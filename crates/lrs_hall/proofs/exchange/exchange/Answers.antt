@@ -12,4 +12,4 @@ returns-in-Ok-clause-exchanged g c =
     (sym c.serve-receipt.ensures.left_kept) c.in-Ok.ensures.next in
     let wrote = subst (λ before. Wrote served.0 c.serve-receipt.result.1 before (g.O.Link.Link.taken c.serve-receipt.new.link)) c.in-Ok.ensures.taken_kept served.2 in
     exchanges (ActsOn g.D.Disk.told g.D.Disk.image g.D.Disk.time g.D.Disk.image_since g.D.Disk.fault_count) c.args.most _ _ _ _ c.in-Ok.request c.serve-receipt.result.0 served.0 _ _
-    next c.closes_behind-closes.result c.serve-receipt.result.1 c.answered.result c.closes_behind-closes.ensures served.1 wrote c.answered.ensures
+    next c.closes_after-closes.result c.serve-receipt.result.1 c.answered.result c.closes_after-closes.ensures served.1 wrote c.answered.ensures

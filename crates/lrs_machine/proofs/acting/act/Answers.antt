@@ -1,8 +1,9 @@
-use Rattle.std.proofs.Common.{◌≡◌, refl}
+use Rattle.std.proofs.Common.{refl}
 use Rattle.std.specs.Prelude.{option_map}
 use Rattle.lrs_history.specs.History.{outcome}
 use Rattle.lrs_machine.specs.Fold.{state_of}
 use Rattle.lrs_machine.proofs.ActLemmas.{landed_does, settled_does, settled_doubt, unlanded, unsettled_does, unsettled_doubt}
+use Rattle.lrs_parts.proofs.Ahead.{none_more}
 use Rattle.lrs_machine.proofs.acting.act.Goals as goal
 
 pub returns-in-Ok-clause-does : goal.returns-in-Ok-clause-does
@@ -28,3 +29,6 @@ returns-in-Err-clause-does g c =
 
 pub returns-in-Err-clause-landed : goal.returns-in-Err-clause-landed
 returns-in-Err-clause-landed g c = unlanded g.D.Disk.told c.args.journal.now c.settle.new.self (c.in-Err.ensures.failed refl)
+
+pub returns-in-Err-clause-spared : goal.returns-in-Err-clause-spared
+returns-in-Err-clause-spared g c = λ none. none_more c.args.fold.now.parts

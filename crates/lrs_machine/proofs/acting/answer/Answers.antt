@@ -1,9 +1,10 @@
-use Rattle.std.proofs.Common.{◌≡◌, None, Err, refl, sym, subst, ◌∙◌}
+use Rattle.std.proofs.Common.{None, Err, refl, sym, subst}
 use Rattle.lrs_fold.specs.Outcomes.{IsOutcome}
 use Rattle.lrs_history.specs.History.{outcome}
 use Rattle.lrs_machine.specs.Fold.{state_of}
 use Rattle.lrs_machine.specs.Steps.{Does}
 use Rattle.lrs_machine.proofs.ActLemmas.{said_does, wanting_does}
+use Rattle.lrs_parts.proofs.Ahead.{none_more}
 use Rattle.lrs_machine.proofs.acting.answer.Goals as goal
 
 pub returns-in-Ok-Said-clause-does : goal.returns-in-Ok-Said-clause-does
@@ -17,3 +18,9 @@ returns-in-Err-clause-does g c =
     let v = outcome (state_of c.args.fold.now) c.args.caller c.args.command c.args.clock c.args.draw.now in
     subst (λ t. Does g.D.Disk.told g.D.Disk.time g.D.Disk.image_since c.args.journal.now c.args.journal.now (state_of c.args.fold.now) (state_of c.args.fold.now) v (Err t) None) (sym c.from.ensures)
     (wanting_does g.D.Disk.told g.D.Disk.image g.D.Disk.time g.D.Disk.image_since g.met.D.Disk.only_now c.args.journal.now (state_of c.args.fold.now) (state_of c.args.fold.now) v c.requires.sound refl c.requires.settled)
+
+pub returns-in-Ok-Said-clause-spared : goal.returns-in-Ok-Said-clause-spared
+returns-in-Ok-Said-clause-spared g c = λ none. none_more c.args.fold.now.parts
+
+pub returns-in-Err-clause-spared : goal.returns-in-Err-clause-spared
+returns-in-Err-clause-spared g c = λ none. none_more c.args.fold.now.parts

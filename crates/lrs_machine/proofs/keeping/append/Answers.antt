@@ -1,4 +1,4 @@
-use Rattle.std.proofs.Common.{◌≡◌, ap, Err, refl, sym, subst, ◌∙◌}
+use Rattle.std.proofs.Common.{ap, Err, refl, sym, subst, ◌∙◌}
 use Rattle.lrs_disk.specs.Disk.{LeavesOnly}
 use Rattle.lrs_journal.specs.Journal.{IsAppended}
 use Rattle.lrs_journal.specs.Store.{IsBeforeOrAfter}
@@ -28,5 +28,17 @@ returns-else-in_doubt-clause-kept g c = λ v is.
     let old = c.args.journal.now in
     let new = c.append.new.self in
     let none = sym c.in_doubt.ensures ∙ c.if-in_doubt.false in
-    failed_does g.D.Disk.told g.D.Disk.time g.D.Disk.image_since old new (state_of c.args.fold.now) (state_of c.args.fold.now) v c.requires.settled none
-    (unchanged_where g.D.Disk.told old new c.as_slice.result.now none (c.in-Err-Failed.ensures.failed (ap (λ e. Err e) c.in-Err-Failed.field-0-is))) refl c.append.ensures.later (c.in-Err-Failed.ensures.any_moment_err refl none)
+    failed_does g.D.Disk.told g.D.Disk.time g.D.Disk.image_since old new (state_of c.args.fold.now) (state_of c.release-else-in_doubt.new.self) v c.requires.settled none
+    (unchanged_where g.D.Disk.told old new c.as_slice.result.now none (c.in-Err-Failed.ensures.failed (ap (λ e. Err e) c.in-Err-Failed.field-0-is))) c.release-else-in_doubt.ensures.same c.append.ensures.later (c.in-Err-Failed.ensures.any_moment_err refl none)
+
+pub returns-in-Ok-clause-spared : goal.returns-in-Ok-clause-spared
+returns-in-Ok-clause-spared g c = λ none. absurd (cc none)
+
+pub returns-in-Err-Full-clause-spared : goal.returns-in-Err-Full-clause-spared
+returns-in-Err-Full-clause-spared g c = λ none before made. c.release.ensures.undone before made
+
+pub returns-then-in_doubt-clause-spared : goal.returns-then-in_doubt-clause-spared
+returns-then-in_doubt-clause-spared g c = λ none. absurd (cc none)
+
+pub returns-else-in_doubt-clause-spared : goal.returns-else-in_doubt-clause-spared
+returns-else-in_doubt-clause-spared g c = λ none before made. c.release-else-in_doubt.ensures.undone before made

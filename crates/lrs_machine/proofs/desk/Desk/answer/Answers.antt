@@ -3,10 +3,11 @@ use Rattle.std.specs.Prelude.{option_map, is_ok}
 use Rattle.lrs_history.specs.History.{answer, outcome}
 use Rattle.lrs_machine.specs.Desk.{Desk}
 use Rattle.lrs_machine.specs.Fold.{state_of}
-use Rattle.lrs_machine.specs.Line.{line_of}
+use Rattle.lrs_machine.specs.Line.{entries, line_of}
 use Rattle.lrs_machine.specs.Steps.{line_after}
+use Rattle.lrs_machine.proofs.Counts.{counted_next, counts_on, moved_acts}
 use Rattle.lrs_machine.proofs.DeskLemmas.{act_put}
-use Rattle.lrs_machine.proofs.Lines.{noted}
+use Rattle.lrs_machine.proofs.Lines.{noted, not_longer}
 use Rattle.lrs_machine.proofs.Tied.{acted, limit_stays, on_disk, tells_alike}
 use Rattle.lrs_machine.proofs.desk.Desk.answer.Goals as goal
 
@@ -15,18 +16,28 @@ invariant_of-self g c =
     let i = c.self.inside in
     let a = c.act-said in
     let made = option_map (λ s. s.value) a.result.made in
-    let is = noted i.opened_at i.opening.items i.acts.items c.note.new.acts.items made c.is_ok.result (is_ok a.result.said) a.result.landed c.moment.result (g.D.Disk.time a.new.journal.disk) c.note.ensures c.is_ok.ensures.value c.moment.ensures in (
+    let is = noted i.opened_at i.opening.items i.acts.items c.note.new.acts.items made c.is_ok.result (is_ok a.result.said) a.result.landed c.moment.result (g.D.Disk.time a.new.journal.disk) c.note.ensures.noted c.is_ok.ensures.value c.moment.ensures in (
       (acted g.D.Disk.told g.D.Disk.image g.D.Disk.time g.D.Disk.image_since g.met.D.Disk.only_now i.journal a.new.journal c.args.caller c.args.command c.args.clock c.args.draw.now (state_of i.fold) (state_of a.new.fold) a.result.said made
           (line_of i.opened_at i.opening.items i.acts.items) (line_of i.opened_at i.opening.items c.note.new.acts.items) a.result.landed c.self.invariant.0 a.ensures.sound a.ensures.does a.ensures.landed is).0,
       c.self.invariant.1,
+      counted_next (answer i.journal.limit (entries (line_of i.opened_at i.opening.items i.acts.items)) c.args.caller c.args.command c.args.clock c.args.draw.now) a.result.said a.result.landed (g.D.Disk.time a.new.journal.disk)
+          (line_of i.opened_at i.opening.items i.acts.items) (line_of i.opened_at i.opening.items c.note.new.acts.items) i.records c.note.new.records
+          (acted g.D.Disk.told g.D.Disk.image g.D.Disk.time g.D.Disk.image_since g.met.D.Disk.only_now i.journal a.new.journal c.args.caller c.args.command c.args.clock c.args.draw.now (state_of i.fold) (state_of a.new.fold) a.result.said made
+          (line_of i.opened_at i.opening.items i.acts.items) (line_of i.opened_at i.opening.items c.note.new.acts.items) a.result.landed c.self.invariant.0 a.ensures.sound a.ensures.does a.ensures.landed is).1
+          (moved_acts i.opened_at i.opening.items i.acts.items c.note.new.acts.items i.records c.note.new.records c.note.ensures.counted) c.self.invariant.2,
     )
+
+pub note-requires : goal.note-requires
+note-requires g c =
+    let i = c.self.inside in
+    counts_on i.records i.journal.limit (line_of i.opened_at i.opening.items i.acts.items) c.self.invariant.0.sound.most c.self.invariant.0.legal c.self.invariant.2
 
 pub returns-clause-happens : goal.returns-clause-happens
 returns-clause-happens g c =
     let i = c.self.inside in
     let a = c.act-said in
     let made = option_map (λ s. s.value) a.result.made in
-    let is = noted i.opened_at i.opening.items i.acts.items c.note.new.acts.items made c.is_ok.result (is_ok a.result.said) a.result.landed c.moment.result (g.D.Disk.time a.new.journal.disk) c.note.ensures c.is_ok.ensures.value c.moment.ensures in
+    let is = noted i.opened_at i.opening.items i.acts.items c.note.new.acts.items made c.is_ok.result (is_ok a.result.said) a.result.landed c.moment.result (g.D.Disk.time a.new.journal.disk) c.note.ensures.noted c.is_ok.ensures.value c.moment.ensures in
     rw (sym c.self.view_is)
     (acted g.D.Disk.told g.D.Disk.image g.D.Disk.time g.D.Disk.image_since g.met.D.Disk.only_now i.journal a.new.journal c.args.caller c.args.command c.args.clock c.args.draw.now (state_of i.fold) (state_of a.new.fold) a.result.said made
     (line_of i.opened_at i.opening.items i.acts.items) (line_of i.opened_at i.opening.items c.note.new.acts.items) a.result.landed c.self.invariant.0 a.ensures.sound a.ensures.does a.ensures.landed is).1
@@ -36,7 +47,7 @@ returns-clause-stops g c =
     let i = c.self.inside in
     let a = c.act-said in
     let made = option_map (λ s. s.value) a.result.made in
-    let is = noted i.opened_at i.opening.items i.acts.items c.note.new.acts.items made c.is_ok.result (is_ok a.result.said) a.result.landed c.moment.result (g.D.Disk.time a.new.journal.disk) c.note.ensures c.is_ok.ensures.value c.moment.ensures in
+    let is = noted i.opened_at i.opening.items i.acts.items c.note.new.acts.items made c.is_ok.result (is_ok a.result.said) a.result.landed c.moment.result (g.D.Disk.time a.new.journal.disk) c.note.ensures.noted c.is_ok.ensures.value c.moment.ensures in
     rw (sym c.self.view_is)
     (acted g.D.Disk.told g.D.Disk.image g.D.Disk.time g.D.Disk.image_since g.met.D.Disk.only_now i.journal a.new.journal c.args.caller c.args.command c.args.clock c.args.draw.now (state_of i.fold) (state_of a.new.fold) a.result.said made
     (line_of i.opened_at i.opening.items i.acts.items) (line_of i.opened_at i.opening.items c.note.new.acts.items) a.result.landed c.self.invariant.0 a.ensures.sound a.ensures.does a.ensures.landed is).2
@@ -46,11 +57,20 @@ returns-clause-durable g c =
     let i = c.self.inside in
     let a = c.act-said in
     let made = option_map (λ s. s.value) a.result.made in
-    let is = noted i.opened_at i.opening.items i.acts.items c.note.new.acts.items made c.is_ok.result (is_ok a.result.said) a.result.landed c.moment.result (g.D.Disk.time a.new.journal.disk) c.note.ensures c.is_ok.ensures.value c.moment.ensures in
-    on_disk g.D.Disk.told g.D.Disk.image g.D.Disk.time g.D.Disk.image_since g.met.D.Disk.only_now g.met.D.Disk.tells a.new.journal (state_of a.new.fold) i.opened_at i.opened i.opening.items c.note.new.acts.items
+    let is = noted i.opened_at i.opening.items i.acts.items c.note.new.acts.items made c.is_ok.result (is_ok a.result.said) a.result.landed c.moment.result (g.D.Disk.time a.new.journal.disk) c.note.ensures.noted c.is_ok.ensures.value c.moment.ensures in
+    on_disk g.D.Disk.told g.D.Disk.image g.D.Disk.time g.D.Disk.image_since g.met.D.Disk.only_now g.met.D.Disk.tells a.new.journal (state_of a.new.fold) a.new.fold.parts i.opened_at i.opened i.opening.items c.note.new.acts.items
     (acted g.D.Disk.told g.D.Disk.image g.D.Disk.time g.D.Disk.image_since g.met.D.Disk.only_now i.journal a.new.journal c.args.caller c.args.command c.args.clock c.args.draw.now (state_of i.fold) (state_of a.new.fold) a.result.said made
     (line_of i.opened_at i.opening.items i.acts.items) (line_of i.opened_at i.opening.items c.note.new.acts.items) a.result.landed c.self.invariant.0 a.ensures.sound a.ensures.does a.ensures.landed is).0
     c.self.invariant.1.0 c.self.invariant.1.1
+
+pub returns-clause-spared : goal.returns-clause-spared
+returns-clause-spared g c =
+    let i = c.self.inside in
+    let a = c.act-said in
+    let made = option_map (λ s. s.value) a.result.made in
+    let is = noted i.opened_at i.opening.items i.acts.items c.note.new.acts.items made c.is_ok.result (is_ok a.result.said) a.result.landed c.moment.result (g.D.Disk.time a.new.journal.disk) c.note.ensures.noted c.is_ok.ensures.value c.moment.ensures in
+    rw (sym c.self.view_is)
+    (λ same. a.ensures.spared (not_longer (λ s. s.value) (line_of i.opened_at i.opening.items i.acts.items) (line_of i.opened_at i.opening.items c.note.new.acts.items) a.result.made (is_ok a.result.said) a.result.landed (g.D.Disk.time a.new.journal.disk) is same))
 
 pub returns-clause-known : goal.returns-clause-known
 returns-clause-known g c = λ put.
