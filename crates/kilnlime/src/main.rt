@@ -10,10 +10,10 @@ use std::io::ErrorKind;
 use std::process::ExitCode;
 use std::random::RandomSource;
 
-/// The status where the machine's source of random bytes fails.
+/// The status if the machine's source of random bytes fails.
 const NO_RANDOM_SOURCE: u8 = 21;
 
-/// The status where the words are no command.
+/// The status if the words are no command.
 const NO_COMMAND: u8 = 1;
 
 const USAGE: &str = "usage: kilnlime init FILE --admin TOKEN [--base URL] [--limit BYTES]
@@ -21,7 +21,7 @@ const USAGE: &str = "usage: kilnlime init FILE --admin TOKEN [--base URL] [--lim
        kilnlime serve FILE ADDRESS --workers 1 --connections N
 see `bin/kilnlime --help`, or docs/FORMATS.md, section \"Words and statuses\"";
 
-// The words behind the program's name. One that is no UTF-8 makes them no command.
+// The words after the program's name. One that is no UTF-8 makes them no command.
 fn arguments(rt: &(impl Env + AllocGlobal)) -> Result<Vec<Text>, Ending> {
     let mut words = match env::args(rt) {
         Ok(words) => words,
@@ -41,7 +41,7 @@ fn arguments(rt: &(impl Env + AllocGlobal)) -> Result<Vec<Text>, Ending> {
     Ok(texts)
 }
 
-// The program's end. Where the words are no command, standard error tells what they can be.
+// The program's end. If the words are no command, standard error tells what they can be.
 fn exit(rt: &impl Eprint, status: u8) -> ExitCode {
     if status == NO_COMMAND {
         let _ = rt.eprintln(USAGE);

@@ -10,13 +10,13 @@ use Rattle.lrs_journal.specs.Store.{Stands}
 use Rattle.lrs_record.specs.Entries.{written_entry}
 use Rattle.lrs_record.specs.declared.entry.Entry.{Entry}
 use Rattle.lrs_history.specs.History.{IsLegal}
-use Rattle.lrs_machine.specs.Desk.{Desk, HoldsPrefix, IsNotFounded, IsStoreOf, LeavesStore, MakesOnly, history}
+use Rattle.lrs_machine.specs.Desk.{Desk, HoldsPrefix, IsNotFounded, LeavesStore, MakesOnly, history}
 use Rattle.lrs_machine.specs.Line.{entries, opened_line, sure}
 use Rattle.lrs_machine.specs.declared.opening.FoundRefused.{FoundRefused}
 use Rattle.lrs_machine.specs.declared.opening.FoundRefused.TheVariants as found
 use Rattle.lrs_machine.proofs.Lines.{some_same}
 use Rattle.lrs_app.specs.Disks.{AnyStopLeaves, Holds, taken_now}
-use Rattle.lrs_app.specs.Run.{InitEnds, InitOver, InitStops, InitTells, IsSparedOrMade}
+use Rattle.lrs_app.specs.Run.{InitEnds, InitOnDisk, InitStops, InitTells}
 use Rattle.lrs_app.specs.Steps.{ending_of_found}
 use Rattle.lrs_app.proofs.Openings.{prefix_whole, told_on}
 use Rattle.lrs_console.specs.declared.ending.Ending.TheVariants as ending
@@ -80,9 +80,10 @@ pub not_founded : {D : Type 0} (d : disks.Ghosts D) (reads_image : (x : D) (b : 
     → (refused ≢ found.Failed → IsUntouched d.told d.image d.time d.image_since old new)
     → ForSome (d.told old) (λ bytes. (IsOpenTo bytes → ⊥) → IsUntouched d.told d.image d.time d.image_since old new)
     → TellsAlike (d.told old) (d.told new) → MakesOnly d.told d.image d.time d.image_since limit first old new
-    → InitOver d (taken_now d old) new limit first 0 (ending_of_found refused)
-not_founded d reads_image counts_now limit first old new refused synced why full spared store alike makes = (
+    → d.time old ≤ d.time new → InitOnDisk d (taken_now d old) new limit first 0 (ending_of_found refused)
+not_founded d reads_image counts_now limit first old new refused synced why full spared store alike makes later = (
   refused_tells limit first refused full,
+  later,
   if_some (d.told old) (λ bytes. InitEnds bytes limit first (d.told new) (ending_of_found refused)
       × InitStops d (taken_now d old) new bytes limit first (ending_of_found refused))
       (λ bytes told. refused_ends d reads_image counts_now limit first old new bytes told synced refused (why bytes told) spared (store bytes told) alike makes),
@@ -100,8 +101,8 @@ pub founded_ends : {D : Type 0} (d : disks.Ghosts D) (counts_now : (x : D) (t : 
     → ForSome (d.told desk.disk) (λ _. LeavesStore d.told disk desk.limit false (history desk))
     → ((c : List ℕ) → d.image disk c → Stands c desk.limit (map written_entry (history desk)))
     → ForSome (d.told desk.disk) (λ _. LeavesOnly d.time d.image_since desk.disk disk (HoldsPrefix desk.limit (sure desk.line) (history desk)))
-    → InitOver d (taken_now d old) disk limit first 1 ending.Founded
-founded_ends d counts_now only_now limit first old desk disk synced same line legal room opens alike makes closed durable stops =
+    → d.time old ≤ d.time desk.disk → d.time desk.disk ≤ d.time disk → InitOnDisk d (taken_now d old) disk limit first 1 ending.Founded
+founded_ends d counts_now only_now limit first old desk disk synced same line legal room opens alike makes closed durable stops later passed =
     let one : history desk ≡ first ∷ [] = ap entries line in
     let sure_one : sure desk.line ≡ 1 = ap sure line in
     let number : length (history desk) ≡ 1 = ap length one in
@@ -109,6 +110,7 @@ founded_ends d counts_now only_now limit first old desk disk synced same line le
     let stands : (c : List ℕ) → Stands c desk.limit (map written_entry (history desk)) → Stands c limit (written_entry first ∷ []) =
     λ c s. subst (λ (l : ℕ). Stands c l (written_entry first ∷ [])) same (subst (λ (h : List Entry). Stands c desk.limit (map written_entry h)) one s) in (
       (room, lawful, refl),
+      omega (arith, later, passed),
       if_some (d.told old) (λ bytes. InitEnds bytes limit first (d.told disk) ending.Founded × InitStops d (taken_now d old) disk bytes limit first ending.Founded)
           (λ bytes told.
           let t = told_on (d.told old) (d.told desk.disk) bytes alike told in

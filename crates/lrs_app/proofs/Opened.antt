@@ -1,5 +1,5 @@
 -- How intake ends on an open desk.
-use Rattle.std.proofs.Common.{◌≡◌, ◌⊎◌, ◌≤◌, ◌-◌, ◌&&◌, ◌||◌, ℕ, true, false, Bool, List, [], ◌∷◌, ◌++◌, length, map, Option, Some, None, IfSome, IsSome, Ok, Err, append-nil, refl, sym, ap, ◌∙◌, subst, inl, inr, ⊎_elim}
+use Rattle.std.proofs.Common.{◌≡◌, ◌⊎◌, ◌≤◌, ◌-◌, ◌&&◌, ◌||◌, ℕ, true, false, Bool, List, [], ◌∷◌, ◌++◌, length, map, Option, Some, None, IsSome, Ok, Err, append-nil, arith, refl, sym, ap, ◌∙◌, subst, inl, inr, ⊎_elim}
 use Rattle.std.specs.Prelude.{not, is_some, if◌then◌else◌}
 use Rattle.std.specs.Option.{ForSome}
 use Rattle.lrs_disk.specs.Disk.{LeavesOnly}
@@ -22,7 +22,8 @@ use Rattle.lrs_replies.specs.declared.reply.Trouble.TheVariants as trouble
 use Rattle.lrs_machine.proofs.Lines.{entries_append, entries_one, none_some}
 use Rattle.lrs_machine.specs.Steps.{one_of}
 use Rattle.lrs_hall.proofs.Lines.{entries_begin}
-use Rattle.lrs_console.specs.Asking.{with_id, HasInputCause, IsNotTaken, IsTakenFor, EndsSaying, EndsRefused, put_answer, entry_of_input}
+use Rattle.lrs_console.specs.Reading.{ForInput}
+use Rattle.lrs_console.specs.Asking.{with_id, HasInputCause, IsNotTaken, IsTakenFor, EndsSaying, EndsRefused, put_answer}
 use Rattle.lrs_app.specs.ClosingSteps.{ClosesTaken, StopsFrom}
 use Rattle.lrs_app.specs.Disks.{Holds, HoldsIn, LeavesFinal, taken_now}
 use Rattle.lrs_app.specs.Run.{EndsOpened}
@@ -31,7 +32,7 @@ use Rattle.lrs_app.proofs.Openings.{stops_from, told_on}
 use Rattle.lrs_console.specs.declared.ending.Ending.{Ending}
 use Rattle.lrs_console.specs.declared.ending.Ending.TheVariants as ending
 
--- ---- the line behind an act
+-- ---- the line after an act
 
 by_none : (own landed : Option ℕ) (x old : List Record) → own ≡ None → landed ≡ None → (if is_some own || is_some landed then x else old) ≡ old
 by_none None None x old own landed = refl
@@ -97,6 +98,7 @@ saying_calm : (id : List ℕ) (s : Answered) (end : Ending) → EndsSaying id s 
 saying_calm id said.Kept end e = ap is_trouble e
 saying_calm id said.Same end e = ap is_trouble e
 saying_calm id (said.Shown text through) end e = absurd e
+saying_calm id (said.Document media bytes) end e = absurd e
 saying_calm id (said.Refused r) end e = refused_calm r end e
 
 true_false : true ≡ false → ⊥
@@ -185,10 +187,9 @@ module _ (limit : ℕ) (h : List Entry) (clock : ℕ) (draw : Draw) where
   taken id t final (ending.Conflict k) input asks s = (with_id id t, asks, s.0, s.1)
   taken id t final (ending.Full need most) input asks s = (with_id id t, asks, s.0, s.1)
 
-  pub takes_in : (id : List ℕ) (t : Tree) (final : List Entry) (end : Ending) (left : Option (List ℕ)) → IfSome left (λ input. IsTakenFor input (with_id id t))
-      → Submits h id (put_answer limit h clock draw id t) final end → IfSome left (λ input. EndsOpened limit h final input clock draw end)
-  takes_in id t final end None asks s = tt
-  takes_in id t final end (Some input) asks s = taken id t final end input asks s
+  pub takes_in : (id : List ℕ) (t : Tree) (final : List Entry) (end : Ending) (left : Option (List ℕ)) → ForInput left (λ input. IsTakenFor input (with_id id t))
+      → Submits h id (put_answer limit h clock draw id t) final end → ForInput left (λ input. EndsOpened limit h final input clock draw end)
+  takes_in id t final end left read s = (read.0, read.1, taken id t final end read.0 read.2 s)
 
   -- what is no statement changes nothing
   not_taken : (end : Ending) (input : List ℕ) (before now : ℕ) → IsNotTaken input end → HasInputCause before now end → EndsOpened limit h h input clock draw end
@@ -209,10 +210,9 @@ module _ (limit : ℕ) (h : List Entry) (clock : ℕ) (draw : Draw) where
   not_taken (ending.Conflict k) input before now (kind, is, over) cause = let o = over limit h clock draw in (kind, is, o.0, ap (with_entry h) (sym o.1))
   not_taken (ending.Full need most) input before now (kind, is, over) cause = let o = over limit h clock draw in (kind, is, o.0, ap (with_entry h) (sym o.1))
 
-  pub takes_none : (end : Ending) (left : Option (List ℕ)) (before now : ℕ) → IfSome left (λ input. IsNotTaken input end) → HasInputCause before now end
-      → IfSome left (λ input. EndsOpened limit h h input clock draw end)
-  takes_none end None before now why cause = tt
-  takes_none end (Some input) before now why cause = not_taken end input before now why cause
+  pub takes_none : (end : Ending) (left : Option (List ℕ)) (before now : ℕ) → ForInput left (λ input. IsNotTaken input end) → HasInputCause before now end
+      → ForInput left (λ input. EndsOpened limit h h input clock draw end)
+  takes_none end left before now read cause = (read.0, read.1, not_taken end read.0 before now read.2 cause)
 
 -- ---- closing
 
@@ -240,10 +240,13 @@ doubtful told limit h e (bytes, tells, (before, last, split, stands)) =
 
 module _ {D : Type 0} (d : disks.Ghosts D) (counts_now : (x : D) (t : ℕ) (c : List ℕ) → t ≤ d.time x → d.image x c → d.image_since x t c)
     (only_now : (x : D) (c : List ℕ) → d.image_since x (d.time x) c → d.image x c) (desk mid : Desk D) (disk : D) (opened : IsOpened d desk) (on : GoesOn d desk mid)
-    (n : ℕ) (count : n ≡ length (history mid)) (legal : IsLegal mid.limit (history mid))
+    (n : ℕ) (count : n ≡ length (history mid)) (passed : d.time mid.disk ≤ d.time disk) (legal : IsLegal mid.limit (history mid))
     (stops : ForSome (d.told mid.disk) (λ _. LeavesOnly d.time d.image_since mid.disk disk (HoldsPrefix mid.limit (sure mid.line) (history mid)))) where
   legal_here : IsLegal desk.limit (history mid)
   legal_here = subst (λ (l : ℕ). IsLegal l (history mid)) on.limit legal
+
+  later_here : d.time desk.disk ≤ d.time disk
+  later_here = let acts = on.later in omega (arith, acts, passed)
 
   stops_here : StopsFrom d desk disk (history mid)
   stops_here = stops_from d counts_now only_now desk mid disk opened on stops
@@ -255,6 +258,7 @@ module _ {D : Type 0} (d : disks.Ghosts D) (counts_now : (x : D) (t : ℕ) (c : 
   closed_final end holds durable = record {
     legal = legal_here;
     counts = count;
+    later = later_here;
     holds = λ told is.
         let t = told_on (d.told desk.disk) (d.told mid.disk) told on.tells is in
         inl (subst (λ (l : ℕ). Holds (d.told disk) l (history mid)) on.limit (holds t.0 t.1));
@@ -268,6 +272,7 @@ module _ {D : Type 0} (d : disks.Ghosts D) (counts_now : (x : D) (t : ℕ) (c : 
   failed_final e one holds = record {
     legal = legal_here;
     counts = count;
+    later = later_here;
     holds = λ told is.
         let t = told_on (d.told desk.disk) (d.told mid.disk) told on.tells is in
         let there : HoldsIn true (d.told disk) desk.limit (history desk ++ e ∷ []) =
@@ -278,7 +283,7 @@ module _ {D : Type 0} (d : disks.Ghosts D) (counts_now : (x : D) (t : ℕ) (c : 
     closed = λ well. absurd (well refl);
   }
 
-  pub closes : (left : Option (List ℕ)) (clock : ℕ) (draw : Draw) (end : Ending) → IfSome left (λ input. EndsOpened desk.limit (history desk) (history mid) input clock draw end)
+  pub closes : (left : Option (List ℕ)) (clock : ℕ) (draw : Draw) (end : Ending) → ForInput left (λ input. EndsOpened desk.limit (history desk) (history mid) input clock draw end)
       → ForSome (d.told mid.disk) (λ _. LeavesStore d.told disk mid.limit false (history mid))
       → ((c : List ℕ) → d.image disk c → Stands c mid.limit (map written_entry (history mid)))
       → ClosesTaken d desk disk left clock draw n end
@@ -290,7 +295,7 @@ module _ {D : Type 0} (d : disks.Ghosts D) (counts_now : (x : D) (t : ℕ) (c : 
     stops = stops_here;
   }
 
-  pub fails : (left : Option (List ℕ)) (clock : ℕ) (draw : Draw) (end : Ending) → IfSome left (λ input. EndsOpened desk.limit (history desk) (history mid) input clock draw end)
+  pub fails : (left : Option (List ℕ)) (clock : ℕ) (draw : Draw) (end : Ending) → ForInput left (λ input. EndsOpened desk.limit (history desk) (history mid) input clock draw end)
       → DoubtsOnly desk mid end → in_doubt mid.line ≡ true → ForSome (d.told mid.disk) (λ _. LeavesStore d.told disk mid.limit true (history mid))
       → ClosesTaken d desk disk left clock draw n ending.DiskFault
   fails left clock draw end ends doubts doubt holds =
@@ -298,7 +303,7 @@ module _ {D : Type 0} (d : disks.Ghosts D) (counts_now : (x : D) (t : ℕ) (c : 
       record {
         final = history mid;
         begins = entries_begin desk.line mid.line on.begins;
-        ends = subst (λ (x : Ending). IfSome left (λ input. EndsOpened desk.limit (history desk) (history mid) input clock draw x)) lost.0 ends;
+        ends = subst (λ (x : Ending). ForInput left (λ input. EndsOpened desk.limit (history desk) (history mid) input clock draw x)) lost.0 ends;
         leaves = failed_final lost.1.0 lost.1.1 holds;
         stops = stops_here;
       }

@@ -1,5 +1,5 @@
 -- The line of an open store, and what stops leave since it was taken.
-use Rattle.std.proofs.Common.{◌≡◌, ◌≤◌, ◌⊎◌, ℕ, suc, Bool, true, false, List, [], ◌∷◌, ◌++◌, length, map, take, Option, Some, None, refl, sym, ap, ◌∙◌, subst, inl, inr, ⊎_elim, arith}
+use Rattle.std.proofs.Common.{◌≡◌, ◌≤◌, ℕ, suc, Bool, true, false, List, [], ◌∷◌, length, map, take, Option, Some, None, refl, sym, ap, ◌∙◌, subst, arith}
 use Rattle.std.specs.Prelude.{◌-◌, if◌then◌else◌}
 use Rattle.std.specs.Option.{ForSome}
 use Rattle.lrs_disk.specs.Disk.{LeavesOnly}
@@ -165,11 +165,12 @@ module _ {D : Type 0} (d : disks.Ghosts D) (counts_now : (x : D) (t : ℕ) (c : 
   pub leaves_since : (first : D) (desk : Desk D) (disk : D) (final : List Entry) (n : ℕ) (end : Ending) → BeginsWith (history desk) final
       → IsSynced d.told d.image first → OpensOnly d.told d.image d.time d.image_since first desk.disk (λ bytes after. IsStoreOf after desk.limit (history desk))
       → TellsAlike (d.told first) (d.told desk.disk) → StopsFrom d desk disk final
-      → LeavesFinal d (taken_now d desk.disk) disk desk.limit (history desk) final n end
+      → d.time first ≤ d.time desk.disk → LeavesFinal d (taken_now d desk.disk) disk desk.limit (history desk) final n end
       → LeavesFinal d (taken_now d first) disk desk.limit (history desk) final n end
-  leaves_since first desk disk final n end begins synced opens alike stops leaves = record {
+  leaves_since first desk disk final n end begins synced opens alike stops later leaves = record {
     legal = leaves.legal;
     counts = leaves.counts;
+    later = let since = leaves.later in omega (arith, later, since);
     holds = still_told (d.told first) (d.told desk.disk) _ alike leaves.holds;
     stops = stops_since first desk disk final begins synced opens alike stops;
     closed = λ well. still_told (d.told first) (d.told desk.disk) _ alike (leaves.closed well);

@@ -17,8 +17,8 @@ use Rattle.lrs_hall.specs.Talks.{Talk}
 use Rattle.lrs_app.specs.Disks.{Taken, taken_now}
 use Rattle.lrs_app.specs.Service.{CountsOn, Doors}
 use Rattle.lrs_app.specs.declared.program.Ended as program
-use Rattle.lrs_app.specs.Steps.{IsMeant}
-use Rattle.lrs_app.specs.Run.{Outside, HasEndingCause, IntakeEnds, IntakeRuns, InitOver, InitRuns, LeavesInput, ServeRuns, ServesDisk, CommandRuns}
+use Rattle.lrs_app.specs.Steps.{DenotesInRange}
+use Rattle.lrs_app.specs.Run.{Outside, HasEndingCause, IntakeEnds, IntakeRuns, InitOnDisk, InitRuns, SparesInput, ServeRuns, ServesDisk, CommandRuns}
 
 -- what a lobby tells of its doors is the same
 pub same_doors : {a b : Option (List DoorsAsked)} {c d : Option (List DoorState)} {m n : ℕ} → a ≡ b → c ≡ d → m ≡ n
@@ -51,10 +51,10 @@ module _ {D : Type 0} (d : disks.Ghosts D) (disk : D) (taken : Taken) (n : ℕ) 
   )
 
   pub init_leaves : (old : D) (limit : ℕ) (first : Entry) → taken_now d old ≡ taken
-      → InitOver d (taken_now d old) disk limit first n end → HasEndingCause (d.fault_count old) (d.fault_count disk) 0 0 end
-      → InitOver d taken disk limit first n end × HasEndingCause taken.mark.faults (d.fault_count disk) 0 0 end
+      → InitOnDisk d (taken_now d old) disk limit first n end → HasEndingCause (d.fault_count old) (d.fault_count disk) 0 0 end
+      → InitOnDisk d taken disk limit first n end × HasEndingCause taken.mark.faults (d.fault_count disk) 0 0 end
   init_leaves old limit first same ends cause = (
-    subst (λ (t : Taken). InitOver d t disk limit first n end) same ends,
+    subst (λ (t : Taken). InitOnDisk d t disk limit first n end) same ends,
     subst (λ (t : Taken). HasEndingCause t.mark.faults (d.fault_count disk) 0 0 end) same cause,
   )
 
@@ -71,7 +71,7 @@ module _ {D : Type 0} (d : disks.Ghosts D) (disk : D) (taken : Taken) (n : ℕ) 
 
 -- what the words of init mean is done
 pub does_init : {D : Type 0} (d : disks.Ghosts D) (c : CommandLine) (read : ProgramCommand) (file admin base : List ℕ) (limit : ℕ) (seed : List ℕ) (before after : Outside) (o : program.Ended D)
-    → read ≡ words.Init file admin base limit → Denotes read c → LeavesInput before after → InitRuns d file admin base limit before after o → CommandRuns d c seed before after o
+    → read ≡ words.Init file admin base limit → Denotes read c → SparesInput before after → InitRuns d file admin base limit before after o → CommandRuns d c seed before after o
 does_init d c read file admin base limit seed before after o is_read means spares run = meant c (subst (λ (r : ProgramCommand). Denotes r c) is_read means) where
   meant : (c : CommandLine) → Denotes (words.Init file admin base limit) c → CommandRuns d c seed before after o
   meant (intake name) means = absurd means
@@ -83,7 +83,7 @@ does_init d c read file admin base limit seed before after o is_read means spare
       (spares, subst (λ (n : ℕ). InitRuns d w.file w.admin (base_of w) n before after o) means.3 based)
 
 -- the base of a line that is meant is one
-pub meant_base : (read : ProgramCommand) (file admin base : List ℕ) (limit : ℕ) → read ≡ words.Init file admin base limit → IsMeant read → IsBase base
+pub meant_base : (read : ProgramCommand) (file admin base : List ℕ) (limit : ℕ) → read ≡ words.Init file admin base limit → DenotesInRange read → IsBase base
 meant_base read file admin base limit is_read meant = ranged meant.0 meant.1 (subst (λ (r : ProgramCommand). Denotes r meant.0) is_read meant.2) where
   ranged : (c : CommandLine) → IsInRange c → Denotes (words.Init file admin base limit) c → IsBase base
   ranged (intake name) range means = absurd means
@@ -102,7 +102,7 @@ does_intake d c read file seed drawn before after o is_read is_drawn means run =
 
 -- the same of serve
 pub does_serve : {D : Type 0} (d : disks.Ghosts D) (c : CommandLine) (read : ProgramCommand) (file address : List ℕ) (connections : ℕ) (seed : List ℕ) (before after : Outside) (o : program.Ended D)
-    → read ≡ words.Serve file address connections → Denotes read c → LeavesInput before after → ServeRuns d file address connections seed before after o
+    → read ≡ words.Serve file address connections → Denotes read c → SparesInput before after → ServeRuns d file address connections seed before after o
     → CommandRuns d c seed before after o
 does_serve d c read file address connections seed before after o is_read means spares run = meant c (subst (λ (r : ProgramCommand). Denotes r c) is_read means) where
   meant : (c : CommandLine) → Denotes (words.Serve file address connections) c → CommandRuns d c seed before after o

@@ -1,6 +1,6 @@
 -- From the conversations of a door to what serve does.
-use Rattle.std.proofs.Common.{◌≡◌, ◌≢◌, ◌⊎◌, ◌<◌, ◌≤◌, ◌+◌, ◌-◌, ◌^◌, min, ◌++◌, ◌∷◌, [], ℕ, List, drop, length, map, take, Bool, true, false, MatchBool, Option, Some, None, IfSome, option_map, refl, sym, ap, ◌∙◌, subst, inl, inr, ⊎_elim, arith, All}
-use Rattle.std.specs.List.{AllByRecursion, Any}
+use Rattle.std.proofs.Common.{◌≡◌, ◌≢◌, ◌<◌, ◌≤◌, ◌+◌, ◌-◌, ◌^◌, min, ◌++◌, ◌∷◌, [], ℕ, List, drop, length, map, Bool, true, false, MatchBool, Option, Some, IfSome, option_map, refl, sym, ap, ◌∙◌, subst, inl, inr, ⊎_elim, arith, All}
+use Rattle.std.specs.List.{Any}
 use Rattle.std.specs.Option.{ForSome}
 use Rattle.std.proofs.lemmas.List.{drop_all}
 use Rattle.std.proofs.lemmas.List.Elements.{All-pop}
@@ -17,13 +17,13 @@ use Rattle.lrs_record.specs.declared.entry.Entry.{Entry}
 use Rattle.lrs_history.specs.History.{IsLegal}
 use Rattle.lrs_machine.specs.Acts.{Receipt}
 use Rattle.lrs_machine.specs.Desk.{Desk, HoldsPrefix, IsStoreOf, KeepsLine, LeavesStore, OpensOnly, history}
-use Rattle.lrs_machine.specs.Line.{BeginsWith, Record, entries, in_doubt, opened_line, sure}
+use Rattle.lrs_machine.specs.Line.{BeginsWith, Record, entries, in_doubt, sure}
 use Rattle.lrs_machine.specs.declared.opening.DeskRefused.{DeskRefused}
 use Rattle.lrs_machine.specs.declared.opening.DeskRefused.TheVariants as refused
 use Rattle.lrs_hall.specs.Acts.{ActsIn}
 use Rattle.lrs_hall.specs.Draws.{start_of}
 use Rattle.lrs_hall.specs.Laws.{entries_in}
-use Rattle.lrs_hall.specs.Serving.{AreConversations, AreOver, AreWithin, Counts, EndsServing, IsWithin, Mark, all_receipts, mark_of, worker_at}
+use Rattle.lrs_hall.specs.Serving.{AreConversations, AreOnLinks, AreWithin, Counts, EndsServing, Mark, all_receipts, mark_of, worker_at}
 use Rattle.lrs_hall.specs.Talks.{Talk}
 use Rattle.lrs_hall.specs.declared.serving.ServeEnd.{ServeEnd}
 use Rattle.lrs_hall.specs.declared.serving.ServeEnd.TheVariants as serve
@@ -31,12 +31,12 @@ use Rattle.lrs_hall.proofs.Lines.{begins_self, begins_take, entries_begin}
 use Rattle.lrs_hall.proofs.Once.{entries_once, keeps_promises}
 use Rattle.lrs_app.specs.ClosingSteps.{StopsFrom}
 use Rattle.lrs_app.specs.Disks.{Holds, HoldsIn, LeavesFinal, LeavesUnopened, Taken, taken_now}
-use Rattle.lrs_app.specs.Service.{Doors, HasNoDoor, GivesBack, IsBehind, CountsOn, HoldsBehind, HoldsServed, ending_of_serving, responses_of}
+use Rattle.lrs_app.specs.Service.{Doors, HasNoDoor, GivesBack, RoseSince, CountsOn, HoldsAfter, HoldsServed, ending_of_serving, responses_of}
 use Rattle.lrs_app.specs.ServeSteps.{ServesHad, ServesDesk, ServesOpened, ClosesDoorless, ClosesServed}
 use Rattle.lrs_app.specs.Run.{HasEndingCause, HasLobbyCause, ServesDisk}
 use Rattle.lrs_app.specs.Steps.{GoesOn, IsOpened, ending_of}
 use Rattle.lrs_app.proofs.Opened.{closed_final}
-use Rattle.lrs_app.proofs.Openings.{leaves_since, opened_records, opened_settled, still_goes, still_told, stops_from, stops_since, told_on}
+use Rattle.lrs_app.proofs.Openings.{leaves_since, opened_records, opened_settled, still_told, stops_from, stops_since, told_on}
 use Rattle.lrs_console.specs.declared.ending.Ending.{Ending}
 use Rattle.lrs_console.specs.declared.ending.Ending.TheVariants as ending
 
@@ -55,11 +55,11 @@ later before (r ∷ receipts) now counts =
 rises_from : (a b now : ℕ) → a ≤ b → Rises b now → Rises a now
 rises_from a b now less rises = ⊎_elim (λ h. inl (omega (arith, less, h))) (λ h. inr h) rises
 
--- a count that rises behind the acts rises behind what each told
-pub behind : (before : ℕ) (receipts : List Receipt) (end now : ℕ) → Counts before receipts end → Rises end now → IsBehind receipts now
+-- a count that rises after the acts rises after what each told
+pub behind : (before : ℕ) (receipts : List Receipt) (end now : ℕ) → Counts before receipts end → Rises end now → RoseSince receipts now
 behind before [] end now counts rises = tt
 behind before (r ∷ receipts) end now counts rises =
-    by_test r.acted _ _ ((r.acted ≡ true → Rises r.is now) × IsBehind receipts now) counts
+    by_test r.acted _ _ ((r.acted ≡ true → Rises r.is now) × RoseSince receipts now) counts
     (λ acted h. ((λ t. rises_from r.is end now (later r.is receipts end h.3) rises), behind r.is receipts end now h.3 rises))
     (λ plain h. ((λ t. let same : r.acted ≡ true = t in let other : r.acted ≡ false = plain in cc), behind before receipts end now h rises))
 
@@ -161,7 +161,7 @@ well_served serve.DoorFault talks e = cc
 well_served serve.Memory talks e = cc
 
 holds_whole : (why : ServeEnd) (talks : List Talk) (doubt : Bool) (told : Option (List ℕ)) (limit : ℕ) (h : List Entry)
-    → Holds told limit h → HoldsBehind (ending_of_serving why talks) doubt told limit h
+    → Holds told limit h → HoldsAfter (ending_of_serving why talks) doubt told limit h
 holds_whole serve.Done talks doubt told limit h holds = holds
 holds_whole serve.DoorFault talks doubt told limit h holds = holds
 holds_whole serve.Memory talks doubt told limit h holds = holds
@@ -214,10 +214,10 @@ module _ {D : Type 0} (d : disks.Ghosts D) (counts_now : (x : D) (t : ℕ) (c : 
   -- what is the same however the closing ends
   served_with : (links : List Returned) (last : Ending) → AreConversations d.time desk mid (start_of seed 1) links talks
       → (last ≡ ending.DiskFault → in_doubt mid.line ≡ true)
-      → ForSome (d.told mid.disk) (λ _. HoldsBehind last (in_doubt mid.line) (d.told disk) desk.limit (history mid))
+      → ForSome (d.told mid.disk) (λ _. HoldsAfter last (in_doubt mid.line) (d.told disk) desk.limit (history mid))
       → (last ≢ ending.DiskFault → (c : List ℕ) → d.image disk c → Stands c mid.limit (map written_entry (history mid)))
       → HoldsServed d (taken_now d desk.disk) disk desk.limit (history desk) seed links talks n last
-  served_with links last over doubtful holds durable =
+  served_with links last conversations doubtful holds durable =
       let all = opened_records d desk opened in
       let here : IsLegal desk.limit (history mid) = subst (λ (l : ℕ). IsLegal l (history mid)) on.limit legal in
       let same = opened.moment in
@@ -230,15 +230,15 @@ module _ {D : Type 0} (d : disks.Ghosts D) (counts_now : (x : D) (t : ℕ) (c : 
         served_at = d.time mid.disk;
         moments = (omega (arith, same), omega (arith, same, on_later), passed);
         begins = subst (λ (l : List Record). BeginsWith l mid.line) opened.line on.begins;
-        behind = over.behind;
-        replies = subst (λ (t : ℕ). AreOver (ActsIn desk.limit mid.line) talks links (worker_at (start_of seed 1) (length (history desk)) t)
-            (worker_at over.behind (length mid.line) (d.time mid.disk))) (sym same)
-            (subst (λ (k : ℕ). AreOver (ActsIn desk.limit mid.line) talks links (worker_at (start_of seed 1) k (d.time desk.disk))
-            (worker_at over.behind (length mid.line) (d.time mid.disk))) all over.over);
+        behind = conversations.behind;
+        replies = subst (λ (t : ℕ). AreOnLinks (ActsIn desk.limit mid.line) talks links (worker_at (start_of seed 1) (length (history desk)) t)
+            (worker_at conversations.behind (length mid.line) (d.time mid.disk))) (sym same)
+            (subst (λ (k : ℕ). AreOnLinks (ActsIn desk.limit mid.line) talks links (worker_at (start_of seed 1) k (d.time desk.disk))
+            (worker_at conversations.behind (length mid.line) (d.time mid.disk))) all conversations.on_links);
         once = λ place low high.
             let whole : entries_in (length mid.line) mid.line ≡ length (history mid) = ap (λ (l : List Record). length (entries l)) (begins_take mid.line mid.line (begins_self mid.line)) in
             let front = opened_entries in
-            entries_once desk.limit mid.line talks links (start_of seed 1) over.behind (length desk.line) (length mid.line) (d.time desk.disk) (d.time mid.disk) place over.over
+            entries_once desk.limit mid.line talks links (start_of seed 1) conversations.behind (length desk.line) (length mid.line) (d.time desk.disk) (d.time mid.disk) place conversations.on_links
             (omega (arith, low, front)) (omega (arith, high, whole));
         marks = within_wider (mark_of d.fault_count d.time desk.disk) (mark_of d.fault_count d.time mid.disk) (mark_of d.fault_count d.time desk.disk)
             (mark_of d.fault_count d.time disk) (all_receipts talks) (omega arith) (omega arith) risen passed marks;
@@ -247,10 +247,10 @@ module _ {D : Type 0} (d : disks.Ghosts D) (counts_now : (x : D) (t : ℕ) (c : 
         stops = λ told is. (stops_from d counts_now only_now desk mid disk opened on stops told is).each;
         kept = λ told is.
             let t = told_on (d.told desk.disk) (d.told mid.disk) told on.tells is in
-            keeps_promises (d.time disk) (d.image_since disk) (λ t u c le left. since_later disk t u c le left) desk.limit mid.line talks links (start_of seed 1) over.behind
+            keeps_promises (d.time disk) (d.image_since disk) (λ t u c le left. since_later disk t u c le left) desk.limit mid.line talks links (start_of seed 1) conversations.behind
             (length desk.line) (length mid.line) (d.time desk.disk) (d.time mid.disk)
-            (subst (λ (l : ℕ). KeepsLine l (d.time disk) (d.image_since disk) mid.line) on.limit (keeps t.0 t.1)) some_records over.over;
-        rests = λ told is image left.
+            (subst (λ (l : ℕ). KeepsLine l (d.time disk) (d.image_since disk) mid.line) on.limit (keeps t.0 t.1)) some_records conversations.on_links;
+        stops_now = λ told is image left.
             let t = told_on (d.told desk.disk) (d.told mid.disk) told on.tells is in
             subst (λ (l : ℕ). HoldsPrefix l (sure mid.line) (history mid) image) on.limit
             ((stops t.0 t.1).each image (counts_now disk (d.time mid.disk) image passed left));
@@ -272,7 +272,7 @@ module _ {D : Type 0} (d : disks.Ghosts D) (counts_now : (x : D) (t : ℕ) (c : 
         none = none.0;
         silent = none.1;
         leaves = subst (λ (h : List Entry). LeavesFinal d (taken_now d desk.disk) disk desk.limit (history desk) h n end) same
-            (closed_final d counts_now only_now desk mid disk opened on n count legal stops end holds durable);
+            (closed_final d counts_now only_now desk mid disk opened on n count passed legal stops end holds durable);
         stops = subst (λ (h : List Entry). StopsFrom d desk disk h) same stops_here;
       }
 
@@ -298,8 +298,8 @@ module _ {D : Type 0} (d : disks.Ghosts D) (counts_now : (x : D) (t : ℕ) (c : 
             ends = one.ends;
             ended = inl had.ended;
           };
-          served = served_with one.links end one.over (λ is. absurd (well_served had.why talks (sym had.ended ∙ is)))
-              (λ told is. subst (λ (e : Ending). HoldsBehind e (in_doubt mid.line) (d.told disk) desk.limit (history mid)) (sym had.ended)
+          served = served_with one.links end one.conversations (λ is. absurd (well_served had.why talks (sym had.ended ∙ is)))
+              (λ told is. subst (λ (e : Ending). HoldsAfter e (in_doubt mid.line) (d.told disk) desk.limit (history mid)) (sym had.ended)
               (holds_whole had.why talks (in_doubt mid.line) (d.told disk) desk.limit (history mid)
               (subst (λ (l : ℕ). Holds (d.told disk) l (history mid)) on.limit (holds told is)))) (λ well. durable);
           begins = entries_begin desk.line mid.line on.begins;
@@ -338,7 +338,7 @@ module _ {D : Type 0} (d : disks.Ghosts D) (counts_now : (x : D) (t : ℕ) (c : 
             ends = one.ends;
             ended = inr (refl, behind (d.fault_count desk.disk) (all_receipts talks) (d.fault_count mid.disk) (d.fault_count disk) counts rises);
           };
-          served = served_with one.links ending.DiskFault one.over (λ is. doubt)
+          served = served_with one.links ending.DiskFault one.conversations (λ is. doubt)
               (λ told is. (doubt, subst (λ (l : ℕ). HoldsIn true (d.told disk) l (history mid)) on.limit (holds told is))) (λ well. absurd (well refl));
           begins = entries_begin desk.line mid.line on.begins;
           stops = stops_here;
@@ -368,7 +368,7 @@ opened_serves d counts_now only_now first desk disk address connections seed bef
     opened = history desk;
     store = store;
     none = none.none;
-    leaves = leaves_since d counts_now only_now first desk disk (history desk) n end (begins_self (history desk)) synced opens alike none.stops none.leaves;
+    leaves = leaves_since d counts_now only_now first desk disk (history desk) n end (begins_self (history desk)) synced opens alike none.stops moment none.leaves;
     silent = none.silent;
   })) (λ had.
       let s = had.served in
@@ -397,7 +397,7 @@ opened_serves d counts_now only_now first desk disk address connections seed bef
           holds = still_told (d.told first) (d.told desk.disk) _ alike s.holds;
           stops = stops_since d counts_now only_now first desk disk (entries s.line) had.begins synced opens alike had.stops;
           kept = still_told (d.told first) (d.told desk.disk) _ alike s.kept;
-          rests = still_told (d.told first) (d.told desk.disk) _ alike s.rests;
+          stops_now = still_told (d.told first) (d.told desk.disk) _ alike s.stops_now;
           closed = λ well. still_told (d.told first) (d.told desk.disk) _ alike (s.closed well);
         };
       })) serves.1),
@@ -420,7 +420,7 @@ unopened_serves d taken disk address connections seed doors talks why end ended 
 
 -- ---- responses
 
--- behind the last talk all responses are counted
+-- after the last talk all responses are counted
 pub counted_all : (talks : List Talk) (i r : ℕ) → length talks ≤ i → r ≤ 2 ^ 64 - 1 → min (r + length (all_receipts (drop i talks))) (2 ^ 64 - 1) ≡ responses_of talks
     → r ≡ responses_of talks
 counted_all talks i r end most count =

@@ -33,15 +33,17 @@ pub intake_since : {D : Type 0} (d : disks.Ghosts D) (counts_now : (x : D) (t : 
     (only_now : (x : D) (c : List ℕ) → d.image_since x (d.time x) c → d.image x c) (first : D) (desk : Desk D) (disk : D) (left : Option (List ℕ)) (clock : ℕ)
     (draw : Draw) (n : ℕ) (end : Ending) (h : List Entry) → desk.line ≡ opened_line desk.opened_at h → ForSome (d.told first) (λ bytes. IsStoreOf bytes desk.limit h)
     → IsSynced d.told d.image first → OpensOnly d.told d.image d.time d.image_since first desk.disk (λ bytes after. IsStoreOf after desk.limit (history desk))
-    → TellsAlike (d.told first) (d.told desk.disk) → ClosesTaken d desk disk left clock draw n end
+    → TellsAlike (d.told first) (d.told desk.disk) → d.time first ≤ d.time desk.disk → ClosesTaken d desk disk left clock draw n end
     → IntakeOpened d (taken_now d first) disk left clock draw n end
-intake_since d counts_now only_now first desk disk left clock draw n end h line store synced opens alike closes = record {
+intake_since d counts_now only_now first desk disk left clock draw n end h line store synced opens alike later closes = record {
   limit = desk.limit;
   opened = history desk;
   final = closes.final;
   store = store_of desk (d.told first) h line store;
-  ends = closes.ends;
-  leaves = leaves_since d counts_now only_now first desk disk closes.final n end closes.begins synced opens alike closes.stops closes.leaves;
+  input = closes.ends.0;
+  reads = closes.ends.1;
+  ends = closes.ends.2;
+  leaves = leaves_since d counts_now only_now first desk disk closes.final n end closes.begins synced opens alike closes.stops later closes.leaves;
 }
 
 -- ---- no store was opened
@@ -71,11 +73,12 @@ pub leaves_unopened : {D : Type 0} (d : disks.Ghosts D) (first disk : D) (why : 
     → ForSome (d.told first) (λ bytes. HoldsAsBefore bytes (d.told disk))
     → IsSynced d.told d.image first → OpensOnly d.told d.image d.time d.image_since first disk IsSameStore
     → (why ≢ refused.Failed → OpensOnly d.told d.image d.time d.image_since first disk (λ bytes after. after ≡ bytes))
-    → LeavesUnopened d (taken_now d first) disk 0 end
-leaves_unopened d first disk why end ended is same left synced opens untouched = record {
+    → d.time first ≤ d.time disk → LeavesUnopened d (taken_now d first) disk 0 end
+leaves_unopened d first disk why end ended is same left synced opens untouched later = record {
   why = why;
   ended = ended;
   counts = refl;
+  later = later;
   holds = subst (λ (e : Ending). IfSome (d.told first) (λ bytes. EndsUnopened bytes (d.told disk) e)) (sym ended) (unopened_holds (d.told first) (d.told disk) why is same left);
   stops = λ bytes told. subst (λ (e : Ending). AnyStopLeaves d (taken_now d first) disk (IsSpared e bytes)) (sym ended)
       (unopened_stops d first disk why bytes told synced opens untouched);

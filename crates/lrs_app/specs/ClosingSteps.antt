@@ -1,5 +1,5 @@
 -- What the private steps of a command say of the closing.
-use Rattle.std.specs.Prelude.{ℕ, List, Option, length, IfSome}
+use Rattle.std.specs.Prelude.{ℕ, List, Option, length}
 use Rattle.std.specs.Option.{ForSome}
 use Rattle.lrs_disk.specs.Disk.{LeavesOnly}
 use Rattle.lrs_disk.specs.declared.disk.Disk as disks
@@ -9,6 +9,7 @@ use Rattle.lrs_machine.specs.Desk.{Desk, HoldsPrefix, history}
 use Rattle.lrs_machine.specs.Line.{BeginsWith}
 use Rattle.lrs_app.specs.Disks.{LeavesFinal, taken_now}
 use Rattle.lrs_app.specs.Run.{EndsOpened}
+use Rattle.lrs_console.specs.Reading.{ForInput}
 use Rattle.lrs_console.specs.declared.ending.Ending.{Ending}
 
 -- A crash at any moment since the store was open leaves the first entries of this history, at least those at the
@@ -22,6 +23,6 @@ pub record ClosesTaken {D : Type 0} (d : disks.Ghosts D) (desk : Desk D) (disk :
     (draw : Draw) (n : ℕ) (end : Ending) : Type 0 where
   pub final : List Entry
   pub begins : BeginsWith (history desk) final
-  pub ends : IfSome left (λ input. EndsOpened desk.limit (history desk) final input clock draw end)
+  pub ends : ForInput left (λ input. EndsOpened desk.limit (history desk) final input clock draw end)
   pub leaves : LeavesFinal d (taken_now d desk.disk) disk desk.limit (history desk) final n end
   pub stops : StopsFrom d desk disk final

@@ -1,5 +1,5 @@
 -- What is said of the disk that a command takes and hands back.
-use Rattle.std.specs.Prelude.{◌≡◌, ◌≢◌, ◌⊎◌, ℕ, List, length, map, Bool, true, false, Option, Some, IfSome}
+use Rattle.std.specs.Prelude.{◌≡◌, ◌≢◌, ◌⊎◌, ◌≤◌, ℕ, List, length, map, Bool, false, Option, Some, IfSome}
 use Rattle.std.specs.Option.{ForSome}
 use Rattle.lrs_disk.specs.declared.disk.Disk as disks
 use Rattle.lrs_journal.specs.Journal.{TellsStore}
@@ -14,7 +14,7 @@ use Rattle.lrs_app.specs.Steps.{ending_of}
 use Rattle.lrs_console.specs.declared.ending.Ending.{Ending}
 use Rattle.lrs_console.specs.declared.ending.Ending.TheVariants as ending
 
--- A disk as it was taken: what it held, where that is told, and its count of faults and its moment then.
+-- A disk as it was taken: what it held, if that is told, and its count of faults and its moment then.
 pub record Taken : Type 0 where
   pub held : Option (List ℕ)
   pub mark : Mark
@@ -43,7 +43,7 @@ HoldsIn doubt told limit h = TellsStore told limit doubt (map written_entry h)
 abbrev pub Holds : Option (List ℕ) → ℕ → List Entry → Type 0
 Holds told limit h = HoldsIn false told limit h
 
--- the disk holds what it held: the same bytes, or the store of the same history (a recovery may write behind its end)
+-- the disk holds what it held: the same bytes, or the store of the same history (a recovery may write after its end)
 abbrev pub HoldsAsBefore : List ℕ → Option (List ℕ) → Type 0
 HoldsAsBefore bytes told = (told ≡ Some bytes)
     ⊎ ((limit : ℕ) × (h : List Entry) × IsStoreOf bytes limit h × Holds told limit h)
@@ -54,7 +54,7 @@ HoldsAsBefore bytes told = (told ≡ Some bytes)
 abbrev pub IsDamagedAt : List ℕ → ℕ → Type 0
 IsDamagedAt bytes k = IsDeskRefused bytes (refused.Damaged k) ⊎ IsDeskRefused bytes (refused.IllegalEntry k)
 
--- How a command ends on a disk of these bytes where no store is opened.
+-- How a command ends on a disk of these bytes if no store is opened.
 abbrev pub EndsUnopened : List ℕ → Option (List ℕ) → Ending → Type 0
 EndsUnopened bytes told ending.NotAStore = IsDeskRefused bytes refused.NotAStore × (told ≡ Some bytes)
 EndsUnopened bytes told (ending.Damaged k) = IsDamagedAt bytes k × (told ≡ Some bytes)
@@ -62,7 +62,7 @@ EndsUnopened bytes told ending.Memory = told ≡ Some bytes
 EndsUnopened bytes told ending.DiskFault = HoldsAsBefore bytes told
 EndsUnopened bytes told other = ⊥
 
--- What a stop leaves of these bytes where no store is opened: themselves, or where the disk failed maybe a store of the
+-- What a stop leaves of these bytes if no store is opened: themselves, or if the disk failed maybe a store of the
 -- same history.
 abbrev pub IsSpared : Ending → List ℕ → List ℕ → Type 0
 IsSpared ending.DiskFault bytes image = IsSameStore bytes image
@@ -74,6 +74,7 @@ pub record LeavesUnopened {D : Type 0} (d : disks.Ghosts D) (taken : Taken) (dis
   pub why : DeskRefused
   pub ended : end ≡ ending_of why
   pub counts : n ≡ 0
+  pub later : taken.mark.moment ≤ d.time disk
   pub holds : IfSome taken.held (λ bytes. EndsUnopened bytes (d.told disk) end)
   pub stops : ForSome taken.held (λ bytes. AnyStopLeaves d taken disk (IsSpared end bytes))
 
@@ -85,11 +86,12 @@ pub record LeavesFinal {D : Type 0} (d : disks.Ghosts D) (taken : Taken) (disk :
   -- it can have come about
   pub legal : IsLegal limit final
   pub counts : n ≡ length final
-  -- The disk holds it. Only where the disk failed, it may still hold the one at the opening.
+  pub later : taken.mark.moment ≤ d.time disk
+  -- The disk holds it. Only if the disk failed, it may still hold the one at the opening.
   pub holds : ForSome taken.held
       (λ _. Holds (d.told disk) limit final ⊎ ((end ≡ ending.DiskFault) × Holds (d.told disk) limit opened))
   -- a stop at any moment leaves its first entries, at least those at the opening
   pub stops : ForSome taken.held (λ _. AnyStopLeaves d taken disk (HoldsPrefix limit (length opened) final))
-  -- behind a good closing a stop leaves all of it
+  -- after a good closing a stop leaves all of it
   pub closed : end ≢ ending.DiskFault
       → ForSome taken.held (λ _. StopNowLeaves d disk (λ image. IsStoreOf image limit final))

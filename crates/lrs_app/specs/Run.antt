@@ -1,4 +1,4 @@
--- What a run does: the outside before it and behind it, the ending, and what it leaves on the disk.
+-- What a run does: the outside before and after it, the ending, and what it leaves on the disk.
 use Rattle.std.specs.Prelude.{◌≡◌, ◌⊎◌, ◌<◌, ◌≤◌, ℕ, List, [], ◌∷◌, ◌++◌, Option, Some, None, IfSome}
 use Rattle.lrs_disk.specs.Door.{Returned}
 use Rattle.lrs_disk.specs.Faults.{Rises}
@@ -20,9 +20,11 @@ use Rattle.lrs_hall.specs.Talks.{Talk}
 use Rattle.lrs_app.specs.Disks.{AnyStopLeaves, Holds, LeavesFinal, LeavesUnopened, StopNowLeaves, Taken}
 use Rattle.lrs_app.specs.Service.{Doors, doors, HasNoDoor, ServesDoor, HoldsServed, CountsOn, responses_of}
 use Rattle.lrs_app.specs.declared.program.Ended as program
-use Rattle.lrs_command_line.specs.CommandLine.{CommandLine, init, intake, serve, IsCommandLine, base_of, limit_of, connections_of}
+use Rattle.lrs_command_line.specs.CommandLine.{CommandLine, init, intake, serve, IsCommandLine, base_of, limit_of}
+use Rattle.lrs_command_line.specs.CommandLine.{connections_of}
 use Rattle.lrs_console.specs.Endings.{ending_status, ending_line}
 use Rattle.lrs_console.specs.Printing.{Prints}
+use Rattle.lrs_console.specs.Reading.{AreOfInput}
 use Rattle.lrs_console.specs.Asking.{InputKind, IsTakenFor, EndsAsking, entry_of_input}
 use Rattle.lrs_console.specs.declared.ending.Ending.{Ending}
 use Rattle.lrs_console.specs.declared.ending.Ending.TheVariants as ending
@@ -93,19 +95,19 @@ abbrev pub TakesFile : List ℕ → Outside → Outside → Type 0
 TakesFile file before after = AddsName before.files after.files file
 
 -- the input was left alone
-pub record LeavesInput (before after : Outside) : Type 0 where
+pub record SparesInput (before after : Outside) : Type 0 where
   pub left : after.left ≡ before.left
   pub faults : after.input_faults ≡ before.input_faults
 
 -- no door was asked for or given back
-abbrev pub LeavesDoors : Outside → Outside → Type 0
-LeavesDoors before after = after.lobby ≡ before.lobby
+abbrev pub SparesDoors : Outside → Outside → Type 0
+SparesDoors before after = after.lobby ≡ before.lobby
 
 -- the file's disk couldn't be taken
 abbrev pub HasNoDisk : Outside → Outside → ℕ → Ending → Type 0
 HasNoDisk before after n end = (end ≡ ending.DiskFault) × Rises before.shelf_faults after.shelf_faults × (n ≡ 0)
 
--- a fault is told only where the count of the object rose
+-- a fault is told only if the count of the object rose
 abbrev pub HasEndingCause : ℕ → ℕ → ℕ → ℕ → Ending → Type 0
 HasEndingCause disk_before disk_now input_before input_now ending.DiskFault = Rises disk_before disk_now
 HasEndingCause disk_before disk_now input_before input_now ending.InputFault = Rises input_before input_now
@@ -114,7 +116,7 @@ HasEndingCause disk_before disk_now input_before input_now other = Unit {0}
 -- ---- intake
 
 -- How intake ends on a store of this limit, opened with this history, and which one the store has in the end: by the
--- abstract store's answer to what the input asks. Where the disk failed, the answer's entry may be missing.
+-- abstract store's answer to what the input asks. If the disk failed, the answer's entry may be missing.
 abbrev pub EndsOpened : ℕ → List Entry → List Entry → List ℕ → ℕ → Draw → Ending → Type 0
 EndsOpened limit opened final input clock draw ending.Memory = final ≡ opened
 EndsOpened limit opened final input clock draw ending.InputFault = final ≡ opened
@@ -132,7 +134,10 @@ pub record IntakeOpened {D : Type 0} (d : disks.Ghosts D) (taken : Taken) (disk 
   pub opened : List Entry
   pub final : List Entry
   pub store : IfSome taken.held (λ bytes. IsStoreOf bytes limit opened)
-  pub ends : IfSome left (λ input. EndsOpened limit opened final input clock draw end)
+  -- some bytes: those that the input tells, if it tells any
+  pub input : List ℕ
+  pub reads : AreOfInput input left
+  pub ends : EndsOpened limit opened final input clock draw end
   pub leaves : LeavesFinal d taken disk limit opened final n end
 
 -- What intake does over a disk, with an input of which this was left, at this reading of the clock, with this draw.
@@ -143,7 +148,7 @@ IntakeEnds d taken disk left clock draw n end = LeavesUnopened d taken disk n en
 -- what intake leaves, with the disk that it took or without one
 abbrev pub IntakeLeaves : {D : Type 0} → disks.Ghosts D → List ℕ → ℕ → Draw → Outside → Outside → Option D → ℕ → Ending
     → Type 0
-IntakeLeaves d file clock draw before after None n end = HasNoDisk before after n end × LeavesInput before after
+IntakeLeaves d file clock draw before after None n end = HasNoDisk before after n end × SparesInput before after
 IntakeLeaves d file clock draw before after (Some disk) n end =
     IntakeEnds d (taken_from before file) disk before.left clock draw n end
     × HasEndingCause (before.begins file) (d.fault_count disk) before.input_faults after.input_faults end
@@ -173,12 +178,12 @@ InitEnds bytes limit first told ending.DiskFault = ((IsOpenTo bytes → ⊥) →
     × (IsOpenTo bytes → (now : List ℕ) × (told ≡ Some now) × IsMade limit (written_entry first) now)
 InitEnds bytes limit first told other = ⊥
 
--- these bytes where no store may be made, else no store or the whole new one
+-- these bytes if no store may be made, else no store or the whole new one
 abbrev pub IsSparedOrMade : List ℕ → ℕ → Entry → List ℕ → Type 0
 IsSparedOrMade bytes limit first image =
     ((IsOpenTo bytes → ⊥) → image ≡ bytes) × (IsOpenTo bytes → IsMade limit (written_entry first) image)
 
--- What a stop of init leaves on a disk of these bytes, at any moment and behind it.
+-- What a stop of init leaves on a disk of these bytes, at any moment and after it.
 abbrev pub InitStops : {D : Type 0} → disks.Ghosts D → Taken → D → List ℕ → ℕ → Entry → Ending → Type 0
 InitStops d taken disk bytes limit first ending.Founded =
     AnyStopLeaves d taken disk (IsMade limit (written_entry first))
@@ -188,8 +193,9 @@ InitStops d taken disk bytes limit first ending.DiskFault =
 InitStops d taken disk bytes limit first other = AnyStopLeaves d taken disk (λ image. image ≡ bytes)
 
 -- What init does over a disk, with this first entry.
-abbrev pub InitOver : {D : Type 0} → disks.Ghosts D → Taken → D → ℕ → Entry → ℕ → Ending → Type 0
-InitOver d taken disk limit first n end = InitTells limit first n end
+abbrev pub InitOnDisk : {D : Type 0} → disks.Ghosts D → Taken → D → ℕ → Entry → ℕ → Ending → Type 0
+InitOnDisk d taken disk limit first n end = InitTells limit first n end
+    × (taken.mark.moment ≤ d.time disk)
     × IfSome taken.held
     (λ bytes. InitEnds bytes limit first (d.told disk) end × InitStops d taken disk bytes limit first end)
 
@@ -198,7 +204,7 @@ abbrev pub InitLeaves : {D : Type 0} → disks.Ghosts D → List ℕ → List �
     → ℕ → Ending → Type 0
 InitLeaves d file admin base limit clock before after None n end = HasNoDisk before after n end
 InitLeaves d file admin base limit clock before after (Some disk) n end =
-    InitOver d (taken_from before file) disk limit (founding_entry admin base clock) n end
+    InitOnDisk d (taken_from before file) disk limit (founding_entry admin base clock) n end
     × HasEndingCause (before.begins file) (d.fault_count disk) 0 0 end
 
 -- ---- serve
@@ -231,7 +237,7 @@ pub record ServesLinks {D : Type 0} (d : disks.Ghosts D) (taken : Taken) (disk :
   pub door : ServesDoor address connections before after links talks (d.fault_count disk) end
   pub served : HoldsServed d taken disk limit opened seed links talks n end
 
--- the lobby's fault is told only where its count rose
+-- the lobby's fault is told only if its count rose
 abbrev pub HasLobbyCause : Doors → Doors → Ending → Type 0
 HasLobbyCause before after end = end ≡ ending.LobbyFault → Rises before.faults after.faults
 
@@ -247,7 +253,7 @@ ServesDisk d taken disk address connections seed before after talks n end = HasL
 abbrev pub ServeLeaves : {D : Type 0} → disks.Ghosts D → List ℕ → List ℕ → ℕ → List ℕ → Outside → Outside → Option D
     → List Talk → ℕ → Ending → Type 0
 ServeLeaves d file address connections seed before after None talks n end =
-    HasNoDisk before after n end × LeavesDoors before after × (talks ≡ [])
+    HasNoDisk before after n end × SparesDoors before after × (talks ≡ [])
 ServeLeaves d file address connections seed before after (Some disk) talks n end =
     HasEndingCause (before.begins file) (d.fault_count disk) 0 0 end
     × CountsOn (before.begins file) talks (d.fault_count disk)
@@ -261,7 +267,7 @@ pub record IsOneStep {D : Type 0} (file : List ℕ) (before after : Outside) (o 
     (end : Ending) : Type 0 where
   pub reads : ReadsOnce clock before after
   pub takes : TakesFile file before after
-  pub doors : LeavesDoors before after
+  pub doors : SparesDoors before after
   pub silent : IsSilent o
   pub prints : PrintsEnding end before after o.status
 
@@ -287,10 +293,10 @@ ServeRuns d file address connections seed before after o = (end : Ending) × (af
 abbrev pub CommandRuns : {D : Type 0} → disks.Ghosts D → CommandLine → List ℕ → Outside → Outside → program.Ended D
     → Type 0
 CommandRuns d (intake file) seed before after o = IntakeRuns d file (draw_at (start_of seed 0)) before after o
-CommandRuns d (init w) seed before after o = LeavesInput before after
+CommandRuns d (init w) seed before after o = SparesInput before after
     × InitRuns d w.file w.admin (base_of w) (limit_of w) before after o
 CommandRuns d (serve w) seed before after o =
-    LeavesInput before after × ServeRuns d w.file w.address (connections_of w) seed before after o
+    SparesInput before after × ServeRuns d w.file w.address (connections_of w) seed before after o
 
 -- Nothing but the output was used.
 pub record IsIdle {D : Type 0} (before after : Outside) (o : program.Ended D) : Type 0 where
@@ -298,13 +304,13 @@ pub record IsIdle {D : Type 0} (before after : Outside) (o : program.Ended D) : 
   pub files : after.files ≡ before.files
   pub shelf : after.shelf_faults ≡ before.shelf_faults
   pub readings : after.readings ≡ before.readings
-  pub input : LeavesInput before after
-  pub doors : LeavesDoors before after
+  pub input : SparesInput before after
+  pub doors : SparesDoors before after
   pub disk : o.disk ≡ None
   pub length : o.report.length ≡ 0
   pub silent : IsSilent o
 
--- What a run of these words does: the command that they are, or `usage` where they are none. Want of memory for the
+-- What a run of these words does: the command that they are, or `usage` if they are none. Running out of memory for the
 -- words is free.
 abbrev pub Runs : {D : Type 0} → disks.Ghosts D → List (List ℕ) → List ℕ → Outside → Outside → program.Ended D → Type 0
 Runs d words seed before after o =

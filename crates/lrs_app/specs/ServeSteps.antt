@@ -31,7 +31,7 @@ pub record ServesOne {D : Type 0} (d : disks.Ghosts D) (old new : Desk D) (conne
   pub links : List Returned
   pub passes : Passes opening closing links
   pub readings : AddsReadings opening.readings closing.readings (clocks (all_receipts talks))
-  pub over : AreConversations d.time old new (start_of seed 1) links talks
+  pub conversations : AreConversations d.time old new (start_of seed 1) links talks
   pub ends : EndsServing connections (length talks) opening closing why
 
 -- a door was had, served, and given back

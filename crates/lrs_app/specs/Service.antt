@@ -1,5 +1,6 @@
 -- What serve does: it asks for a door of the address, serves its connections, and gives the door back.
-use Rattle.std.specs.Prelude.{◌≡◌, ◌≢◌, ◌⊎◌, ◌<◌, ◌≤◌, ◌++◌, ◌∷◌, [], ◌-◌, ◌^◌, ℕ, min, List, Option, Some, option_map, length, Bool, true, false}
+use Rattle.std.specs.Prelude.{◌≡◌, ◌≢◌, ◌⊎◌, ◌<◌, ◌≤◌, ◌++◌, ◌∷◌, [], ◌-◌, ◌^◌, ℕ, min, List, Option, option_map}
+use Rattle.std.specs.Prelude.{length, Bool, true}
 use Rattle.std.specs.List.{AllByRecursion}
 use Rattle.std.specs.Option.{ForSome}
 use Rattle.lrs_disk.specs.Door.{DoorState, IsFresh, Returned}
@@ -15,7 +16,8 @@ use Rattle.lrs_machine.specs.Line.{BeginsWith, Record, entries, in_doubt, opened
 use Rattle.lrs_hall.specs.Acts.{ActsIn}
 use Rattle.lrs_hall.specs.Draws.{Draws, start_of}
 use Rattle.lrs_hall.specs.Laws.{IsKept, entries_at}
-use Rattle.lrs_hall.specs.Serving.{AddsReadings, AreOver, AreWithin, Counts, EndsServing, Passes, all_receipts, clocks, mark_of, worker_at}
+use Rattle.lrs_hall.specs.Serving.{AddsReadings, AreOnLinks, AreWithin, Counts, EndsServing, Passes, all_receipts}
+use Rattle.lrs_hall.specs.Serving.{clocks, mark_of, worker_at}
 use Rattle.lrs_hall.specs.Talks.{Talk}
 use Rattle.lrs_hall.specs.declared.serving.ServeEnd.{ServeEnd}
 use Rattle.lrs_hall.specs.declared.serving.ServeEnd.TheVariants as serve
@@ -71,12 +73,12 @@ ending_of_serving serve.Memory talks = ending.Memory
 abbrev pub CountsOn : ℕ → List Talk → ℕ → Type 0
 CountsOn begins talks now = (last : ℕ) × Counts begins (all_receipts talks) last × (last ≤ now)
 
--- the count of the disk's faults rose behind what each act told of it
-abbrev pub IsBehind : List Receipt → ℕ → Type 0
-IsBehind receipts now = AllByRecursion (λ (receipt : Receipt). receipt.acted ≡ true → Rises receipt.is now) receipts
+-- the count of the disk's faults rose after each act
+abbrev pub RoseSince : List Receipt → ℕ → Type 0
+RoseSince receipts now = AllByRecursion (λ (receipt : Receipt). receipt.acted ≡ true → Rises receipt.is now) receipts
 
 -- A fresh door was had, these links passed through it, each with its talk and each act with a reading of the door's
--- clock, and it was given back. The disk that fails at the closing goes before what the door and want of memory say.
+-- clock, and it was given back. A disk that fails at the closing takes precedence over the door and over memory.
 pub record ServesDoor (address : List ℕ) (connections : ℕ) (before after : Doors) (links : List Returned)
     (talks : List Talk) (disk_faults : ℕ) (end : Ending) : Type 0 where
   pub opening : DoorState
@@ -88,15 +90,15 @@ pub record ServesDoor (address : List ℕ) (connections : ℕ) (before after : D
   pub why : ServeEnd
   pub ends : EndsServing connections (length talks) opening closing why
   pub ended : (end ≡ ending_of_serving why talks)
-      ⊎ ((end ≡ ending.DiskFault) × IsBehind (all_receipts talks) disk_faults)
+      ⊎ ((end ≡ ending.DiskFault) × RoseSince (all_receipts talks) disk_faults)
 
 -- ---- what the store holds then
 
--- The disk holds the history. Only where it failed at the closing, and the last act left its entry in doubt, it may
+-- The disk holds the history. Only if it failed at the closing, and the last act left its entry in doubt, it may
 -- lack that entry.
-abbrev pub HoldsBehind : Ending → Bool → Option (List ℕ) → ℕ → List Entry → Type 0
-HoldsBehind ending.DiskFault doubt told limit h = (doubt ≡ true) × HoldsIn true told limit h
-HoldsBehind other doubt told limit h = Holds told limit h
+abbrev pub HoldsAfter : Ending → Bool → Option (List ℕ) → ℕ → List Entry → Type 0
+HoldsAfter ending.DiskFault doubt told limit h = (doubt ≡ true) × HoldsIn true told limit h
+HoldsAfter other doubt told limit h = Holds told limit h
 
 -- What serving a store leaves that was opened with a history: one line of records, whose entries are the one history
 -- in the end.
@@ -106,30 +108,30 @@ pub record HoldsServed {D : Type 0} (d : disks.Ghosts D) (taken : Taken) (disk :
   -- the history can have come about
   pub legal : IsLegal limit (entries line)
   pub counts : n ≡ length (entries line)
-  -- it goes on from the one at the opening; the opening ended at this moment, and serving at that
+  -- it goes on from the one at the opening, which ended at `opened_at`; serving ended at `served_at`
   pub opened_at : ℕ
   pub served_at : ℕ
   pub moments : (taken.mark.moment ≤ opened_at) × (opened_at ≤ served_at) × (served_at ≤ d.time disk)
   pub begins : BeginsWith (opened_line opened_at opened) line
   -- each response of an act is the abstract store's reply over the entries before its point
   pub behind : Draws
-  pub replies : AreOver (ActsIn limit line) talks links (worker_at (start_of seed 1) (length opened) opened_at)
+  pub replies : AreOnLinks (ActsIn limit line) talks links (worker_at (start_of seed 1) (length opened) opened_at)
       (worker_at behind (length line) served_at)
   -- each further entry is that of just one response
   pub once : (place : ℕ) → length opened ≤ place → place < length (entries line)
       → entries_at place (all_receipts talks) ≡ 1
   -- what acts tell of the disk's count and moment lies between its taking and its return
   pub marks : AreWithin taken.mark (mark_of d.fault_count d.time disk) (all_receipts talks)
-  -- the disk fails at the closing only where the last entry is in doubt
+  -- the disk fails at the closing only if the last entry is in doubt
   pub doubtful : end ≡ ending.DiskFault → in_doubt line ≡ true
   -- the disk holds the history
-  pub holds : ForSome taken.held (λ _. HoldsBehind end (in_doubt line) (d.told disk) limit (entries line))
+  pub holds : ForSome taken.held (λ _. HoldsAfter end (in_doubt line) (d.told disk) limit (entries line))
   -- a stop at any moment leaves its first entries, at least those at the opening
   pub stops : ForSome taken.held (λ _. AnyStopLeaves d taken disk (HoldsPrefix limit (length opened) (entries line)))
   -- a stop at any moment since a response without trouble leaves what it was answered over, and its own entry
   pub kept : ForSome taken.held (λ _. AllByRecursion (IsKept limit (d.image_since disk) line) (all_receipts talks))
   -- a stop now leaves what stands without doubt
-  pub rests : ForSome taken.held (λ _. StopNowLeaves d disk (HoldsPrefix limit (sure line) (entries line)))
-  -- behind a good closing a stop leaves all of it
+  pub stops_now : ForSome taken.held (λ _. StopNowLeaves d disk (HoldsPrefix limit (sure line) (entries line)))
+  -- after a good closing a stop leaves all of it
   pub closed : end ≢ ending.DiskFault
       → ForSome taken.held (λ _. StopNowLeaves d disk (λ image. IsStoreOf image limit (entries line)))

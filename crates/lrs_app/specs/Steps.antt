@@ -1,5 +1,5 @@
 -- What the private steps of a command say.
-use Rattle.std.specs.Prelude.{◌≡◌, ◌≢◌, ◌⊎◌, ◌≤◌, ℕ, List, [], ◌∷◌, ◌++◌, Option, Some, true}
+use Rattle.std.specs.Prelude.{◌≡◌, ◌⊎◌, ◌≤◌, ℕ, List, [], ◌∷◌, ◌++◌, Some, true}
 use Rattle.lrs_disk.specs.Faults.{Rises}
 use Rattle.lrs_disk.specs.declared.disk.Disk as disks
 use Rattle.lrs_journal.specs.Journal.{TellsAlike}
@@ -35,7 +35,7 @@ pub record GoesOn {D : Type 0} (d : disks.Ghosts D) (old new : Desk D) : Type 0 
   pub later : d.time old.disk ≤ d.time new.disk
   pub stops : StopsWithin d.told d.time d.image_since old new
 
--- An entry is in doubt only where the disk failed, and then it is the one that was added.
+-- An entry is in doubt only if the disk failed, and then it is the one that was added.
 abbrev pub DoubtsOnly : {D : Type 0} → Desk D → Desk D → Ending → Type 0
 DoubtsOnly old new end = in_doubt new.line ≡ true → (end ≡ ending.DiskFault)
     × ((e : Entry) × (history new ≡ history old ++ e ∷ []))
@@ -51,7 +51,7 @@ abbrev pub HasDiskEndingCause : ℕ → ℕ → Ending → Type 0
 HasDiskEndingCause before now ending.DiskFault = (before ≤ now) × Rises before now
 HasDiskEndingCause before now other = now ≡ before
 
--- the same where no input was read
+-- the same if no input was read
 abbrev pub HasPutCause : ℕ → ℕ → Ending → Type 0
 HasPutCause before now ending.InputFault = ⊥
 HasPutCause before now ending.DiskFault = (before ≤ now) × Rises before now
@@ -81,5 +81,5 @@ ending_of_found found.Failed = ending.DiskFault
 ending_of_found found.Memory = ending.Memory
 
 -- the words as they were read mean a command whose values are in their ranges
-abbrev pub IsMeant : ProgramCommand → Type 0
-IsMeant read = (c : CommandLine) × IsInRange c × Denotes read c
+abbrev pub DenotesInRange : ProgramCommand → Type 0
+DenotesInRange read = (c : CommandLine) × IsInRange c × Denotes read c

@@ -1,9 +1,9 @@
-// A store is made.
+// The command `init`.
 ghost use Rattle.std.specs.Prelude.{◌≡◌};
 ghost use Rattle.lrs_parts.specs.Founding.{IsToken, IsBase};
 ghost use Rattle.lrs_app.specs.Steps.{ending_of_found};
 ghost use Rattle.lrs_app.specs.Disks.{taken_now};
-ghost use Rattle.lrs_app.specs.Run.{InitOver, HasEndingCause};
+ghost use Rattle.lrs_app.specs.Run.{InitOnDisk, HasEndingCause};
 ghost use Rattle.lrs_fold.specs.Own.{founding_entry};
 ghost use Rattle.lrs_journal.specs.Journal.{IsSynced};
 ghost use Rattle.lrs_journal.specs.Store.{IsLimit};
@@ -40,7 +40,7 @@ pub(crate) fn init_disk<D: Disk>(
     requires limit { IsLimit limit }
     requires admin { IsToken admin.now }
     requires base { IsBase base.now }
-    ensures ends { InitOver D.Disk (taken_now D.Disk disk) result.1 limit (founding_entry admin.now base.now clock)
+    ensures ends { InitOnDisk D.Disk (taken_now D.Disk disk) result.1 limit (founding_entry admin.now base.now clock)
         result.2 result.0 }
     ensures cause { HasEndingCause (D.fault_count disk) (D.fault_count result.1) 0 0 result.0 }
 {

@@ -1,5 +1,5 @@
 // One statement of the input, kept in a store.
-ghost use Rattle.std.specs.Prelude.{◌≡◌, List, ℕ, IfSome, false};
+ghost use Rattle.std.specs.Prelude.{◌≡◌, List, ℕ, false};
 ghost use Rattle.lrs_journal.specs.Journal.{IsSynced};
 ghost use Rattle.lrs_json.specs.Fits.{IsReadable};
 ghost use Rattle.lrs_json.specs.View.{view};
@@ -7,6 +7,7 @@ ghost use Rattle.lrs_json.specs.declared.limits.TheConstants.{DEPTH};
 ghost use Rattle.lrs_fold.specs.Own.{IsOfPut, MayRefusePut};
 ghost use Rattle.lrs_machine.specs.Desk.{history};
 ghost use Rattle.lrs_machine.specs.Line.{in_doubt};
+ghost use Rattle.lrs_console.specs.Reading.{ForInput};
 ghost use Rattle.lrs_console.specs.Asking.{EndsSaying, EndsRefused, put_answer};
 ghost use Rattle.lrs_app.specs.Disks.{taken_now};
 ghost use Rattle.lrs_app.specs.ClosingSteps.{ClosesTaken};
@@ -33,6 +34,7 @@ fn ending_saying(id: &Id, answered: Answered) -> Ending
             text: _,
             through: _,
         } => unreachable!(),
+        Answered::Document { media: _, bytes: _ } => unreachable!(),
         Answered::Refused(refusal) => ending_refused(refusal),
     }
 }
@@ -78,7 +80,7 @@ fn troubled(trouble: Trouble) -> Ending
     }
 }
 
-// Takes a statement in from the input.
+// Does what the input asks, over an open desk.
 fn take_in<D: Disk, I: Source>(
     alloc: Global,
     desk: &mut Desk<D>,
@@ -87,8 +89,8 @@ fn take_in<D: Disk, I: Source>(
     draw: &Draw,
 ) -> Ending
     requires opened { IsOpened D.Disk desk.old }
-    ensures ends { IfSome (I.left input.old) (λ input. EndsOpened desk.old.limit (history desk.old) (history desk.new)
-        input clock draw.now result) }
+    ensures ends { ForInput (I.left input.old) (λ bytes. EndsOpened desk.old.limit (history desk.old)
+        (history desk.new) bytes clock draw.now result) }
     ensures doubts { DoubtsOnly desk.old desk.new result }
     ensures goes_on { GoesOn D.Disk desk.old desk.new }
     ensures cause { HasCauses (D.fault_count desk.old.disk) (D.fault_count desk.new.disk) (I.fault_count input.old)
@@ -122,7 +124,7 @@ fn intake_opened<D: Disk, I: Source>(
     }
 }
 
-/// How a command ends where no store is opened.
+/// How a command ends if no store is opened.
 pub(crate) fn unopened(refused: DeskRefused) -> Ending
     ensures { result ≡ ending_of refused }
 {
@@ -135,7 +137,7 @@ pub(crate) fn unopened(refused: DeskRefused) -> Ending
     }
 }
 
-/// Takes a statement in over a disk. The number is that of the history's entries, or 0 where no store was opened.
+/// Takes a statement in over a disk. The number is that of the history's entries, or 0 if no store was opened.
 pub(crate) fn intake_disk<D: Disk, I: Source>(
     alloc: Global,
     disk: D,

@@ -3,7 +3,7 @@ ghost use Rattle.lrs_parts.specs.Founding.{IsToken, IsBase};
 ghost use Rattle.lrs_command_line.specs.CommandLine.{CommandLine, IsInRange};
 ghost use Rattle.lrs_command_line.specs.Shapes.{Denotes};
 ghost use Rattle.lrs_app.specs.Run.{CommandRuns, Runs, IntakeRuns, InitRuns, ServeRuns, PrintsLine, outside};
-ghost use Rattle.lrs_app.specs.Steps.{IsMeant};
+ghost use Rattle.lrs_app.specs.Steps.{DenotesInRange};
 ghost use Rattle.lrs_journal.specs.Store.{IsLimit};
 
 use crate::init::init_disk;
@@ -24,7 +24,7 @@ pub struct Report {
     pub talks: Items<Talk>,
     /// The number of their responses.
     pub responses: u64,
-    /// The number of entries of the final history, or 0 where no store was opened.
+    /// The number of entries of the final history, or 0 if no store was opened.
     pub length: u64,
 }
 
@@ -173,7 +173,7 @@ fn obey<S: Shelf, B: Lobby, I: Source, O: Sink>(
     out: &mut O,
     seed: [u8; 32],
 ) -> Ended<S::Disk>
-    requires { IsMeant command.now }
+    requires { DenotesInRange command.now }
     ensures { (c : CommandLine) → IsInRange c → Denotes command.now c → CommandRuns S.Disk.Disk c seed
         (outside S.Shelf B.Lobby O.Sink shelf.old lobby.old out.old (I.left input.old) (I.fault_count input.old))
         (outside S.Shelf B.Lobby O.Sink shelf.new lobby.new out.new (I.left input.new) (I.fault_count input.new))
@@ -200,13 +200,14 @@ fn obey<S: Shelf, B: Lobby, I: Source, O: Sink>(
 
 /// The program: all that it does with its words, over the outside.
 ///
-/// `words` are the arguments behind the program's name. `init FILE --admin TOKEN [--base URL] [--limit BYTES]` makes a
+/// `words` are the arguments after the program's name. `init FILE --admin TOKEN [--base URL] [--limit BYTES]` makes a
 /// store. `intake FILE` keeps one statement of the input and prints its id. `serve FILE ADDRESS --workers 1
 /// --connections N` serves N connections over HTTP and prints the number of their responses. Every line is printed to
 /// `out`. The one draw of an intake is the first of stream 0 under the seed; serving has those of stream 1.
 ///
 /// It may be stopped at any moment. Then the file holds the first entries of the final history: at least those from
-/// before the run, and whatever a response without trouble promised. A stopped `init` leaves no store, or the new one.
+/// before the run, and whatever a response without trouble promised. A stopped `init` leaves no store or the new one,
+/// and what isn't open to a new store as it was.
 pub fn run<S: Shelf, B: Lobby, I: Source, O: Sink>(
     alloc: Global,
     words: &[Text],

@@ -111,7 +111,7 @@ fn serve_desk<D: Disk, B: Lobby>(
 pub(crate) struct Service<D> {
     pub(crate) ending: Ending,
     pub(crate) disk: D,
-    /// The number of the history's entries, or 0 where no store was opened.
+    /// The number of the history's entries, or 0 if no store was opened.
     pub(crate) length: u64,
     pub(crate) talks: Items<Talk>,
 }

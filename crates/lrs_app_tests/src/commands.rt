@@ -1,13 +1,15 @@
-//! What `init` and `intake` print and leave.
+// What `init` and `intake` print and leave, as texts of rows: commands over one file, one after the other.
+//
+//   FILE FAULT WORDS <INPUT => STATUS ENTRIES LINE
+//
+// FILE is what the file holds before: `none`, `header`, `letter` or `store`, or `last`, what the row before left. FAULT
+// is the call that fails, as `disk:0` or `input:0`, or `room:` and how many bytes the output takes, or `-`. INPUT is
+// `statement`, `other` or `unnamed`, or is given as it is. After a LINE that is cut off stands `..`, and `changed` after
+// the line if the file isn't as it was, with a status by which it has to be.
 use crate::outside::{Around, Ran, STATEMENT, run_over, store};
 use std::alloc::Global;
+use std::slice::from_ref;
 use std::test::Fail;
-
-const INIT: &[&str] = &["init", "s", "--admin", "adminadmin"];
-
-const INTAKE: &[&str] = &["intake", "s"];
-
-const KEPT: &str = "11111111-1111-4111-8111-111111111111\n";
 
 const OTHER: &str =
     r#"{"id":"11111111-1111-4111-8111-111111111111","actor":{"mbox":"mailto:a@b"},"verb":{"id":"http://v/2"},"object":{"id":"http://a/1"}}"#;
@@ -15,167 +17,222 @@ const OTHER: &str =
 const UNNAMED: &str =
     r#"{"actor":{"mbox":"mailto:a@b"},"verb":{"id":"http://v/1"},"object":{"id":"http://a/1"}}"#;
 
-// Commands over one file, one after the other: the words, the input, the status, the line, and the history's length.
-const COMMANDS: [(&[&str], &str, u8, &str, u64); 10] = [
-    (INTAKE, STATEMENT, 2, "not a store\n", 0),
-    (INIT, "", 0, "founded\n", 1),
-    (INIT, "", 4, "already a store\n", 0),
-    (INTAKE, STATEMENT, 0, KEPT, 2),
-    (INTAKE, STATEMENT, 0, KEPT, 2),
-    (
-        INTAKE,
-        OTHER,
-        10,
-        "conflict 11111111-1111-4111-8111-111111111111\n",
-        2,
-    ),
-    (INTAKE, "{", 10, "refused J2\n", 2),
-    (INTAKE, UNNAMED, 10, "refused no id\n", 2),
-    (INTAKE, "[1]", 10, "refused S1\n", 2),
-    (INTAKE, STATEMENT, 0, KEPT, 2),
-];
-
-// Whether a run ended with this status and line.
-fn ends(ran: &Ran, status: u8, line: &str) -> bool {
-    ran.status == status && ran.printed.as_slice() == line.as_bytes()
-}
-
-// The place of the first command that ends otherwise.
-fn first_wrong_command(alloc: Global) -> Result<usize, Fail> {
-    let mut stored = Vec::new(alloc);
-    for (place, (words, input, status, line, length)) in COMMANDS.iter().enumerate() {
-        let ran = run_over(alloc, words, &Around::calm(stored.as_slice(), input, &[]))?;
-        if !ends(&ran, *status, line) || ran.length != *length {
-            return Ok(place);
-        }
-        stored = ran.stored.ok_or("no disk")?;
-    }
-    Ok(COMMANDS.len())
-}
-
-#[test]
-fn a_statement_is_kept_once(rt: HostRuntime) -> Result<(), Fail> {
-    assert_eq!(rt; first_wrong_command(rt.alloc())?, COMMANDS.len());
-    Ok(())
-}
-
-// The limit of a store, and how a statement's intake ends in it.
-const LIMITS: [(&str, u8, &str); 3] = [
-    ("533", 0, KEPT),
-    ("532", 12, "full 533 532\n"),
-    ("00000000000000065536", 0, KEPT),
-];
-
-fn first_wrong_limit(alloc: Global) -> Result<usize, Fail> {
-    for (place, (limit, status, line)) in LIMITS.iter().enumerate() {
-        let stored = store(alloc, limit)?;
-        let ran = run_over(
-            alloc,
-            INTAKE,
-            &Around::calm(stored.as_slice(), STATEMENT, &[]),
-        )?;
-        if !ends(&ran, *status, line) {
-            return Ok(place);
-        }
-    }
-    Ok(LIMITS.len())
-}
-
-#[test]
-fn a_store_keeps_to_its_limit(rt: HostRuntime) -> Result<(), Fail> {
-    assert_eq!(rt; first_wrong_limit(rt.alloc())?, LIMITS.len());
-    Ok(())
-}
+// The header alone is no store of a history.
+const HEADER: &[u8] = b"\x01LRSJRNL\x01\0\0\0\0\0\x01\0\0";
 
 // The store of one founding entry: the header, the frame's gate and length, the entry, and the end gate.
 const STORED: &[u8] =
     b"\x01LRSJRNL\x01\0\0\0\0\0\x01\0\0\x01\0\0\0\xba{\"caller\":\"*\",\"moment\":1700000000000,\"draw\":\"0000000000000000000000000000000000000000000000000000000000000000\",\"command\":{\"found\":{\"admin\":\"adminadmin\",\"base\":\"http://127.0.0.1:8080/\"}}}\0";
 
-#[test]
-fn a_store_has_these_bytes(rt: HostRuntime) -> Result<(), Fail> {
-    let stored = store(rt.alloc(), "65536")?;
-    assert_eq!(rt; stored.as_slice(), STORED);
+/// That store. A function that names the bytes themselves takes long to prove.
+pub(crate) fn stored() -> &'static [u8] {
+    STORED
+}
+
+/// What the file of this name holds.
+pub(crate) fn file_of<'a>(name: &str, last: &'a [u8]) -> &'a [u8] {
+    match name {
+        "none" => &[],
+        "header" => HEADER,
+        "letter" => b"a letter",
+        "store" => STORED,
+        _ => last,
+    }
+}
+
+fn input_of(name: &str) -> &str {
+    match name {
+        "statement" => STATEMENT,
+        "other" => OTHER,
+        "unnamed" => UNNAMED,
+        _ => name,
+    }
+}
+
+// The same with a fault of this kind.
+fn with_fault<'a>(calm: Around<'a>, kind: &str, number: &'a u64) -> Around<'a> {
+    match kind {
+        "disk" => Around {
+            disk_fails: from_ref(number),
+            ..calm
+        },
+        "input" => Around {
+            input_fails: from_ref(number),
+            ..calm
+        },
+        "room" => Around {
+            room: (*number).min(64) as usize,
+            ..calm
+        },
+        _ => calm,
+    }
+}
+
+// A run of these words.
+fn ran(alloc: Global, fault: &str, words: &str, file: &[u8], input: &str) -> Result<Ran, Fail> {
+    let (kind, number) = fault.split_once(':').unwrap_or((fault, "0"));
+    let number = number.parse::<u64>()?;
+    let around = with_fault(Around::calm(file, input, &[]), kind, &number);
+    run_over(alloc, words, &around)
+}
+
+// What follows the line of a run over this file.
+fn mark(ran: &Ran, before: &[u8]) -> &'static str {
+    let may_write = matches!(ran.status, 0 | 5 | 7);
+    if !may_write && !ran.leaves(before) {
+        " changed"
+    } else if !ran.printed.as_slice().ends_with(b"\n") {
+        ".."
+    } else {
+        ""
+    }
+}
+
+// What is told of a run over this file.
+fn told(alloc: Global, ran: &Ran, before: &[u8]) -> Result<String, Fail> {
+    let printed = str::from_utf8(ran.printed.as_slice())?;
+    let line = printed.strip_suffix('\n').unwrap_or(printed);
+    let (status, length) = (ran.status, ran.length);
+    let mark = mark(ran, before);
+    Ok(format!(in alloc; "{status} {length} {line}{mark}")?)
+}
+
+// A word, and what follows the space after it.
+fn first_word(text: &str) -> (&str, &str) {
+    text.split_once(' ').unwrap_or((text, ""))
+}
+
+// Fails with what is found where something else is expected, and gives what the file holds then.
+fn compared(
+    alloc: Global,
+    ran: &Ran,
+    before: &[u8],
+    asked: &str,
+    expected: &str,
+) -> Result<Vec<u8>, Fail> {
+    let found = told(alloc, ran, before)?;
+    if found.as_str() != expected {
+        return Err(Fail::from(format!(in alloc; "{asked} => {found}")?));
+    }
+    match ran.file() {
+        Some(file) => Ok(file.to_vec(alloc)?),
+        None => Ok(before.to_vec(alloc)?),
+    }
+}
+
+// The same of a run that is asked for.
+fn compared_of(alloc: Global, last: &[u8], asked: &str, expected: &str) -> Result<Vec<u8>, Fail> {
+    let (name, rest) = first_word(asked);
+    let (fault, rest) = first_word(rest);
+    let (words, input) = rest.split_once(" <").ok_or("no input")?;
+    let before = file_of(name, last);
+    let ran = ran(alloc, fault, words, before, input_of(input))?;
+    let file = compared(alloc, &ran, before, asked, expected);
+    drop(ran);
+    file
+}
+
+fn check_rows(alloc: Global, rows: &str) -> Result<(), Fail> {
+    let mut last = Vec::new(alloc);
+    for row in rows.lines() {
+        let (asked, expected) = row.split_once(" => ").ok_or("no answer")?;
+        last = compared_of(alloc, last.as_slice(), asked, expected)?;
+    }
     Ok(())
 }
 
-const HEADER: &[u8] = b"\x01LRSJRNL\x01\0\0\0\0\0\x01\0\0";
+#[test]
+fn a_statement_is_kept_once(rt: HostRuntime) -> Result<(), Fail> {
+    check_rows(
+        rt.alloc(),
+        r#"none - intake s <statement => 2 0 not a store
+last - init s --admin adminadmin < => 0 1 founded
+last - init s --admin adminadmin < => 4 0 already a store
+last - intake s <statement => 0 2 11111111-1111-4111-8111-111111111111
+last - intake s <statement => 0 2 11111111-1111-4111-8111-111111111111
+last - intake s <other => 10 2 conflict 11111111-1111-4111-8111-111111111111
+last - intake s <{ => 10 2 refused J2
+last - intake s <unnamed => 10 2 refused no id
+last - intake s <[1] => 10 2 refused S1
+last - intake s <statement => 0 2 11111111-1111-4111-8111-111111111111
+"#,
+    )
+}
 
-// Commands over files that they leave alone. The header alone is no store of a history, and a foreign file is none at all.
-const REFUSED: [(&[&str], &[u8], u8, &str); 4] = [
-    (INTAKE, HEADER, 3, "damaged 0\n"),
-    (INTAKE, b"a letter", 2, "not a store\n"),
-    (INIT, b"a letter", 2, "not a store\n"),
-    (INIT, STORED, 4, "already a store\n"),
-];
-
-fn first_not_refused(alloc: Global) -> Result<usize, Fail> {
-    for (place, (words, file, status, line)) in REFUSED.iter().enumerate() {
-        let ran = run_over(alloc, words, &Around::calm(file, STATEMENT, &[]))?;
-        if !ends(&ran, *status, line) || ran.stored.ok_or("no disk")?.as_slice() != *file {
-            return Ok(place);
-        }
-    }
-    Ok(REFUSED.len())
+#[test]
+fn a_store_keeps_to_its_limit(rt: HostRuntime) -> Result<(), Fail> {
+    check_rows(
+        rt.alloc(),
+        r#"none - init s --admin adminadmin --limit 533 < => 0 1 founded
+last - intake s <statement => 0 2 11111111-1111-4111-8111-111111111111
+none - init s --admin adminadmin --limit 532 < => 0 1 founded
+last - intake s <statement => 12 1 full 533 532
+none - init s --admin adminadmin --limit 00000000000000065536 < => 0 1 founded
+last - intake s <statement => 0 2 11111111-1111-4111-8111-111111111111
+none - init s --admin adminadmin --limit 00000000001073741824 < => 0 1 founded
+last - intake s <statement => 0 2 11111111-1111-4111-8111-111111111111
+none - init s --admin adminadmin --limit 1073741824 < => 0 1 founded
+last - intake s <statement => 0 2 11111111-1111-4111-8111-111111111111
+"#,
+    )
 }
 
 #[test]
 fn other_files_are_refused(rt: HostRuntime) -> Result<(), Fail> {
-    assert_eq!(rt; first_not_refused(rt.alloc())?, REFUSED.len());
-    Ok(())
-}
-
-// The command, what the file holds, which calls of the disk and of the input fail, the room of the output; the status
-// and what is printed.
-const FAULTS: [(&[&str], &[u8], &[u64], &[u64], usize, u8, &str); 7] = [
-    (INIT, &[], &[0], &[], 64, 5, "disk fault\n"),
-    (INIT, &[], &[4], &[], 64, 5, "disk fault\n"),
-    (INTAKE, STORED, &[1], &[], 64, 5, "disk fault\n"),
-    (INTAKE, STORED, &[], &[0], 64, 11, "input fault\n"),
-    (&["intake", "t"], STORED, &[], &[], 64, 5, "disk fault\n"),
-    (INIT, &[], &[], &[], 3, 7, "fou"),
-    (INIT, STORED, &[], &[], 3, 4, "alr"),
-];
-
-fn first_wrong_fault(alloc: Global) -> Result<usize, Fail> {
-    for (place, row) in FAULTS.iter().enumerate() {
-        let (words, stored, disk_fails, input_fails, room, status, line) = *row;
-        let around = Around {
-            stored,
-            input: STATEMENT.as_bytes(),
-            streams: &[],
-            cuts: &[],
-            disk_fails,
-            input_fails,
-            door_fails: &[],
-            room,
-        };
-        if !ends(&run_over(alloc, words, &around)?, status, line) {
-            return Ok(place);
-        }
-    }
-    Ok(FAULTS.len())
+    check_rows(
+        rt.alloc(),
+        r#"header - intake s <statement => 3 0 damaged 0
+letter - intake s <statement => 2 0 not a store
+letter - init s --admin adminadmin <statement => 2 0 not a store
+store - init s --admin adminadmin <statement => 4 0 already a store
+"#,
+    )
 }
 
 #[test]
 fn a_fault_is_told_by_its_object(rt: HostRuntime) -> Result<(), Fail> {
-    assert_eq!(rt; first_wrong_fault(rt.alloc())?, FAULTS.len());
-    Ok(())
+    check_rows(
+        rt.alloc(),
+        r#"none disk:0 init s --admin adminadmin <statement => 5 0 disk fault
+none disk:4 init s --admin adminadmin <statement => 5 0 disk fault
+store disk:1 intake s <statement => 5 0 disk fault
+store input:0 intake s <statement => 11 1 input fault
+store - intake t <statement => 5 0 disk fault
+none room:3 init s --admin adminadmin <statement => 7 1 fou..
+store room:3 init s --admin adminadmin <statement => 4 0 alr..
+"#,
+    )
 }
 
-// How an input of so many blanks ends.
-fn blanks_end(alloc: Global, length: usize, line: &str) -> Result<bool, Fail> {
-    let input = vec![in alloc; b' '; length]?;
-    let around = Around {
-        input: input.as_slice(),
-        ..Around::calm(STORED, "", &[])
-    };
-    Ok(ends(&run_over(alloc, INTAKE, &around)?, 10, line))
+#[test]
+fn a_store_has_these_bytes(rt: HostRuntime) -> Result<(), Fail> {
+    let made = store(rt.alloc(), "65536")?;
+    if made.as_slice() == stored() {
+        Ok(())
+    } else {
+        Err(Fail::from("other bytes"))
+    }
+}
+
+// Fails if an input of so many blanks ends otherwise.
+fn check_blanks(alloc: Global, length: usize, line: &str) -> Result<(), Fail> {
+    let input = " ".repeat(alloc, length)?;
+    let ran = run_over(
+        alloc,
+        "intake s",
+        &Around::calm(stored(), input.as_str(), &[]),
+    )?;
+    let ends = ran.ends(10, line);
+    drop(ran);
+    if ends {
+        Ok(())
+    } else {
+        Err(Fail::from("another end"))
+    }
 }
 
 #[test]
 fn an_input_has_its_longest_length(rt: HostRuntime) -> Result<(), Fail> {
-    let alloc = rt.alloc();
-    assert!(rt; blanks_end(alloc, 262_144, "refused J2\n")?);
-    assert!(rt; blanks_end(alloc, 262_145, "refused too long\n")?);
-    Ok(())
+    check_blanks(rt.alloc(), 262_144, "refused J2\n")?;
+    check_blanks(rt.alloc(), 262_145, "refused too long\n")
 }

@@ -1,30 +1,52 @@
 //! `init` and `intake` over real files.
-use crate::outside::{STATEMENT, texts};
+use crate::outside::{STATEMENT, words_of, wrong_at};
 use lrs_app::run;
 use lrs_edge::{FileShelf, StdSource, TcpLobby};
 use lrs_in_memory::MemSink;
+use lrs_json::Text;
 use std::alloc::Global;
 use std::test::Fail;
 use std::{env, fs};
 
-// What the program prints over the real files.
-fn printed(rt: HostRuntime, words: &[&str], input: &str) -> Result<Vec<u8>, Fail> {
-    let words = texts(rt.alloc(), words)?;
+// Runs the words over the real files.
+fn run_really(rt: HostRuntime, words: &[Text], input: &str, out: &mut MemSink) {
     let mut shelf = FileShelf::new(rt);
     let mut lobby = TcpLobby::new(rt);
     let mut input = StdSource::new(input.as_bytes());
-    let mut out = MemSink::new(rt.alloc(), 64, Vec::new(rt.alloc()))?;
     let ended = run(
         rt.alloc(),
-        words.as_slice(),
+        words,
         &mut shelf,
         &mut lobby,
         &mut input,
-        &mut out,
+        out,
         [7; 32],
     );
     drop(ended);
+}
+
+// What the program prints over the real files.
+fn printed(rt: HostRuntime, line: &str, input: &str) -> Result<Vec<u8>, Fail> {
+    let words = words_of(rt.alloc(), line)?;
+    let mut out = MemSink::new(rt.alloc(), 64, Vec::new(rt.alloc()))?;
+    run_really(rt, words.as_slice(), input, &mut out);
     Ok(out.taken().to_vec(rt.alloc())?)
+}
+
+// A new store in a file.
+fn founded(rt: HostRuntime, file: &str) -> Result<Vec<u8>, Fail> {
+    let line = format!(in rt.alloc(); "init {file} --admin adminadmin")?;
+    let printed = printed(rt, line.as_str(), "")?;
+    if printed.as_slice() != b"founded\n".as_slice() {
+        return Err(Fail::from("not founded"));
+    }
+    Ok(fs::read(&rt, file)?)
+}
+
+// What is printed of a statement that is taken in to this file.
+fn taken_in(rt: HostRuntime, file: &str, statement: &str) -> Result<Vec<u8>, Fail> {
+    let line = format!(in rt.alloc(); "intake {file}")?;
+    printed(rt, line.as_str(), statement)
 }
 
 // The path of a file for one test.
@@ -43,29 +65,39 @@ fn line_at(length: usize) -> &'static str {
     }
 }
 
-// The first length at which the file of this store, cut there, is told of otherwise.
-fn first_wrong_cut(rt: HostRuntime, file: &str, whole: &[u8]) -> Result<usize, Fail> {
+// Whether the file of this store, cut at this length, is told of as it should be.
+fn is_told(rt: HostRuntime, file: &str, whole: &[u8], length: usize) -> Result<bool, Fail> {
+    fs::write(&rt, file, whole.get(..length).ok_or("short")?)?;
+    let line = taken_in(rt, file, STATEMENT)?;
+    Ok(line.as_slice() == line_at(length).as_bytes())
+}
+
+// Fails with the first length at which it isn't.
+fn check_cuts(rt: HostRuntime, file: &str, whole: &[u8]) -> Result<(), Fail> {
     for length in 208..534 {
-        fs::write(&rt, file, whole.get(..length).ok_or("short")?)?;
-        let line = printed(rt, &["intake", file], STATEMENT)?;
-        if line.as_slice() != line_at(length).as_bytes() {
-            return Ok(length);
+        if !is_told(rt, file, whole, length)? {
+            return wrong_at(rt.alloc(), length as u64);
         }
     }
-    Ok(534)
+    Ok(())
+}
+
+// The same for a new store with one statement.
+fn check_store(rt: HostRuntime, file: &str) -> Result<(), Fail> {
+    founded(rt, file)?;
+    taken_in(rt, file, STATEMENT)?;
+    let whole = fs::read(&rt, file)?;
+    if whole.len() != 533 {
+        return Err(Fail::from("another length"));
+    }
+    check_cuts(rt, file, whole.as_slice())
 }
 
 #[test]
 fn a_store_file_that_was_cut_opens_or_says_where(rt: HostRuntime) -> Result<(), Fail> {
     let path = path_of(rt, "cut")?;
-    let file = path.as_str();
-    let founded = printed(rt, &["init", file, "--admin", "adminadmin"], "")?;
-    assert_eq!(rt; founded.as_slice(), b"founded\n".as_slice());
-    printed(rt, &["intake", file], STATEMENT)?;
-    let whole = fs::read(&rt, file)?;
-    assert_eq!(rt; whole.len(), 533);
-    assert_eq!(rt; first_wrong_cut(rt, file, whole.as_slice())?, 534);
-    fs::remove_file(&rt, file)?;
+    check_store(rt, path.as_str())?;
+    fs::remove_file(&rt, path.as_str())?;
     Ok(())
 }
 
@@ -109,27 +141,34 @@ S32 {"id":"22222222-2222-4222-8222-222222222222","actor":{"mbox":"mailto:a@b"},"
 fn is_refused(rt: HostRuntime, file: &str, row: &str) -> Result<bool, Fail> {
     let (rule, statement) = row.split_once(' ').ok_or("no statement")?;
     let line = format!(in rt.alloc(); "refused {rule}\n")?;
-    Ok(printed(rt, &["intake", file], statement)?.as_slice() == line.as_bytes())
+    Ok(taken_in(rt, file, statement)?.as_slice() == line.as_bytes())
 }
 
-// The first row that is refused otherwise, or none.
-fn first_wrong_rule(rt: HostRuntime, file: &str) -> Result<&'static str, Fail> {
+// Fails with the first row that is refused otherwise.
+fn check_rules(rt: HostRuntime, file: &str) -> Result<(), Fail> {
     for row in REFUSED.lines() {
         if !is_refused(rt, file, row)? {
-            return Ok(row);
+            return Err(Fail::from(row));
         }
     }
-    Ok("none")
+    Ok(())
+}
+
+// The same in a new store, whose file stays as it was.
+fn check_refusals(rt: HostRuntime, file: &str) -> Result<(), Fail> {
+    let stored = founded(rt, file)?;
+    check_rules(rt, file)?;
+    if fs::read(&rt, file)?.as_slice() == stored.as_slice() {
+        Ok(())
+    } else {
+        Err(Fail::from("another file"))
+    }
 }
 
 #[test]
 fn intake_names_the_least_broken_rule(rt: HostRuntime) -> Result<(), Fail> {
     let path = path_of(rt, "rules")?;
-    let file = path.as_str();
-    printed(rt, &["init", file, "--admin", "adminadmin"], "")?;
-    let founded = fs::read(&rt, file)?;
-    assert_eq!(rt; first_wrong_rule(rt, file)?, "none");
-    assert_eq!(rt; fs::read(&rt, file)?, founded);
-    fs::remove_file(&rt, file)?;
+    check_refusals(rt, path.as_str())?;
+    fs::remove_file(&rt, path.as_str())?;
     Ok(())
 }

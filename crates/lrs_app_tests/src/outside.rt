@@ -3,10 +3,10 @@ ghost use Rattle.std.specs.Prelude.{IfOk};
 ghost use Rattle.lrs_in_memory.specs.MemDoor.{IsUntouched};
 ghost use Rattle.lrs_in_memory.specs.MemLink.{IsUnused};
 
-use lrs_app::{Ended, run};
-use lrs_hall::{Finish, Talk};
+use lrs_app::{Ended, Report, run};
+use lrs_hall::Talk;
 use lrs_in_memory::{MemDisk, MemDoor, MemLink, MemLobby, MemShelf, MemSink, MemSource};
-use lrs_json::Text;
+use lrs_json::{Items, Text};
 use std::alloc::Global;
 use std::test::Fail;
 
@@ -55,11 +55,53 @@ pub struct Ran {
     pub length: u64,
     pub responses: u64,
     pub printed: Vec<u8>,
-    /// What the file holds then, where it was taken.
-    pub stored: Option<Vec<u8>>,
-    /// What went out over the first connection, and how its conversation ended, where one was served.
+    /// The disk of the file, where it was taken.
+    pub disks: Vec<MemDisk>,
+    pub talks: Items<Talk>,
+    /// What went out over the first connection, where one was served.
     pub sent: Vec<u8>,
-    pub finish: Option<Finish>,
+}
+
+impl Ran {
+    /// Whether the run ended with this status and line.
+    pub fn ends(&self, status: u8, line: &str) -> bool {
+        self.status == status && self.printed.as_slice() == line.as_bytes()
+    }
+
+    pub fn disk(&self) -> Option<&MemDisk> {
+        self.disks.first()
+    }
+
+    /// What the file holds then, if it was taken.
+    pub fn file(&self) -> Option<&[u8]> {
+        Some(self.disks.first()?.bytes())
+    }
+
+    /// How many bytes that are.
+    pub fn size(&self) -> usize {
+        match self.file() {
+            Some(file) => file.len(),
+            None => 0,
+        }
+    }
+
+    /// A copy of that.
+    pub fn copy(&self, alloc: Global) -> Result<Vec<u8>, Fail> {
+        match self.file() {
+            Some(file) => Ok(file.to_vec(alloc)?),
+            None => Err(Fail::from("no disk")),
+        }
+    }
+
+    /// Whether the file was taken and holds this.
+    pub fn leaves(&self, file: &[u8]) -> bool {
+        self.file() == Some(file)
+    }
+
+    /// Whether this went out over the first connection.
+    pub fn sends(&self, answers: &str) -> bool {
+        self.sent.as_slice() == answers.as_bytes()
+    }
 }
 
 #[derive(Drop)]
@@ -70,13 +112,30 @@ struct World {
     out: MemSink,
 }
 
-/// The words of a line.
-pub fn texts(alloc: Global, words: &[&str]) -> Result<Vec<Text>, Fail> {
-    let mut texts = Vec::new(alloc);
-    for word in words {
-        texts.push(Text::of(alloc, word)?)?;
+/// The words of a line. `''` is the empty word, and the empty line has no words.
+pub fn words_of(alloc: Global, line: &str) -> Result<Vec<Text>, Fail> {
+    let mut words = Vec::new(alloc);
+    if line.is_empty() {
+        return Ok(words);
     }
-    Ok(texts)
+    for word in line.split(' ') {
+        words.push(Text::of(alloc, if word == "''" { "" } else { word })?)?;
+    }
+    Ok(words)
+}
+
+/// Fails with this number.
+pub fn wrong_at(alloc: Global, number: u64) -> Result<(), Fail> {
+    Err(Fail::from(format!(in alloc; "{number}")?))
+}
+
+/// These texts, one after the other.
+pub fn joined(alloc: Global, parts: &[&str]) -> Result<String, Fail> {
+    let mut text = String::new(alloc);
+    for part in parts {
+        text.push_str(part)?;
+    }
+    Ok(text)
 }
 
 fn shelf(alloc: Global, stored: &[u8], failing: &[u64]) -> Result<MemShelf, Fail> {
@@ -139,35 +198,13 @@ fn sent(alloc: Global, lobby: &MemLobby) -> Result<Vec<u8>, Fail> {
     Ok(link.taken().to_vec(alloc)?)
 }
 
-fn stored(alloc: Global, disk: Option<&MemDisk>) -> Result<Option<Vec<u8>>, Fail> {
-    match disk {
-        Some(disk) => Ok(Some(disk.bytes().to_vec(alloc)?)),
-        None => Ok(None),
-    }
-}
-
-fn first_finish(talks: &[Talk]) -> Option<Finish> {
-    Some(talks.first()?.finish())
-}
-
-// What is seen of a run and its outside.
-fn seen(alloc: Global, ended: &Ended<MemDisk>, outside: &World) -> Result<Ran, Fail> {
-    let printed = outside.out.taken().to_vec(alloc)?;
-    let sent = sent(alloc, &outside.lobby)?;
-    let stored = stored(alloc, ended.disk.as_ref())?;
-    Ok(Ran {
-        status: ended.status,
-        length: ended.report.length,
-        responses: ended.report.responses,
-        printed,
-        stored,
-        sent,
-        finish: first_finish(ended.report.talks.as_slice()),
-    })
-}
-
-fn end_in(alloc: Global, words: &[Text], outside: &mut World) -> Ended<MemDisk> {
-    run(
+fn run_in(alloc: Global, words: &[Text], outside: &mut World) -> Result<Ran, Fail> {
+    let mut disks = Vec::with_capacity(alloc, 1)?;
+    let Ended {
+        status,
+        disk,
+        report,
+    } = run(
         alloc,
         words,
         &mut outside.shelf,
@@ -175,41 +212,47 @@ fn end_in(alloc: Global, words: &[Text], outside: &mut World) -> Ended<MemDisk> 
         &mut outside.input,
         &mut outside.out,
         [7; 32],
-    )
+    );
+    if let Some(disk) = disk {
+        disks.push_reserved(disk);
+    }
+    let Report {
+        talks,
+        responses,
+        length,
+    } = report;
+    let printed = outside.out.taken().to_vec(alloc)?;
+    let sent = sent(alloc, &outside.lobby)?;
+    Ok(Ran {
+        status,
+        length,
+        responses,
+        printed,
+        disks,
+        talks,
+        sent,
+    })
 }
 
-fn run_in(alloc: Global, words: &[Text], outside: &mut World) -> Result<Ran, Fail> {
-    let ended = end_in(alloc, words, outside);
-    let ran = seen(alloc, &ended, outside);
-    drop(ended);
-    ran
-}
-
-/// Runs these words with this around them.
-pub fn run_over(alloc: Global, words: &[&str], around: &Around<'_>) -> Result<Ran, Fail> {
-    let words = texts(alloc, words)?;
+/// Runs the words of a line with this around them.
+pub fn run_over(alloc: Global, line: &str, around: &Around<'_>) -> Result<Ran, Fail> {
+    let words = words_of(alloc, line)?;
     let mut outside = outside(alloc, around)?;
     let ran = run_in(alloc, words.as_slice(), &mut outside);
     drop(outside);
     ran
 }
 
-/// The end of a run of these words with this around them.
-pub fn end_over(
-    alloc: Global,
-    words: &[&str],
-    around: &Around<'_>,
-) -> Result<Ended<MemDisk>, Fail> {
-    let words = texts(alloc, words)?;
-    let mut outside = outside(alloc, around)?;
-    let ended = end_in(alloc, words.as_slice(), &mut outside);
-    drop(outside);
-    Ok(ended)
+/// The file that a run leaves.
+pub fn file_behind(alloc: Global, line: &str, around: &Around<'_>) -> Result<Vec<u8>, Fail> {
+    let ran = run_over(alloc, line, around)?;
+    let file = ran.copy(alloc);
+    drop(ran);
+    file
 }
 
 /// The bytes of a new store with this limit.
 pub fn store(alloc: Global, limit: &str) -> Result<Vec<u8>, Fail> {
-    let words = ["init", "s", "--admin", "adminadmin", "--limit", limit];
-    let ran = run_over(alloc, &words, &Around::calm(&[], "", &[]))?;
-    Ok(ran.stored.ok_or("no disk")?)
+    let line = format!(in alloc; "init s --admin adminadmin --limit {limit}")?;
+    file_behind(alloc, line.as_str(), &Around::calm(&[], "", &[]))
 }

@@ -1,7 +1,7 @@
-//! What `init`, `intake` and `serve` leave where they are stopped at any moment, or where the disk fails.
-use crate::outside::{Around, STATEMENT, end_over, run_over, store};
+//! What `init`, `intake` and `serve` leave if they are stopped at any moment, or if the disk fails.
+use crate::commands::stored;
+use crate::outside::{Around, Ran, STATEMENT, joined, run_over, wrong_at};
 use crate::serving::{DISK, GET, MAKE, POST, PUT, SERVE};
-use lrs_app::Ended;
 use lrs_disk::Disk;
 use lrs_in_memory::{MemDisk, Pending};
 use lrs_machine::Receipt;
@@ -15,7 +15,7 @@ const PENDING: [Pending; 4] = [
     Pending::Torn(255),
 ];
 
-const INIT: &[&str] = &["init", "s", "--admin", "adminadmin", "--limit", "65536"];
+const INIT: &str = "init s --admin adminadmin --limit 65536";
 
 const FOREIGN: &[u8] = b"a letter";
 
@@ -28,132 +28,97 @@ const FILES: [&[u8]; 5] = [
     FOREIGN,
 ];
 
-// How many entries the store of this file has, if it opens, and the file then.
-fn opened(alloc: Global, file: &[u8]) -> Result<(u64, Vec<u8>), Fail> {
-    let ran = run_over(alloc, &["intake", "s"], &Around::calm(file, "{", &[]))?;
-    Ok((ran.length, ran.stored.ok_or("no disk")?))
+// A run that opens this file, if it is a store, and keeps nothing.
+fn opened(alloc: Global, file: &[u8]) -> Result<Ran, Fail> {
+    run_over(alloc, "intake s", &Around::calm(file, "{", &[]))
 }
 
-// Whether a stop in `init` left the foreign file as it was, or no store, so that one is made, or the whole one.
-fn is_none_or_whole(alloc: Global, image: &[u8], whole: &[u8]) -> Result<bool, Fail> {
-    if image == FOREIGN {
-        return Ok(true);
-    }
+// Whether this is the whole new store, as it stands and as it opens.
+fn is_whole(alloc: Global, image: &[u8]) -> Result<bool, Fail> {
+    let ran = opened(alloc, image)?;
+    let is_whole = ran.length == 1 && ran.leaves(stored());
+    drop(ran);
+    Ok(is_whole)
+}
+
+// Whether a stop in `init` left no store, so that one is made, or the whole one.
+fn is_none_or_whole(alloc: Global, image: &[u8]) -> Result<bool, Fail> {
     let ran = run_over(alloc, INIT, &Around::calm(image, "", &[]))?;
-    if ran.status == 0 {
-        return Ok(ran.stored.ok_or("no disk")?.as_slice() == whole);
+    let (status, is_made) = (ran.status, ran.leaves(stored()));
+    drop(ran);
+    match status {
+        0 => Ok(is_made),
+        4 => is_whole(alloc, image),
+        _ => Ok(false),
     }
-    let (entries, file) = opened(alloc, image)?;
-    Ok(ran.status == 4 && entries == 1 && file.as_slice() == whole)
 }
 
 // Whether each image of the disk at this moment is one that a stop in `init` may leave of this file.
-fn is_stopped_well(
-    alloc: Global,
-    file: &[u8],
-    disk: &MemDisk,
-    moment: u64,
-    whole: &[u8],
-) -> Result<bool, Fail> {
-    for pending in PENDING {
-        let image = disk.image(moment.min(disk.moment()), pending)?;
-        let is_foreign = image.as_slice() == FOREIGN;
-        if is_foreign != (file == FOREIGN) || !is_none_or_whole(alloc, image.as_slice(), whole)? {
+fn is_stopped_well(alloc: Global, file: &[u8], disk: &MemDisk, moment: u64) -> Result<bool, Fail> {
+    for pending in PENDING.iter() {
+        let image = disk.image(moment.min(disk.moment()), *pending)?;
+        let is_well = if file == FOREIGN {
+            image.as_slice() == FOREIGN
+        } else {
+            is_none_or_whole(alloc, image.as_slice())?
+        };
+        if !is_well {
             return Ok(false);
         }
     }
     Ok(true)
 }
 
-fn first_wrong_moment(
-    alloc: Global,
-    file: &[u8],
-    ended: &Ended<MemDisk>,
-    whole: &[u8],
-) -> Result<Option<u64>, Fail> {
-    let disk = ended.disk.as_ref().ok_or("no disk")?;
+// Fails with the first moment of `init` over this file at which a stop leaves something else.
+fn check_moments(alloc: Global, file: &[u8], ran: &Ran) -> Result<(), Fail> {
+    let disk = ran.disk().ok_or("no disk")?;
     for moment in 0..disk.moment().saturating_add(1) {
-        if !is_stopped_well(alloc, file, disk, moment, whole)? {
-            return Ok(Some(moment));
+        if !is_stopped_well(alloc, file, disk, moment)? {
+            return wrong_at(alloc, moment);
         }
     }
-    Ok(None)
-}
-
-// The first moment of `init` over this file, where these calls fail, at which a stop leaves something else.
-fn first_wrong_stop(
-    alloc: Global,
-    file: &[u8],
-    failing: &[u64],
-    whole: &[u8],
-) -> Result<Option<u64>, Fail> {
-    let around = Around {
-        disk_fails: failing,
-        ..Around::calm(file, "", &[])
-    };
-    let ended = end_over(alloc, INIT, &around)?;
-    let wrong = first_wrong_moment(alloc, file, &ended, whole);
-    drop(ended);
-    wrong
-}
-
-// The first file for which that is so, and the moment.
-fn first_wrong_init(alloc: Global) -> Result<Option<(usize, u64)>, Fail> {
-    let whole = store(alloc, "65536")?;
-    for (place, file) in FILES.iter().enumerate() {
-        if let Some(moment) = first_wrong_stop(alloc, file, &[], whole.as_slice())? {
-            return Ok(Some((place, moment)));
-        }
-    }
-    Ok(None)
-}
-
-#[test]
-fn a_stop_in_init_leaves_no_store_or_the_whole(rt: HostRuntime) -> Result<(), Fail> {
-    assert_eq!(rt; first_wrong_init(rt.alloc())?, None);
     Ok(())
 }
 
-// Whether `init` over this file fails where these calls of the disk do.
-fn fails(alloc: Global, file: &[u8], failing: &[u64]) -> Result<bool, Fail> {
+// Whether `init` fails over this file where this call of the disk does. A stop at any moment has to leave what it may.
+fn fails(alloc: Global, file: &[u8], call: u64) -> Result<bool, Fail> {
+    let disk_fails = [call];
     let around = Around {
-        disk_fails: failing,
+        disk_fails: &disk_fails,
         ..Around::calm(file, "", &[])
     };
     let ran = run_over(alloc, INIT, &around)?;
-    Ok(ran.status == 5 && ran.printed.as_slice() == b"disk fault\n".as_slice())
+    let checked = check_moments(alloc, file, &ran);
+    let fails = ran.ends(5, "disk fault\n");
+    drop(ran);
+    checked?;
+    Ok(fails)
 }
 
-// The first call of `init` over this file that may not fail.
-fn first_wrong_fault(alloc: Global, file: &[u8], whole: &[u8]) -> Result<Option<u64>, Fail> {
+// Each call of `init` over this file may fail, and there are some. After them a run fails no more.
+fn check_calls(alloc: Global, file: &[u8]) -> Result<(), Fail> {
     for call in 0..99 {
-        if first_wrong_stop(alloc, file, &[call], whole)?.is_some() {
-            return Ok(Some(call));
-        }
-        if !fails(alloc, file, &[call])? {
-            return Ok(None);
-        }
-    }
-    Ok(Some(99))
-}
-
-fn first_wrong_failing(alloc: Global) -> Result<Option<(usize, u64)>, Fail> {
-    let whole = store(alloc, "65536")?;
-    for (place, file) in FILES.iter().enumerate() {
-        if let Some(call) = first_wrong_fault(alloc, file, whole.as_slice())? {
-            return Ok(Some((place, call)));
+        if !fails(alloc, file, call)? {
+            return if call == 0 {
+                Err(Fail::from("no call fails"))
+            } else {
+                Ok(())
+            };
         }
     }
-    Ok(None)
+    Err(Fail::from("no run ends well"))
 }
 
+// With a call that fails, and without.
 #[test]
-fn an_init_that_fails_leaves_no_store_or_the_whole(rt: HostRuntime) -> Result<(), Fail> {
-    assert_eq!(rt; first_wrong_failing(rt.alloc())?, None);
+fn a_stop_in_init_leaves_no_store_or_the_whole(rt: HostRuntime) -> Result<(), Fail> {
+    for file in FILES.iter() {
+        check_calls(rt.alloc(), file)?;
+    }
     Ok(())
 }
 
-// Where the gate stands behind so many frames of a journal.
+// Where the gate stands after so many frames of a journal.
 fn gate_behind(journal: &[u8], frames: u64) -> Option<usize> {
     let mut place: usize = 17;
     for _ in 0..frames {
@@ -167,12 +132,24 @@ fn gate_behind(journal: &[u8], frames: u64) -> Option<usize> {
     Some(place)
 }
 
-// Whether a file begins with so many frames of the whole history's, and a closed gate stands behind them.
+// Whether a file begins with so many frames of the whole history's, and a closed gate stands after them.
 fn is_front(file: &[u8], entries: u64, whole: &[u8]) -> bool {
     match gate_behind(whole, entries) {
         Some(gate) => file.get(gate) == Some(&0) && file.get(..gate) == whole.get(..gate),
         None => false,
     }
+}
+
+// How many entries a file has that opens with a front of the whole history.
+fn front_of(alloc: Global, file: &[u8], whole: &[u8]) -> Result<Option<u64>, Fail> {
+    let ran = opened(alloc, file)?;
+    let length = ran.length;
+    let is_front = match ran.file() {
+        Some(front) => is_front(front, length, whole),
+        None => false,
+    };
+    drop(ran);
+    Ok(if is_front { Some(length) } else { None })
 }
 
 // How many entries an acknowledged act and its answer ask of each later image.
@@ -194,7 +171,7 @@ fn demanded_by(receipts: &[Receipt], moment: u64) -> u64 {
     most
 }
 
-// Whether each image of the disk at this moment opens with a front of the whole history of at least so many entries.
+// Whether each image of the disk at this moment opens with the first entries of the whole history, at least so many.
 fn is_served_well(
     alloc: Global,
     disk: &MemDisk,
@@ -202,49 +179,57 @@ fn is_served_well(
     least: u64,
     whole: &[u8],
 ) -> Result<bool, Fail> {
-    for pending in PENDING {
-        let image = disk.image(moment.min(disk.moment()), pending)?;
-        let (entries, file) = opened(alloc, image.as_slice())?;
-        if entries < least || !is_front(file.as_slice(), entries, whole) {
-            return Ok(false);
+    for pending in PENDING.iter() {
+        let image = disk.image(moment.min(disk.moment()), *pending)?;
+        match front_of(alloc, image.as_slice(), whole)? {
+            Some(entries) if entries >= least => {}
+            _ => return Ok(false),
         }
     }
     Ok(true)
 }
 
-// The first moment of a disk at which a stop leaves something else, where these receipts tell what was acknowledged.
-fn first_wrong_image(
-    alloc: Global,
-    disk: &MemDisk,
-    receipts: &[Receipt],
-    whole: &[u8],
-) -> Result<Option<u64>, Fail> {
+// Fails with the first moment of a disk at which a stop leaves something else, where these receipts tell what was
+// acknowledged.
+fn check_images(alloc: Global, disk: &MemDisk, receipts: &[Receipt]) -> Result<(), Fail> {
     for moment in 0..disk.moment().saturating_add(1) {
-        if !is_served_well(alloc, disk, moment, demanded_by(receipts, moment), whole)? {
-            return Ok(Some(moment));
+        let least = demanded_by(receipts, moment);
+        if !is_served_well(alloc, disk, moment, least, disk.bytes())? {
+            return wrong_at(alloc, moment);
         }
     }
-    Ok(None)
+    Ok(())
 }
 
-// The first moment of a run at which a stop leaves something else. At its end that is the whole history.
-fn first_wrong_of_run(
-    alloc: Global,
-    ended: &Ended<MemDisk>,
-    whole: &[u8],
-) -> Result<Option<u64>, Fail> {
-    let disk = ended.disk.as_ref().ok_or("no disk")?;
-    let receipts = match ended.report.talks.as_slice().first() {
+// The same for a run. At its end a stop leaves the whole history.
+fn check_run(alloc: Global, ran: &Ran) -> Result<(), Fail> {
+    let disk = ran.disk().ok_or("no disk")?;
+    let receipts = match ran.talks.as_slice().first() {
         Some(talk) => talk.receipts(),
         None => &[],
     };
-    let wrong = first_wrong_image(alloc, disk, receipts, whole)?;
-    let end = disk.moment();
-    if wrong.is_some() || is_served_well(alloc, disk, end, ended.report.length, whole)? {
-        Ok(wrong)
+    check_images(alloc, disk, receipts)?;
+    if is_served_well(alloc, disk, disk.moment(), ran.length, disk.bytes())? {
+        Ok(())
     } else {
-        Ok(Some(end))
+        Err(Fail::from("at the end"))
     }
+}
+
+fn check_stops(alloc: Global, words: &str, around: &Around<'_>) -> Result<(), Fail> {
+    let ran = run_over(alloc, words, around)?;
+    let checked = check_run(alloc, &ran);
+    drop(ran);
+    checked
+}
+
+#[test]
+fn a_stop_in_intake_leaves_the_statement_out_or_whole(rt: HostRuntime) -> Result<(), Fail> {
+    check_stops(
+        rt.alloc(),
+        "intake s",
+        &Around::calm(stored(), STATEMENT, &[]),
+    )
 }
 
 // What one connection brings: two statements, a provider, a repeat in a batch, and what is asked about it.
@@ -254,74 +239,23 @@ fn stream(alloc: Global) -> Result<String, Fail> {
         "11111111-1111-4111-8111-111111111111",
         "22222222-2222-4222-8222-222222222222",
     )?;
-    Ok(format!(in alloc; "{PUT}{GET}{second}{MAKE}{POST}{GET}")?)
-}
-
-// The file of the whole history behind a run.
-fn whole_behind(alloc: Global, words: &[&str], around: &Around<'_>) -> Result<Vec<u8>, Fail> {
-    let ran = run_over(alloc, words, around)?;
-    Ok(ran.stored.ok_or("no disk")?)
-}
-
-fn first_wrong_until(
-    alloc: Global,
-    words: &[&str],
-    around: &Around<'_>,
-    whole: &[u8],
-) -> Result<Option<u64>, Fail> {
-    let ended = end_over(alloc, words, around)?;
-    let wrong = first_wrong_of_run(alloc, &ended, whole);
-    drop(ended);
-    wrong
-}
-
-fn first_wrong_over(
-    alloc: Global,
-    words: &[&str],
-    around: &Around<'_>,
-) -> Result<Option<u64>, Fail> {
-    let whole = whole_behind(alloc, words, around)?;
-    first_wrong_until(alloc, words, around, whole.as_slice())
-}
-
-#[test]
-fn a_stop_in_intake_leaves_the_statement_out_or_whole(rt: HostRuntime) -> Result<(), Fail> {
-    let stored = store(rt.alloc(), "65536")?;
-    let around = Around::calm(stored.as_slice(), STATEMENT, &[]);
-    assert_eq!(rt;
-        first_wrong_over(rt.alloc(), &["intake", "s"], &around)?,
-        None
-    );
-    Ok(())
+    joined(alloc, &[PUT, GET, second.as_str(), MAKE, POST, GET])
 }
 
 #[test]
 fn a_stop_in_serve_leaves_what_was_acknowledged(rt: HostRuntime) -> Result<(), Fail> {
-    let stored = store(rt.alloc(), "65536")?;
     let stream = stream(rt.alloc())?;
     let streams = [stream.as_str()];
-    let around = Around::calm(stored.as_slice(), "", &streams);
-    assert_eq!(rt; first_wrong_over(rt.alloc(), SERVE, &around)?, None);
-    Ok(())
+    check_stops(rt.alloc(), SERVE, &Around::calm(stored(), "", &streams))
 }
 
-// A PUT over a disk on which these calls fail.
-fn put_over<'a>(stored: &'a [u8], failing: &'a [u64]) -> Around<'a> {
-    Around {
+// What is left of serving a PUT over a disk on which these calls fail.
+fn put_over(alloc: Global, failing: &[u64]) -> Result<Ran, Fail> {
+    let around = Around {
         disk_fails: failing,
-        ..Around::calm(stored, "", &[PUT])
-    }
-}
-
-// How many calls of the disk serving a PUT makes. The last six are those of the append.
-fn calls_of_put(alloc: Global, stored: &[u8]) -> Result<u64, Fail> {
-    let ended = end_over(alloc, SERVE, &put_over(stored, &[]))?;
-    let calls = match &ended.disk {
-        Some(disk) => disk.moment(),
-        None => 0,
+        ..Around::calm(stored(), "", &[PUT])
     };
-    drop(ended);
-    Ok(calls)
+    run_over(alloc, SERVE, &around)
 }
 
 // What becomes of the gate that isn't synced, and how many entries there are then.
@@ -333,46 +267,42 @@ const IN_DOUBT: [(Pending, u64); 4] = [
 ];
 
 // Whether a stop at the end leaves the history with the last entry or without.
-fn is_in_doubt(alloc: Global, ended: &Ended<MemDisk>, whole: &[u8]) -> Result<bool, Fail> {
-    let disk = ended.disk.as_ref().ok_or("no disk")?;
-    for (pending, entries) in IN_DOUBT {
-        let image = disk.image(disk.moment(), pending)?;
-        let (found, file) = opened(alloc, image.as_slice())?;
-        if found != entries || !is_front(file.as_slice(), entries, whole) {
+fn is_in_doubt(alloc: Global, disk: &MemDisk, whole: &[u8]) -> Result<bool, Fail> {
+    for (pending, entries) in IN_DOUBT.iter() {
+        let image = disk.image(disk.moment(), *pending)?;
+        if front_of(alloc, image.as_slice(), whole)? != Some(*entries) {
             return Ok(false);
         }
     }
-    Ok(ended.status == 5 && ended.report.length == 2)
+    Ok(true)
 }
 
-fn leaves_doubt(alloc: Global, around: &Around<'_>, whole: &[u8]) -> Result<bool, Fail> {
-    let ended = end_over(alloc, SERVE, around)?;
-    let leaves = is_in_doubt(alloc, &ended, whole);
-    drop(ended);
-    leaves
+// Whether the disk is in doubt after a run that tells of a fault, and the client is told, too.
+fn is_told_in_doubt(alloc: Global, ran: &Ran, whole: &[u8]) -> Result<bool, Fail> {
+    let told = ran.ends(5, "disk fault\n") && ran.sends(DISK) && ran.length == 2;
+    let disk = ran.disk().ok_or("no disk")?;
+    Ok(told && is_in_doubt(alloc, disk, whole)?)
 }
 
-fn tells_of_the_disk(alloc: Global, around: &Around<'_>) -> Result<bool, Fail> {
-    let ran = run_over(alloc, SERVE, around)?;
-    Ok(
-        ran.sent.as_slice() == DISK.as_bytes()
-            && ran.printed.as_slice() == b"disk fault\n".as_slice(),
-    )
-}
-
-// Whether a doubt is left where the last call of the append and the first of the closing fail, and the client is told.
-fn is_left_in_doubt(alloc: Global, stored: &[u8], whole: &[u8]) -> Result<bool, Fail> {
-    let calls = calls_of_put(alloc, stored)?;
-    let failing = [calls.saturating_sub(1), calls];
-    let around = put_over(stored, &failing);
-    Ok(leaves_doubt(alloc, &around, whole)? && tells_of_the_disk(alloc, &around)?)
+// That is so of a PUT on which the last call of the append and the first of the closing fail. The last six calls of one
+// without faults are those of the append.
+fn check_doubt(alloc: Global, calm: &Ran) -> Result<(), Fail> {
+    let disk = calm.disk().ok_or("no disk")?;
+    let calls = disk.moment();
+    let ran = put_over(alloc, &[calls.saturating_sub(1), calls])?;
+    let told = is_told_in_doubt(alloc, &ran, disk.bytes());
+    drop(ran);
+    if told? {
+        Ok(())
+    } else {
+        Err(Fail::from("not in doubt"))
+    }
 }
 
 #[test]
 fn a_doubt_that_the_closing_cannot_end_is_status_5(rt: HostRuntime) -> Result<(), Fail> {
-    let alloc = rt.alloc();
-    let stored = store(alloc, "65536")?;
-    let whole = whole_behind(alloc, SERVE, &put_over(stored.as_slice(), &[]))?;
-    assert!(rt; is_left_in_doubt(alloc, stored.as_slice(), whole.as_slice())?);
-    Ok(())
+    let calm = put_over(rt.alloc(), &[])?;
+    let checked = check_doubt(rt.alloc(), &calm);
+    drop(calm);
+    checked
 }

@@ -6,7 +6,7 @@ use Rattle.clap.specs.Walk.{Row, Text}
 use Rattle.clap.specs.Simple.{subcommand_of}
 use Rattle.clap.specs.Faults.{fault_of}
 use Rattle.lrs_json.specs.Names.{is_among}
-use Rattle.lrs_command_line.specs.CommandLine.{Part, CommandLine, init, intake, serve, IsLineOf, IsPlain, IsNamed, IsCommandLine, IsTaken, Says, Gives, words_of, value_of, is_name, options_of, program, whole_line}
+use Rattle.lrs_command_line.specs.CommandLine.{Part, CommandLine, init, intake, serve, IsLineOf, IsPlain, IsNamed, IsCommandLine, IsTaken, ArePartsOf, Gives, words_of, value_of, is_name, options_of, program, whole_line}
 use Rattle.lrs_command_line.specs.Shapes.{IsReadAs, Denotes, is_plain, alone, value_behind, said_by, init_with, intake_with, serve_with, init_in, intake_in, serve_in, command_in, is_faulty, is_nonempty, taken, named}
 use Rattle.lrs_command_line.specs.declared.words.ProgramCommand.{ProgramCommand}
 use Rattle.lrs_command_line.proofs.Plain.{AreOptions, same, plain_line, parts_of, alone_of, value_found}
@@ -50,7 +50,7 @@ said_as parts words is =
     by (name ∷ file ∷ address ∷ []) = rw (found (codes "--workers") parts words refl is, found (codes "--connections") parts words refl is) refl
     by (name ∷ file ∷ address ∷ more ∷ rest) = refl
 
-said : (parts : List Part) (c : CommandLine) → Says parts c → said_by (words_of parts) (λ name. value_of name parts) ≡ Some c
+said : (parts : List Part) (c : CommandLine) → ArePartsOf parts c → said_by (words_of parts) (λ name. value_of name parts) ≡ Some c
 said parts (init w) is = rw (is.0, is.1, is.2, is.3) refl
 said parts (intake file) is = rw is refl
 said parts (serve w) is = rw (is.0, is.1, is.2) refl
@@ -66,26 +66,26 @@ serve_is file address None connections c e = cc
 serve_is file address (Some w) None c e = cc
 serve_is file address (Some w) (Some n) c e = (w, n, refl, refl, cc)
 
-says : (parts : List Part) (c : CommandLine) → said_by (words_of parts) (λ name. value_of name parts) ≡ Some c → Says parts c
+says : (parts : List Part) (c : CommandLine) → said_by (words_of parts) (λ name. value_of name parts) ≡ Some c → ArePartsOf parts c
 says parts c e = by (words_of parts) refl e where
   with_file : (name file : List ℕ) → words_of parts ≡ name ∷ file ∷ [] → (a b : Bool) → bytes_eq name (codes "init") ≡ a → bytes_eq name (codes "intake") ≡ b
       → cond a (init_with (Some file) (value_of (codes "--admin") parts) (value_of (codes "--base") parts) (value_of (codes "--limit") parts)) (cond b (Some (intake file)) None) ≡ Some c
-      → Says parts c
+      → ArePartsOf parts c
   with_file name file is true b x y e =
       let i = init_is file (value_of (codes "--admin") parts) (value_of (codes "--base") parts) (value_of (codes "--limit") parts) c e in
-      subst (Says parts) i.2 (is ∙ ap (λ n. n ∷ file ∷ []) (same name (codes "init") x), i.1, refl, refl)
+      subst (ArePartsOf parts) i.2 (is ∙ ap (λ n. n ∷ file ∷ []) (same name (codes "init") x), i.1, refl, refl)
   with_file name file is false true x y e =
-      let c_is : intake file ≡ c = cc in subst (Says parts) c_is (is ∙ ap (λ n. n ∷ file ∷ []) (same name (codes "intake") y))
+      let c_is : intake file ≡ c = cc in subst (ArePartsOf parts) c_is (is ∙ ap (λ n. n ∷ file ∷ []) (same name (codes "intake") y))
   with_file name file is false false x y e = cc
 
   with_address : (name file address : List ℕ) → words_of parts ≡ name ∷ file ∷ address ∷ [] → (a : Bool) → bytes_eq name (codes "serve") ≡ a
-      → cond a (serve_with (Some file) (Some address) (value_of (codes "--workers") parts) (value_of (codes "--connections") parts)) None ≡ Some c → Says parts c
+      → cond a (serve_with (Some file) (Some address) (value_of (codes "--workers") parts) (value_of (codes "--connections") parts)) None ≡ Some c → ArePartsOf parts c
   with_address name file address is true x e =
       let i = serve_is file address (value_of (codes "--workers") parts) (value_of (codes "--connections") parts) c e in
-      subst (Says parts) i.4 (is ∙ ap (λ n. n ∷ file ∷ address ∷ []) (same name (codes "serve") x), i.2, i.3)
+      subst (ArePartsOf parts) i.4 (is ∙ ap (λ n. n ∷ file ∷ address ∷ []) (same name (codes "serve") x), i.2, i.3)
   with_address name file address is false x e = cc
 
-  by : (ws : List (List ℕ)) → words_of parts ≡ ws → said_by ws (λ name. value_of name parts) ≡ Some c → Says parts c
+  by : (ws : List (List ℕ)) → words_of parts ≡ ws → said_by ws (λ name. value_of name parts) ≡ Some c → ArePartsOf parts c
   by [] is e = cc
   by (name ∷ []) is e = cc
   by (name ∷ file ∷ []) is e = with_file name file is (bytes_eq name (codes "init")) (bytes_eq name (codes "intake")) refl refl e

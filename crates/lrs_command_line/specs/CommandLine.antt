@@ -1,6 +1,7 @@
 -- The words of the command line: `init FILE --admin TOKEN [--base URL] [--limit BYTES]`, `intake FILE` and
--- `serve FILE ADDRESS --workers W --connections N`, each option with its value at any place behind the command's name.
-use Rattle.std.specs.Prelude.{◌≡◌, ◌<◌, ◌≤◌, ◌⊎◌, ◌==◌, ⊤, not, ℕ, Bool, true, false, List, [], ◌∷◌, length, Option, Some, None, IfSome, if◌then◌else◌, unwrap_or, codes}
+-- `serve FILE ADDRESS --workers W --connections N`, each option with its value at any place after the command's name.
+use Rattle.std.specs.Prelude.{◌≡◌, ◌<◌, ◌≤◌, ◌⊎◌, ◌==◌, ⊤, not, ℕ, Bool, true, false, List, [], ◌∷◌, length, Option}
+use Rattle.std.specs.Prelude.{Some, None, IfSome, if◌then◌else◌, unwrap_or, codes}
 use Rattle.std.specs.Option.{option_map_or}
 use Rattle.std.specs.Char.{is_ascii_digit}
 use Rattle.std.specs.List.{list_all}
@@ -12,11 +13,12 @@ use Rattle.clap.specs.Faults.{fault_of}
 use Rattle.lrs_json.specs.Names.{is_among}
 use Rattle.lrs_parts.specs.Founding.{IsToken, IsBase}
 use Rattle.lrs_journal.specs.declared.sizes.TheConstants.{LEAST_BYTES, MOST_BYTES}
-use Rattle.lrs_command_line.specs.declared.words.TheConstants.{DEFAULT_BASE, DEFAULT_LIMIT, MOST_CONNECTIONS, MOST_DIGITS, MOST_WORKERS}
+use Rattle.lrs_command_line.specs.declared.words.TheConstants.{DEFAULT_BASE, DEFAULT_LIMIT, MOST_CONNECTIONS}
+use Rattle.lrs_command_line.specs.declared.words.TheConstants.{MOST_DIGITS, MOST_WORKERS}
 
 -- ---- plain lines
 
--- a part of a line: a word that stands alone, or an option's name with the value behind it
+-- a part of a line: a word that stands alone, or an option's name with the value after it
 pub data Part : Type 0 where
   word : List ℕ → Part
   option : List ℕ → List ℕ → Part
@@ -44,12 +46,14 @@ abbrev pub is_name : List ℕ → Bool
 is_name [] = false
 is_name (b ∷ rest) = not (b == 45)
 
--- No word is empty and none begins with `-` but these options. Each of those stands at most once, and the next word is its value.
+-- No word is empty and none begins with `-` but these options. Each of those stands at most once, and the next word is
+-- its value.
 abbrev pub ArePlain : List (List ℕ) → List Part → Type 0
 ArePlain options [] = ⊤
 ArePlain options (word w ∷ parts) = (is_name w ≡ true) × ArePlain options parts
 ArePlain options (option name value ∷ parts) =
-    (is_among name options ≡ true) × (is_among name (line_of parts) ≡ false) × (is_name value ≡ true) × ArePlain options parts
+    (is_among name options ≡ true) × (is_among name (line_of parts) ≡ false) × (is_name value ≡ true)
+    × ArePlain options parts
 
 abbrev pub options_of_command : List ℕ → List (List ℕ)
 options_of_command name =
@@ -91,13 +95,16 @@ pub data CommandLine : Type 0 where
   intake : List ℕ → CommandLine
   serve : ServeWords → CommandLine
 
--- The parts of a plain line are this command's: its words and the options that it requires all stand there, and no word too many.
-abbrev pub Says : List Part → CommandLine → Type 0
-Says parts (init w) = (words_of parts ≡ codes "init" ∷ w.file ∷ []) × (value_of (codes "--admin") parts ≡ Some w.admin)
+-- The parts of a plain line are this command's: its words and the options that it requires all stand there, and no word
+-- too many.
+abbrev pub ArePartsOf : List Part → CommandLine → Type 0
+ArePartsOf parts (init w) =
+    (words_of parts ≡ codes "init" ∷ w.file ∷ []) × (value_of (codes "--admin") parts ≡ Some w.admin)
     × (value_of (codes "--base") parts ≡ w.base) × (value_of (codes "--limit") parts ≡ w.limit)
-Says parts (intake file) = words_of parts ≡ codes "intake" ∷ file ∷ []
-Says parts (serve w) = (words_of parts ≡ codes "serve" ∷ w.file ∷ w.address ∷ [])
-    × (value_of (codes "--workers") parts ≡ Some w.workers) × (value_of (codes "--connections") parts ≡ Some w.connections)
+ArePartsOf parts (intake file) = words_of parts ≡ codes "intake" ∷ file ∷ []
+ArePartsOf parts (serve w) = (words_of parts ≡ codes "serve" ∷ w.file ∷ w.address ∷ [])
+    × (value_of (codes "--workers") parts ≡ Some w.workers)
+    × (value_of (codes "--connections") parts ≡ Some w.connections)
 
 -- ---- other lines, as clap takes them
 
@@ -111,16 +118,21 @@ abbrev pub needed : Text → Rule
 needed name = record (required name) { long = Some name }
 
 abbrev pub init_app : App
-init_app = with_rule (with_rule (with_rule (with_rule (new_app (codes "init")) (required (codes "file"))) (needed (codes "admin"))) (optional (codes "base"))) (optional (codes "limit"))
+init_app = with_rule
+    (with_rule (with_rule (with_rule (new_app (codes "init")) (required (codes "file"))) (needed (codes "admin")))
+    (optional (codes "base"))) (optional (codes "limit"))
 
 abbrev pub intake_app : App
 intake_app = with_rule (new_app (codes "intake")) (required (codes "file"))
 
 abbrev pub serve_app : App
-serve_app = with_rule (with_rule (with_rule (with_rule (new_app (codes "serve")) (required (codes "file"))) (required (codes "address"))) (needed (codes "workers"))) (needed (codes "connections"))
+serve_app = with_rule
+    (with_rule (with_rule (with_rule (new_app (codes "serve")) (required (codes "file"))) (required (codes "address")))
+    (needed (codes "workers"))) (needed (codes "connections"))
 
 abbrev pub program : App
-program = with_subcommand (with_subcommand (with_subcommand (new_app (codes "kilnlime")) init_app.top) intake_app.top) serve_app.top
+program = with_subcommand (with_subcommand (with_subcommand (new_app (codes "kilnlime")) init_app.top) intake_app.top)
+    serve_app.top
 
 -- the words with the program's name before them
 abbrev pub whole_line : List Text → List Text
@@ -129,11 +141,14 @@ whole_line words = codes "kilnlime" ∷ words
 -- what was given to a subcommand is this command's
 abbrev pub Gives : Option (Text × List Row) → CommandLine → Type 0
 Gives None c = ⊥
-Gives (Some found) (init w) = (found.0 ≡ codes "init") × (first_of (codes "file") found.1 ≡ Some w.file) × (first_of (codes "admin") found.1 ≡ Some w.admin)
+Gives (Some found) (init w) = (found.0 ≡ codes "init") × (first_of (codes "file") found.1 ≡ Some w.file)
+    × (first_of (codes "admin") found.1 ≡ Some w.admin)
     × (first_of (codes "base") found.1 ≡ w.base) × (first_of (codes "limit") found.1 ≡ w.limit)
 Gives (Some found) (intake file) = (found.0 ≡ codes "intake") × (first_of (codes "file") found.1 ≡ Some file)
-Gives (Some found) (serve w) = (found.0 ≡ codes "serve") × (first_of (codes "file") found.1 ≡ Some w.file) × (first_of (codes "address") found.1 ≡ Some w.address)
-    × (first_of (codes "workers") found.1 ≡ Some w.workers) × (first_of (codes "connections") found.1 ≡ Some w.connections)
+Gives (Some found) (serve w) = (found.0 ≡ codes "serve") × (first_of (codes "file") found.1 ≡ Some w.file)
+    × (first_of (codes "address") found.1 ≡ Some w.address)
+    × (first_of (codes "workers") found.1 ≡ Some w.workers)
+    × (first_of (codes "connections") found.1 ≡ Some w.connections)
 
 -- clap refuses the words for no cause, and gives the command
 pub record IsTaken (words : List (List ℕ)) (c : CommandLine) : Type 0 where
@@ -158,7 +173,7 @@ pub record IsNumberIn (from to : ℕ) (word : List ℕ) : Type 0 where
 abbrev pub IsLimit : List ℕ → Type 0
 IsLimit = IsNumberIn LEAST_BYTES MOST_BYTES
 
--- the base address of the store, and its limit, where the words leave them out
+-- the base address of the store, and its limit, if the words leave them out
 abbrev pub base_of : InitWords → List ℕ
 base_of w = unwrap_or w.base DEFAULT_BASE.now
 
@@ -184,7 +199,8 @@ IsInRange (serve w) = IsServeInRange w
 
 -- a plain line is a command's by its parts, and any other line as clap takes it
 abbrev pub IsNamed : List (List ℕ) → CommandLine → Type 0
-IsNamed words c = ((parts : List Part) × IsLineOf parts words × Says parts c) ⊎ ((IsPlain words → ⊥) × IsTaken words c)
+IsNamed words c = ((parts : List Part) × IsLineOf parts words × ArePartsOf parts c)
+    ⊎ ((IsPlain words → ⊥) × IsTaken words c)
 
 -- the words are this command's, and each value is in its range
 abbrev pub IsCommandLine : List (List ℕ) → CommandLine → Type 0

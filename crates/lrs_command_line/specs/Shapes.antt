@@ -1,5 +1,6 @@
 -- The program's words as the code has them, and how it takes a line apart.
-use Rattle.std.specs.Prelude.{◌≡◌, ◌&&◌, not, ℕ, Bool, true, false, List, [], ◌∷◌, Option, Some, None, if◌then◌else◌, codes, slice_get, option_and_then, MatchOption}
+use Rattle.std.specs.Prelude.{◌≡◌, ◌&&◌, not, ℕ, Bool, true, false, List, [], ◌∷◌, Option, Some, None, if◌then◌else◌}
+use Rattle.std.specs.Prelude.{codes, slice_get, option_and_then, MatchOption}
 use Rattle.std.specs.Option.{option_copied}
 use Rattle.std.specs.Str.{bytes_eq}
 use Rattle.clap.specs.Walk.{Row, Text, first_of}
@@ -8,7 +9,8 @@ use Rattle.clap.specs.declared.builder.command.Command.{Command as ClapCommand}
 use Rattle.clap.specs.declared.builder.command.Command.TheViews.{out-Command as fields_of}
 use Rattle.clap.specs.Faults.{fault_of}
 use Rattle.lrs_json.specs.Names.{is_among}
-use Rattle.lrs_command_line.specs.CommandLine.{CommandLine, init, intake, serve, IsInRange, base_of, limit_of, connections_of, is_name, options_of, program, whole_line}
+use Rattle.lrs_command_line.specs.CommandLine.{CommandLine, init, intake, serve, IsInRange, base_of, limit_of}
+use Rattle.lrs_command_line.specs.CommandLine.{connections_of, is_name, options_of, program, whole_line}
 use Rattle.lrs_command_line.specs.declared.words.CommandLine as code
 use Rattle.lrs_command_line.specs.declared.words.CommandLine.TheVariants as line
 use Rattle.lrs_command_line.specs.declared.words.ProgramCommand.{ProgramCommand}
@@ -23,12 +25,14 @@ command_of (line.Serve file address workers connections) =
 
 -- the words as they were read mean this command
 abbrev pub Denotes : ProgramCommand → CommandLine → Type 0
-Denotes (words.Init file admin base limit) (init w) = (file ≡ w.file) × (admin ≡ w.admin) × (base ≡ base_of w) × (limit ≡ limit_of w)
+Denotes (words.Init file admin base limit) (init w) = (file ≡ w.file) × (admin ≡ w.admin) × (base ≡ base_of w)
+    × (limit ≡ limit_of w)
 Denotes (words.Intake file) (intake name) = file ≡ name
-Denotes (words.Serve file address connections) (serve w) = (file ≡ w.file) × (address ≡ w.address) × (connections ≡ connections_of w)
+Denotes (words.Serve file address connections) (serve w) = (file ≡ w.file) × (address ≡ w.address)
+    × (connections ≡ connections_of w)
 Denotes other command = ⊥
 
--- the words were read as this command, or refused for a value out of its range, where they name it
+-- the words were read as this command, or refused for a value out of its range, if they name it
 abbrev pub IsReadAs : Option CommandLine → Option ProgramCommand → Type 0
 IsReadAs None found = found ≡ None
 IsReadAs (Some c) found = MatchOption found (IsInRange c → ⊥) (λ words. IsInRange c × Denotes words c)
@@ -39,7 +43,7 @@ IsReadAs (Some c) found = MatchOption found (IsInRange c → ⊥) (λ words. IsI
 abbrev pub is_option : List (List ℕ) → List ℕ → List (List ℕ) → Bool
 is_option options word behind = is_among word options && not (is_among word behind)
 
--- the words are plain from the beginning of a part on, or from behind an option's name
+-- the words are plain from the beginning of a part on, or from the word after an option's name
 abbrev pub is_plain : List (List ℕ) → Bool → List (List ℕ) → Bool
 is_plain options behind_option [] = not behind_option
 is_plain options true (value ∷ words) = is_name value && is_plain options false words
@@ -52,7 +56,7 @@ alone behind_option [] = []
 alone true (value ∷ words) = alone false words
 alone false (word ∷ words) = if is_name word then word ∷ alone false words else alone true words
 
--- the word behind this one
+-- the word after this one
 abbrev pub value_behind : List ℕ → List (List ℕ) → Option (List ℕ)
 value_behind name [] = None
 value_behind name (word ∷ words) = if bytes_eq word name then slice_get words 0 else value_behind name words
@@ -60,7 +64,8 @@ value_behind name (word ∷ words) = if bytes_eq word name then slice_get words 
 -- ---- commands of what was found
 
 abbrev pub init_with : Option (List ℕ) → Option (List ℕ) → Option (List ℕ) → Option (List ℕ) → Option CommandLine
-init_with (Some file) (Some admin) base limit = Some (init (record { file = file; admin = admin; base = base; limit = limit }))
+init_with (Some file) (Some admin) base limit =
+    Some (init (record { file = file; admin = admin; base = base; limit = limit }))
 init_with file admin base limit = None
 
 abbrev pub intake_with : Option (List ℕ) → Option CommandLine
@@ -74,10 +79,12 @@ serve_with file address workers connections = None
 
 abbrev pub said_by : List (List ℕ) → (List ℕ → Option (List ℕ)) → Option CommandLine
 said_by (name ∷ file ∷ []) value =
-    if bytes_eq name (codes "init") then init_with (Some file) (value (codes "--admin")) (value (codes "--base")) (value (codes "--limit"))
+    if bytes_eq name (codes "init")
+    then init_with (Some file) (value (codes "--admin")) (value (codes "--base")) (value (codes "--limit"))
     else (if bytes_eq name (codes "intake") then Some (intake file) else None)
 said_by (name ∷ file ∷ address ∷ []) value =
-    if bytes_eq name (codes "serve") then serve_with (Some file) (Some address) (value (codes "--workers")) (value (codes "--connections")) else None
+    if bytes_eq name (codes "serve")
+    then serve_with (Some file) (Some address) (value (codes "--workers")) (value (codes "--connections")) else None
 said_by words value = None
 
 -- ---- what clap takes
@@ -87,13 +94,15 @@ abbrev pub IsOf : App → ClapCommand → Type 0
 IsOf a c = (app_of c ≡ a) × ((fields_of c).has_globals ≡ false)
 
 abbrev pub init_in : List Row → Option CommandLine
-init_in rows = init_with (first_of (codes "file") rows) (first_of (codes "admin") rows) (first_of (codes "base") rows) (first_of (codes "limit") rows)
+init_in rows = init_with (first_of (codes "file") rows) (first_of (codes "admin") rows) (first_of (codes "base") rows)
+    (first_of (codes "limit") rows)
 
 abbrev pub intake_in : List Row → Option CommandLine
 intake_in rows = intake_with (first_of (codes "file") rows)
 
 abbrev pub serve_in : List Row → Option CommandLine
-serve_in rows = serve_with (first_of (codes "file") rows) (first_of (codes "address") rows) (first_of (codes "workers") rows) (first_of (codes "connections") rows)
+serve_in rows = serve_with (first_of (codes "file") rows) (first_of (codes "address") rows)
+    (first_of (codes "workers") rows) (first_of (codes "connections") rows)
 
 abbrev pub command_in : Text × List Row → Option CommandLine
 command_in found =
@@ -109,8 +118,10 @@ abbrev pub is_faulty : List Text → Bool
 is_faulty line = is_nonempty (fault_of program line)
 
 abbrev pub taken : List (List ℕ) → Option CommandLine
-taken words = if is_faulty (whole_line words) then None else option_and_then command_in (subcommand_of program (whole_line words))
+taken words =
+    if is_faulty (whole_line words) then None else option_and_then command_in (subcommand_of program (whole_line words))
 
 -- the command that the words name
 abbrev pub named : List (List ℕ) → Option CommandLine
-named words = if is_plain (options_of words) false words then said_by (alone false words) (λ name. value_behind name words) else taken words
+named words = if is_plain (options_of words) false words
+    then said_by (alone false words) (λ name. value_behind name words) else taken words

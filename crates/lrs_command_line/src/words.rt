@@ -83,7 +83,7 @@ fn is_number(word: &str) -> bool
     !word.is_empty() && word.len() <= MOST_DIGITS && are_digits(word)
 }
 
-// The number that a word spells, where it is of the range.
+// The number that a word spells, if it is of the range.
 fn read_number(word: &str, least: u64, most: u64) -> Option<u64>
     ensures { SomeIff result (IsNumberIn least most word.now) (digits_value 10 word.now) }
 {
@@ -223,7 +223,7 @@ fn test_values(alloc: Global, shape: CommandLine<'_>) -> Result<Option<ProgramCo
     }
 }
 
-// The same, where the words name a command.
+// The same, if the words name a command.
 fn test_named(
     alloc: Global,
     shape: Option<CommandLine<'_>>,
@@ -246,10 +246,10 @@ fn read_named(alloc: Global, words: &[Text]) -> Result<Option<ProgramCommand>, M
     }
 }
 
-/// Reads the words behind the program's name: a command of the program, or none (a usage fault).
+/// Reads the words after the program's name: a command of the program, or none (a usage fault).
 ///
-/// A command's options stand in any order and at any place behind its name, `--name VALUE` or `--name=VALUE`, and each
-/// once. A `--` ends them, so that a FILE behind it may begin with `-`.
+/// A command's options stand in any order and at any place after its name, `--name VALUE` or `--name=VALUE`, and each
+/// once. A `--` ends them, so that a FILE after it may begin with `-`.
 pub fn read_words(alloc: Global, words: &[Text]) -> Result<Option<ProgramCommand>, Memory>
     ensures { IfOk result (λ found. MatchOption found ((c : SpecCommandLine) → IsCommandLine words.now c → ⊥)
         (λ read. (c : SpecCommandLine) × IsCommandLine words.now c × Denotes read c)) }

@@ -1,4 +1,4 @@
-//! The tests of lrs_command_line that need no run of the program: the largest numbers of a line of words.
+//! The tests of lrs_command_line: which command a line of words is. Lines that are none are run, in lrs_app_tests.
 #![tactic(auto)]
 
 #[cfg(test)]

@@ -3,12 +3,28 @@ use lrs_json::Text;
 use std::alloc::Global;
 use std::test::Fail;
 
-// Lines of words, and behind `=>` the limit of the store that each asks for, or `usage`.
-const LIMITS: &str = r#"init s --admin adminadmin --limit 1073741824 => 1073741824
+// Lines of words, and after `=>` the command that each is with its values, or `usage`. `''` is the empty word. From the
+// ninth to the fifteenth they aren't plain.
+const COMMANDS: &str = r#"intake s => intake s
+init s --admin adminadmin => init s adminadmin http://127.0.0.1:8080/ 268435456
+init --admin adminadmin s => init s adminadmin http://127.0.0.1:8080/ 268435456
+init --limit 512 s --base http://a/ --admin adminadmin => init s adminadmin http://a/ 512
+init s --base http://a/ --admin adminadmin --limit 00512 => init s adminadmin http://a/ 512
+serve s a --workers 1 --connections 9 => serve s a 9
+serve --connections 9 s a --workers 1 => serve s a 9
+serve s --workers 1 a --connections 10000 => serve s a 10000
+init s --admin=adminadmin => init s adminadmin http://127.0.0.1:8080/ 268435456
+init --limit=600 --admin adminadmin s => init s adminadmin http://127.0.0.1:8080/ 600
+intake -- s => intake s
+intake -- -s => intake -s
+intake - => intake -
+intake '' => intake ''
+serve --workers=1 --connections=2 -- s --workers => serve s --workers 2
+init s --admin adminadmin --limit 1073741824 => init s adminadmin http://127.0.0.1:8080/ 1073741824
 init s --admin adminadmin --limit 1073741825 => usage
-init s --admin adminadmin --limit 00000000001073741824 => 1073741824
+init s --admin adminadmin --limit 00000000001073741824 => init s adminadmin http://127.0.0.1:8080/ 1073741824
 init s --admin adminadmin --limit 000000000001073741824 => usage
-init s --admin adminadmin --limit 512 => 512
+init s --admin adminadmin --limit 512 => init s adminadmin http://127.0.0.1:8080/ 512
 init s --admin adminadmin --limit 511 => usage
 "#;
 
@@ -16,26 +32,49 @@ init s --admin adminadmin --limit 511 => usage
 fn words_of(alloc: Global, line: &str) -> Result<Vec<Text>, Fail> {
     let mut words = Vec::new(alloc);
     for word in line.split(' ') {
-        words.push(Text::of(alloc, word)?)?;
+        words.push(Text::of(alloc, if word == "''" { "" } else { word })?)?;
     }
     Ok(words)
 }
 
+// A file as a word of a line.
+fn word(file: &str) -> &str {
+    if file.is_empty() { "''" } else { file }
+}
+
+// A command as a line that tells its values.
 fn told(alloc: Global, read: &Option<ProgramCommand>) -> Result<String, Fail> {
     Ok(match read {
+        None => format!(in alloc; "usage")?,
         Some(
             ProgramCommand::Init {
-                file: _,
-                admin: _,
-                base: _,
+                file,
+                admin,
+                base,
                 limit,
             },
-        ) => format!(in alloc; "{limit}")?,
-        _ => format!(in alloc; "usage")?,
+        ) => {
+            let (file, admin, base) = (file.as_str(), admin.as_str(), base.as_str());
+            format!(in alloc; "init {file} {admin} {base} {limit}")?
+        }
+        Some(ProgramCommand::Intake { file }) => {
+            let file = word(file.as_str());
+            format!(in alloc; "intake {file}")?
+        }
+        Some(
+            ProgramCommand::Serve {
+                file,
+                address,
+                connections,
+            },
+        ) => {
+            let (file, address) = (file.as_str(), address.as_str());
+            format!(in alloc; "serve {file} {address} {connections}")?
+        }
     })
 }
 
-fn limit_of(alloc: Global, line: &str) -> Result<String, Fail> {
+fn read_as(alloc: Global, line: &str) -> Result<String, Fail> {
     let words = words_of(alloc, line)?;
     let read = read_words(alloc, words.as_slice())?;
     let told = told(alloc, &read);
@@ -43,11 +82,11 @@ fn limit_of(alloc: Global, line: &str) -> Result<String, Fail> {
     told
 }
 
-// The first line that asks for something else, or none.
+// The first line that is read as something else, or none.
 fn first_misread(alloc: Global) -> Result<&'static str, Fail> {
-    for row in LIMITS.lines() {
-        let (line, limit) = row.split_once(" => ").ok_or("no limit")?;
-        if limit_of(alloc, line)?.as_str() != limit {
+    for row in COMMANDS.lines() {
+        let (line, command) = row.split_once(" => ").ok_or("no command")?;
+        if read_as(alloc, line)?.as_str() != command {
             return Ok(row);
         }
     }
@@ -55,7 +94,7 @@ fn first_misread(alloc: Global) -> Result<&'static str, Fail> {
 }
 
 #[test]
-fn limits_go_from_the_least_to_the_most(rt: HostRuntime) -> Result<(), Fail> {
+fn a_line_is_read_as_its_command(rt: HostRuntime) -> Result<(), Fail> {
     assert_eq!(rt; first_misread(rt.alloc())?, "none");
     Ok(())
 }

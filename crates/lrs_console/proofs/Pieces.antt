@@ -1,7 +1,7 @@
 -- Bytes that go out or come in piece by piece.
 use Rattle.std.proofs.Common.{◌≡◌, ℕ, zero, suc, ◌-◌, ◌+◌, List, [], ◌∷◌, ◌++◌, length, take, drop, Option, Some, None, option_map, refl, sym, ap, ◌∙◌, append_assoc, length-drop, arith}
 use Rattle.std.proofs.lemmas.List.{take_all}
-use Rattle.lrs_console.specs.Printing.{GoesOn}
+use Rattle.lrs_console.specs.Printing.{TakesUpTo}
 
 take_none : (n : ℕ) → take {A = ℕ} n [] ≡ []
 take_none zero = refl
@@ -15,7 +15,7 @@ take_split (suc d) n (x ∷ xs) = ap (λ r. x ∷ r) (take_split d n xs) ∙ ap 
 
 -- what was taken of a text, one piece later
 pub goes_on : (text piece : List ℕ) (done n : ℕ) (old new : Option (List ℕ)) → piece ≡ drop done text
-    → new ≡ option_map (λ taken. taken ++ take n piece) old → GoesOn text done (done + n) old new
+    → new ≡ option_map (λ taken. taken ++ take n piece) old → TakesUpTo text done (done + n) old new
 goes_on text piece done n old new rest taken start so_far =
     taken ∙ ap (λ m. option_map (λ taken. taken ++ take n piece) m) so_far ∙ along start where
       along : (o : Option (List ℕ)) → option_map (λ taken. taken ++ take n piece) (option_map (λ taken. taken ++ take done text) o)

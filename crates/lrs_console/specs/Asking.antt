@@ -71,6 +71,7 @@ abbrev pub EndsSaying : List ℕ → Answered → Ending → Type 0
 EndsSaying id said.Kept end = end ≡ ending.Kept id
 EndsSaying id said.Same end = end ≡ ending.Kept id
 EndsSaying id (said.Shown text through) end = ⊥
+EndsSaying id (said.Document media bytes) end = ⊥
 EndsSaying id (said.Refused r) end = EndsRefused r end
 
 -- the abstract store's answer to the operator's put
@@ -100,7 +101,8 @@ IsNoTree input other = ⊥
 -- what is asked is no statement to be kept, and ends so over each history
 abbrev pub EndsAnyway : List ℕ → Ending → Type 0
 EndsAnyway input end = (kind : InputKind) × IsTakenFor input kind
-    × ((limit : ℕ) (h : List Entry) (clock : ℕ) (draw : Draw) → EndsAsking limit h clock draw kind end × (entry_of_input limit h clock draw kind ≡ None))
+    × ((limit : ℕ) (h : List Entry) (clock : ℕ) (draw : Draw) → EndsAsking limit h clock draw kind end
+    × (entry_of_input limit h clock draw kind ≡ None))
 
 -- why no statement is taken from an input
 abbrev pub IsNotTaken : List ℕ → Ending → Type 0

@@ -6,9 +6,10 @@ use Rattle.lrs_disk.specs.Faults.{Rises}
 abbrev pub HasTaken : List ℕ → ℕ → Option (List ℕ) → Option (List ℕ) → Type 0
 HasTaken text n start now = now ≡ option_map (λ taken. taken ++ take n text) start
 
--- where so many bytes of the text were taken since some start, there are more now
-abbrev pub GoesOn : List ℕ → ℕ → ℕ → Option (List ℕ) → Option (List ℕ) → Type 0
-GoesOn text done place old new = (start : Option (List ℕ)) → HasTaken text done start old → HasTaken text place start new
+-- if so many bytes of the text were taken since some start, there are more now
+abbrev pub TakesUpTo : List ℕ → ℕ → ℕ → Option (List ℕ) → Option (List ℕ) → Type 0
+TakesUpTo text done place old new = (start : Option (List ℕ)) → HasTaken text done start old
+    → HasTaken text place start new
 
 -- of the text a proper part was taken
 abbrev pub TakesPart : List ℕ → Option (List ℕ) → Option (List ℕ) → Type 0

@@ -1,10 +1,10 @@
 // What an input asks of a store.
-ghost use Rattle.std.specs.Prelude.{◌≡◌, ◌≤◌, length, IfOk, IfErr, IfSome};
+ghost use Rattle.std.specs.Prelude.{◌≡◌, ◌≤◌, length, IfOk, IfErr};
 ghost use Rattle.lrs_json.specs.View.{view};
 ghost use Rattle.lrs_json.specs.Fits.{IsReadable};
 ghost use Rattle.lrs_json.specs.declared.limits.TheConstants.{DEPTH};
 ghost use Rattle.lrs_json_reader.specs.Refusals.{Spells};
-ghost use Rattle.lrs_console.specs.Reading.{longest_input};
+ghost use Rattle.lrs_console.specs.Reading.{ForInput, longest_input};
 ghost use Rattle.lrs_console.specs.Asking.{with_id, IsTakenFor, ending_without_id, IsNoTree, IsNoStatement, IsNotTaken, HasInputCause};
 
 use crate::Ending;
@@ -67,10 +67,10 @@ fn ask(alloc: Global, input: &[u8]) -> Result<(Id, Tree), Ending>
 
 /// Reads the input to its end, and takes the statement that it asks to be kept.
 pub fn take_statement<I: Source>(alloc: Global, input: &mut I) -> Result<(Id, Tree), Ending>
-    ensures taken { IfOk result (λ statement. IfSome (I.left input.old)
-        (λ input. IsTakenFor input (with_id statement.0 statement.1))) }
+    ensures taken { IfOk result (λ statement. ForInput (I.left input.old)
+        (λ bytes. IsTakenFor bytes (with_id statement.0 statement.1))) }
     ensures readable { IfOk result (λ statement. IsReadable DEPTH (view statement.1)) }
-    ensures refused { IfErr result (λ end. IfSome (I.left input.old) (λ input. IsNotTaken input end)) }
+    ensures refused { IfErr result (λ end. ForInput (I.left input.old) (λ bytes. IsNotTaken bytes end)) }
     ensures cause { IfErr result (HasInputCause (I.fault_count input.old) (I.fault_count input.new)) }
     ensures later { I.fault_count input.old ≤ I.fault_count input.new }
 {

@@ -31,7 +31,7 @@ pub enum Ending {
     DiskFault,
     /// No door could be had, or the door failed before its number of connections.
     LobbyFault,
-    /// Memory is wanting.
+    /// Memory ran out.
     Memory,
     /// The input breaks this rule.
     Refused(Rule),

@@ -1,23 +1,23 @@
 ghost use Rattle.std.specs.Prelude.{◌≡◌, ◌<◌, ◌≤◌, ◌++◌, length, option_map, OnOk, OnErr, IfOk};
 ghost use Rattle.lrs_disk.specs.Faults.{HasCause};
 ghost use Rattle.lrs_console.specs.Endings.{ending_status, ending_line};
-ghost use Rattle.lrs_console.specs.Printing.{Prints, TakesPart, GoesOn};
+ghost use Rattle.lrs_console.specs.Printing.{Prints, TakesPart, TakesUpTo};
 
 use crate::Ending;
 use lrs_disk::{Failed, Sink};
 
-// Writes a piece of the bytes from a place on, and gives the place behind it.
+// Writes a piece of the bytes from a place on, and gives the place after it.
 fn print_from<O: Sink>(out: &mut O, bytes: &[u8], done: usize) -> Result<usize, Failed>
     requires { done < length bytes.now }
     ensures more { IfOk result (λ place. (done < place) × (place ≤ length bytes.now)) }
-    ensures taken { IfOk result (λ place. GoesOn bytes.now done place (O.taken out.old) (O.taken out.new)) }
+    ensures taken { IfOk result (λ place. TakesUpTo bytes.now done place (O.taken out.old) (O.taken out.new)) }
     ensures failed { OnErr result (O.taken out.new ≡ O.taken out.old) }
     ensures cause { HasCause (O.fault_count out.old) (O.fault_count out.new) result }
 {
     Ok(done + out.write(&bytes[done..])?)
 }
 
-// Writes the bytes to their end. Where the sink fails nothing more is written.
+// Writes the bytes to their end. If the sink fails nothing more is written.
 fn print<O: Sink>(out: &mut O, bytes: &[u8]) -> Result<(), Failed>
     ensures whole { OnOk result (O.taken out.new ≡ option_map (λ taken. taken ++ bytes.now) (O.taken out.old)) }
     ensures part { OnErr result (TakesPart bytes.now (O.taken out.old) (O.taken out.new)) }

@@ -14,7 +14,7 @@ pub enum InputRefused {
     TooLong,
     /// A call of the input failed.
     Failed,
-    /// Memory is wanting.
+    /// Memory ran out.
     Memory,
 }
 
@@ -29,7 +29,7 @@ impl From<Failed> for InputRefused {
     }
 }
 
-// Reads a piece behind the bytes, and no further than one byte too much. It answers whether there was one.
+// Reads a piece after the bytes, and no further than one byte too much. It answers whether there was one.
 fn read_piece<I: Source>(input: &mut I, bytes: &mut Vec<u8>) -> Result<bool, InputRefused>
     requires { vec_len bytes.old ≤ longest_input }
     ensures given { OnOk result (GivesOn bytes.old.items bytes.new.items (I.left input.old) (I.left input.new)) }

@@ -43,14 +43,14 @@ fn is_among(word: &str, words: &[Text]) -> bool
     false
 }
 
-// Whether the word is an option of the command that doesn't stand again behind it.
+// Whether the word is an option of the command that doesn't stand again after it.
 fn is_option(command: &str, word: &Text, behind: &[Text]) -> bool
     ensures { result ≡ is_option (options_of_command command.now) word.now behind.now }
 {
     has_option(command, word.as_str()) && !is_among(word.as_str(), behind)
 }
 
-// The words of a plain line behind its first one, or behind that and its value.
+// The words of a plain line after its first one, or after that and its value.
 fn pass_word<'a>(command: &str, word: &Text, words: &'a [Text]) -> Option<&'a [Text]>
     ensures plain { MatchOption result (is_plain (options_of_command command.now) false (word.now ∷ words.now) ≡ false)
         (λ rest. is_plain (options_of_command command.now) false rest.now
@@ -80,7 +80,7 @@ fn is_plain_for(command: &str, words: &[Text]) -> bool
 }
 
 /// Whether a line is plain: no word is empty, none begins with `-` but the options of its command, and each of those
-/// stands once with its value behind it.
+/// stands once with its value after it.
 pub(super) fn is_plain(words: &[Text]) -> bool
     ensures { result ≡ is_plain (options_of words.now) false words.now }
 {
@@ -90,7 +90,7 @@ pub(super) fn is_plain(words: &[Text]) -> bool
     }
 }
 
-// The words behind an option's value.
+// The words after an option's value.
 fn behind_value(words: &[Text]) -> &[Text]
     ensures same { alone false result.now ≡ alone true words.now }
     ensures shorter { length result.now ≤ length words.now }
@@ -101,7 +101,7 @@ fn behind_value(words: &[Text]) -> &[Text]
     }
 }
 
-// The first word of a line that stands alone, and the words behind it.
+// The first word of a line that stands alone, and the words after it.
 fn next_alone(line: &[Text]) -> Option<(&Text, &[Text])>
     ensures { MatchOption result (alone false line.now ≡ [])
         (λ next. alone false line.now ≡ next.0.now ∷ alone false next.1.now) }
@@ -116,7 +116,7 @@ fn next_alone(line: &[Text]) -> Option<(&Text, &[Text])>
     None
 }
 
-// The word behind an option's name.
+// The word after an option's name.
 fn value_behind<'a>(name: &str, line: &'a [Text]) -> Option<&'a str>
     ensures { option_copied result ≡ value_behind name.now line.now }
 {
@@ -154,7 +154,7 @@ fn plain_serve<'a>(file: &'a str, address: &'a str, words: &'a [Text]) -> Option
     })
 }
 
-// A plain line with one word behind the command's name.
+// A plain line with one word after the command's name.
 fn plain_with_file<'a>(command: &str, file: &'a str, words: &'a [Text]) -> Option<CommandLine<'a>>
     ensures { option_map command_of result ≡ said_by (command.now ∷ file.now ∷ [])
         (λ name. value_behind name words.now) }
@@ -166,7 +166,7 @@ fn plain_with_file<'a>(command: &str, file: &'a str, words: &'a [Text]) -> Optio
     }
 }
 
-// A plain line with two words behind the command's name.
+// A plain line with two words after the command's name.
 fn plain_with_address<'a>(
     command: &str,
     file: &'a str,

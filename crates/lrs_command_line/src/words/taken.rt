@@ -174,7 +174,7 @@ fn texts_of(alloc: Global, words: &[Text]) -> Result<Vec<&str>, Memory>
     Ok(texts)
 }
 
-// What clap gives of a line, or none where it refuses it.
+// What clap gives of a line, or none if it refuses it.
 fn matches_of<'a>(alloc: Global, line: &'a [&'a str]) -> Result<Option<ArgMatches<'a>>, Memory>
     ensures { IfOk result (λ found. MatchOption found (is_faulty (map (λ t. t.now) line.now) ≡ true)
         (λ matches. (is_faulty (map (λ t. t.now) line.now) ≡ false)

@@ -12,9 +12,9 @@ pub returns-in-Ok-clause-ends : goal.returns-in-Ok-clause-ends
 returns-in-Ok-clause-ends g c =
     inr (intake_since g.D.Disk g.met.D.Disk.counts_now g.met.D.Disk.only_now c.args.disk c.in-Ok.desk c.intake_opened.result.1 (g.I.Source.left c.args.input.now)
     c.args.clock c.args.draw.now c.intake_opened.result.2 c.intake_opened.result.0 c.in-Ok.ensures.opening.0 c.in-Ok.ensures.opening.1 c.in-Ok.ensures.opening.4
-    c.requires.settled c.in-Ok.ensures.stops c.in-Ok.ensures.tells c.intake_opened.ensures.ends)
+    c.requires.settled c.in-Ok.ensures.stops c.in-Ok.ensures.tells c.in-Ok.ensures.later c.intake_opened.ensures.ends)
 
 pub returns-in-Err-clause-ends : goal.returns-in-Err-clause-ends
 returns-in-Err-clause-ends g c =
     inl (leaves_unopened g.D.Disk c.args.disk c.in-Err.disk c.in-Err.refused c.unopened.result c.unopened.ensures c.in-Err.ensures.refused c.in-Err.ensures.same c.in-Err.ensures.left
-    c.requires.settled c.in-Err.ensures.stops_err c.in-Err.ensures.untouched)
+    c.requires.settled c.in-Err.ensures.stops_err c.in-Err.ensures.untouched c.in-Err.ensures.later_err)

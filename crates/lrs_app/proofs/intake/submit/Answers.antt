@@ -1,4 +1,4 @@
-use Rattle.std.proofs.Common.{ap, ◌∙◌}
+use Rattle.std.proofs.Common.{ap}
 use Rattle.lrs_console.specs.Asking.{put_answer}
 use Rattle.lrs_machine.specs.Acts.{Receipt}
 use Rattle.lrs_machine.specs.Desk.{history}

@@ -13,7 +13,7 @@ returns-clause-served g c =
       links = c.serve_all-desk.ensures.served.0;
       passes = c.serve_all-desk.ensures.served.2;
       readings = c.serve_all-desk.ensures.readings;
-      over = c.serve_all-desk.ensures.served.1;
+      conversations = c.serve_all-desk.ensures.served.1;
       ends = c.serve_all-desk.ensures.end;
     }
 
