@@ -2,10 +2,11 @@
 """Makes a store file of N statements by the formats of docs/FORMATS.md, without the program: a second hand that writes
 the journal, for measuring and for holding the program against it.
 
-    make_store.py FILE N [--limit BYTES] [--table ROWS]
+    make_store.py FILE N [--limit BYTES] [--table ROWS] [--documents M]
 
 ROWS is a second file: the same statements as rows of a table, each a place, a verb and a text, parted by tabs.
-Statement i has the id 00000000-0000-4000-8000-<i in twelve hexadecimal digits>."""
+Statement i has the id 00000000-0000-4000-8000-<i in twelve hexadecimal digits>. M state documents of 1,024 bytes come
+after the statements: document i is s<i mod 10> of the agent u<i / 10>."""
 import argparse
 import json
 import struct
@@ -37,6 +38,18 @@ def statement(i):
     }
 
 
+def document(i):
+    text = b'{"page":%d,"notes":"' % i
+    return {
+        "how": "put",
+        "activity": "http://a.invalid/0",
+        "agent": {"account": {"homePage": "https://l.invalid", "name": f"u{i // 10}"}},
+        "state": f"s{i % 10}",
+        "type": "application/json",
+        "bytes": (text + b"n" * (1022 - len(text)) + b'"}').hex(),
+    }
+
+
 def frame(payload):
     return b"\x01" + struct.pack(">I", len(payload)) + payload
 
@@ -47,6 +60,7 @@ def main():
     words.add_argument("number", type=int)
     words.add_argument("--limit", type=int, default=268_435_456)
     words.add_argument("--table")
+    words.add_argument("--documents", type=int, default=0)
     words = words.parse_args()
     with open(words.file, "wb") as out:
         out.write(b"\x01LRSJRNL\x01" + struct.pack(">Q", words.limit))
@@ -54,6 +68,8 @@ def main():
         for i in range(words.number):
             put = {"put": {"id": f"00000000-0000-4000-8000-{i:012x}", "statement": statement(i)}}
             out.write(frame(entry(MOMENT + i, f"{i:032x}{i:032x}", put)))
+        for i in range(words.documents):
+            out.write(frame(entry(MOMENT + words.number + i, f"{i:032x}{i:032x}", {"state": document(i)})))
         out.write(b"\x00")
     if words.table is not None:
         with open(words.table, "wb") as out:
