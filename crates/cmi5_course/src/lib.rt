@@ -1,0 +1,19 @@
+//! Course structures (cmi5 Quartz, section 13), in the store's own form of JSON: what breaks their rules, their nodes
+//! in the order of the text, and what a launch needs of a unit. Begin with `course`.
+#![tactic(auto)]
+
+mod course;
+mod launch;
+mod places;
+mod reading;
+mod refused;
+mod rules;
+mod unit;
+mod urls;
+
+pub use course::{Course, Kind, Node};
+pub use launch::{Launch, Mode};
+pub use lrs_json::Memory;
+pub use refused::CourseRefused;
+pub use rules::broken_course;
+pub use unit::{Method, MoveOn, Unit};

@@ -1,0 +1,4 @@
+pub mod Escapes
+pub mod LongerIris
+pub mod Places
+pub mod Unbroken
