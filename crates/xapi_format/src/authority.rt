@@ -3,7 +3,8 @@ ghost use Rattle.std.specs.Str.{bytes_eq};
 
 use itoa::Buffer;
 use lrs_agents::Ifi;
-use lrs_json::Text;
+use lrs_json::{Text, utf8_text};
+use lrs_names::Id;
 
 /// Under whose authority a statement stands.
 #[derive(Drop)]
@@ -12,6 +13,10 @@ pub enum Authority {
     Admin,
     /// The provider of that number, counted from 0 in the order in which providers were made, and its name.
     Provider { number: u32, name: Text },
+    /// The session of that id.
+    Session(Id),
+    /// The store itself, which makes statements at its desk.
+    Desk,
 }
 
 impl Authority {
@@ -28,6 +33,8 @@ impl Authority {
         match self {
             Authority::Admin => "admin",
             Authority::Provider { number: _, name } => name.as_str(),
+            Authority::Session(_) => "session",
+            Authority::Desk => "desk",
         }
     }
 
@@ -57,6 +64,11 @@ impl Authority {
                 }
                 None => false,
             },
+            Authority::Session(id) => match name.strip_prefix("session:") {
+                Some(text) => text == utf8_text(&id.text()),
+                None => false,
+            },
+            Authority::Desk => name == "desk",
         }
     }
 }

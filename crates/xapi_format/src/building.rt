@@ -1,10 +1,11 @@
 // The completed form of a statement as a tree of its own.
-ghost use Rattle.std.specs.Prelude.{◌≡◌, ◌∷◌, ◌++◌, [], IfOk, OnOk, map};
+ghost use Rattle.std.specs.Prelude.{◌≡◌, ◌∷◌, ◌++◌, [], IfOk, OnOk, map, codes};
 ghost use Rattle.lrs_json.specs.Json.{Members, no_members, member, object, string};
 ghost use Rattle.lrs_json.specs.View.{view, member_view, members_of};
 ghost use Rattle.xapi_format.specs.Authorities.{account_json, account_name, authority_json};
 ghost use Rattle.xapi_format.specs.Completed.{added, added_behind_id, completed, given_or, kept_before};
 ghost use Rattle.xapi_values.specs.Following.{HasOneMore, followed_by};
+ghost use Rattle.lrs_names.specs.Ids.{id_text};
 ghost use Rattle.lrs_time.specs.Moments.{moment_text};
 
 use crate::Authority;
@@ -174,5 +175,16 @@ fn account_name(alloc: Global, authority: &Authority) -> Result<Tree, Memory>
             let text = format!(in alloc; "provider:{number}")?;
             words(alloc, text.as_str())
         }
+        Authority::Session(id) => session_name(alloc, id),
+        Authority::Desk => words(alloc, "desk"),
     }
+}
+
+fn session_name(alloc: Global, id: &Id) -> Result<Tree, Memory>
+    ensures { IfOk result (λ tree. view tree ≡ string (codes "session:" ++ id_text id.now)) }
+{
+    let id = id.text();
+    let id = utf8_text(&id);
+    let text = format!(in alloc; "session:{id}")?;
+    words(alloc, text.as_str())
 }

@@ -7,6 +7,7 @@ ghost use Rattle.lrs_json.specs.Written.{Extends, members_text, written};
 ghost use Rattle.std.specs.Fmt.{decimal};
 ghost use Rattle.xapi_format.specs.Authorities.{account_json, account_name, authority_json, authority_name, home_page};
 ghost use Rattle.xapi_format.specs.Completed.{added, added_behind_id, added_last, added_names, completed, given_or, kept_before};
+ghost use Rattle.lrs_names.specs.Ids.{id_text};
 ghost use Rattle.lrs_time.specs.Moments.{moment_text};
 ghost use Rattle.lrs_names.specs.Members.{is_one_of};
 
@@ -216,7 +217,19 @@ fn put_account_name(authority: &Authority, into: &mut Vec<u8>) -> Result<(), Mem
     match authority {
         Authority::Admin => put_text(true, "name", "admin", into),
         Authority::Provider { number, name: _ } => put_numbered(*number, into),
+        Authority::Session(id) => put_session(id, into),
+        Authority::Desk => put_text(true, "name", "desk", into),
     }
+}
+
+#[tactic(auto, using(lrs_json::proofs::Extending::extends_trans))]
+fn put_session(id: &Id, into: &mut Vec<u8>) -> Result<(), Memory>
+    ensures ok { OnOk result (into.new.items ≡ into.old.items
+        ++ member_text true (codes "name") (string (codes "session:" ++ id_text id.now))) }
+    ensures kept { Extends into.old.items into.new.items }
+{
+    put_name(true, "name", into)?;
+    put_quoted_parts("session:", utf8_text(&id.text()), into)
 }
 
 #[tactic(auto, using(lrs_json::proofs::Extending::extends_trans))]

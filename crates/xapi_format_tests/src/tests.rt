@@ -9,39 +9,65 @@ use xapi_format::{Authority, completed, put_completed};
 use xapi_reduced::reduced;
 use xapi_values::is_nested;
 
+// Under whose authority: a provider by its number and name, a session by its id.
+#[derive(Clone, Copy)]
+enum By {
+    Admin,
+    Provider(u32, &'static str),
+    Session(&'static str),
+    Desk,
+}
+
 // The first statement, its completed form under the admin's authority, one of a provider with a time and a version of
-// its own, and one whose context activities stand alone, also in a SubStatement.
-const COMPLETED: [(&str, Option<(u32, &str)>, &str); 4] = [
+// its own, one whose context activities stand alone, also in a SubStatement, one of a session, and one that the store
+// made.
+const COMPLETED: [(&str, By, &str); 6] = [
     (
         r#"{"id":"11111111-1111-4111-8111-111111111111","actor":{"mbox":"mailto:a@b"},"verb":{"id":"http://v/1"},"object":{"id":"http://a/1"}}"#,
-        None,
+        By::Admin,
         r#"{"actor":{"mbox":"mailto:a@b"},"verb":{"id":"http://v/1"},"object":{"id":"http://a/1"},"id":"11111111-1111-4111-8111-111111111111","timestamp":"2023-11-14T22:13:20.000Z","stored":"2023-11-14T22:13:20.000Z","authority":{"objectType":"Agent","name":"admin","account":{"homePage":"https://lrs.invalid/callers","name":"admin"}},"version":"1.0.0"}"#,
     ),
     (
         r#"{"version":"1.0.3","timestamp":"2023-11-14T23:13:20+01:00","actor":{"mbox":"mailto:a@b"},"stored":"2001-01-01T00:00:00Z","verb":{"id":"http://v/1"},"authority":{"mbox":"mailto:c@d"},"object":{"id":"http://a/1"},"result":{"response":"a\"\u0001"}}"#,
-        Some((12, "p.1")),
+        By::Provider(12, "p.1"),
         r#"{"actor":{"mbox":"mailto:a@b"},"verb":{"id":"http://v/1"},"object":{"id":"http://a/1"},"result":{"response":"a\"\u0001"},"id":"11111111-1111-4111-8111-111111111111","timestamp":"2023-11-14T23:13:20+01:00","stored":"2023-11-14T22:13:20.000Z","authority":{"objectType":"Agent","name":"p.1","account":{"homePage":"https://lrs.invalid/callers","name":"provider:12"}},"version":"1.0.3"}"#,
     ),
     (
         r#"{"actor":{"mbox":"mailto:a@b"},"context":{"platform":"x","contextActivities":{"parent":{"id":"http://c/1"},"other":[{"id":"http://c/2"},{"id":"http://c/3"}],"grouping":[]}},"verb":{"id":"http://v/1"},"object":{"id":"http://a/1"}}"#,
-        None,
+        By::Admin,
         r#"{"actor":{"mbox":"mailto:a@b"},"context":{"platform":"x","contextActivities":{"parent":[{"id":"http://c/1"}],"other":[{"id":"http://c/2"},{"id":"http://c/3"}],"grouping":[]}},"verb":{"id":"http://v/1"},"object":{"id":"http://a/1"},"id":"11111111-1111-4111-8111-111111111111","timestamp":"2023-11-14T22:13:20.000Z","stored":"2023-11-14T22:13:20.000Z","authority":{"objectType":"Agent","name":"admin","account":{"homePage":"https://lrs.invalid/callers","name":"admin"}},"version":"1.0.0"}"#,
     ),
     (
         r#"{"actor":{"mbox":"mailto:a@b"},"verb":{"id":"http://v/1"},"object":{"objectType":"SubStatement","actor":{"mbox":"mailto:a@b"},"verb":{"id":"http://v/2"},"object":{"id":"http://a/2"},"context":{"contextActivities":{"category":{"id":"http://c/1"}}}}}"#,
-        None,
+        By::Admin,
         r#"{"actor":{"mbox":"mailto:a@b"},"verb":{"id":"http://v/1"},"object":{"objectType":"SubStatement","actor":{"mbox":"mailto:a@b"},"verb":{"id":"http://v/2"},"object":{"id":"http://a/2"},"context":{"contextActivities":{"category":[{"id":"http://c/1"}]}}},"id":"11111111-1111-4111-8111-111111111111","timestamp":"2023-11-14T22:13:20.000Z","stored":"2023-11-14T22:13:20.000Z","authority":{"objectType":"Agent","name":"admin","account":{"homePage":"https://lrs.invalid/callers","name":"admin"}},"version":"1.0.0"}"#,
+    ),
+    (
+        r#"{"actor":{"mbox":"mailto:a@b"},"verb":{"id":"http://v/1"},"object":{"id":"http://a/1"}}"#,
+        By::Session("AAAAAAAA-1111-4111-8111-111111111111"),
+        r#"{"actor":{"mbox":"mailto:a@b"},"verb":{"id":"http://v/1"},"object":{"id":"http://a/1"},"id":"11111111-1111-4111-8111-111111111111","timestamp":"2023-11-14T22:13:20.000Z","stored":"2023-11-14T22:13:20.000Z","authority":{"objectType":"Agent","name":"session","account":{"homePage":"https://lrs.invalid/callers","name":"session:aaaaaaaa-1111-4111-8111-111111111111"}},"version":"1.0.0"}"#,
+    ),
+    (
+        r#"{"actor":{"mbox":"mailto:a@b"},"verb":{"id":"http://v/1"},"object":{"id":"http://a/1"}}"#,
+        By::Desk,
+        r#"{"actor":{"mbox":"mailto:a@b"},"verb":{"id":"http://v/1"},"object":{"id":"http://a/1"},"id":"11111111-1111-4111-8111-111111111111","timestamp":"2023-11-14T22:13:20.000Z","stored":"2023-11-14T22:13:20.000Z","authority":{"objectType":"Agent","name":"desk","account":{"homePage":"https://lrs.invalid/callers","name":"desk"}},"version":"1.0.0"}"#,
     ),
 ];
 
-fn authority(alloc: Global, provider: Option<(u32, &str)>) -> Result<Authority, Fail> {
-    match provider {
-        Some((number, name)) => Ok(Authority::Provider {
+fn authority(alloc: Global, by: By) -> Result<Authority, Fail> {
+    match by {
+        By::Admin => Ok(Authority::Admin),
+        By::Provider(number, name) => Ok(Authority::Provider {
             number,
             name: Text::of(alloc, name)?,
         }),
-        None => Ok(Authority::Admin),
+        By::Session(id) => Ok(Authority::Session(session(id)?)),
+        By::Desk => Ok(Authority::Desk),
     }
+}
+
+fn session(id: &str) -> Result<Id, Fail> {
+    Ok(Id::read(id.as_bytes()).ok_or("no session")?)
 }
 
 fn id() -> Result<Id, Fail> {
@@ -92,12 +118,9 @@ fn is_completed_both_ways(
 }
 
 // The number of the first row that isn't so.
-fn first_completed_wrong(
-    alloc: Global,
-    rows: &[(&str, Option<(u32, &str)>, &str)],
-) -> Result<Option<usize>, Fail> {
-    for (i, (received, provider, text)) in rows.iter().enumerate() {
-        let by = authority(alloc, *provider)?;
+fn first_completed_wrong(alloc: Global, rows: &[(&str, By, &str)]) -> Result<Option<usize>, Fail> {
+    for (i, (received, by, text)) in rows.iter().enumerate() {
+        let by = authority(alloc, *by)?;
         if !is_completed_both_ways(alloc, received, &by, text)? {
             return Ok(Some(i));
         }
@@ -169,15 +192,45 @@ fn a_statement_with_ids_alone_tells_which_ones_they_are(rt: HostRuntime) -> Resu
     Ok(())
 }
 
-// A provider or an admin, the name of an account, and whether it is that one's.
-const ACCOUNTS: [(Option<(u32, &str)>, &str, bool); 7] = [
-    (None, "admin", true),
-    (None, "provider:12", false),
-    (Some((12, "p.1")), "provider:12", true),
-    (Some((12, "p.1")), "provider:1", false),
-    (Some((12, "p.1")), "provider:012", false),
-    (Some((12, "p.1")), "p.1", false),
-    (Some((12, "p.1")), "admin", false),
+// An authority, the name of an account, and whether it is that one's.
+const ACCOUNTS: [(By, &str, bool); 17] = [
+    (By::Admin, "admin", true),
+    (By::Admin, "provider:12", false),
+    (By::Admin, "desk", false),
+    (By::Provider(12, "p.1"), "provider:12", true),
+    (By::Provider(12, "p.1"), "provider:1", false),
+    (By::Provider(12, "p.1"), "provider:012", false),
+    (By::Provider(12, "p.1"), "p.1", false),
+    (By::Provider(12, "p.1"), "admin", false),
+    (By::Provider(12, "desk"), "desk", false),
+    (
+        By::Session("AAAAAAAA-1111-4111-8111-111111111111"),
+        "session:aaaaaaaa-1111-4111-8111-111111111111",
+        true,
+    ),
+    (
+        By::Session("AAAAAAAA-1111-4111-8111-111111111111"),
+        "session:AAAAAAAA-1111-4111-8111-111111111111",
+        false,
+    ),
+    (
+        By::Session("AAAAAAAA-1111-4111-8111-111111111111"),
+        "session:bbbbbbbb-1111-4111-8111-111111111111",
+        false,
+    ),
+    (
+        By::Session("AAAAAAAA-1111-4111-8111-111111111111"),
+        "aaaaaaaa-1111-4111-8111-111111111111",
+        false,
+    ),
+    (
+        By::Session("AAAAAAAA-1111-4111-8111-111111111111"),
+        "session",
+        false,
+    ),
+    (By::Desk, "desk", true),
+    (By::Desk, "desk:", false),
+    (By::Desk, "session", false),
 ];
 
 fn account(alloc: Global, home: &str, name: &str) -> Result<Ifi, Fail> {
@@ -207,12 +260,9 @@ fn is_found(alloc: Global, by: &Authority, name: &str, wanted: bool) -> Result<b
 }
 
 // The number of the first row that isn't so.
-fn first_account_wrong(
-    alloc: Global,
-    rows: &[(Option<(u32, &str)>, &str, bool)],
-) -> Result<Option<usize>, Fail> {
-    for (i, (provider, name, wanted)) in rows.iter().enumerate() {
-        let by = authority(alloc, *provider)?;
+fn first_account_wrong(alloc: Global, rows: &[(By, &str, bool)]) -> Result<Option<usize>, Fail> {
+    for (i, (by, name, wanted)) in rows.iter().enumerate() {
+        let by = authority(alloc, *by)?;
         if !is_found(alloc, &by, name, *wanted)? {
             return Ok(Some(i));
         }

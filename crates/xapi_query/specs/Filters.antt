@@ -55,6 +55,8 @@ in_time query s =
 abbrev pub is_of_provider : ℕ → Authority → Bool
 is_of_provider k authority.Admin = false
 is_of_provider k (authority.Provider j name) = j == k
+is_of_provider k (authority.Session id) = false
+is_of_provider k authority.Desk = false
 
 -- nothing, each statement, those under the authority of a provider, or those whose context names a registration
 abbrev pub sees : Sight → StoredStatement → Bool

@@ -33,7 +33,7 @@ fn is_of_provider(number: u32, authority: &Authority) -> bool
     ensures { result ≡ is_of_provider number authority.now }
 {
     match authority {
-        Authority::Admin => false,
+        Authority::Admin | Authority::Session(_) | Authority::Desk => false,
         Authority::Provider {
             number: own,
             name: _,

@@ -394,8 +394,9 @@ const DID: &str =
 const REFERS: &str =
     r#"{"actor":{"mbox":"mailto:c@d"},"verb":{"id":"http://v/2"},"object":{"objectType":"StatementRef","id":"11111111-1111-4111-8111-111111111111"}}"#;
 
-// Each filter, alone and beside others: whether the first and the second statement pass it.
-const FILTERS: [(&str, bool, bool); 17] = [
+// Each filter, alone and beside others: whether the first statement, of a session, and the second, which the store made
+// itself, pass it.
+const FILTERS: [(&str, bool, bool); 21] = [
     ("", true, true),
     ("verb=http://v/1", true, false),
     ("verb=http://v/2", false, true),
@@ -417,7 +418,27 @@ const FILTERS: [(&str, bool, bool); 17] = [
     ),
     (
         "agent=%7B%22account%22:%7B%22homePage%22:%22https://lrs.invalid/callers%22,%22name%22:%22admin%22%7D%7D&related_agents=true",
+        false,
+        false,
+    ),
+    (
+        "agent=%7B%22account%22:%7B%22homePage%22:%22https://lrs.invalid/callers%22,%22name%22:%22session:bbbbbbbb-1111-4111-8111-111111111111%22%7D%7D&related_agents=true",
         true,
+        false,
+    ),
+    (
+        "agent=%7B%22account%22:%7B%22homePage%22:%22https://lrs.invalid/callers%22,%22name%22:%22session:bbbbbbbb-1111-4111-8111-111111111111%22%7D%7D",
+        false,
+        false,
+    ),
+    (
+        "agent=%7B%22account%22:%7B%22homePage%22:%22https://lrs.invalid/callers%22,%22name%22:%22session:BBBBBBBB-1111-4111-8111-111111111111%22%7D%7D&related_agents=true",
+        false,
+        false,
+    ),
+    (
+        "agent=%7B%22account%22:%7B%22homePage%22:%22https://lrs.invalid/callers%22,%22name%22:%22desk%22%7D%7D&related_agents=true",
+        false,
         true,
     ),
     (
@@ -493,7 +514,7 @@ fn first_wrong_filter(
 }
 
 fn first_wrong_filter_of(alloc: Global, did: &StoredStatement) -> Result<Option<usize>, Fail> {
-    let refers = kept(alloc, REFERS, Authority::Admin)?;
+    let refers = kept(alloc, REFERS, Authority::Desk)?;
     let wrong = first_wrong_filter(alloc, did, &refers);
     drop(refers);
     wrong
@@ -502,7 +523,8 @@ fn first_wrong_filter_of(alloc: Global, did: &StoredStatement) -> Result<Option<
 #[test]
 fn filters_are_held_against_one_statement(rt: HostRuntime) -> Result<(), Fail> {
     let alloc = rt.alloc();
-    let did = kept(alloc, DID, Authority::Admin)?;
+    let session = Id::read(b"bbbbbbbb-1111-4111-8111-111111111111").ok_or("no id")?;
+    let did = kept(alloc, DID, Authority::Session(session))?;
     let wrong = first_wrong_filter_of(alloc, &did);
     drop(did);
     assert_eq!(rt; wrong?, None);
@@ -531,7 +553,8 @@ fn times_are_held_at_their_edges(rt: HostRuntime) -> Result<(), Fail> {
     Ok(())
 }
 
-// The place of the first sight that doesn't see the first or the second as it should.
+// The place of the first sight that doesn't see the first or the second as it should. What a session sees hangs on the
+// registration alone, and not on who sent a statement.
 fn first_wrong_sight(
     first: &StoredStatement,
     second: &StoredStatement,
@@ -555,7 +578,8 @@ fn first_wrong_sight(
 }
 
 fn first_wrong_sight_of(alloc: Global, first: &StoredStatement) -> Result<Option<usize>, Fail> {
-    let own = kept(alloc, REFERS, Authority::Admin)?;
+    let session = Id::read(b"bbbbbbbb-1111-4111-8111-111111111111").ok_or("no id")?;
+    let own = kept(alloc, REFERS, Authority::Session(session))?;
     let wrong = first_wrong_sight(first, &own);
     drop(own);
     wrong

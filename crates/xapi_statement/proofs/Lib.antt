@@ -1,1 +1,2 @@
 pub mod Identifying
+pub mod Refusals

@@ -20,9 +20,9 @@ is_too_long j = nat_lt LONGEST_STATEMENT (length (written j))
 unfoldable pub refusal : Json → Option StatementRefused
 refusal j = if is_too_long j then Some TooLong else option_map Broken (broken_rule j)
 
--- a value that the store takes as a statement
+-- a value that breaks none of the rules on statements, however long it is
 unfoldable pub is_statement : Json → Bool
-is_statement j = is_none (refusal j)
+is_statement j = is_none (broken_rule j)
 
 -- a text that is a UUID, as an id
 abbrev pub id_in : Json → Option (List ℕ)

@@ -1,5 +1,5 @@
-//! Statements (xAPI 1.0.3, part two, section 2): a value that breaks none of the rules and isn't too long, what the
-//! layers above ask of one, and a statement as the store keeps it.
+//! Statements (xAPI 1.0.3, part two, section 2): a value that breaks none of the rules, what the layers above ask of
+//! one, how long one may be that is received, and a statement as the store keeps it.
 #![tactic(auto)]
 
 mod activities;
@@ -10,6 +10,7 @@ mod refused;
 mod statement;
 mod stored;
 
+pub use activities::has_context_activity;
 pub use length::{LONGEST_STATEMENT, is_too_long};
 pub use lrs_json::Memory;
 pub use members::{own_id, target_of};

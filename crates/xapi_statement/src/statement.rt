@@ -14,17 +14,18 @@ use lrs_json::{Text, Tree};
 use lrs_names::Id;
 use std::alloc::Global;
 
-/// A value that breaks none of the rules on statements and isn't too long.
+/// A value that breaks none of the rules on statements. One that was read isn't too long either; one that the store
+/// makes may be longer.
 #[derive(Drop)]
 pub struct Statement {
-    /// The value as it was received.
+    /// The value as it was received or made.
     pub tree: Tree,
     pub ghost unbroken: { IsTrue (is_statement (view tree)) },
 }
 
 impl Statement {
-    /// Holds the tree against the rules, and keeps it as it is.
-    #[tactic(auto, unfolding(crate::specs::Statement::is_statement))]
+    /// Holds the tree against the length and the rules, and keeps it as it is.
+    #[tactic(auto, using(crate::proofs::Refusals::not_refused))]
     pub fn read(alloc: Global, tree: Tree) -> Result<Statement, StatementRefused>
         ensures read { MatchResult result (λ s. (s.tree ≡ tree) × (refusal (view tree) ≡ None))
             (λ e. (refusal (view tree) ≡ Some e) ⊎ (e ≡ StatementRefused.Memory)) }
@@ -36,7 +37,7 @@ impl Statement {
         }
     }
 
-    /// The statement that a tree is which was judged before.
+    /// The statement that a tree is which was judged before, or made by the store.
     pub fn of(tree: Tree) -> Statement
         requires { IsTrue (is_statement (view tree)) }
         ensures { result.tree ≡ tree }
@@ -44,7 +45,7 @@ impl Statement {
         Statement { tree }
     }
 
-    /// The tree that was read.
+    /// The tree that was read or made.
     pub fn received(&self) -> &Tree
         ensures { result.now ≡ self.now.tree }
     {

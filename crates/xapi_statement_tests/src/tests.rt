@@ -279,6 +279,29 @@ const KEPT: [(Format, &str); 2] = [
     ),
 ];
 
+// The same for a session, and for the store itself.
+const KEPT_OF_SESSION: [(Format, &str); 2] = [
+    (
+        Format::Exact,
+        r#"{"actor":{"name":"A","mbox":"mailto:a@b"},"verb":{"id":"http://v/1"},"object":{"id":"http://a/1"},"id":"11111111-1111-4111-8111-111111111111","timestamp":"2023-11-14T22:13:20.000Z","stored":"2023-11-14T22:13:20.000Z","authority":{"objectType":"Agent","name":"session","account":{"homePage":"https://lrs.invalid/callers","name":"session:bbbbbbbb-1111-4111-8111-111111111111"}},"version":"1.0.0"}"#,
+    ),
+    (
+        Format::Ids,
+        r#"{"actor":{"mbox":"mailto:a@b"},"verb":{"id":"http://v/1"},"object":{"id":"http://a/1"},"id":"11111111-1111-4111-8111-111111111111","timestamp":"2023-11-14T22:13:20.000Z","stored":"2023-11-14T22:13:20.000Z","authority":{"objectType":"Agent","account":{"homePage":"https://lrs.invalid/callers","name":"session:bbbbbbbb-1111-4111-8111-111111111111"}},"version":"1.0.0"}"#,
+    ),
+];
+
+const KEPT_OF_DESK: [(Format, &str); 2] = [
+    (
+        Format::Exact,
+        r#"{"actor":{"name":"A","mbox":"mailto:a@b"},"verb":{"id":"http://v/1"},"object":{"id":"http://a/1"},"id":"11111111-1111-4111-8111-111111111111","timestamp":"2023-11-14T22:13:20.000Z","stored":"2023-11-14T22:13:20.000Z","authority":{"objectType":"Agent","name":"desk","account":{"homePage":"https://lrs.invalid/callers","name":"desk"}},"version":"1.0.0"}"#,
+    ),
+    (
+        Format::Ids,
+        r#"{"actor":{"mbox":"mailto:a@b"},"verb":{"id":"http://v/1"},"object":{"id":"http://a/1"},"id":"11111111-1111-4111-8111-111111111111","timestamp":"2023-11-14T22:13:20.000Z","stored":"2023-11-14T22:13:20.000Z","authority":{"objectType":"Agent","account":{"homePage":"https://lrs.invalid/callers","name":"desk"}},"version":"1.0.0"}"#,
+    ),
+];
+
 fn id() -> Result<Id, Fail> {
     Ok(Id::read(b"11111111-1111-4111-8111-111111111111").ok_or("no id")?)
 }
@@ -342,12 +365,41 @@ fn first_shown_wrong(
     Ok(None)
 }
 
+// The number of the first row that isn't so, of the statement that is kept under that authority.
+fn first_kept_wrong(
+    alloc: Global,
+    by: Authority,
+    rows: &[(Format, &str)],
+) -> Result<Option<usize>, Fail> {
+    let kept = kept(alloc, RECEIVED, by)?;
+    let wrong = first_shown_wrong(alloc, &kept, rows);
+    drop(kept);
+    wrong
+}
+
 #[test]
 fn a_kept_statement_is_shown_in_the_form_that_is_asked_for(rt: HostRuntime) -> Result<(), Fail> {
-    let kept = kept(rt.alloc(), RECEIVED, Authority::Admin)?;
-    let wrong = first_shown_wrong(rt.alloc(), &kept, &KEPT);
-    drop(kept);
-    assert_eq!(rt; wrong?, None);
+    assert_eq!(rt;
+        first_kept_wrong(rt.alloc(), Authority::Admin, &KEPT)?,
+        None
+    );
+    Ok(())
+}
+
+#[test]
+fn a_statement_of_a_session_is_shown_as_its_own(rt: HostRuntime) -> Result<(), Fail> {
+    let session = Id::read(b"bbbbbbbb-1111-4111-8111-111111111111").ok_or("no id")?;
+    let by = Authority::Session(session);
+    assert_eq!(rt; first_kept_wrong(rt.alloc(), by, &KEPT_OF_SESSION)?, None);
+    Ok(())
+}
+
+#[test]
+fn a_statement_of_the_store_is_shown_as_its_own(rt: HostRuntime) -> Result<(), Fail> {
+    assert_eq!(rt;
+        first_kept_wrong(rt.alloc(), Authority::Desk, &KEPT_OF_DESK)?,
+        None
+    );
     Ok(())
 }
 
