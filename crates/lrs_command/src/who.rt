@@ -8,4 +8,7 @@ pub enum Who {
     /// Who presents the token that this provider was given. Providers are counted from 0, in the order in which they
     /// were made.
     Provider(u32),
+    /// Who presents the token that was given away for the fetch key of this launch. Launches are counted from 0, in
+    /// their order.
+    Session(u32),
 }

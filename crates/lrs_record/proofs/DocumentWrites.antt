@@ -1,5 +1,5 @@
 -- The fields of what is written and dropped among the documents make it again, and their names are apart.
-use Rattle.std.proofs.Common.{◌≡◌, ℕ, List, [], ◌∷◌, ◌++◌, Bool, true, ◌&&◌, Option, Some, None, codes, refl, ap, IsTrue}
+use Rattle.std.proofs.Common.{◌≡◌, ℕ, List, [], ◌∷◌, ◌++◌, true, Option, Some, None, codes, refl, ap}
 use Rattle.std.specs.List.{AllByRecursion}
 use Rattle.std.specs.Result.{result_ok}
 use Rattle.hex.specs.Hex.{IsBytes, encode_lower}
@@ -8,24 +8,19 @@ use Rattle.lrs_agents.specs.Identifiers.{identifier_json, identifier_of}
 use Rattle.lrs_agents.specs.declared.identifiers.Ifi.{Ifi}
 use Rattle.lrs_agents.specs.declared.identifiers.Ifi.TheVariants.{Mbox, MboxSha1, OpenId, Account}
 use Rattle.lrs_json.specs.Json.{string}
-use Rattle.lrs_names.specs.Iris.{is_iri}
 use Rattle.lrs_record.specs.Entries.{HoldsValue, IsLawfulWrite}
-use Rattle.lrs_record.specs.Writes.{Value, text_value, id_value, iri_value, agent_value, bytes_value, bytes_in, chosen_in, content_in, drop_in, how_of, how_text, iri_in, members_for, optional_field, state_in}
+use Rattle.lrs_record.specs.Writes.{Value, text_value, id_value, iri_value, agent_value, bytes_value, bytes_in, chosen_in, content_in, drop_in, how_of, how_text, members_for, optional_field, state_in}
 use Rattle.lrs_record.specs.declared.entry.How.{How}
 use Rattle.lrs_record.specs.declared.entry.How.TheVariants as how
-use Rattle.lrs_record.specs.declared.entry.Write.{Write}
 use Rattle.lrs_record.specs.declared.entry.Write.TheVariants.{State, Drop}
 use Rattle.lrs_record.proofs.Apart.{are_apart}
-use Rattle.lrs_record.proofs.Values.{read_id}
+use Rattle.lrs_record.proofs.Values.{read_id, read_iri}
 
 -- ---- what is read of one field
 
 read_how : (h : How) → how_of (how_text h) ≡ Some h
 read_how how.Put = refl
 read_how how.Post = refl
-
-read_iri : (text : List ℕ) → IsTrue (is_iri text) → iri_in (string text) ≡ Some text
-read_iri text is = rw is refl
 
 read_agent : (agent : Ifi) → identifier_of (identifier_json agent) ≡ Some agent
 unfolding identifier_of

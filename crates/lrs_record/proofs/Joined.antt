@@ -7,10 +7,9 @@ pub four_members : (o s t u v w z a b c d : List ℕ) → s ≡ o ++ 123 ∷ [] 
 four_members o s t u v w z a b c d one two three four five six =
     rw (six, five, four, three, two, one, append_assoc, append_assoc, append_assoc, append_assoc, append_assoc) refl
 
--- one member, in braces; `n` is its name behind what goes before it
-pub member_in_braces : (o s t u z n w : List ℕ) → s ≡ o ++ 123 ∷ [] → t ≡ s ++ (n ++ 58 ∷ []) → u ≡ t ++ w → z ≡ u ++ 125 ∷ []
-    → z ≡ o ++ (123 ∷ (n ++ 58 ∷ w ++ 125 ∷ []))
-member_in_braces o s t u z n w one two three four = rw (four, three, two, one) (simp append_assoc refl)
+-- a value behind its name; `n` is the name behind what goes before it
+pub value_behind : (o s t n w : List ℕ) → s ≡ o ++ (n ++ 58 ∷ []) → t ≡ s ++ w → t ≡ o ++ (n ++ 58 ∷ w)
+value_behind o s t n w one two = rw (two, one) (simp append_assoc refl)
 
 -- two members, in braces
 pub two_members : (o s t u z a b : List ℕ) → s ≡ o ++ 123 ∷ [] → t ≡ s ++ a → u ≡ t ++ b → z ≡ u ++ 125 ∷ [] → z ≡ o ++ (123 ∷ (a ++ (b ++ 125 ∷ [])))

@@ -10,6 +10,8 @@ pub mod ManyTrees
 pub mod Values
 pub mod Apart
 pub mod DocumentWrites
+pub mod Actors
+pub mod DeskWrites
 pub mod Writes
 pub mod Readable
 pub mod ValueKinds

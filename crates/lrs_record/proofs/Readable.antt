@@ -14,11 +14,12 @@ use Rattle.lrs_json.specs.View.{members_of}
 use Rattle.lrs_json_reader.proofs.WrittenLemmas.{written-Spells}
 use Rattle.lrs_names.proofs.IdTexts.{IsUtf8-id_text}
 use Rattle.lrs_record.specs.Entries.{HoldsAgent, HoldsCaller, HoldsValue, HoldsWrite, IsLawful, IsLawfulValue, IsLawfulWrite, caller_text, write_json, entry_json, written_entry}
-use Rattle.lrs_record.specs.Writes.{Value, text_value, id_value, tree_value, trees_value, iri_value, agent_value, bytes_value, members_for, value_json, write_fields, write_name}
+use Rattle.lrs_record.specs.Writes.{Value, text_value, id_value, tree_value, trees_value, iri_value, agent_value, bytes_value, actor_value, members_for, value_json, write_fields, write_name}
 use Rattle.lrs_record.specs.declared.entry.Caller.{Caller}
 use Rattle.lrs_record.specs.declared.entry.Caller.TheVariants.{Nobody, Operator, Token}
 use Rattle.lrs_record.specs.declared.entry.Write.{Write}
 use Rattle.lrs_record.specs.declared.entry.Entry.{Entry}
+use Rattle.lrs_record.proofs.Actors.{Fits-actor, shallow_actor}
 use Rattle.lrs_record.proofs.Decimals.{Fits-moment}
 use Rattle.lrs_record.proofs.ManyTrees.{Fits-trees, shallow_trees}
 use Rattle.lrs_record.proofs.Words.{IsUtf8-digits, IsUtf8-draw_text, IsUtf8-small, are_small}
@@ -58,6 +59,7 @@ Fits-value (trees_value ts) lawful holds = Fits-trees ts lawful
 Fits-value (iri_value t) lawful holds = holds.0
 Fits-value (agent_value ifi) lawful holds = Fits-agent ifi holds
 Fits-value (bytes_value bytes) lawful holds = IsUtf8-digits bytes
+Fits-value (actor_value actor) lawful holds = Fits-actor actor holds
 
 Fits-fields : (before : List (List ℕ)) (fs : List (List ℕ × Value)) → are_apart before fs ≡ true → AllByRecursion (λ f. IsLawfulValue f.1) fs → AllByRecursion (λ f. HoldsValue f.1) fs
     → FitMembers before (members_of (members_for fs))
@@ -87,6 +89,7 @@ shallow_value (trees_value ts) lawful = omega (arith, shallow_trees ts lawful)
 shallow_value (iri_value t) lawful = omega arith
 shallow_value (agent_value ifi) lawful = omega (arith, shallow_agent ifi)
 shallow_value (bytes_value bytes) lawful = omega arith
+shallow_value (actor_value actor) lawful = omega (arith, shallow_actor actor)
 
 shallow_fields : (fs : List (List ℕ × Value)) → AllByRecursion (λ f. IsLawfulValue f.1) fs → depth_of_members (members_of (members_for fs)) ≤ 65
 shallow_fields [] lawful = omega arith

@@ -1,5 +1,5 @@
 -- What is read of the value that a field's text is, is what the field holds.
-use Rattle.std.proofs.Common.{◌≡◌, ◌≤◌, ℕ, List, [], ◌∷◌, map, Some, option_and_then, refl, sym, ap, ◌∙◌, subst}
+use Rattle.std.proofs.Common.{◌≡◌, ◌≤◌, ℕ, List, [], ◌∷◌, map, Some, option_and_then, IsTrue, refl, sym, ap, ◌∙◌, subst}
 use Rattle.std.specs.List.{AllByRecursion}
 use Rattle.std.proofs.lemmas.Bool.{le-leb}
 use Rattle.lrs_json.specs.Depth.{depth, depth_of_elements}
@@ -12,12 +12,16 @@ use Rattle.lrs_json.proofs.Back.{back}
 use Rattle.lrs_json.proofs.Views.{view-List}
 use Rattle.lrs_json.specs.declared.limits.TheConstants.{DEPTH}
 use Rattle.lrs_names.specs.Ids.{IsId, id_text}
+use Rattle.lrs_names.specs.Iris.{is_iri}
 use Rattle.lrs_names.proofs.IdTexts.{id_of-id_text}
-use Rattle.lrs_record.specs.Writes.{id_in, read_first, tree_in, trees_in, value_first, values_in}
+use Rattle.lrs_record.specs.Writes.{id_in, iri_in, read_first, tree_in, trees_in, value_first, values_in}
 use Rattle.lrs_record.proofs.SameParts.{all_parts}
 
 pub read_id : (id : List ℕ) → IsId id → id_in (string (id_text id)) ≡ Some id
 read_id id is = id_of-id_text id is
+
+pub read_iri : (text : List ℕ) → IsTrue (is_iri text) → iri_in (string text) ≡ Some text
+read_iri text is = rw is refl
 
 pub read_tree : (tree : Tree) → depth (view tree) ≤ DEPTH → tree_in (view tree) ≡ Some tree
 read_tree tree shallow = rw (le-leb (depth (view tree)) DEPTH shallow, back tree) refl

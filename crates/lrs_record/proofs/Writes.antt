@@ -4,7 +4,9 @@ use Rattle.lrs_record.specs.Entries.{HoldsWrite, IsLawfulWrite}
 use Rattle.lrs_record.specs.Writes.{members_for, write_fields, write_in, write_name}
 use Rattle.lrs_record.specs.declared.entry.Write.{Write}
 use Rattle.lrs_record.specs.declared.entry.Write.TheVariants.{Found, Provider, Put, Post, State, Drop}
+use Rattle.lrs_record.specs.declared.entry.Write.TheVariants.{Course, Enrol, Launch, Fetch}
 use Rattle.lrs_record.proofs.Apart.{are_apart}
+use Rattle.lrs_record.proofs.DeskWrites.{apart_launch, enrol_again, launch_again}
 use Rattle.lrs_record.proofs.DocumentWrites.{apart_drop, apart_state, drop_again, state_again}
 use Rattle.lrs_record.proofs.ManyTrees.{shallow_trees}
 use Rattle.lrs_record.proofs.Values.{read_id, read_tree, read_trees}
@@ -17,6 +19,10 @@ made_again (Put id statement) lawful holds = rw (read_id id holds.0, read_tree s
 made_again (Post statements) lawful holds = rw (read_trees statements (shallow_trees statements lawful.0)) refl
 made_again (State h key media bytes) lawful holds = state_again h key.activity key.agent key.registration key.state media bytes holds
 made_again (Drop activity agent registration state) lawful holds = drop_again activity agent registration state holds
+made_again (Course tree) lawful holds = rw (read_tree tree lawful.0.1) refl
+made_again (Enrol course actor) lawful holds = enrol_again course actor holds
+made_again (Launch registration unit mode return_url) lawful holds = launch_again registration unit mode return_url holds
+made_again (Fetch key) lawful holds = refl
 
 pub well_named : (w : Write) → (are_small (write_name w) && are_apart [] (write_fields w)) ≡ true
 well_named (Found admin base) = refl
@@ -25,3 +31,7 @@ well_named (Put id statement) = refl
 well_named (Post statements) = refl
 well_named (State h key media bytes) = apart_state h key.activity key.agent key.registration key.state media bytes
 well_named (Drop activity agent registration state) = apart_drop activity agent registration state
+well_named (Course tree) = refl
+well_named (Enrol course actor) = refl
+well_named (Launch registration unit mode return_url) = apart_launch registration unit mode return_url
+well_named (Fetch key) = refl

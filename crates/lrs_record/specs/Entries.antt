@@ -1,9 +1,10 @@
 -- The text of an entry: `{"caller":C,"moment":MS,"draw":HEX64,"command":{NAME:ARGS}}`, in the written form of JSON.
-use Rattle.std.specs.Prelude.{◌≡◌, ◌≢◌, ◌<◌, ◌≤◌, ◌^◌, ℕ, List, [], ◌∷◌, ◌++◌, codes, IsTrue, IsUtf8}
+use Rattle.std.specs.Prelude.{◌≡◌, ◌≢◌, ◌<◌, ◌≤◌, ◌^◌, ℕ, List, [], ◌∷◌, ◌++◌, codes, IfSome, IsTrue, IsUtf8}
 use Rattle.std.specs.Fmt.{decimal}
 use Rattle.std.specs.Int.{to_be_bytes, w128}
 use Rattle.std.specs.List.{AllByRecursion}
 use Rattle.hex.specs.Hex.{IsBytes, encode_lower}
+use Rattle.lrs_agents.specs.declared.agents.Agent.{Agent}
 use Rattle.lrs_agents.specs.declared.identifiers.Ifi.{Ifi}
 use Rattle.lrs_agents.specs.declared.identifiers.Ifi.TheVariants.{Mbox, MboxSha1, OpenId, Account}
 use Rattle.lrs_json.specs.Fits.{IsReadable}
@@ -21,7 +22,7 @@ use Rattle.lrs_record.specs.declared.entry.Write.{Write}
 use Rattle.lrs_record.specs.declared.entry.Entry.{Entry}
 use Rattle.lrs_time.specs.declared.moments.TheConstants.{LATEST}
 use Rattle.lrs_record.specs.Writes.{Value, text_value, id_value, tree_value, trees_value, iri_value, agent_value}
-use Rattle.lrs_record.specs.Writes.{bytes_value, members_for, write_fields, write_name}
+use Rattle.lrs_record.specs.Writes.{bytes_value, actor_value, members_for, write_fields, write_name}
 
 -- an object of these members
 abbrev pub fields : List (List ℕ × Json) → Json
@@ -73,6 +74,7 @@ IsLawfulValue (trees_value ts) = AreLawfulTrees ts
 IsLawfulValue (iri_value t) = Unit {0}
 IsLawfulValue (agent_value ifi) = Unit {0}
 IsLawfulValue (bytes_value bytes) = Unit {0}
+IsLawfulValue (actor_value actor) = Unit {0}
 
 -- Its trees are such as reading gives.
 abbrev pub IsLawfulWrite : Write → Type 0
@@ -90,6 +92,9 @@ HoldsAgent (MboxSha1 text) = IsUtf8 text
 HoldsAgent (OpenId text) = IsUtf8 text
 HoldsAgent (Account home name) = IsUtf8 home × IsUtf8 name
 
+abbrev pub HoldsActor : Agent → Type 0
+HoldsActor actor = HoldsAgent actor.ifi × IfSome actor.name IsUtf8
+
 -- A text is UTF-8, an id has its sixteen bytes, an IRI is one, and bytes are such.
 abbrev pub HoldsValue : Value → Type 0
 HoldsValue (text_value t) = IsUtf8 t
@@ -99,6 +104,7 @@ HoldsValue (trees_value ts) = Unit {0}
 HoldsValue (iri_value t) = IsUtf8 t × IsTrue (is_iri t)
 HoldsValue (agent_value ifi) = HoldsAgent ifi
 HoldsValue (bytes_value bytes) = IsBytes bytes
+HoldsValue (actor_value actor) = HoldsActor actor
 
 abbrev pub HoldsWrite : Write → Type 0
 HoldsWrite write = AllByRecursion (λ field. HoldsValue field.1) (write_fields write)

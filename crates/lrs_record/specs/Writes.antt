@@ -4,8 +4,12 @@ use Rattle.std.specs.Prelude.{option_and_then, option_map, if◌then◌else◌}
 use Rattle.std.specs.Result.{result_ok}
 use Rattle.std.specs.Str.{bytes_eq}
 use Rattle.std.specs.VecDeque.{deque_items}
+use Rattle.cmi5_course.specs.Words.{mode_of, mode_text}
+use Rattle.cmi5_course.specs.declared.launch.Mode.{Mode}
 use Rattle.hex.specs.Hex.{decode_of, encode_lower}
 use Rattle.lrs_agents.specs.Identifiers.{identifier_json, identifier_of}
+use Rattle.lrs_agent_texts.specs.Texts.{agent_json}
+use Rattle.lrs_agents.specs.declared.agents.Agent.{Agent}
 use Rattle.lrs_agents.specs.declared.identifiers.Ifi.{Ifi}
 use Rattle.lrs_json.specs.Depth.{depth, depth_of_elements}
 use Rattle.lrs_json.specs.Json.{Json, string, array}
@@ -13,15 +17,16 @@ use Rattle.lrs_json.specs.Trees.{tree_of, trees_of}
 use Rattle.lrs_json.specs.View.{view, member_view, elements_of}
 use Rattle.lrs_json.specs.declared.tree.Tree.{Tree}
 use Rattle.lrs_json.specs.declared.limits.TheConstants.{DEPTH}
-use Rattle.lrs_names.specs.Members.{text_of}
+use Rattle.lrs_names.specs.Members.{text_of, text_under}
 use Rattle.lrs_names.specs.Ids.{id_of, id_text}
 use Rattle.lrs_names.specs.Iris.{is_iri}
 use Rattle.lrs_record.specs.declared.entry.Area.{Area}
-use Rattle.lrs_record.specs.declared.entry.Area.TheVariants.{Store, Desk}
+use Rattle.lrs_record.specs.declared.entry.Area.TheVariants.{Free, Store, Desk}
 use Rattle.lrs_record.specs.declared.entry.How.{How}
 use Rattle.lrs_record.specs.declared.entry.How.TheVariants as how
 use Rattle.lrs_record.specs.declared.entry.Write.{Write}
 use Rattle.lrs_record.specs.declared.entry.Write.TheVariants.{Found, Provider, Put, Post, State, Drop}
+use Rattle.lrs_record.specs.declared.entry.Write.TheVariants.{Course, Enrol, Launch, Fetch}
 use Rattle.lrs_record.specs.declared.fields.Fields.{Fields}
 use Rattle.lrs_record.specs.declared.fields.Lent.{Lent}
 
@@ -34,6 +39,7 @@ pub data Value : Type 0 where
   iri_value : List ℕ → Value
   agent_value : Ifi → Value
   bytes_value : List ℕ → Value
+  actor_value : Agent → Value
 
 -- bytes are spelled in lower-case hexadecimal digits
 abbrev pub value_json : Value → Json
@@ -44,6 +50,7 @@ value_json (trees_value ts) = array (elements_of (map view ts))
 value_json (iri_value t) = string t
 value_json (agent_value ifi) = identifier_json ifi
 value_json (bytes_value bytes) = string (encode_lower bytes)
+value_json (actor_value actor) = agent_json actor
 
 -- the members that the fields are kept as
 abbrev pub members_for : List (List ℕ × Value) → List (List ℕ × Json)
@@ -62,6 +69,7 @@ lent (Lent.Word w) = text_value w.now
 lent (Lent.Iri i) = iri_value i.now
 lent (Lent.Agent ifi) = agent_value ifi.now
 lent (Lent.Bytes bytes) = bytes_value bytes.now
+lent (Lent.Actor actor) = actor_value actor.now
 
 -- the fields that are still to be read, and their values
 abbrev pub members_left : Fields → List (List ℕ × Json)
@@ -104,6 +112,14 @@ how_of text = if bytes_eq text (codes "put") then Some how.Put
 
 abbrev pub how_in : Json → Option How
 how_in value = option_and_then how_of (text_of value)
+
+abbrev pub mode_in : Json → Option Mode
+mode_in value = option_and_then mode_of (text_of value)
+
+-- its identifier, and the text under `name`
+abbrev pub actor_in : Json → Option Agent
+actor_in value =
+    option_map (λ ifi. record { ifi = ifi; name = text_under (codes "name") value }) (identifier_of value)
 
 abbrev pub value_first : List Json → Option Json
 value_first [] = None
@@ -158,6 +174,10 @@ write_area (Put id statement) = Store
 write_area (Post statements) = Store
 write_area (State h key media bytes) = Store
 write_area (Drop activity agent registration state) = Store
+write_area (Course tree) = Desk
+write_area (Enrol course actor) = Desk
+write_area (Launch registration unit mode return_url) = Desk
+write_area (Fetch key) = Free
 
 -- the name under which a write is kept
 abbrev pub write_name : Write → List ℕ
@@ -167,6 +187,10 @@ write_name (Put id statement) = codes "put"
 write_name (Post statements) = codes "post"
 write_name (State h key media bytes) = codes "state"
 write_name (Drop activity agent registration state) = codes "drop"
+write_name (Course tree) = codes "course"
+write_name (Enrol course actor) = codes "enrol"
+write_name (Launch registration unit mode return_url) = codes "launch"
+write_name (Fetch key) = codes "fetch"
 
 abbrev pub write_fields : Write → List (List ℕ × Value)
 write_fields (Found admin base) = (codes "admin", text_value admin) ∷ (codes "base", text_value base) ∷ []
@@ -182,6 +206,12 @@ write_fields (State h key media bytes) =
 write_fields (Drop activity agent registration state) =
     (codes "activity", iri_value activity) ∷ (codes "agent", agent_value agent)
     ∷ (optional_field (codes "registration") id_value registration ++ optional_field (codes "state") text_value state)
+write_fields (Course tree) = (codes "tree", tree_value tree) ∷ []
+write_fields (Enrol course actor) = (codes "course", iri_value course) ∷ (codes "actor", actor_value actor) ∷ []
+write_fields (Launch registration unit mode return_url) =
+    (codes "registration", id_value registration) ∷ (codes "unit", iri_value unit)
+    ∷ (codes "mode", text_value (mode_text mode)) ∷ optional_field (codes "returnURL") iri_value return_url
+write_fields (Fetch key) = (codes "key", text_value key) ∷ []
 
 -- the activity and the agent of documents
 abbrev pub owner_in : List (List ℕ × Json) → Option (List ℕ × Ifi)
@@ -226,6 +256,21 @@ drop_behind activity agent members = option_map (λ chosen. Drop activity agent 
 abbrev pub drop_in : List (List ℕ × Json) → Option Write
 drop_in members = option_and_then (λ owner. drop_behind owner.0 owner.1 (drop 1 (drop 1 members))) (owner_in members)
 
+-- a learner who is enrolled
+abbrev pub enrol_in : List (List ℕ × Json) → Option Write
+enrol_in members =
+    from_next iri_in members (λ course after_course.
+    from_next actor_in after_course (λ actor _. Some (Enrol course actor)))
+
+-- a unit that is launched
+abbrev pub launch_in : List (List ℕ × Json) → Option Write
+launch_in members =
+    from_next id_in members (λ registration after_registration.
+    from_next iri_in after_registration (λ unit after_unit.
+    from_next mode_in after_unit (λ mode after_mode.
+    from_optional (codes "returnURL") iri_in after_mode (λ return_url _.
+    Some (Launch registration unit mode return_url)))))
+
 -- the write of that name and of these values of fields, of those whose fields are all there
 abbrev pub write_of : List ℕ → List Json → Option Write
 write_of name values =
@@ -235,10 +280,14 @@ write_of name values =
     else (if bytes_eq name (codes "put")
     then from_first id_in values (λ id rest. from_first tree_in rest (λ statement _. Some (Put id statement)))
     else (if bytes_eq name (codes "post") then from_first trees_in values (λ statements _. Some (Post statements))
-    else None)))
+    else (if bytes_eq name (codes "course") then from_first tree_in values (λ tree _. Some (Course tree))
+    else (if bytes_eq name (codes "fetch") then from_first text_of values (λ key _. Some (Fetch key))
+    else None)))))
 
 -- the write of that name and of these fields
 abbrev pub write_in : List ℕ → List (List ℕ × Json) → Option Write
 write_in name members =
     if bytes_eq name (codes "state") then state_in members
-    else (if bytes_eq name (codes "drop") then drop_in members else write_of name (values_in members))
+    else (if bytes_eq name (codes "drop") then drop_in members
+    else (if bytes_eq name (codes "enrol") then enrol_in members
+    else (if bytes_eq name (codes "launch") then launch_in members else write_of name (values_in members))))

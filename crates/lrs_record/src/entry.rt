@@ -8,8 +8,10 @@ ghost use Rattle.lrs_record.specs.Writes.{how_text, members_for, members_left, v
 ghost use Rattle.lrs_record.specs.declared.entry.Write.TheVariants as write;
 
 use crate::Moment;
+use crate::desk_writes::put_launch;
 use crate::fields::{Fields, Lent, put_fields};
-use lrs_agents::Ifi;
+use cmi5_course::Mode;
+use lrs_agents::{Agent, Ifi};
 use lrs_json::{Items, Memory, Text, Tree};
 use lrs_names::{Draw, Id, Iri};
 use std::alloc::Global;
@@ -61,6 +63,27 @@ pub enum Write {
         agent: Ifi,
         registration: Option<Id>,
         state: Option<Text>,
+    },
+    /// Takes a course up.
+    Course {
+        tree: Tree,
+    },
+    /// Enrols a learner in the course of that id.
+    Enrol {
+        course: Iri,
+        actor: Agent,
+    },
+    /// Launches a unit, by its publisher's id, of a registration's course.
+    Launch {
+        registration: Id,
+        unit: Iri,
+        mode: Mode,
+        /// Where the content sends the learner back to.
+        return_url: Option<Iri>,
+    },
+    /// Gives the token of a session away, for the key that its launch made.
+    Fetch {
+        key: Text,
     },
 }
 
@@ -118,6 +141,10 @@ impl Write {
             Write::Post { .. } => "post",
             Write::State { .. } => "state",
             Write::Drop { .. } => "drop",
+            Write::Course { .. } => "course",
+            Write::Enrol { .. } => "enrol",
+            Write::Launch { .. } => "launch",
+            Write::Fetch { .. } => "fetch",
         }
     }
 
@@ -128,7 +155,12 @@ impl Write {
         match self {
             Write::Put { .. } | Write::Post { .. } | Write::State { .. } | Write::Drop { .. } =>
                 Area::Store,
-            Write::Found { .. } | Write::Provider { .. } => Area::Desk,
+            Write::Found { .. }
+            | Write::Provider { .. }
+            | Write::Course { .. }
+            | Write::Enrol { .. }
+            | Write::Launch { .. } => Area::Desk,
+            Write::Fetch { .. } => Area::Free,
         }
     }
 
@@ -169,10 +201,24 @@ impl Write {
                 registration,
                 state,
             } => put_drop(activity, agent, registration, state, into),
+            Write::Course { tree } => put_fields(&[("tree", Lent::Tree(tree))], into),
+            Write::Enrol { course, actor } => {
+                put_fields(
+                    &[("course", Lent::Iri(course)), ("actor", Lent::Actor(actor))],
+                    into,
+                )
+            }
+            Write::Launch {
+                registration,
+                unit,
+                mode,
+                return_url,
+            } => put_launch(registration, unit, *mode, return_url, into),
+            Write::Fetch { key } => put_fields(&[("key", Lent::Text(key))], into),
         }
     }
 
-    // The write of that name and of these fields. Only those of documents take memory, for their agents and bytes.
+    // The write of that name and of these fields. Only agents and bytes take memory.
     pub(crate) fn of(
         alloc: Global,
         name: &str,
@@ -185,6 +231,8 @@ impl Write {
         match name {
             "state" => fields.state(alloc),
             "drop" => fields.drop_of(alloc),
+            "enrol" => fields.enrol(alloc),
+            "launch" => Ok(fields.launch()),
             _ => Ok(Write::of_values(name, fields)),
         }
     }
@@ -209,6 +257,12 @@ impl Write {
             }),
             "post" => Some(Write::Post {
                 statements: fields.trees()?,
+            }),
+            "course" => Some(Write::Course {
+                tree: fields.tree()?,
+            }),
+            "fetch" => Some(Write::Fetch {
+                key: fields.text()?,
             }),
             _ => None,
         }

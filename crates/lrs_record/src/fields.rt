@@ -1,23 +1,24 @@
 //! The fields of a write: lent for writing, and read one after the other.
-ghost use Rattle.std.specs.Prelude.{◌≡◌, ℕ, List, ◌++◌, drop, map, option_map, false, IfOk, IfSome, MatchOption, OnOk, IsUtf8, codes};
+ghost use Rattle.std.specs.Prelude.{◌≡◌, ℕ, List, ◌++◌, drop, map, option_map, false, IfOk, IfSome, MatchOption, OnOk};
 ghost use Rattle.std.specs.List.{AllByRecursion};
 ghost use Rattle.hex.specs.Hex.{IsBytes, encode_lower};
-ghost use Rattle.lrs_agents.specs.Identifiers.{account_json, alone_under, identifier_json, identifier_of};
+ghost use Rattle.lrs_agents.specs.Identifiers.{identifier_of};
 ghost use Rattle.lrs_json.specs.Fits.{Fits};
 ghost use Rattle.lrs_json.specs.Json.{Json, object, string};
 ghost use Rattle.lrs_json.specs.Texts.{member_text};
 ghost use Rattle.lrs_json.specs.View.{elements_of, members_of, view};
 ghost use Rattle.lrs_json.specs.Written.{Extends, elements_text, members_text, written};
-ghost use Rattle.lrs_record.specs.Entries.{AreLawfulTrees, HoldsAgent, HoldsValue, IsLawfulTree, IsLawfulWrite};
+ghost use Rattle.lrs_record.specs.Entries.{AreLawfulTrees, HoldsValue, IsLawfulTree, IsLawfulWrite};
 ghost use Rattle.lrs_names.specs.Members.{text_of};
 ghost use Rattle.lrs_record.specs.Writes.{behind_optional, bytes_in, chosen_in, content_in, drop_behind, drop_in, how_in, id_in, iri_in, is_next, lent, members_for, members_left, optional_in, owner_in, read_first, state_behind, state_in, tree_in, trees_in, value_first, value_json, values_in, values_left};
 
+use crate::agents::{put_actor, put_agent};
 use crate::depth::{are_within, is_within};
 use crate::members::members;
 use crate::{How, Write};
 use hex::{FromHexError, decode, encode};
-use lrs_agents::Ifi;
-use lrs_json::appending::{put, put_comma, put_name, put_quoted, put_text, put_tree};
+use lrs_agents::{Agent, Ifi};
+use lrs_json::appending::{put, put_comma, put_name, put_quoted, put_tree};
 use lrs_json::{DEPTH, Items, Member, Memory, Text, Tree, utf8_text};
 use lrs_names::{Id, Iri};
 use std::alloc::Global;
@@ -35,6 +36,7 @@ pub enum Lent<'a> {
     Iri(&'a Iri),
     Agent(&'a Ifi),
     Bytes(&'a Items<u8>),
+    Actor(&'a Agent),
 }
 
 /// Appends the fields as the members of an object, and the closing brace.
@@ -81,57 +83,8 @@ fn put_value(value: &Lent<'_>, into: &mut Vec<u8>) -> Result<(), Memory>
         Lent::Iri(iri) => put_quoted(iri.text().as_str(), into),
         Lent::Agent(agent) => put_agent(agent, into),
         Lent::Bytes(bytes) => put_digits(bytes.as_slice(), into),
+        Lent::Actor(actor) => put_actor(actor, into),
     }
-}
-
-// An object with the identifier alone.
-fn put_agent(agent: &Ifi, into: &mut Vec<u8>) -> Result<(), Memory>
-    ensures ok { OnOk result (into.new.items ≡ into.old.items ++ written (identifier_json agent.now)) }
-    ensures kept { Extends into.old.items into.new.items }
-    ensures holds { OnOk result (HoldsAgent agent.now) }
-{
-    match agent {
-        Ifi::Mbox(text) => put_alone("mbox", text, into),
-        Ifi::MboxSha1(text) => put_alone("mbox_sha1sum", text, into),
-        Ifi::OpenId(text) => put_alone("openid", text, into),
-        Ifi::Account { home, name } => put_account(home, name, into),
-    }
-}
-
-// An object with one member, a text.
-#[tactic(auto, using(lrs_json::proofs::Extending::extends_trans))]
-fn put_alone(name: &str, text: &Text, into: &mut Vec<u8>) -> Result<(), Memory>
-    ensures ok { OnOk result (into.new.items ≡ into.old.items ++ written (alone_under name.now (string text.now))) }
-    ensures kept { Extends into.old.items into.new.items }
-    ensures holds { OnOk result (IsUtf8 text.now) }
-{
-    put(b"{", into)?;
-    put_text(false, name, text.as_str(), into)?;
-    put(b"}", into)
-}
-
-// An object with one member, the account of that home page and that name.
-fn put_account(home: &Text, name: &Text, into: &mut Vec<u8>) -> Result<(), Memory>
-    ensures ok { OnOk result (into.new.items
-        ≡ into.old.items ++ written (alone_under (codes "account") (account_json home.now name.now))) }
-    ensures kept { Extends into.old.items into.new.items }
-    ensures holds { OnOk result (IsUtf8 home.now × IsUtf8 name.now) }
-{
-    put(b"{", into)?;
-    put_name(false, "account", into)?;
-    put_home(home, name, into)?;
-    put(b"}", into)
-}
-
-fn put_home(home: &Text, name: &Text, into: &mut Vec<u8>) -> Result<(), Memory>
-    ensures ok { OnOk result (into.new.items ≡ into.old.items ++ written (account_json home.now name.now)) }
-    ensures kept { Extends into.old.items into.new.items }
-    ensures holds { OnOk result (IsUtf8 home.now × IsUtf8 name.now) }
-{
-    put(b"{", into)?;
-    put_text(false, "homePage", home.as_str(), into)?;
-    put_text(true, "name", name.as_str(), into)?;
-    put(b"}", into)
 }
 
 // Bytes as lower-case hexadecimal digits.
@@ -180,7 +133,8 @@ impl Fields {
         Some(Fields { left })
     }
 
-    fn next(&mut self) -> Option<Tree>
+    /// The value of the next field, whatever it is.
+    pub fn next(&mut self) -> Option<Tree>
         requires { AllByRecursion Fits (values_left self.old) }
         ensures first { option_map view result ≡ value_first (values_left self.old) }
         ensures rest { values_left self.new ≡ drop 1 (values_left self.old) }

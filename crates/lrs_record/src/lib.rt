@@ -3,7 +3,9 @@
 //! written form of JSON.
 #![tactic(auto)]
 
+mod agents;
 mod depth;
+mod desk_writes;
 mod digits;
 mod entry;
 mod fields;

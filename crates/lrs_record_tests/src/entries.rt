@@ -2,9 +2,11 @@
 ghost use Rattle.std.specs.Prelude.{IfOk};
 ghost use Rattle.lrs_record.specs.Entries.{IsLawfulCaller, IsLawfulWrite};
 
+use cmi5_course::Mode;
+use lrs_agents::{Agent, Ifi};
 use lrs_json::Text;
-use lrs_names::Draw;
-use lrs_record::{Caller, Entry, EntryRefused, Moment, Write, read_entry, write_entry};
+use lrs_names::{Draw, Id, Iri};
+use lrs_record::{Caller, Entry, EntryRefused, How, Moment, Write, read_entry, write_entry};
 use std::alloc::Global;
 use std::fmt::Write as _;
 use std::test::Fail;
@@ -49,43 +51,101 @@ fn writes_the_founding_entry(rt: HostRuntime) -> Result<(), Fail> {
     Ok(())
 }
 
+fn say(into: &mut String, word: &str) -> Result<(), Fail> {
+    into.push(' ')?;
+    into.push_str(word)?;
+    Ok(())
+}
+
+fn say_id(into: &mut String, id: &Id) -> Result<(), Fail> {
+    say(into, str::from_utf8(&id.text())?)
+}
+
+fn say_count(into: &mut String, count: usize) -> Result<(), Fail> {
+    write!(into, " {count}")?;
+    Ok(())
+}
+
+fn say_quoted(into: &mut String, text: &Text) -> Result<(), Fail> {
+    write!(into, " {:?}", text.as_str())?;
+    Ok(())
+}
+
 fn show_write(into: &mut String, write: &Write) -> Result<(), Fail> {
     into.push_str(write.name())?;
     match write {
-        Write::Found { admin, base } => {
-            into.push(' ')?;
-            into.push_str(admin.as_str())?;
-            into.push(' ')?;
-            into.push_str(base.as_str())?;
-        }
-        Write::Provider { name } => {
-            into.push(' ')?;
-            into.push_str(name.as_str())?;
-        }
-        Write::Put { id, .. } => {
-            into.push(' ')?;
-            into.push_str(str::from_utf8(&id.text())?)?;
-        }
-        Write::Post { statements } => write!(into, " {}", statements.len())?,
+        Write::Found { admin, base } => show_two(into, admin, base),
+        Write::Provider { name } => say(into, name.as_str()),
+        Write::Put { id, .. } => say_id(into, id),
+        Write::Post { statements } => say_count(into, statements.len()),
         Write::State {
             how,
             key,
             media,
             bytes,
-        } => write!(
-            into,
-            " {} {:?} {:?} {}",
-            how.text(),
-            key.state.as_str(),
-            media.as_str(),
-            bytes.len()
-        )?,
-        Write::Drop { activity, .. } => {
-            into.push(' ')?;
-            into.push_str(activity.text().as_str())?;
-        }
+        } => show_document(into, *how, &key.state, media, bytes.len()),
+        Write::Drop { activity, .. } => say(into, activity.text().as_str()),
+        Write::Course { .. } => Ok(()),
+        Write::Enrol { course, actor } => show_enrolled(into, course, actor),
+        Write::Launch {
+            registration,
+            unit,
+            mode,
+            return_url,
+        } => show_launch(into, registration, unit, *mode, return_url),
+        Write::Fetch { key } => say(into, key.as_str()),
     }
-    Ok(())
+}
+
+fn show_two(into: &mut String, first: &Text, second: &Text) -> Result<(), Fail> {
+    say(into, first.as_str())?;
+    say(into, second.as_str())
+}
+
+fn show_document(
+    into: &mut String,
+    how: How,
+    state: &Text,
+    media: &Text,
+    length: usize,
+) -> Result<(), Fail> {
+    say(into, how.text())?;
+    say_quoted(into, state)?;
+    say_quoted(into, media)?;
+    say_count(into, length)
+}
+
+fn show_enrolled(into: &mut String, course: &Iri, actor: &Agent) -> Result<(), Fail> {
+    say(into, course.text().as_str())?;
+    if let Some(name) = &actor.name {
+        say_quoted(into, name)?;
+    }
+    show_identifier(into, &actor.ifi)
+}
+
+fn show_identifier(into: &mut String, ifi: &Ifi) -> Result<(), Fail> {
+    match ifi {
+        Ifi::Mbox(text) => say(into, text.as_str()),
+        Ifi::MboxSha1(text) => say(into, text.as_str()),
+        Ifi::OpenId(text) => say(into, text.as_str()),
+        Ifi::Account { home, name } => show_two(into, home, name),
+    }
+}
+
+fn show_launch(
+    into: &mut String,
+    registration: &Id,
+    unit: &Iri,
+    mode: Mode,
+    return_url: &Option<Iri>,
+) -> Result<(), Fail> {
+    say_id(into, registration)?;
+    say(into, unit.text().as_str())?;
+    say(into, mode.text())?;
+    match return_url {
+        Some(address) => say(into, address.text().as_str()),
+        None => Ok(()),
+    }
 }
 
 // What the entry says, in a line.
@@ -318,8 +378,8 @@ fn is_command(alloc: Global, command: &str, says: &str) -> Result<bool, Fail> {
     comes_back(alloc, text.as_str(), line.as_str())
 }
 
-fn first_wrong_document(alloc: Global) -> Result<Option<usize>, Fail> {
-    for (i, (command, says)) in DOCUMENTS.iter().enumerate() {
+fn first_wrong_command(alloc: Global, commands: &[(&str, &str)]) -> Result<Option<usize>, Fail> {
+    for (i, (command, says)) in commands.iter().enumerate() {
         if !is_command(alloc, command, says)? {
             return Ok(Some(i));
         }
@@ -329,7 +389,7 @@ fn first_wrong_document(alloc: Global) -> Result<Option<usize>, Fail> {
 
 #[test]
 fn reads_documents_back(rt: HostRuntime) -> Result<(), Fail> {
-    assert_eq!(rt; first_wrong_document(rt.alloc())?, None);
+    assert_eq!(rt; first_wrong_command(rt.alloc(), &DOCUMENTS)?, None);
     Ok(())
 }
 
@@ -374,19 +434,33 @@ const NO_DOCUMENTS: [(usize, &str, &str); 21] = [
     ),
 ];
 
-fn changed(alloc: Global, of: usize, old: &str, new: &str) -> Result<String, Fail> {
-    let Some((command, _)) = DOCUMENTS.get(of) else {
+fn changed(
+    alloc: Global,
+    commands: &[(&str, &str)],
+    of: usize,
+    old: &str,
+    new: &str,
+) -> Result<String, Fail> {
+    let Some((command, _)) = commands.get(of) else {
         return Err(Fail::new("no such command"));
     };
+    if !command.contains(old) {
+        return Err(Fail::new("nothing is changed"));
+    }
     let mut text = String::from_str(alloc, NOBODY)?;
     text.push_str(command.replacen(alloc, old, new, 1)?.as_str())?;
     text.push('}')?;
     Ok(text)
 }
 
-fn first_document_let_through(alloc: Global) -> Result<Option<usize>, Fail> {
-    for (i, (of, old, new)) in NO_DOCUMENTS.iter().enumerate() {
-        let text = changed(alloc, *of, old, new)?;
+// The first of the changes that makes another entry of its command.
+fn first_kept(
+    alloc: Global,
+    commands: &[(&str, &str)],
+    changes: &[(usize, &str, &str)],
+) -> Result<Option<usize>, Fail> {
+    for (i, (of, old, new)) in changes.iter().enumerate() {
+        let text = changed(alloc, commands, *of, old, new)?;
         if read(alloc, text.as_str()) != Err(EntryRefused::BadEntry) {
             return Ok(Some(i));
         }
@@ -396,6 +470,100 @@ fn first_document_let_through(alloc: Global) -> Result<Option<usize>, Fail> {
 
 #[test]
 fn refuses_other_documents(rt: HostRuntime) -> Result<(), Fail> {
-    assert_eq!(rt; first_document_let_through(rt.alloc())?, None);
+    assert_eq!(rt; first_kept(rt.alloc(), &DOCUMENTS, &NO_DOCUMENTS)?, None);
+    Ok(())
+}
+
+// The commands of courses. An actor has a name or none, and any of the four identifiers: that it has an account is a
+// rule of the store.
+const COURSES: [(&str, &str); 10] = [
+    (
+        "{\"course\":{\"tree\":{\"id\":\"http://c/1\",\"title\":{\"en\":\"One\"},\"children\":[{\"kind\":\"block\",\"id\":\"http://c/b\",\"title\":{\"en\":\"B\"},\"children\":[{\"kind\":\"unit\",\"id\":\"http://c/u\",\"title\":{\"en\":\"U\"},\"url\":\"https://au.example/u\",\"moveOn\":\"CompletedAndPassed\",\"masteryScore\":0.8}]}]}}}",
+        "course",
+    ),
+    ("{\"course\":{\"tree\":null}}", "course"),
+    (
+        "{\"enrol\":{\"course\":\"http://c/1\",\"actor\":{\"objectType\":\"Agent\",\"account\":{\"homePage\":\"https://p.example\",\"name\":\"k1\"}}}}",
+        "enrol http://c/1 https://p.example k1",
+    ),
+    (
+        "{\"enrol\":{\"course\":\"http://c/1\",\"actor\":{\"objectType\":\"Agent\",\"name\":\"K \\\"1\\\"\\\\\\n\\u0001\",\"account\":{\"homePage\":\"https://p.example\",\"name\":\"k1\"}}}}",
+        "enrol http://c/1 \"K \\\"1\\\"\\\\\\n\\u{1}\" https://p.example k1",
+    ),
+    (
+        "{\"enrol\":{\"course\":\"http://c/1\",\"actor\":{\"objectType\":\"Agent\",\"name\":\"\",\"mbox\":\"mailto:a@b\"}}}",
+        "enrol http://c/1 \"\" mailto:a@b",
+    ),
+    (
+        "{\"enrol\":{\"course\":\"http://c/1\",\"actor\":{\"objectType\":\"Agent\",\"mbox_sha1sum\":\"5\"}}}",
+        "enrol http://c/1 5",
+    ),
+    (
+        "{\"enrol\":{\"course\":\"http://c/1\",\"actor\":{\"objectType\":\"Agent\",\"openid\":\"https://o.example/\"}}}",
+        "enrol http://c/1 https://o.example/",
+    ),
+    (
+        "{\"launch\":{\"registration\":\"00000000-0000-4000-8000-000000000010\",\"unit\":\"http://c/u\",\"mode\":\"Normal\"}}",
+        "launch 00000000-0000-4000-8000-000000000010 http://c/u Normal",
+    ),
+    (
+        "{\"launch\":{\"registration\":\"00000000-0000-4000-8000-000000000010\",\"unit\":\"http://c/u\",\"mode\":\"Review\",\"returnURL\":\"https://p.example/back\"}}",
+        "launch 00000000-0000-4000-8000-000000000010 http://c/u Review https://p.example/back",
+    ),
+    (
+        "{\"fetch\":{\"key\":\"00000000000000000000000000000001-3\"}}",
+        "fetch 00000000000000000000000000000001-3",
+    ),
+];
+
+#[test]
+fn reads_courses_back(rt: HostRuntime) -> Result<(), Fail> {
+    assert_eq!(rt; first_wrong_command(rt.alloc(), &COURSES)?, None);
+    Ok(())
+}
+
+// Which of the commands, and what is changed in it, so that it is none.
+const NO_COURSES: [(usize, &str, &str); 24] = [
+    (1, "\"tree\"", "\"course\""),
+    (1, "null", "null,\"tree\":null"),
+    (1, "\"tree\":null", ""),
+    (2, "\"http://c/1\"", "\"c\""),
+    (
+        2,
+        "\"objectType\":\"Agent\",\"account\":{\"homePage\":\"https://p.example\",\"name\":\"k1\"}",
+        "\"account\":{\"homePage\":\"https://p.example\",\"name\":\"k1\"},\"objectType\":\"Agent\"",
+    ),
+    (2, "\"Agent\"", "\"Group\""),
+    (2, "\"objectType\":\"Agent\",", ""),
+    (2, "\"homePage\":\"https://p.example\",", ""),
+    (2, ",\"name\":\"k1\"", ""),
+    (
+        2,
+        "\"homePage\":\"https://p.example\",\"name\":\"k1\"",
+        "\"name\":\"k1\",\"homePage\":\"https://p.example\"",
+    ),
+    (2, "\"account\"", "\"name\":null,\"account\""),
+    (3, "\\u0001", "\u{1}"),
+    (3, "\\u0001", "\\u0041"),
+    (4, ",\"mbox\":\"mailto:a@b\"", ""),
+    (4, "\"mailto:a@b\"", "\"mailto:a@b\",\"member\":[]"),
+    (7, "-8000-000000000010", "-8000-00000000001"),
+    (7, "\"http://c/u\"", "\"c/u\""),
+    (7, "\"Normal\"", "\"normal\""),
+    (7, "\"Normal\"", "\"Play\""),
+    (7, ",\"mode\":\"Normal\"", ""),
+    (7, "\"Normal\"", "\"Normal\",\"returnURL\":null"),
+    (8, "\"https://p.example/back\"", "\"/back\""),
+    (
+        8,
+        "\"mode\":\"Review\",\"returnURL\":\"https://p.example/back\"",
+        "\"returnURL\":\"https://p.example/back\",\"mode\":\"Review\"",
+    ),
+    (9, "\"00000000000000000000000000000001-3\"", "3"),
+];
+
+#[test]
+fn refuses_other_courses(rt: HostRuntime) -> Result<(), Fail> {
+    assert_eq!(rt; first_kept(rt.alloc(), &COURSES, &NO_COURSES)?, None);
     Ok(())
 }

@@ -5,16 +5,17 @@ use Rattle.lrs_json_reader.specs.declared.reading.ReadRefused.{ReadRefused}
 use Rattle.lrs_json_reader.specs.declared.reading.ReadRefused.TheVariants as read
 use Rattle.lrs_json_reader.specs.Refusals.{IsBad, OutOfRangeAt, RepeatedAt, is_too_deep}
 use Rattle.lrs_rules.specs.declared.rule.Rule.{Rule}
-use Rattle.lrs_rules.specs.declared.rule.Rule.TheVariants.{A, B, C, F, J, P, S, T}
+use Rattle.lrs_rules.specs.declared.rule.Rule.TheVariants.{A, B, C, F, J, K, P, S, T}
 use Rattle.lrs_json.specs.declared.limits.TheConstants.{DEPTH}
 
--- the letter of its family, A, B, C, F, J, P, S or T, by its code in ASCII
+-- the letter of its family, A, B, C, F, J, K, P, S or T, by its code in ASCII
 abbrev pub letter_of : Rule → ℕ
 letter_of (A n) = 65
 letter_of (B n) = 66
 letter_of (C n) = 67
 letter_of (F n) = 70
 letter_of (J n) = 74
+letter_of (K n) = 75
 letter_of (P n) = 80
 letter_of (S n) = 83
 letter_of (T n) = 84
@@ -25,6 +26,7 @@ number_of (B n) = n
 number_of (C n) = n
 number_of (F n) = n
 number_of (J n) = n
+number_of (K n) = n
 number_of (P n) = n
 number_of (S n) = n
 number_of (T n) = n

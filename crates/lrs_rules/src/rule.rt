@@ -17,6 +17,8 @@ pub enum Rule {
     F(u8),
     /// On JSON.
     J(u8),
+    /// On courses.
+    K(u8),
     /// On parameters.
     P(u8),
     /// On statements.
@@ -36,6 +38,7 @@ impl Rule {
             Rule::C(_) => b'C',
             Rule::F(_) => b'F',
             Rule::J(_) => b'J',
+            Rule::K(_) => b'K',
             Rule::P(_) => b'P',
             Rule::S(_) => b'S',
             Rule::T(_) => b'T',
@@ -52,6 +55,7 @@ impl Rule {
             | Rule::C(number)
             | Rule::F(number)
             | Rule::J(number)
+            | Rule::K(number)
             | Rule::P(number)
             | Rule::S(number)
             | Rule::T(number) => *number,

@@ -4,7 +4,7 @@ use Rattle.lrs_json.specs.Json.{string}
 use Rattle.lrs_json.specs.Texts.{member_text}
 use Rattle.lrs_record.proofs.Joined.{two_members}
 use Rattle.lrs_record.proofs.Kept.{over_four, over_three, over_two}
-use Rattle.lrs_record.proofs.fields.put_home.Goals as goal
+use Rattle.lrs_record.proofs.agents.put_home.Goals as goal
 
 pub returns-in_err-put_text-clause-kept : goal.returns-in_err-put_text-clause-kept
 returns-in_err-put_text-clause-kept c = over_two _ _ _ c.put.ensures.kept c.put_text.ensures.kept

@@ -1,0 +1,36 @@
+-- The fields of the writes of courses make them again, and their names are apart.
+use Rattle.std.proofs.Common.{◌≡◌, ℕ, List, [], true, Option, Some, None, refl}
+use Rattle.cmi5_course.specs.Words.{mode_of, mode_text}
+use Rattle.cmi5_course.specs.declared.launch.Mode.{Mode}
+use Rattle.cmi5_course.specs.declared.launch.Mode.TheVariants.{Normal, Browse, Review}
+use Rattle.lrs_agents.specs.declared.agents.Agent.{Agent}
+use Rattle.lrs_record.specs.Entries.{HoldsWrite, IsLawfulWrite}
+use Rattle.lrs_record.specs.Writes.{enrol_in, launch_in, members_for, write_fields}
+use Rattle.lrs_record.specs.declared.entry.Write.TheVariants.{Enrol, Launch}
+use Rattle.lrs_record.proofs.Actors.{read_actor}
+use Rattle.lrs_record.proofs.Apart.{are_apart}
+use Rattle.lrs_record.proofs.Values.{read_id, read_iri}
+
+pub enrol_again : (course : List ℕ) (actor : Agent) → HoldsWrite (Enrol course actor) → enrol_in (members_for (write_fields (Enrol course actor))) ≡ Some (Enrol course actor)
+enrol_again course actor holds = rw (read_iri course holds.0.1, read_actor actor) refl
+
+read_mode : (mode : Mode) → mode_of (mode_text mode) ≡ Some mode
+unfolding mode_of
+read_mode Normal = refl
+read_mode Browse = refl
+read_mode Review = refl
+
+pub launch_again : (registration unit : List ℕ) (mode : Mode) (return_url : Option (List ℕ)) → HoldsWrite (Launch registration unit mode return_url)
+    → launch_in (members_for (write_fields (Launch registration unit mode return_url))) ≡ Some (Launch registration unit mode return_url)
+launch_again registration unit mode None holds = rw (read_id registration holds.0, read_iri unit holds.1.0.1, read_mode mode) refl
+launch_again registration unit mode (Some address) holds =
+    rw (read_id registration holds.0, read_iri unit holds.1.0.1, read_mode mode, read_iri address holds.1.1.1.0.1) refl
+
+-- no tree stands in it
+pub lawful_launch : (registration unit : List ℕ) (mode : Mode) (return_url : Option (List ℕ)) → IsLawfulWrite (Launch registration unit mode return_url)
+lawful_launch registration unit mode None = (tt, (tt, (tt, tt)))
+lawful_launch registration unit mode (Some address) = (tt, (tt, (tt, (tt, tt))))
+
+pub apart_launch : (registration unit : List ℕ) (mode : Mode) (return_url : Option (List ℕ)) → are_apart [] (write_fields (Launch registration unit mode return_url)) ≡ true
+apart_launch registration unit mode None = refl
+apart_launch registration unit mode (Some address) = refl
