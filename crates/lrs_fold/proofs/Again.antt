@@ -11,7 +11,7 @@ use Rattle.lrs_history.proofs.Outcomes.{accepts, again}
 use Rattle.lrs_names.specs.declared.draw.Draw.{Draw}
 use Rattle.lrs_parts.specs.State.{State, changes_nothing}
 use Rattle.lrs_parts.specs.declared.acceptance.Acceptance.{Acceptance}
-use Rattle.lrs_parts.specs.declared.acceptance.Acceptance.TheVariants.{Ids, Plain, Provider}
+use Rattle.lrs_parts.specs.declared.acceptance.Acceptance.TheVariants.{Plain}
 use Rattle.lrs_parts.specs.declared.effect.Effect.{Effect}
 use Rattle.lrs_time.specs.declared.moments.TheConstants.{LATEST}
 use Rattle.lrs_record.specs.declared.entry.Caller.{Caller}
@@ -42,8 +42,7 @@ no_refusal x k = by_acceptance x.acceptance (changes_nothing x) k
     by_acceptance : (a : Acceptance) (b : Bool) → IsRefusal (Ok (acceptance_said a (if b then said.Same else said.Kept))) → ⊥
     by_acceptance Plain true k = k
     by_acceptance Plain false k = k
-    by_acceptance (Ids ids) b k = k
-    by_acceptance (Provider place token) b k = k
+    by_acceptance other b k = k
 
 pub acceptance_no_refusal : (st : State) (caller : Caller) (c : Command) (clock : ℕ) (draw : Draw) (e : Entry) (t : Answered) → outcome st caller c clock draw ≡ Accepted e t → IsRefusal (Ok t) → ⊥
 acceptance_no_refusal st caller c clock draw e t at refuses =

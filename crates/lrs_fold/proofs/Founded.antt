@@ -1,17 +1,31 @@
--- What founds a store brings no statement.
-use Rattle.std.proofs.Common.{◌≡◌, Bool, true, false, ◌&&◌}
+-- What founds a store is judged: its address is one.
+use Rattle.std.proofs.Common.{◌≡◌, ℕ, List, Bool, true, false, ◌&&◌, refl}
+use Rattle.std.specs.Prelude.{IsTrue, codes, nat_eq}
+use Rattle.std.specs.List.{list_all, ends_with}
 use Rattle.lrs_fold.specs.Judged.{IsJudged}
 use Rattle.lrs_history.specs.History.{IsFounding, founds, is_operator, is_zero}
+use Rattle.lrs_names.specs.Iris.{is_iri}
+use Rattle.lrs_parts.specs.Founding.{IsBase, has_base_form, is_base, is_no_separator, is_of_the_web, is_token}
 use Rattle.lrs_record.specs.declared.entry.Entry.{Entry}
 use Rattle.lrs_record.specs.declared.entry.Write.{Write}
 use Rattle.lrs_record.specs.declared.entry.Write.TheVariants.{Found}
+
+left : (a b : Bool) → a && b ≡ true → a ≡ true
+left true b is = refl
+left false b is = is
 
 right : (a b : Bool) → a && b ≡ true → b ≡ true
 right true b is = is
 right false b is = cc is
 
+-- the address of a store is an IRI
+pub base_is_iri : (base : List ℕ) → IsBase base → IsTrue (is_iri base)
+base_is_iri base is =
+    right (is_of_the_web base && ends_with nat_eq base (codes "/") && list_all is_no_separator base) (is_iri base)
+    (left (has_base_form base) _ is)
+
 founds_judged : (w : Write) → founds w ≡ true → IsJudged w
-founds_judged (Found admin base) is = tt
+founds_judged (Found admin base) is = right (is_token admin) (is_base base) is
 founds_judged other is = absurd (cc is)
 
 pub founding_judged : (e : Entry) → IsFounding e → IsJudged e.write

@@ -7,3 +7,8 @@ pub mod Outcomes
 pub mod Puts
 pub mod Founded
 pub mod Again
+pub mod Walks
+pub mod Launched
+pub mod Courses
+pub mod Desk
+pub mod Written

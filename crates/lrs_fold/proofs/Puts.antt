@@ -1,6 +1,6 @@
 -- What is said to a put of the program itself: it is refused neither as of a caller who isn't let in nor as of no command,
 -- and it is shown no text.
-use Rattle.std.proofs.Common.{◌≡◌, ℕ, List, [], ◌∷◌, Option, Some, None, Bool, true, false, not, ◌&&◌}
+use Rattle.std.proofs.Common.{◌≡◌, ℕ, List, [], ◌∷◌, Option, Some, None, Bool, true, false, not, ◌&&◌, refl}
 use Rattle.std.specs.Prelude.{if◌then◌else◌, option_map}
 use Rattle.std.specs.Option.{option_or}
 use Rattle.std.specs.Str.{bytes_eq}
@@ -12,6 +12,7 @@ use Rattle.lrs_fold.specs.Own.{IsPut, MayRefusePut, SaysOfPut}
 use Rattle.lrs_history.specs.Effects.{effect}
 use Rattle.lrs_history.specs.History.{next_entry, refused, outcome, outcome_by}
 use Rattle.lrs_history.specs.Refusals.{broken, forbidden, other_id, refused_form, refused_over}
+use Rattle.lrs_history.specs.Sessions.{is_defined}
 use Rattle.lrs_json.specs.Json.{Json}
 use Rattle.lrs_json.specs.View.{view}
 use Rattle.lrs_names.specs.declared.draw.Draw.{Draw}
@@ -54,13 +55,18 @@ may_form : (id : List ℕ) (j : Json) → MayRefuse (refused_form id j)
 may_form id j = may_or (when (is_too_long j) TooLong) (first_some (broken (broken_rule j) ∷ other_id id (own_id j) ∷ [])) (may_when (is_too_long j) TooLong tt)
     (may_or (broken (broken_rule j)) (first_some (other_id id (own_id j) ∷ [])) (may_break (broken_rule j)) (may_or (other_id id (own_id j)) None (may_be_other id (own_id j)) tt))
 
--- an admin may void
+-- an admin writes no statement that cmi5 defines, and may void
+may_define : (b : Bool) → MayRefuse (when (b && true) (Forbidden (rule.C 1)))
+may_define true = refl
+may_define false = tt
+
 may_void : (b : Bool) → MayRefuse (when (b && false) (Forbidden (rule.C 2)))
 may_void true = tt
 may_void false = tt
 
 may_meet : (st : State) (before : List StoredStatement) (id : List ℕ) (j : Json) (held : Option StoredStatement) → MayRefuse (refused_over st who.Admin before id j held)
-may_meet st before id j None = may_void (is_voiding j)
+may_meet st before id j None = may_or (when (is_defined j && true) (Forbidden (rule.C 1))) (first_some (when (is_voiding j && false) (Forbidden (rule.C 2)) ∷ [])) (may_define (is_defined j))
+    (may_or (when (is_voiding j && false) (Forbidden (rule.C 2))) None (may_void (is_voiding j)) tt)
 may_meet st before id j (Some held) = may_when (not (same (view held.received) j)) (Conflict id) tt
 
 by_refusal : (o : Option Refusal) (b : Bool) (e : Entry) → MayRefuse o

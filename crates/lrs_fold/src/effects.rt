@@ -5,6 +5,7 @@ ghost use Rattle.std.specs.Option.{option_copied};
 ghost use Rattle.lrs_fold.specs.Judged.{IsJudged, IsJudgedTree};
 ghost use Rattle.lrs_fold.specs.Naming.{with_these_ids};
 ghost use Rattle.lrs_history.specs.Effects.{document_by, dropping, effect, keeping, keeping_all, making, new_by, supply_in, writing};
+ghost use Rattle.lrs_parts.specs.Founding.{IsBase};
 ghost use Rattle.lrs_parts.specs.Parts.{state_of};
 ghost use Rattle.lrs_parts.specs.declared.acceptance.Acceptance.TheVariants as acceptance;
 ghost use Rattle.lrs_parts.specs.State.{no_change};
@@ -65,6 +66,19 @@ impl Fold {
                 drop(state);
                 effect
             }
+            Write::Course { tree } => {
+                let effect = self.taking(alloc, moment, &tree);
+                drop(tree);
+                effect
+            }
+            Write::Enrol { course, actor } => self.enrolling(alloc, moment, &draw, course, actor),
+            Write::Launch {
+                registration,
+                unit,
+                mode,
+                return_url,
+            } => self.launching(alloc, moment, &draw, registration, unit, mode, return_url),
+            Write::Fetch { key } => self.fetching(alloc, moment, &draw, key),
         }
     }
 
@@ -217,12 +231,19 @@ impl Fold {
     }
 }
 
+#[tactic(auto, using(crate::proofs::Founded::base_is_iri))]
 fn founding(alloc: Global, admin: Text, base: Text, moment: Moment) -> Effect
+    requires { IsBase base }
     ensures { result ≡ record (no_change moment) { founding = Some (record { admin = admin; base = base }) } }
 {
-    let mut effect = Effect::no_change(alloc, moment);
-    effect.founding = Some(Founding { admin, base });
-    effect
+    match Iri::read(base) {
+        Ok(base) => {
+            let mut effect = Effect::no_change(alloc, moment);
+            effect.founding = Some(Founding { admin, base });
+            effect
+        }
+        Err(_) => unreachable!(),
+    }
 }
 
 fn writing_new(alloc: Global, moment: Moment, added: Vec<StoredStatement>) -> Effect

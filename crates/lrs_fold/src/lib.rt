@@ -3,9 +3,13 @@
 //! `saying` are its steps.
 #![tactic(auto)]
 
+mod desk_effects;
+mod desk_refusals;
 mod effects;
+mod fetching;
 mod fold;
 mod forms;
+mod launching;
 mod meeting;
 mod next;
 mod outcome;
@@ -13,6 +17,7 @@ mod own;
 mod questions;
 mod refusals;
 mod saying;
+mod targets;
 mod whose;
 
 pub use fold::Fold;

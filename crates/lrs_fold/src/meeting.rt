@@ -1,7 +1,8 @@
 // What the statements of a write meet in the store.
 ghost use Rattle.std.specs.Prelude.{◌≡◌, not};
 ghost use Rattle.lrs_fold.specs.Meeting.{refused_each};
-ghost use Rattle.lrs_history.specs.Refusals.{forbidden, may_void, refused_over, refused_under};
+ghost use Rattle.lrs_history.specs.Refusals.{forbidden, is_session, may_void, refused_over, refused_under};
+ghost use Rattle.lrs_history.specs.Sessions.{is_defined};
 ghost use Rattle.lrs_json.specs.View.{view};
 ghost use Rattle.lrs_parts.specs.Parts.{state_of};
 ghost use Rattle.lrs_replies.specs.declared.answered.Refusal.TheVariants as refusal;
@@ -11,21 +12,38 @@ ghost use Rattle.xapi_index.specs.Statements.{held_under};
 ghost use Rattle.xapi_statement.specs.Statement.{own_id};
 
 use crate::Fold;
+use cmi5_launch::names::CMI5_CATEGORY;
 use lrs_command::Who;
 use lrs_json::Tree;
 use lrs_names::Id;
 use lrs_replies::Refusal;
 use lrs_rules::Rule;
 use xapi_alike::same_received;
-use xapi_statement::{StoredStatement, is_voiding, own_id};
+use xapi_statement::{StoredStatement, has_context_activity, is_voiding, own_id};
 
 fn may_void(who: Who) -> bool
     ensures { result ≡ may_void who }
 {
     match who {
         Who::Admin => true,
-        Who::Unknown | Who::Provider(_) => false,
+        Who::Unknown | Who::Provider(_) | Who::Session(_) => false,
     }
+}
+
+fn is_session(who: Who) -> bool
+    ensures { result ≡ is_session who }
+{
+    match who {
+        Who::Session(_) => true,
+        Who::Unknown | Who::Admin | Who::Provider(_) => false,
+    }
+}
+
+// Whether cmi5 defines what a statement means (cmi5 Quartz, section 9.6.2.1).
+fn is_defined(statement: &Tree) -> bool
+    ensures { result ≡ is_defined (view statement.now) }
+{
+    has_context_activity(statement, "category", CMI5_CATEGORY)
 }
 
 // Why a statement isn't kept that comes under an id under which that one is held.
@@ -40,10 +58,13 @@ fn refused_beside(id: &Id, statement: &Tree, held: &StoredStatement) -> Option<R
 }
 
 impl Fold {
-    // Why a new statement isn't kept: only an admin voids.
+    // Why a new statement isn't kept: only a session writes one that cmi5 defines, only an admin voids.
     fn forbidden(&self, who: Who, statement: &Tree) -> Option<Refusal>
         ensures { result ≡ forbidden (state_of self.now.parts) who self.now.parts.statements.held (view statement.now) }
     {
+        if is_defined(statement) && !is_session(who) {
+            return Some(Refusal::Forbidden(Rule::C(1)));
+        }
         if is_voiding(statement) && !may_void(who) {
             Some(Refusal::Forbidden(Rule::C(2)))
         } else {

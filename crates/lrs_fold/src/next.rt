@@ -4,6 +4,7 @@ ghost use Rattle.lrs_fold.specs.Judged.{IsJudged};
 ghost use Rattle.lrs_fold.specs.Next.{may_be_next, Changes, Comes};
 ghost use Rattle.lrs_history.specs.History.{founds, is_founding};
 ghost use Rattle.lrs_parts.specs.Parts.{state_of};
+ghost use Rattle.lrs_record.specs.Entries.{IsLawfulWrite};
 
 use crate::Fold;
 use lrs_json::Memory;
@@ -16,6 +17,7 @@ impl Fold {
     /// it may not.
     #[tactic(auto, using(crate::proofs::Coming::comes, crate::proofs::Coming::stays))]
     pub fn next(&self, alloc: Global, first: bool, entry: Entry) -> Result<Option<Effect>, Memory>
+        requires { IsLawfulWrite entry.write }
         ensures { IfOk result (λ next. Comes first (state_of self.now.parts) entry next) }
     {
         match self.may_be_next(alloc, first, &entry) {
@@ -51,6 +53,7 @@ impl Fold {
 
     // Whether an entry comes next, if it changes anything.
     fn may_be_next(&self, alloc: Global, first: bool, entry: &Entry) -> Result<bool, Memory>
+        requires { IsLawfulWrite entry.now.write }
         ensures may { IfOk result (λ may. may ≡ may_be_next first (state_of self.now.parts) entry.now) }
         ensures judged { result ≡ Ok true → IsJudged entry.now.write }
     {

@@ -4,14 +4,15 @@ ghost use Rattle.std.specs.Option.{option_copied};
 ghost use Rattle.lrs_command.specs.declared.command.Read.TheVariants as question;
 ghost use Rattle.lrs_history.specs.Answers.{document_said, documents_said, is_shown, one_said, page_said, wanted_said};
 ghost use Rattle.lrs_history.specs.History.{answered_inside, read_answered};
-ghost use Rattle.lrs_history.specs.Whose.{who_is};
+ghost use Rattle.lrs_history.specs.Refusals.{outside_of};
+ghost use Rattle.lrs_history.specs.Whose.{launch_of, who_is};
 ghost use Rattle.lrs_parts.specs.Parts.{state_of};
 ghost use Rattle.xapi_index.specs.Statements.{held_under};
 ghost use Rattle.xapi_statement.specs.Shown.{shown_text};
 
 use crate::Fold;
 use lrs_command::{Read, Who};
-use lrs_history::barred;
+use lrs_history::{barred, outside};
 use lrs_json::{Items, Memory};
 use lrs_names::Id;
 use lrs_record::Caller;
@@ -50,12 +51,43 @@ impl Fold {
         match read {
             Read::Statements(wanted) => self.wanted_said(alloc, who, wanted),
             Read::More(link) => self.more_said(alloc, who, link),
-            Read::Documents(wanted) => self.documents_said(alloc, wanted),
+            Read::Documents(wanted) => self.documents_answered(alloc, who, wanted),
             Read::Profile => Ok(Answered::Refused(Refusal::NotFound)),
             Read::About => Ok(Answered::Shown {
                 text: Items::from_vec(versions_text(alloc)?),
                 through: None,
             }),
+        }
+    }
+
+    // What is said to a caller who looks at documents.
+    fn documents_answered(
+        &self,
+        alloc: Global,
+        who: Who,
+        wanted: &WantedDocuments,
+    ) -> Result<Answered, Memory>
+        ensures { IfOk result (λ said. said
+            ≡ answered_inside (state_of self.now.parts) who (question.Documents wanted.now)) }
+    {
+        match self.outside(who, wanted) {
+            Some(refusal) => Ok(Answered::Refused(refusal)),
+            None => self.documents_said(alloc, wanted),
+        }
+    }
+
+    // Why a caller doesn't look at documents.
+    fn outside(&self, who: Who, wanted: &WantedDocuments) -> Option<Refusal>
+        ensures { result ≡ outside_of (launch_of (state_of self.now.parts) who) wanted.now }
+    {
+        let launch = self.launch_of(who);
+        match wanted {
+            WantedDocuments::One(key) => outside(launch, &key.agent, &key.registration),
+            WantedDocuments::Ids {
+                agent,
+                registration,
+                ..
+            } => outside(launch, agent, registration),
         }
     }
 

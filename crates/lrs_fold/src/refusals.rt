@@ -5,11 +5,13 @@ ghost use Rattle.lrs_fold.specs.Judged.{IsJudged};
 ghost use Rattle.lrs_history.specs.Effects.{Occasion};
 ghost use Rattle.lrs_history.specs.Refusals.{bad_form, conflict, refusal, refusal_at, unmergeable, unmergeable_with};
 ghost use Rattle.lrs_parts.specs.Parts.{state_of};
+ghost use Rattle.lrs_record.specs.Entries.{IsLawfulWrite};
 
 use crate::Fold;
+use crate::desk_refusals::refused_course;
 use crate::forms::{refused_batch, refused_form};
 use lrs_command::Who;
-use lrs_history::{barred, refused_agent, refused_document, refused_name};
+use lrs_history::{barred, refused_actor, refused_agent, refused_document, refused_name};
 use lrs_json::{Memory, Text};
 use lrs_media::is_json;
 use lrs_record::{Entry, How, Write};
@@ -34,6 +36,9 @@ fn bad_form(alloc: Global, write: &Write) -> Result<Option<Refusal>, Memory>
             bytes,
         } => Ok(refused_document(&key.agent, media, bytes.as_slice())),
         Write::Drop { agent, .. } => Ok(refused_agent(agent)),
+        Write::Course { tree } => refused_course(alloc, tree),
+        Write::Enrol { actor, .. } => Ok(refused_actor(actor)),
+        Write::Launch { .. } | Write::Fetch { .. } => Ok(None),
     }
 }
 
@@ -63,8 +68,9 @@ fn unmergeable_with(
 }
 
 impl Fold {
-    /// Why an entry's write is refused whatever room there is. What isn't refused breaks no rule on statements.
+    /// Why an entry's write is refused whatever room there is. What isn't refused breaks no rule on statements and courses.
     pub fn refusal(&self, alloc: Global, entry: &Entry) -> Result<Option<Refusal>, Memory>
+        requires { IsLawfulWrite entry.now.write }
         ensures refused { IfOk result (λ refused. refused ≡ refusal (state_of self.now.parts) entry.now) }
         ensures judged { result ≡ Ok None → IsJudged entry.now.write }
     {
@@ -73,6 +79,7 @@ impl Fold {
 
     #[tactic(auto, using(crate::proofs::Judged::judged_form))]
     fn refusal_of(&self, alloc: Global, who: Who, write: &Write) -> Result<Option<Refusal>, Memory>
+        requires { IsLawfulWrite write.now }
         ensures refused { IfOk result (λ refused. (at : Occasion) → at.by ≡ who
             → refused ≡ refusal_at (state_of self.now.parts) at write.now) }
         ensures judged { result ≡ Ok None → IsJudged write.now }
@@ -83,10 +90,16 @@ impl Fold {
         if let Some(refusal) = bad_form(alloc, write)? {
             return Ok(Some(refusal));
         }
+        if let Some(refusal) = self.bad_role(who, write) {
+            return Ok(Some(refusal));
+        }
+        if let Some(refusal) = self.missing(write) {
+            return Ok(Some(refusal));
+        }
         if let Some(refusal) = self.unmergeable(alloc, write)? {
             return Ok(Some(refusal));
         }
-        Ok(self.conflict(who, write))
+        self.conflict(alloc, who, write)
     }
 
     // Why a document isn't merged into the one that is held.
@@ -110,13 +123,16 @@ impl Fold {
     }
 
     // What a write meets in the store.
-    fn conflict(&self, who: Who, write: &Write) -> Option<Refusal>
-        ensures { (at : Occasion) → at.by ≡ who → result ≡ conflict (state_of self.now.parts) at write.now }
+    fn conflict(&self, alloc: Global, who: Who, write: &Write) -> Result<Option<Refusal>, Memory>
+        requires { IsLawfulWrite write.now }
+        ensures { IfOk result (λ refused. (at : Occasion) → at.by ≡ who
+            → refused ≡ conflict (state_of self.now.parts) at write.now) }
     {
         match write {
-            Write::Put { id, statement } => self.refused_under(who, Some(*id), statement),
-            Write::Post { statements } => self.refused_each(who, statements.as_slice()),
-            _ => None,
+            Write::Put { id, statement } => Ok(self.refused_under(who, Some(*id), statement)),
+            Write::Post { statements } => Ok(self.refused_each(who, statements.as_slice())),
+            Write::Course { tree } => self.course_conflict(alloc, tree),
+            _ => Ok(None),
         }
     }
 }

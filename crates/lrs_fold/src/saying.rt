@@ -1,10 +1,14 @@
 // What is said of a write that isn't refused.
-ghost use Rattle.std.specs.Prelude.{◌≡◌, IfOk};
+ghost use Rattle.std.specs.Prelude.{◌≡◌, IfOk, None};
 ghost use Rattle.lrs_history.specs.Answers.{write_said};
+ghost use Rattle.lrs_replies.specs.declared.answered.Answered.TheVariants.{Shown};
 
 use lrs_json::{Items, Memory};
 use lrs_parts::{Acceptance, Effect};
-use lrs_replies::{Answered, ids_text, provider_text};
+use lrs_replies::{
+    Answered, course_text, ids_text, key_used_text, launch_text, provider_text, registration_text,
+    session_closed_text, session_token_text,
+};
 use std::alloc::Global;
 
 /// What is said of a write by what it changes.
@@ -19,13 +23,27 @@ pub(crate) fn write_said(alloc: Global, effect: &Effect) -> Result<Answered, Mem
                 Ok(Answered::Kept)
             }
         }
-        Acceptance::Ids(ids) => Ok(Answered::Shown {
-            text: Items::from_vec(ids_text(alloc, ids.as_slice())?),
-            through: None,
-        }),
-        Acceptance::Provider { place, token } => Ok(Answered::Shown {
-            text: Items::from_vec(provider_text(alloc, *place, token)?),
-            through: None,
-        }),
+        Acceptance::Ids(ids) => Ok(shown(ids_text(alloc, ids.as_slice())?)),
+        Acceptance::Provider { place, token } => Ok(shown(provider_text(alloc, *place, token)?)),
+        Acceptance::Course(id) => Ok(shown(course_text(alloc, id)?)),
+        Acceptance::Registration(id) => Ok(shown(registration_text(alloc, id)?)),
+        Acceptance::Launch {
+            session,
+            method,
+            url,
+        } => Ok(shown(launch_text(alloc, session, *method, url)?)),
+        Acceptance::Token(token) => Ok(shown(session_token_text(alloc, token)?)),
+        Acceptance::KeyUsed => Ok(shown(key_used_text(alloc)?)),
+        Acceptance::SessionClosed => Ok(shown(session_closed_text(alloc)?)),
+    }
+}
+
+// A text that tells nothing of the statements.
+fn shown(text: Vec<u8>) -> Answered
+    ensures { result ≡ Shown text.items None }
+{
+    Answered::Shown {
+        text: Items::from_vec(text),
+        through: None,
     }
 }

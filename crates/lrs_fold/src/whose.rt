@@ -1,9 +1,12 @@
 // Who a caller is, and under whose authority its statements stand.
 ghost use Rattle.std.specs.Prelude.{◌≡◌, IfOk};
-ghost use Rattle.lrs_history.specs.Whose.{authority_of, sight_of, who_is, who_presents};
+ghost use Rattle.std.specs.Option.{option_copied};
+ghost use Rattle.lrs_history.specs.Whose.{authority_of, known_as, launch_of, sight_of, who_is, who_presents};
+ghost use Rattle.lrs_parts.specs.Launches.{launch_of_token};
 ghost use Rattle.lrs_parts.specs.Parts.{state_of};
 
 use crate::Fold;
+use cmi5_course::Launch;
 use lrs_command::Who;
 use lrs_json::{Memory, Text};
 use lrs_parts::is_admin;
@@ -29,9 +32,29 @@ impl Fold {
         if is_admin(&self.parts.founding, token) {
             return Who::Admin;
         }
-        match self.parts.providers.find(token) {
-            Some(k) => Who::Provider(k),
-            None => Who::Unknown,
+        known_as(
+            self.parts.providers.place(token),
+            self.launch_of_token(token),
+        )
+    }
+
+    // The number of the launch whose session a token opens.
+    fn launch_of_token(&self, token: &Text) -> Option<u32>
+        ensures { result ≡ launch_of_token token.now (state_of self.now.parts).tokens }
+    {
+        match self.parts.learning.tokens.find(token) {
+            Some(held) => Some(held.launch),
+            None => None,
+        }
+    }
+
+    /// The launch of a caller who is a session.
+    pub(crate) fn launch_of(&self, who: Who) -> Option<&Launch>
+        ensures { option_copied result ≡ launch_of (state_of self.now.parts) who }
+    {
+        match who {
+            Who::Session(number) => self.parts.learning.launches.get(number),
+            Who::Unknown | Who::Admin | Who::Provider(_) => None,
         }
     }
 
@@ -49,6 +72,10 @@ impl Fold {
                 })),
                 None => Ok(None),
             },
+            Who::Session(number) => match self.parts.learning.launches.get(number) {
+                Some(launch) => Ok(Some(Authority::Session(launch.session))),
+                None => Ok(None),
+            },
         }
     }
 
@@ -60,6 +87,21 @@ impl Fold {
             Who::Unknown => Sight::Nothing,
             Who::Admin => Sight::All,
             Who::Provider(number) => Sight::Provider(number),
+            Who::Session(number) => match self.parts.learning.launches.get(number) {
+                Some(launch) => Sight::Registration(launch.registration),
+                None => Sight::Nothing,
+            },
         }
+    }
+}
+
+// The provider of that place, or the session of that launch.
+fn known_as(provider: Option<u32>, launch: Option<u32>) -> Who
+    ensures { result ≡ known_as provider launch }
+{
+    match (provider, launch) {
+        (Some(provider), _) => Who::Provider(provider),
+        (None, Some(launch)) => Who::Session(launch),
+        (None, None) => Who::Unknown,
     }
 }

@@ -9,7 +9,8 @@ use Rattle.lrs_parts.specs.declared.acceptance.Acceptance.{Acceptance}
 use Rattle.lrs_parts.specs.declared.acceptance.Acceptance.TheVariants as acceptance
 use Rattle.lrs_parts.specs.declared.acceptance.Acceptance.TheVariants.{Plain, Provider}
 use Rattle.lrs_parts.specs.declared.effect.Effect.{Effect}
-use Rattle.lrs_replies.specs.Texts.{provider_body, ids_body, states_body, versions_body}
+use Rattle.lrs_replies.specs.Texts.{provider_body, ids_body, states_body, versions_body, course_body, launch_body}
+use Rattle.lrs_replies.specs.Texts.{registration_body, session_token_body, key_used_body, session_closed_body}
 use Rattle.lrs_replies.specs.declared.answered.Answered.{Answered}
 use Rattle.lrs_replies.specs.declared.answered.Answered.TheVariants.{Kept, Same, Shown}
 use Rattle.lrs_replies.specs.declared.answered.Answered.TheVariants as answered
@@ -31,11 +32,17 @@ use Rattle.xapi_statement.specs.Shown.{shown_text}
 
 -- ---- of a write, by what it changes
 
--- the ids of statements, or the place and the token of a provider; else this
+-- what is told of what was made, or why no token is given away; else this
 abbrev pub acceptance_said : Acceptance → Answered → Answered
 acceptance_said Plain said = said
 acceptance_said (acceptance.Ids ids) said = Shown (ids_body ids) None
 acceptance_said (Provider place token) said = Shown (provider_body place token) None
+acceptance_said (acceptance.Course id) said = Shown (course_body id) None
+acceptance_said (acceptance.Registration id) said = Shown (registration_body id) None
+acceptance_said (acceptance.Launch session method url) said = Shown (launch_body session method url) None
+acceptance_said (acceptance.Token token) said = Shown (session_token_body token) None
+acceptance_said acceptance.KeyUsed said = Shown key_used_body None
+acceptance_said acceptance.SessionClosed said = Shown session_closed_body None
 
 -- What is said of a write that isn't refused, whether it makes an entry or changes nothing.
 abbrev pub write_said : Effect → Answered
@@ -70,7 +77,7 @@ abbrev pub document_said : Option Document → Answered
 document_said None = answered.Refused NotFound
 document_said (Some document) = answered.Document document.media document.bytes
 
--- Documents are everyone's who is let in.
+-- The documents are the same for everyone whose question isn't refused.
 abbrev pub documents_said : State → WantedDocuments → Answered
 documents_said st (One key) = document_said (document_under key st.documents)
 documents_said st (Ids activity agent registration since) =

@@ -8,7 +8,7 @@ use Rattle.lrs_command.specs.declared.command.Read.{Read}
 use Rattle.lrs_command.specs.declared.who.Who.{Who}
 use Rattle.lrs_history.specs.Answers.{read_said, write_said}
 use Rattle.lrs_history.specs.Effects.{effect}
-use Rattle.lrs_history.specs.Refusals.{barred, read_refusal, refusal, refused_with, too_late}
+use Rattle.lrs_history.specs.Refusals.{barred, read_refusal, refusal, refused_inside, refused_with}
 use Rattle.lrs_history.specs.Whose.{who_is}
 use Rattle.lrs_journal.specs.Store.{need_at, need_told, store}
 use Rattle.lrs_names.specs.declared.draw.Draw.{Draw}
@@ -103,7 +103,7 @@ read_answered st by read = refused_or (read_refusal st by read) (read_said st by
 
 -- the same of a caller who is let in
 abbrev pub answered_inside : State → Who → Read → Answered
-answered_inside st by read = refused_or (too_late st read) (read_said st by read)
+answered_inside st by read = refused_or (refused_inside st by read) (read_said st by read)
 
 -- a form that is refused is told so once its caller is let in
 abbrev pub outcome : State → Caller → Command → ℕ → Draw → Outcome

@@ -1,4 +1,6 @@
 pub mod Whose
+pub mod Sessions
+pub mod Launches
 pub mod Effects
 pub mod Refusals
 pub mod Answers

@@ -1,20 +1,26 @@
 -- Why a command is refused: the first reason in a fixed order. It is: the caller (A1, A2), the form (of a document its
 -- agent (P6), its media type (F4) and its length; of statements their lengths, then the rules S and B, then P15 and B9;
--- of `found` 404), an earlier list that there is not (P14), what a write speaks of that isn't there (404), what can't
--- be merged into the document that is held (T1, T2), then for each statement in its order another one under its id
--- (409) or what a new one may not be (C2). What a read asks for that isn't there is told in its answer.
+-- of a course the rules K; of an enrolment its actor (B3); of `found` 404), an earlier list that there is not (P14),
+-- what a session may not do with documents (A3 to A5), what a write speaks of that isn't there (404), what can't be
+-- merged into the document that is held (T1, T2), another course under its id (409), then for each statement in its
+-- order another one under its id (409) or what a new one may not be (C1, C2). What a read asks for that isn't there is
+-- told in its answer.
 use Rattle.std.specs.Prelude.{ℕ, ◌==◌, ◌&&◌, ◌||◌, nat_lt, Bool, true, false, not, List, [], ◌∷◌, length, Option, Some}
 use Rattle.std.specs.Prelude.{None, is_none, option_map, if◌then◌else◌}
 use Rattle.std.specs.List.{list_any}
 use Rattle.std.specs.Option.{option_or}
 use Rattle.std.specs.Str.{bytes_eq}
+use Rattle.cmi5_course.specs.Courses.{Course, course_key, course_of, same_course}
+use Rattle.cmi5_course.specs.Rules as course
+use Rattle.cmi5_course.specs.declared.launch.Launch.{Launch}
 use Rattle.lrs_record.specs.declared.entry.Area.{Area}
 use Rattle.lrs_record.specs.declared.entry.Area.TheVariants.{Free, Store, Desk}
 use Rattle.lrs_command.specs.Areas.{read_area}
 use Rattle.lrs_command.specs.declared.command.Read.{Read}
-use Rattle.lrs_command.specs.declared.command.Read.TheVariants.{Statements, More, About}
+use Rattle.lrs_command.specs.declared.command.Read.TheVariants.{More, Documents}
 use Rattle.lrs_record.specs.Writes.{write_area}
 use Rattle.lrs_agents.specs.Identifiers.{is_identifier}
+use Rattle.lrs_agents.specs.declared.agents.Agent.{Agent}
 use Rattle.lrs_agents.specs.declared.identifiers.Ifi.{Ifi}
 use Rattle.lrs_media.specs.Media.{is_json}
 use Rattle.lrs_rules.specs.declared.rule.Rule.{Rule}
@@ -22,25 +28,32 @@ use Rattle.lrs_rules.specs.declared.rule.Rule.TheVariants as rule
 use Rattle.lrs_command.specs.declared.who.Who.{Who}
 use Rattle.lrs_command.specs.declared.who.Who.TheVariants as who
 use Rattle.lrs_history.specs.Effects.{Occasion, with_ids_in, occasion}
-use Rattle.lrs_history.specs.Whose.{authority_of}
+use Rattle.lrs_history.specs.Launches.{target}
+use Rattle.lrs_history.specs.Sessions.{is_defined, outside, overstepped}
+use Rattle.lrs_history.specs.Whose.{authority_of, launch_of}
 use Rattle.lrs_history.specs.declared.admitting.TheConstants.{LONGEST_DOCUMENT, LONGEST_MEDIA, MOST_OF_BATCH}
 use Rattle.lrs_json.specs.Json.{Json}
 use Rattle.lrs_json.specs.View.{view}
 use Rattle.lrs_json.specs.declared.tree.Tree.{Tree}
+use Rattle.lrs_parts.specs.Courses.{course_under, place_of_course}
+use Rattle.lrs_parts.specs.Launches.{key_under}
+use Rattle.lrs_parts.specs.Learners.{is_learner}
 use Rattle.lrs_parts.specs.Providers.{is_name}
 use Rattle.lrs_parts.specs.State.{State}
 use Rattle.lrs_record.specs.declared.entry.Entry.{Entry}
 use Rattle.lrs_record.specs.declared.entry.Write.{Write}
 use Rattle.lrs_record.specs.declared.entry.How.TheVariants as how
-use Rattle.lrs_record.specs.declared.entry.Write.TheVariants.{Found, Provider, Put, Post, Drop}
+use Rattle.lrs_record.specs.declared.entry.Write.TheVariants.{Found, Provider, Put, Post, Drop, Enrol, Fetch}
 use Rattle.lrs_record.specs.declared.entry.Write.TheVariants as write
 use Rattle.lrs_replies.specs.declared.answered.Refusal.{Refusal}
-use Rattle.lrs_replies.specs.declared.answered.Refusal.TheVariants.{Conflict, Broken, TooLong, Unauthorized, Forbidden}
-use Rattle.lrs_replies.specs.declared.answered.Refusal.TheVariants.{NotFound}
+use Rattle.lrs_replies.specs.declared.answered.Refusal.TheVariants.{Conflict, CourseConflict, Broken, TooLong}
+use Rattle.lrs_replies.specs.declared.answered.Refusal.TheVariants.{Forbidden, NotFound, Unauthorized}
 use Rattle.xapi_alike.specs.Same.{same}
 use Rattle.xapi_docs.specs.Documents.{document_under}
 use Rattle.xapi_docs.specs.Merging.{merge}
 use Rattle.xapi_docs.specs.declared.documents.Document.{Document}
+use Rattle.xapi_keys.specs.declared.wanted.WantedDocuments.{WantedDocuments}
+use Rattle.xapi_keys.specs.declared.wanted.WantedDocuments.TheVariants.{One, Ids}
 use Rattle.xapi_index.specs.Batches.{WithId, given_ids, kept_by}
 use Rattle.lrs_ids.specs.Choices.{first_some, when}
 use Rattle.lrs_ids.specs.Ids.{are_distinct}
@@ -57,9 +70,11 @@ barred Free by = None
 barred Store who.Unknown = Some Unauthorized
 barred Store who.Admin = None
 barred Store (who.Provider k) = None
+barred Store (who.Session k) = None
 barred Desk who.Unknown = Some Unauthorized
 barred Desk who.Admin = None
 barred Desk (who.Provider k) = Some (Forbidden (rule.A 2))
+barred Desk (who.Session k) = Some (Forbidden (rule.A 2))
 
 -- ---- the form
 
@@ -110,6 +125,14 @@ abbrev pub refused_batch : List Tree → Option Refusal
 refused_batch trees = first_some (when (is_too_large trees) TooLong ∷ broken (broken_in trees)
     ∷ when (not (are_distinct (given_ids trees))) (Broken (rule.B 9)) ∷ [])
 
+-- the least of the rules on courses that is broken
+abbrev pub refused_course : Json → Option Refusal
+refused_course j = option_map (λ n. Broken (rule.K n)) (course.broken_rule j)
+
+-- who is enrolled has no account, or one that is none: B3
+abbrev pub refused_actor : Agent → Option Refusal
+refused_actor actor = when (not (is_learner actor)) (Broken (rule.B 3))
+
 -- A `found` command is no command of a founded store.
 abbrev pub bad_form : Write → Option Refusal
 bad_form (Found admin base) = Some NotFound
@@ -118,12 +141,34 @@ bad_form (Put id statement) = refused_form id (view statement)
 bad_form (Post statements) = refused_batch statements
 bad_form (write.State h key media bytes) = refused_document key.agent media bytes
 bad_form (Drop activity agent registration state) = refused_agent agent
+bad_form (write.Course tree) = refused_course (view tree)
+bad_form (Enrol course actor) = refused_actor actor
+bad_form (write.Launch registration unit mode return_url) = None
+bad_form (Fetch key) = None
+
+-- ---- what a session may do with documents
+
+-- why a caller doesn't do that to documents: A3 to A5
+abbrev pub bad_role : State → Who → Write → Option Refusal
+bad_role st by (write.State h key media bytes) =
+    overstepped (launch_of st by) key.agent key.registration (Some key.state)
+bad_role st by (Drop activity agent registration state) =
+    overstepped (launch_of st by) agent registration state
+bad_role st by other = None
 
 -- ---- what isn't there
 
--- What a write speaks of isn't there. No write so far speaks of anything but what it brings.
+abbrev pub unless_there : {A : Type 0} → Option A → Option Refusal
+unless_there None = Some NotFound
+unless_there (Some a) = None
+
+-- What a write speaks of isn't there: the course of an enrolment, the registration or the unit of a launch, the key of
+-- a fetch.
 abbrev pub missing : State → Write → Option Refusal
-missing st write = None
+missing st (Enrol course actor) = unless_there (place_of_course course st.courses)
+missing st (write.Launch registration unit mode return_url) = unless_there (target st registration unit)
+missing st (Fetch key) = unless_there (key_under key st.keys)
+missing st other = None
 
 -- ---- what a document meets in the store
 
@@ -140,15 +185,33 @@ abbrev pub unmergeable : State → Write → Option Refusal
 unmergeable st (write.State how.Post key media bytes) = unmergeable_with media bytes (document_under key st.documents)
 unmergeable st other = None
 
+-- ---- what a course meets in the store
+
+-- another course is held under its id
+abbrev pub refused_beside : Course → Option Course → Option Refusal
+refused_beside course None = None
+refused_beside course (Some held) = when (not (same_course held course)) (CourseConflict (course_key course))
+
+abbrev pub course_conflict : State → Course → Option Refusal
+course_conflict st course = refused_beside course (course_under (course_key course) st.courses)
+
 -- ---- what statements meet in the store
 
 abbrev pub may_void : Who → Bool
 may_void who.Admin = true
 may_void other = false
 
--- Why a new statement isn't kept: only an admin voids (C2). Those before it are held, or stand before it in its batch.
+abbrev pub is_session : Who → Bool
+is_session (who.Session k) = true
+is_session other = false
+
+-- Why a new statement isn't kept: only a session writes one that cmi5 defines (C1), only an admin voids (C2). Those
+-- before it are held, or stand before it in its batch.
 abbrev pub forbidden : State → Who → List StoredStatement → Json → Option Refusal
-forbidden st by before j = when (is_voiding j && not (may_void by)) (Forbidden (rule.C 2))
+forbidden st by before j = first_some (
+    when (is_defined j && not (is_session by)) (Forbidden (rule.C 1))
+    ∷ when (is_voiding j && not (may_void by)) (Forbidden (rule.C 2))
+    ∷ [])
 
 -- why a statement of this id isn't kept, if that one is held under it
 abbrev pub refused_over : State → Who → List StoredStatement → List ℕ → Json → Option StoredStatement → Option Refusal
@@ -175,6 +238,7 @@ refused_in st at before (n ∷ ns) = option_or
 abbrev pub conflict : State → Occasion → Write → Option Refusal
 conflict st at (Put id statement) = refused_under st at.by st.statements (Some id) (view statement)
 conflict st at (Post statements) = refused_in st at st.statements (with_ids_in at (Post statements))
+conflict st at (write.Course tree) = course_conflict st (course_of tree)
 conflict st at other = None
 
 -- ---- all of them
@@ -183,6 +247,7 @@ abbrev pub refusal_at : State → Occasion → Write → Option Refusal
 refusal_at st at write = first_some (
     barred (write_area write) at.by
     ∷ bad_form write
+    ∷ bad_role st at.by write
     ∷ missing st write
     ∷ unmergeable st write
     ∷ conflict st at write
@@ -197,5 +262,18 @@ abbrev pub too_late : State → Read → Option Refusal
 too_late st (More link) = when (nat_lt (length st.statements) link.asof) (Broken (rule.P 14))
 too_late st other = None
 
+-- why a caller doesn't look at documents: A3
+abbrev pub outside_of : Option Launch → WantedDocuments → Option Refusal
+outside_of by (One key) = outside by key.agent key.registration
+outside_of by (Ids activity agent registration since) = outside by agent registration
+
+abbrev pub read_bad_role : State → Who → Read → Option Refusal
+read_bad_role st by (Documents wanted) = outside_of (launch_of st by) wanted
+read_bad_role st by other = None
+
+-- why a caller who is let in isn't told
+abbrev pub refused_inside : State → Who → Read → Option Refusal
+refused_inside st by read = first_some (too_late st read ∷ read_bad_role st by read ∷ [])
+
 abbrev pub read_refusal : State → Who → Read → Option Refusal
-read_refusal st by read = first_some (barred (read_area read) by ∷ too_late st read ∷ [])
+read_refusal st by read = option_or (barred (read_area read) by) (refused_inside st by read)

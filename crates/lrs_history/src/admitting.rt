@@ -1,11 +1,17 @@
 // Who is let in, and what is refused before a statement is looked at.
-ghost use Rattle.std.specs.Prelude.{◌≡◌};
-ghost use Rattle.lrs_history.specs.Refusals.{barred, refused_agent, refused_document, refused_name, refused_with};
+ghost use Rattle.std.specs.Prelude.{◌≡◌, true};
+ghost use Rattle.std.specs.Option.{option_copied, option_map_or};
+ghost use Rattle.std.specs.Str.{bytes_eq};
+ghost use Rattle.lrs_history.specs.Refusals.{barred, refused_actor, refused_agent, refused_document, refused_name, refused_with};
+ghost use Rattle.lrs_history.specs.Sessions.{is_its_own, outside, over_state, overstepped};
 
-use lrs_agents::Ifi;
+use cmi5_course::Launch;
+use cmi5_launch::names::LAUNCH_DATA;
+use lrs_agents::{Agent, Ifi};
 use lrs_command::{Area, Who};
 use lrs_json::Text;
-use lrs_parts::is_name;
+use lrs_names::Id;
+use lrs_parts::{is_learner, is_name};
 use lrs_replies::Refusal;
 use lrs_rules::Rule;
 
@@ -26,12 +32,12 @@ pub fn barred(area: Area, who: Who) -> Option<Refusal>
         Area::Free => None,
         Area::Store => match who {
             Who::Unknown => Some(Refusal::Unauthorized),
-            Who::Admin | Who::Provider(_) => None,
+            Who::Admin | Who::Provider(_) | Who::Session(_) => None,
         },
         Area::Desk => match who {
             Who::Unknown => Some(Refusal::Unauthorized),
             Who::Admin => None,
-            Who::Provider(_) => Some(Refusal::Forbidden(Rule::A(2))),
+            Who::Provider(_) | Who::Session(_) => Some(Refusal::Forbidden(Rule::A(2))),
         },
     }
 }
@@ -83,4 +89,77 @@ pub fn refused_agent(agent: &Ifi) -> Option<Refusal>
         return None;
     }
     Some(Refusal::Broken(Rule::P(6)))
+}
+
+/// Why nobody is enrolled as that actor: it has no account (B3).
+pub fn refused_actor(actor: &Agent) -> Option<Refusal>
+    ensures { result ≡ refused_actor actor.now }
+{
+    if is_learner(actor) {
+        return None;
+    }
+    Some(Refusal::Broken(Rule::B(3)))
+}
+
+/// Why a caller doesn't look at documents, if it is the session of that launch: they are another's (A3).
+pub fn outside(launch: Option<&Launch>, agent: &Ifi, registration: &Option<Id>) -> Option<Refusal>
+    ensures { result ≡ outside (option_copied launch.entry) agent.now registration.now }
+{
+    let Some(launch) = launch else {
+        return None;
+    };
+    if is_its_own(launch, agent, registration) {
+        return None;
+    }
+    Some(Refusal::Forbidden(Rule::A(3)))
+}
+
+fn is_its_own(launch: &Launch, agent: &Ifi, registration: &Option<Id>) -> bool
+    ensures { result ≡ is_its_own launch.now agent.now registration.now }
+{
+    launch.actor.same(agent) && is_given(registration, &launch.registration)
+}
+
+// Whether it is that registration, if one is given.
+fn is_given(registration: &Option<Id>, own: &Id) -> bool
+    ensures { result ≡ option_map_or (λ given. bytes_eq given own.now) registration.now true }
+{
+    match registration {
+        Some(given) => *given == *own,
+        None => true,
+    }
+}
+
+/// Why a caller doesn't write, or drop, the documents of that state, if it is the session of that launch: they are
+/// another's (A3), or what its launch wrote (A4), or all at once (A5).
+pub fn overstepped(
+    launch: Option<&Launch>,
+    agent: &Ifi,
+    registration: &Option<Id>,
+    state: Option<&Text>,
+) -> Option<Refusal>
+    ensures { result ≡ overstepped (option_copied launch.entry) agent.now registration.now (option_copied state.entry) }
+{
+    let Some(launch) = launch else {
+        return None;
+    };
+    if is_its_own(launch, agent, registration) {
+        return over_state(state);
+    }
+    Some(Refusal::Forbidden(Rule::A(3)))
+}
+
+// Why a session doesn't write, or drop, that state of its own documents.
+fn over_state(state: Option<&Text>) -> Option<Refusal>
+    ensures { result ≡ over_state (option_copied state.entry) }
+{
+    match state {
+        Some(state) => {
+            if state.as_str() == LAUNCH_DATA {
+                return Some(Refusal::Forbidden(Rule::A(4)));
+            }
+            None
+        }
+        None => Some(Refusal::Forbidden(Rule::A(5))),
+    }
 }

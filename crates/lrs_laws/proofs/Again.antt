@@ -15,7 +15,7 @@ use Rattle.lrs_json.specs.View.{view}
 use Rattle.lrs_json.specs.declared.tree.Tree.{Tree}
 use Rattle.lrs_laws.specs.Laws.{BatchConflictsAreTold, ComeTogether, ConflictsAreTold, Contradicts, ComesUnder, Repeats, RepeatedBatchesAreTaken, RepeatsAreTaken, occasion_of, who_in}
 use Rattle.lrs_names.specs.declared.draw.Draw.{Draw}
-use Rattle.lrs_parts.specs.State.{State, changes_nothing, is_empty}
+use Rattle.lrs_parts.specs.State.{State, changes_nothing, no_change}
 use Rattle.lrs_record.specs.declared.entry.Caller.{Caller}
 use Rattle.lrs_record.specs.declared.entry.Entry.{Entry}
 use Rattle.lrs_record.specs.declared.entry.Write.{Write}
@@ -79,7 +79,7 @@ put_unchanged : (h : List Entry) (caller : Caller) (id : List ℕ) (t : Tree) (s
     → changes_nothing (effect (state h) (put_entry h caller id t clock draw)) ≡ true
 put_unchanged h caller id t s clock draw meets =
     let e = put_entry h caller id t clock draw in
-    ap (λ xs. is_empty xs) (old_one e.moment (authority_of (state h) (who_in h caller)) (state h).statements (record { id = id; tree = t }) (ap (λ o. is_some o) meets.held))
+    ap (λ xs. changes_nothing (record (no_change e.moment) { statements = xs })) (old_one e.moment (authority_of (state h) (who_in h caller)) (state h).statements (record { id = id; tree = t }) (ap (λ o. is_some o) meets.held))
 
 pub repeats_are_taken : RepeatsAreTaken
 repeats_are_taken limit h caller id t s clock draw meets is =
@@ -137,7 +137,7 @@ repeated_batches_are_taken limit h caller trees clock draw together each =
     let at = occasion_of h caller trees clock draw in
     at_once limit h caller (Post trees) clock draw (Shown (ids_body (given_ids trees)) None)
     (said_unchanged (state h) e (post_met h caller trees clock draw None together (none_refused (state h) at (state h).statements at.supply trees each))
-    (ap (λ xs. is_empty xs) (none_new at.moment (authority_of (state h) at.by) (state h).statements at.supply trees each))
+    (ap (λ xs. changes_nothing (record (no_change at.moment) { statements = xs })) (none_new at.moment (authority_of (state h) at.by) (state h).statements at.supply trees each))
     ∙ ap (λ ids. Some (Shown (ids_body ids) None)) (own_names (state h).statements at.supply trees each))
 
 contradicted : (st : State) (by : Who) (before : List StoredStatement) (t : Tree) (id : List ℕ) → Contradicts st.statements t id → refused_under st by before (own_id (view t)) (view t) ≡ Some (Conflict id)
@@ -148,6 +148,10 @@ contradicted st by before t id against =
 pub first_none : (o p : Option Refusal) → option_or o p ≡ None → (o ≡ None) × (p ≡ None)
 first_none None p is = (refl, is)
 first_none (Some r) p is = cc is
+
+pub no_reason : (os : List (Option Refusal)) → first_some os ≡ None → AllByRecursion (λ o. o ≡ None) os
+no_reason [] is = tt
+no_reason (o ∷ os) is = let first = first_none o (first_some os) is in (first.0, no_reason os first.1)
 
 first_refused : (st : State) (at : Occasion) (before : List StoredStatement) (supply : Supply) (ts behind : List Tree) (t : Tree) (r : Refusal) → refused_in st at before (with_ids supply ts) ≡ None
     → ((those : List StoredStatement) → refused_under st at.by those (own_id (view t)) (view t) ≡ Some r) → refused_in st at before (with_ids supply (ts ++ t ∷ behind)) ≡ Some r

@@ -1,6 +1,11 @@
+pub mod Lists
 pub mod Keepers
 pub mod Again
+pub mod Accepting
 pub mod NewIds
+pub mod Moves
+pub mod Launched
+pub mod GivenTokens
 pub mod WholeBatches
 pub mod Paging
 pub mod PageLaws
@@ -8,3 +13,9 @@ pub mod HeldDocuments
 pub mod DocumentLaws
 pub mod DocumentIds
 pub mod MergedAgain
+pub mod Fetching
+pub mod SessionLaws
+pub mod OpenedSessions
+pub mod CourseLaws
+pub mod KeyLaws
+pub mod LaunchLaws

@@ -1,30 +1,32 @@
 -- Made ids are new.
-use Rattle.std.proofs.Common.{◌≡◌, ℕ, zero, suc, ◌+◌, ◌%◌, ◌<◌, ◌≤◌, List, [], ◌∷◌, ◌++◌, length, Bool, true, false, not, ◌&&◌, ◌||◌, ◌⊎◌, inl, inr, Option, Some, None, cond, refl, sym, ap, subst, ◌∙◌, arith, length-append}
+use Rattle.std.proofs.Common.{◌≡◌, ◌≢◌, ℕ, zero, suc, ◌+◌, ◌%◌, ◌<◌, ◌≤◌, List, [], ◌∷◌, ◌++◌, length, Bool, true, false, not, ◌&&◌, ◌||◌, ◌⊎◌, inl, inr, Option, Some, None, cond, refl, sym, ap, subst, ◌∙◌, arith, length-append, true≢false}
 use Rattle.std.specs.Prelude.{find, unwrap_or}
 use Rattle.std.specs.List.{AllByRecursion}
 use Rattle.std.specs.Str.{bytes_eq}
 use Rattle.std.specs.Cmp.Lexicographic.{same_text}
 use Rattle.std.proofs.lemmas.Bool.{false≢true}
 use Rattle.std.proofs.lemmas.Cmp.{nat_list_eq_equiv}
-use Rattle.std.proofs.lemmas.List.{length-map}
 use Rattle.std.proofs.lemmas.List.Folds.{list_any-append}
 use Rattle.lrs_rules.specs.declared.rule.Rule.TheVariants as rule
 use Rattle.lrs_history.specs.History.{state}
 use Rattle.lrs_history.specs.Refusals.{broken, broken_in, is_too_large, refused_batch}
 use Rattle.lrs_json.specs.View.{view}
 use Rattle.lrs_json.specs.declared.tree.Tree.{Tree}
-use Rattle.lrs_laws.specs.Laws.{MadeIdsAreNew}
+use Rattle.lrs_laws.specs.Laws.{DeskIdsAreNew, IsUnused, MadeIdsAreNew}
 use Rattle.lrs_laws.proofs.Keepers.{held_one, left_false, right_false}
+use Rattle.lrs_laws.proofs.Lists.{each_weaker}
 use Rattle.lrs_names.specs.Ids.{id_of_word}
 use Rattle.lrs_names.specs.Members.{is_one_of}
 use Rattle.lrs_ids.proofs.FreshLemmas.{not_all_used}
 use Rattle.lrs_names.specs.declared.id.TheConstants.{WORDS}
+use Rattle.lrs_parts.specs.Launches.{session_ids}
+use Rattle.lrs_parts.specs.Registrations.{registration_ids}
+use Rattle.lrs_parts.specs.State.{State, used_in}
 use Rattle.lrs_replies.specs.declared.answered.Refusal.TheVariants.{Broken, TooLong}
 use Rattle.xapi_index.specs.Batches.{WithId, given_ids, id_for, with_ids, ids_under, supply_behind, with_given}
 use Rattle.lrs_ids.specs.Choices.{first_some, when}
-use Rattle.lrs_ids.specs.Ids.{Supply, Used, IsCounted, are_distinct, free_word, is_free, made_id, supply_of, those, words_from}
+use Rattle.lrs_ids.specs.Ids.{Supply, Used, IsCounted, are_distinct, free_word, is_free, made_id, supply_of, words_from}
 use Rattle.xapi_index.specs.Statements.{ids_of, is_held}
-use Rattle.xapi_statement.specs.Stored.{StoredStatement}
 use Rattle.xapi_statement.specs.Statement.{own_id}
 
 -- the ids under which statements go that come together
@@ -241,38 +243,78 @@ distinct_given ts formed = by_size (is_too_large ts) formed
 
 -- ---- the law
 
--- the ids of statements are counted
-pub counted : (held : List StoredStatement) → IsCounted (those (ids_of held))
-counted held = record { ids = ids_of held; same = λ id. refl; count = refl }
+-- the used ids are counted
+counted : (st : State) → IsCounted (used_in st)
+counted st =
+    let statements : List (List ℕ) = ids_of st.statements in
+    let registrations : List (List ℕ) = registration_ids st.registrations in
+    let sessions : List (List ℕ) = session_ids st.launches in
+    record {
+      ids = statements ++ (registrations ++ sessions);
+      same = λ id. sym (list_any-append (λ name. bytes_eq name id) statements (registrations ++ sessions)
+          ∙ ap (λ b. is_one_of statements id || b) (list_any-append (λ name. bytes_eq name id) registrations sessions));
+      count = length-append statements (registrations ++ sessions) ∙ ap (λ n. length statements + n) (length-append registrations sessions);
+    }
 
-suffices_at_first : (held : List StoredStatement) (ts : List Tree) → length held + length ts < WORDS → Suffices (those (ids_of held)) (given_ids ts) (length (ids_of held) + length (given_ids ts)) (missing ts)
-suffices_at_first held ts small = (omega arith, omega (arith, small, given_missing ts, length-map held (λ (s : StoredStatement). s.id)))
+suffices_at_first : (st : State) (ts : List Tree) → (used_in st).count + length ts < WORDS → Suffices (used_in st) (given_ids ts) ((used_in st).count + length (given_ids ts)) (missing ts)
+suffices_at_first st ts small = (omega arith, omega (arith, small, given_missing ts))
 
--- the statements of a batch, as a store of these would name them
-abbrev pub batch : List StoredStatement → ℕ → List Tree → List WithId
-batch held name ts = with_ids (supply_of (those (ids_of held)) (given_ids ts) name) ts
+-- the statements of a batch, as a store in this state would name them
+abbrev pub batch : State → ℕ → List Tree → List WithId
+batch st name ts = with_ids (supply_of (used_in st) (given_ids ts) name) ts
 
-pub batch_distinct : (held : List StoredStatement) (name : ℕ) (ts : List Tree) → length held + length ts < WORDS → refused_batch ts ≡ None → are_distinct (ids_under (batch held name ts)) ≡ true
-batch_distinct held name ts small formed =
-    distinct_ids (those (ids_of held)) (counted held) (given_ids ts) (length (ids_of held) + length (given_ids ts)) (name % WORDS) ts (suffices_at_first held ts small) (distinct_given ts formed) (λ g there. there)
+pub batch_distinct : (st : State) (name : ℕ) (ts : List Tree) → (used_in st).count + length ts < WORDS → refused_batch ts ≡ None → are_distinct (ids_under (batch st name ts)) ≡ true
+batch_distinct st name ts small formed =
+    distinct_ids (used_in st) (counted st) (given_ids ts) ((used_in st).count + length (given_ids ts)) (name % WORDS) ts (suffices_at_first st ts small) (distinct_given ts formed) (λ g there. there)
 
-each_implied : (P Q : WithId → Type 0) → ((n : WithId) → P n → Q n) → (ns : List WithId) → AllByRecursion P ns → AllByRecursion Q ns
-each_implied P Q from [] each = tt
-each_implied P Q from (n ∷ ns) each = (from n each.0, each_implied P Q from ns each.1)
+batch_unused : (st : State) (name : ℕ) (ts : List Tree) → (used_in st).count + length ts < WORDS → AllByRecursion (IsNew (used_in st)) (batch st name ts)
+batch_unused st name ts small = made_new (used_in st) (counted st) (given_ids ts) ((used_in st).count + length (given_ids ts)) (name % WORDS) ts (suffices_at_first st ts small)
 
-pub batch_new : (held : List StoredStatement) (name : ℕ) (ts : List Tree) → length held + length ts < WORDS → AllByRecursion (λ (n : WithId). own_id (view n.tree) ≡ None → is_held n.id held ≡ false) (batch held name ts)
-batch_new held name ts small =
-    each_implied (IsNew (those (ids_of held))) (λ (n : WithId). own_id (view n.tree) ≡ None → is_held n.id held ≡ false) (λ n new none. held_one n.id held ∙ new none) (batch held name ts)
-    (made_new (those (ids_of held)) (counted held) (given_ids ts) (length (ids_of held) + length (given_ids ts)) (name % WORDS) ts (suffices_at_first held ts small))
-
--- the used ids are as many as the statements
-pub few_held : (held : List StoredStatement) (ts : List Tree) → length (ids_of held) + length ts < WORDS → length held + length ts < WORDS
-few_held held ts small = omega (arith, small, length-map held (λ (s : StoredStatement). s.id))
+pub batch_new : (st : State) (name : ℕ) (ts : List Tree) → (used_in st).count + length ts < WORDS → AllByRecursion (λ (n : WithId). own_id (view n.tree) ≡ None → is_held n.id st.statements ≡ false) (batch st name ts)
+batch_new st name ts small =
+    each_weaker (IsNew (used_in st)) (λ (n : WithId). own_id (view n.tree) ≡ None → is_held n.id st.statements ≡ false)
+    (λ n new none. held_one n.id st.statements
+    ∙ left_false (is_one_of (ids_of st.statements) n.id) (is_one_of (registration_ids st.registrations) n.id || is_one_of (session_ids st.launches) n.id) (new none))
+    (batch st name ts) (batch_unused st name ts small)
 
 pub made_ids_are_new : MadeIdsAreNew
-made_ids_are_new h trees draw small formed =
-    let held : List StoredStatement = (state h).statements in
-    let few : length held + length trees < WORDS = few_held held trees small in (
-      batch_distinct held draw.name trees few formed,
-      made_new (those (ids_of held)) (counted held) (given_ids trees) (length (ids_of held) + length (given_ids trees)) (draw.name % WORDS) trees (suffices_at_first held trees few),
-    )
+made_ids_are_new h trees draw small formed = (batch_distinct (state h) draw.name trees small formed, batch_unused (state h) draw.name trees small)
+
+-- ---- ids of the desk
+
+-- the first two of a supply
+abbrev AreNewTwo : Used → Supply → Type 0
+AreNewTwo used supply = (used.is_used (supply 0) ≡ false) × (used.is_used (supply 1) ≡ false) × (supply 0 ≢ supply 1)
+
+new_two : (used : Used) (name : ℕ) → IsCounted used → used.count + 2 < WORDS → AreNewTwo used (supply_of used [] name)
+new_two used name counted small =
+    let first = made_free used counted [] most (name % WORDS) 1 fits in
+    let second = made_free used counted (id ∷ []) (most + 1) next 0 (one_made used id [] most 1 fits) in
+    (first.0, second.0, λ same. true≢false (sym (here id []) ∙ (ap (λ q. is_one_of (id ∷ []) q) same ∙ second.1)))
+  where
+    most : ℕ
+    most = used.count + length {A = List ℕ} []
+
+    fits : Suffices used [] most 2
+    fits = (omega arith, omega (arith, small))
+
+    id : List ℕ
+    id = id_of_word (free_word used [] most (name % WORDS))
+
+    next : ℕ
+    next = next_word (free_word used [] most (name % WORDS))
+
+unused : (st : State) (id : List ℕ) → (used_in st).is_used id ≡ false → IsUnused st id
+unused st id none =
+    let statements = is_one_of (ids_of st.statements) id in
+    let registrations = is_one_of (registration_ids st.registrations) id in
+    let sessions = is_one_of (session_ids st.launches) id in
+    let others = right_false statements (registrations || sessions) none in
+    record { statements = left_false statements (registrations || sessions) none; registrations = left_false registrations sessions others; sessions = right_false registrations sessions others }
+
+pub desk_ids_are_new : DeskIdsAreNew
+desk_ids_are_new h write draw none small =
+    let st = state h in
+    let two = new_two (used_in st) draw.name (counted st) small in
+    subst (λ given. let supply = supply_of (used_in st) given draw.name in IsUnused st (supply 0) × IsUnused st (supply 1) × (supply 0 ≢ supply 1)) (sym none)
+    (unused st (supply_of (used_in st) [] draw.name 0) two.0, unused st (supply_of (used_in st) [] draw.name 1) two.1, two.2)

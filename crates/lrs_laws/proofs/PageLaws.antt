@@ -1,7 +1,8 @@
 -- The pages of a list give it whole, and a link is told the same page for ever.
-use Rattle.std.proofs.Common.{◌≡◌, ◌≢◌, ℕ, zero, suc, ◌+◌, ◌-◌, ◌<◌, ◌≤◌, List, [], ◌∷◌, ◌++◌, length, take, map, reverse, Bool, true, false, Option, Some, None, refl, sym, ap, subst, ◌∙◌, arith, nat_lt, length-append, append_assoc}
+use Rattle.std.proofs.Common.{◌≡◌, ◌≢◌, ℕ, zero, suc, ◌+◌, ◌-◌, ◌^◌, ◌<◌, ◌≤◌, List, [], ◌∷◌, ◌++◌, length, take, map, reverse, Bool, true, false, Option, Some, None, refl, sym, ap, subst, ◌∙◌, arith, nat_lt, length-append, append_assoc}
 use Rattle.std.specs.Prelude.{◌&&◌, filter, filter_map, slice_get, MatchOption, if◌then◌else◌}
 use Rattle.std.specs.List.{AllByRecursion, cons_option, range_with_len}
+use Rattle.std.specs.Option.{option_or}
 use Rattle.std.proofs.lemmas.Bool.Decides.{nat_tests}
 use Rattle.std.proofs.lemmas.List.{append-nil, length-drop, length-take, reverse-append, take-append-drop, take-append-le}
 use Rattle.std.proofs.Math.Seq.{take-append_seam, take-length}
@@ -13,16 +14,20 @@ use Rattle.lrs_rules.specs.declared.rule.Rule.TheVariants as rule
 use Rattle.lrs_history.specs.Answers.{page_said, read_said}
 use Rattle.lrs_history.specs.Effects.{effect}
 use Rattle.lrs_history.specs.History.{only, refused_or, state, state_from, step, IsFounding, IsLegal, founds, is_operator, is_zero}
-use Rattle.lrs_history.specs.Refusals.{barred, read_refusal, too_late}
-use Rattle.lrs_history.specs.Whose.{provider_at, sight_of, who_is}
+use Rattle.lrs_history.specs.Refusals.{barred, is_session, read_refusal, too_late}
+use Rattle.lrs_history.specs.Whose.{known_as, sight_in as sight_in_launch, sight_of, who_is}
 use Rattle.lrs_json.specs.Written.{written}
 use Rattle.lrs_laws.specs.Laws.{FirstPagesAreTold, Follows, LinksGoOn, LinksStay, LinksWhereMoreComes, PagesEnd, PagesGiveTheList, PositionsComeOnce, IsLetIn, sight_in, who_in}
 use Rattle.lrs_laws.proofs.Keepers.{state_from-append}
-use Rattle.lrs_laws.proofs.NewIds.{and_right}
+use Rattle.lrs_laws.proofs.Lists.{slice_get-append}
+use Rattle.lrs_laws.proofs.NewIds.{and_left, and_right}
 use Rattle.lrs_laws.proofs.Paging.{IsInOrder, Links, distinct_in_order, each_at, each_filtered, filtered_in_order, linked, positions_in_order, unlinked}
-use Rattle.lrs_parts.proofs.Tokens.{place_kept}
-use Rattle.lrs_parts.specs.Providers.{place_of_token}
-use Rattle.lrs_parts.specs.Founding.{founding_after, is_admin}
+use Rattle.lrs_laws.proofs.GivenTokens.{launch_on, no_provider_on, state_length, token_given}
+use Rattle.lrs_laws.proofs.Launched.{launched_on, session_launched}
+use Rattle.lrs_parts.proofs.Keys.{place_kept}
+use Rattle.lrs_parts.specs.Launches.{launch_of_token}
+use Rattle.lrs_parts.specs.Providers.{place_of_token, token_of}
+use Rattle.lrs_parts.specs.Founding.{founding_after, is_admin, is_base, is_token}
 use Rattle.lrs_parts.specs.State.{State, nothing}
 use Rattle.lrs_parts.specs.declared.founding.Founding.{Founding}
 use Rattle.lrs_record.specs.declared.entry.Caller.{Caller}
@@ -136,7 +141,7 @@ statements_on st (e ∷ more) = on_and_on st.statements (step st e).statements (
 -- a token that is known keeps its place
 known_on : (token : List ℕ) (k : ℕ) (st : State) (more : List Entry) → place_of_token token st.providers ≡ Some k → place_of_token token (state_from st more).providers ≡ Some k
 known_on token k st [] is = is
-known_on token k st (e ∷ more) is = known_on token k (step st e) more (place_kept token st.providers (effect st e).providers k is)
+known_on token k st (e ∷ more) is = known_on token k (step st e) more (place_kept token_of token st.providers (effect st e).providers k is)
 
 grown_on : (h more : List Entry) → take (length (state h).statements) (state (h ++ more)).statements ≡ (state h).statements
 grown_on h more =
@@ -212,9 +217,9 @@ links_where_more_comes query sight s after some = by_link (page_behind query sig
 -- ---- what callers are told
 
 -- what is told of a question to a caller who is let in, where it comes in time
-asked : (by : Who) (late : Option Refusal) (said : Answered) → barred Store by ≡ None → late ≡ None → only (refused_or (first_some (barred Store by ∷ late ∷ [])) said) ≡ only said
+asked : (by : Who) (late : Option Refusal) (said : Answered) → barred Store by ≡ None → late ≡ None → only (refused_or (option_or (barred Store by) (first_some (late ∷ None ∷ []))) said) ≡ only said
 asked by late said let_in none =
-    ap (λ o. only (refused_or (first_some (o ∷ late ∷ [])) said)) let_in ∙ ap (λ o. only (refused_or (first_some (o ∷ [])) said)) none
+    ap (λ o. only (refused_or (option_or o (first_some (late ∷ None ∷ []))) said)) let_in ∙ ap (λ o. only (refused_or (first_some (o ∷ None ∷ [])) said)) none
 
 pub first_pages_are_told : FirstPagesAreTold
 first_pages_are_told limit h caller query clock draw let_in =
@@ -222,54 +227,65 @@ first_pages_are_told limit h caller query clock draw let_in =
     ∙ ap (λ s. only (Shown (page_body query (length (state h).statements) (state h).statements (page_behind query (sight_in h caller) s None)) (Some (state h).last))) (take-length (state h).statements)
 
 -- what the store was founded with stays
-founding_on : (st : State) (more : List Entry) (founding : Founding) → st.founding ≡ Some founding → (state_from st more).founding ≡ Some founding
+pub founding_on : (st : State) (more : List Entry) (founding : Founding) → st.founding ≡ Some founding → (state_from st more).founding ≡ Some founding
 founding_on st [] founding is = is
 founding_on st (e ∷ more) founding is = founding_on (step st e) more founding (ap (λ o. founding_after o (effect st e).founding) is)
 
-founded : (e : Entry) → IsFounding e → (founding : Founding) × ((step nothing e).founding ≡ Some founding)
+founded : (e : Entry) → IsFounding e → (founding : Founding) × ((step nothing e).founding ≡ Some founding) × (is_token founding.admin ≡ true)
 founded e is = by_write e.write (and_right (is_operator e.caller && is_zero e.draw) (founds e.write) is)
   where
-    by_write : (w : Write) → founds w ≡ true → (founding : Founding) × ((step nothing (record e { write = w })).founding ≡ Some founding)
-    by_write (Found admin base) is = (record { admin = admin; base = base }, refl)
+    by_write : (w : Write) → founds w ≡ true → (founding : Founding) × ((step nothing (record e { write = w })).founding ≡ Some founding) × (is_token founding.admin ≡ true)
+    by_write (Found admin base) is = (record { admin = admin; base = base }, refl, and_left (is_token admin) (is_base base) is)
     by_write other is = absurd (cc is)
 
-has_founding : (limit : ℕ) (h : List Entry) → IsLegal limit h → (founding : Founding) × ((state h).founding ≡ Some founding)
+pub has_founding : (limit : ℕ) (h : List Entry) → IsLegal limit h → (founding : Founding) × ((state h).founding ≡ Some founding) × (is_token founding.admin ≡ true)
 has_founding limit [] legal = absurd (omega (arith, legal.0))
 has_founding limit (e ∷ h) legal =
     let first = founded e legal.1.1 in
-    (first.0, founding_on (step nothing e) h first.0 first.1)
+    (first.0, founding_on (step nothing e) h first.0 first.1, first.2)
 
 -- who is let in stays who he is
-who_on : (st su : State) (caller : Caller) → su.founding ≡ st.founding → ((token : List ℕ) (k : ℕ) → place_of_token token st.providers ≡ Some k → place_of_token token su.providers ≡ Some k)
-    → barred Store (who_is st caller) ≡ None → who_is su caller ≡ who_is st caller
-who_on st su Nobody founding known is = refl
-who_on st su Operator founding known is = refl
-who_on st su (Token token) founding known is =
-    ap (λ f. if is_admin f token then who.Admin else provider_at (place_of_token token su.providers)) founding ∙ by_admin (is_admin st.founding token) is
+who_on : (h : List Entry) (su : State) (caller : Caller) → su.founding ≡ (state h).founding
+    → ((token : List ℕ) (k : ℕ) → place_of_token token (state h).providers ≡ Some k → place_of_token token su.providers ≡ Some k)
+    → ((token : List ℕ) (k : ℕ) → who_is (state h) caller ≡ who.Session k → place_of_token token (state h).providers ≡ None → launch_of_token token (state h).tokens ≡ Some k
+    → (place_of_token token su.providers ≡ None) × (launch_of_token token su.tokens ≡ Some k))
+    → barred Store (who_is (state h) caller) ≡ None → who_is su caller ≡ who_is (state h) caller
+who_on h su Nobody founding known acts is = refl
+who_on h su Operator founding known acts is = refl
+who_on h su (Token token) founding known acts is =
+    ap (λ f. if is_admin f token then who.Admin else known_as (place_of_token token su.providers) (launch_of_token token su.tokens)) founding ∙ by_admin (is_admin (state h).founding token) refl is
   where
-    by_place : (o : Option ℕ) → place_of_token token st.providers ≡ o → barred Store (provider_at o) ≡ None → provider_at (place_of_token token su.providers) ≡ provider_at o
-    by_place None at let_in = cc let_in
-    by_place (Some k) at let_in = ap provider_at (known token k at)
+    by_places : (o p : Option ℕ) → place_of_token token (state h).providers ≡ o → launch_of_token token (state h).tokens ≡ p → is_admin (state h).founding token ≡ false → barred Store (known_as o p) ≡ None
+        → known_as (place_of_token token su.providers) (launch_of_token token su.tokens) ≡ known_as o p
+    by_places None None at in_session no_admin let_in = cc let_in
+    by_places None (Some k) at in_session no_admin let_in =
+        let by : who_is (state h) (Token token) ≡ who.Session k =
+        ap (λ b. if b then who.Admin else known_as (place_of_token token (state h).providers) (launch_of_token token (state h).tokens)) no_admin
+        ∙ (ap (λ o. known_as o (launch_of_token token (state h).tokens)) at ∙ ap (known_as None) in_session) in
+        let later = acts token k by at in_session in
+        ap (λ o. known_as o (launch_of_token token su.tokens)) later.0 ∙ ap (known_as None) later.1
+    by_places (Some k) p at in_session no_admin let_in = ap (λ o. known_as o (launch_of_token token su.tokens)) (known token k at)
 
-    by_admin : (b : Bool) → barred Store (if b then who.Admin else provider_at (place_of_token token st.providers)) ≡ None
-        → (if b then who.Admin else provider_at (place_of_token token su.providers)) ≡ (if b then who.Admin else provider_at (place_of_token token st.providers))
-    by_admin true let_in = refl
-    by_admin false let_in = by_place (place_of_token token st.providers) refl let_in
+    by_admin : (b : Bool) → is_admin (state h).founding token ≡ b → barred Store (if b then who.Admin else known_as (place_of_token token (state h).providers) (launch_of_token token (state h).tokens)) ≡ None
+        → (if b then who.Admin else known_as (place_of_token token su.providers) (launch_of_token token su.tokens))
+        ≡ (if b then who.Admin else known_as (place_of_token token (state h).providers) (launch_of_token token (state h).tokens))
+    by_admin true admin let_in = refl
+    by_admin false no_admin let_in = by_places (place_of_token token (state h).providers) (launch_of_token token (state h).tokens) refl refl no_admin let_in
 
-who_stays : (limit : ℕ) (h more : List Entry) (caller : Caller) → IsLegal limit h → IsLetIn h caller → who_in (h ++ more) caller ≡ who_in h caller
-who_stays limit h more caller legal let_in =
+who_stays : (limit : ℕ) (h more : List Entry) (caller : Caller) → IsLegal limit h → (is_session (who_in h caller) ≡ true → length (h ++ more) < 2 ^ 64) → IsLetIn h caller → who_in (h ++ more) caller ≡ who_in h caller
+who_stays limit h more caller legal few let_in =
     let founding = has_founding limit h legal in
     ap (λ st. who_is st caller) (state_from-append nothing h more)
-    ∙ who_on (state h) (state_from (state h) more) caller (founding_on (state h) more founding.0 founding.1 ∙ sym founding.1) (λ token k is. known_on token k (state h) more is) let_in
+    ∙ who_on h (state_from (state h) more) caller (founding_on (state h) more founding.0 founding.1 ∙ sym founding.1)
+    (λ token k is. known_on token k (state h) more is)
+    (λ token k by none is. (
+      no_provider_on h token (state h) more (token_given h token k is) (omega (arith, state_length h)) (omega (arith, few (ap is_session by), state_length h, length-append h more)) none,
+      launch_on token (state h) more k is,
+    )) let_in
 
 same_at : {A B : Type 0} (f g : A → Option B) (ks : List A) → AllByRecursion (λ k. f k ≡ g k) ks → filter_map f ks ≡ filter_map g ks
 same_at f g [] each = refl
 same_at f g (k ∷ ks) each = ap (λ o. cons_option o (filter_map f ks)) each.0 ∙ ap (λ xs. cons_option (g k) xs) (same_at f g ks each.1)
-
-slice_get-append : {A : Type 0} (xs ys : List A) (k : ℕ) → k < length xs → slice_get (xs ++ ys) k ≡ slice_get xs k
-slice_get-append [] ys k lt = absurd (omega (arith, lt))
-slice_get-append (x ∷ xs) ys zero lt = refl
-slice_get-append (x ∷ xs) ys (suc k) lt = slice_get-append xs ys k (omega (arith, lt))
 
 there_still : (n : ℕ) (xs ys : List StoredStatement) (ks : List ℕ) → AreBelow n ks → n ≤ length xs → AllByRecursion (λ k. slice_get (xs ++ ys) k ≡ slice_get xs k) ks
 there_still n xs ys [] each fits = tt
@@ -306,17 +322,20 @@ page_is st by link all more is fits =
     ∙ ap (λ t. Shown t (Some st.last)) (same_body link.query (sight_of st by) link.asof (Some link.after) all more fits)
 
 -- what a caller sees stays
-sight_on : (st su : State) (by : Who) → sight_of su by ≡ sight_of st by
-sight_on st su who.Unknown = refl
-sight_on st su who.Admin = refl
-sight_on st su (who.Provider k) = refl
+sight_on : (h more : List Entry) (caller : Caller) (by : Who) → who_in h caller ≡ by → sight_of (state (h ++ more)) by ≡ sight_of (state h) by
+sight_on h more caller who.Unknown is = refl
+sight_on h more caller who.Admin is = refl
+sight_on h more caller (who.Provider k) is = refl
+sight_on h more caller (who.Session k) is =
+    let acts = session_launched h caller k is in
+    ap sight_in_launch (ap (λ (st : State). slice_get st.launches k) (state_from-append nothing h more) ∙ (launched_on (state h) more k acts.0 acts.1 ∙ sym acts.1))
 
 pub links_stay : LinksStay
-links_stay limit h more caller link clock draw legal let_in fits =
+links_stay limit h more caller link clock draw legal few let_in fits =
     let on = statements_on (state h) more in
     let statements : (state (h ++ more)).statements ≡ (state h).statements ++ on.0 = ap (λ st. st.statements) (state_from-append nothing h more) ∙ on.1 in
-    ap (λ by. only (refused_or (read_refusal (state (h ++ more)) by (read.More link)) (read_said (state (h ++ more)) by (read.More link)))) (who_stays limit h more caller legal let_in)
+    ap (λ by. only (refused_or (read_refusal (state (h ++ more)) by (read.More link)) (read_said (state (h ++ more)) by (read.More link)))) (who_stays limit h more caller legal few let_in)
     ∙ (asked (who_in h caller) (too_late (state (h ++ more)) (read.More link)) (read_said (state (h ++ more)) (who_in h caller) (read.More link)) let_in (in_time (state (h ++ more)) link (state h).statements on.0 statements fits)
     ∙ (ap only (page_is (state (h ++ more)) (who_in h caller) link (state h).statements on.0 statements fits)
     ∙ ap (λ s. only (Shown (page_body link.query link.asof (state h).statements (page_behind link.query s (take link.asof (state h).statements) (Some link.after))) (Some (state (h ++ more)).last)))
-    (sight_on (state h) (state (h ++ more)) (who_in h caller))))
+    (sight_on h more caller (who_in h caller) refl)))

@@ -1,5 +1,5 @@
 -- What isn't refused is held: a statement alone, and a batch whole.
-use Rattle.std.proofs.Common.{◌≡◌, ℕ, List, [], ◌∷◌, ◌++◌, get_or, map, Bool, true, false, not, ◌||◌, Option, Some, None, cond, refl, sym, ap, subst, ◌∙◌, ◌+◌, ◌<◌, length, nat_lt}
+use Rattle.std.proofs.Common.{◌≡◌, ℕ, List, [], ◌∷◌, ◌++◌, get_or, map, Bool, true, false, not, ◌||◌, Option, Some, None, cond, refl, sym, ap, subst, ◌∙◌, nat_lt}
 use Rattle.std.specs.Prelude.{position, slice_get, is_some, option_map, if◌then◌else◌}
 use Rattle.std.specs.List.{AllByRecursion}
 use Rattle.std.specs.Option.{option_or}
@@ -17,19 +17,21 @@ use Rattle.lrs_history.specs.Answers.{write_said}
 use Rattle.lrs_history.specs.Effects.{Occasion, brought, effect, occasion}
 use Rattle.lrs_history.specs.History.{Answer, answer_of, end_place, next_entry, need, only, refused, state, outcome_by, with_entry}
 use Rattle.lrs_history.specs.Refusals.{barred, before_next, conflict, missing, refusal, refused_batch, refused_form, refused_in, refused_over, refused_under}
-use Rattle.lrs_history.specs.Whose.{authority_of, provider_at, who_is}
+use Rattle.lrs_history.specs.Whose.{authority_of, known_as, who_is}
 use Rattle.lrs_history.proofs.Room.{no_room, kept_answer}
 use Rattle.lrs_json.specs.View.{view}
 use Rattle.lrs_json.specs.declared.tree.Tree.{Tree}
 use Rattle.lrs_laws.specs.Laws.{BatchesAreWhole, CallersHaveAuthority, IsAccepted, IsHeldSame, PutsAreHeld, batch_with_ids, occasion_of}
-use Rattle.lrs_laws.proofs.Again.{first_none}
+use Rattle.lrs_laws.proofs.Again.{first_none, no_reason}
 use Rattle.lrs_laws.proofs.Keepers.{held_one, left_false, or_false, right_false, state_from-append, stays_each}
-use Rattle.lrs_laws.proofs.NewIds.{batch_distinct, batch_new, few_held, not_true, and_left, and_right}
+use Rattle.lrs_laws.proofs.Launched.{AreLaunched, all_launched, token_launched}
+use Rattle.lrs_laws.proofs.NewIds.{batch_distinct, batch_new, not_true, and_left, and_right}
 use Rattle.lrs_names.specs.Members.{is_one_of}
-use Rattle.lrs_names.specs.declared.id.TheConstants.{WORDS}
+use Rattle.cmi5_course.specs.declared.launch.Launch.{Launch}
+use Rattle.lrs_parts.specs.Launches.{launch_of_token}
 use Rattle.lrs_parts.specs.Providers.{place_of_token}
 use Rattle.lrs_parts.specs.Founding.{is_admin}
-use Rattle.lrs_parts.specs.State.{State, changes_nothing, is_empty, nothing}
+use Rattle.lrs_parts.specs.State.{State, changes_no_course, changes_nothing, is_empty, nothing}
 use Rattle.lrs_parts.specs.declared.providers.HeldProvider.{HeldProvider}
 use Rattle.lrs_record.specs.Entries.{AreLawfulTrees}
 use Rattle.lrs_record.specs.declared.entry.Caller.{Caller}
@@ -41,9 +43,9 @@ use Rattle.lrs_replies.specs.declared.answered.Refusal.{Refusal}
 use Rattle.lrs_replies.specs.declared.answered.Refusal.TheVariants.{Conflict}
 use Rattle.xapi_alike.specs.Same.{same, IsSameness}
 use Rattle.xapi_format.specs.declared.authority.Authority.{Authority}
-use Rattle.xapi_format.specs.declared.authority.Authority.TheVariants.{Admin, Provider}
+use Rattle.xapi_format.specs.declared.authority.Authority.TheVariants.{Admin, Provider, Session}
 use Rattle.xapi_index.specs.Batches.{WithId, held_of, id_for, kept_by, with_ids, ids_under, supply_behind}
-use Rattle.lrs_ids.specs.Choices.{first_some, when}
+use Rattle.lrs_ids.specs.Choices.{when}
 use Rattle.lrs_ids.specs.Ids.{Supply, are_distinct}
 use Rattle.xapi_index.specs.Statements.{add, add_each, held_under, ids_of, is_held, new_ones}
 use Rattle.xapi_index.proofs.Adding.{add-new, add_each-new}
@@ -83,12 +85,8 @@ is_behind_it : (limit place : ℕ) (h : List Entry) (x : Entry) (t : Answered) (
 is_behind_it limit place h x t xs new =
     let held : List StoredStatement = (state h).statements in
     by_answer (IsAcceptedWith h x t xs) limit place x t (refusal (state h) x) (changes_nothing (effect (state h) x))
-    (λ none same. (none, refl, none_new held xs (ap (λ l. is_empty l) (sym new) ∙ and_right _ (is_empty (effect (state h) x).statements) same)))
+    (λ none same. (none, refl, none_new held xs (ap (λ l. is_empty l) (sym new) ∙ and_right _ (is_empty (effect (state h) x).statements) (and_left _ (changes_no_course (effect (state h) x)) same))))
     (λ none. (none, refl, ap (λ s. s.statements) (state_from-append nothing h (x ∷ [])) ∙ (ap (λ l. add_each held l) new ∙ add_each-new held xs)))
-
-no_reason : (os : List (Option Refusal)) → first_some os ≡ None → AllByRecursion (λ o. o ≡ None) os
-no_reason [] is = tt
-no_reason (o ∷ os) is = let first = first_none o (first_some os) is in (first.0, no_reason os first.1)
 
 -- ---- whoever is let in has an authority
 
@@ -99,23 +97,27 @@ there : {A : Type 0} (p : A → Bool) (xs : List A) (k : ℕ) → position p xs 
 there p [] k is = cc is
 there p (x ∷ xs) k is = (get_or (x ∷ xs) k x, slice_get-get_or (x ∷ xs) k x (position-Some p (x ∷ xs) k x is).0)
 
-known : (st : State) (caller : Caller) → barred Store (who_is st caller) ≡ None → IsKnown st (who_is st caller)
-known st Nobody is = cc is
-known st Operator is = (Admin, refl)
-known st (Token token) is = by_admin (is_admin st.founding token) is
+known : (st : State) (caller : Caller) → AreLaunched st → barred Store (who_is st caller) ≡ None → IsKnown st (who_is st caller)
+known st Nobody launched is = cc is
+known st Operator launched is = (Admin, refl)
+known st (Token token) launched is = by_admin (is_admin st.founding token) is
   where
-    by_place : (o : Option ℕ) → place_of_token token st.providers ≡ o → barred Store (provider_at o) ≡ None → IsKnown st (provider_at o)
-    by_place None at is = cc is
-    by_place (Some k) at is =
+    by_places : (o p : Option ℕ) → place_of_token token st.providers ≡ o → launch_of_token token st.tokens ≡ p → barred Store (known_as o p) ≡ None → IsKnown st (known_as o p)
+    by_places None None at acts is = cc is
+    by_places None (Some k) at acts is =
+        let found = token_launched st token k launched acts in
+        (Session found.0.session, ap (λ o. option_map (λ (l : Launch). Session l.session) o) found.1)
+    by_places (Some k) p at acts is =
         let found = there (λ (c : HeldProvider). bytes_eq c.token token) st.providers k at in
         (Provider k found.0.name, ap (λ o. option_map (λ (c : HeldProvider). Provider k c.name) o) found.1)
 
-    by_admin : (b : Bool) → barred Store (if b then who.Admin else provider_at (place_of_token token st.providers)) ≡ None → IsKnown st (if b then who.Admin else provider_at (place_of_token token st.providers))
+    by_admin : (b : Bool) → barred Store (if b then who.Admin else known_as (place_of_token token st.providers) (launch_of_token token st.tokens)) ≡ None
+        → IsKnown st (if b then who.Admin else known_as (place_of_token token st.providers) (launch_of_token token st.tokens))
     by_admin true is = (Admin, refl)
-    by_admin false is = by_place (place_of_token token st.providers) refl is
+    by_admin false is = by_places (place_of_token token st.providers) (launch_of_token token st.tokens) refl refl is
 
 pub callers_have_authority : CallersHaveAuthority
-callers_have_authority h caller let_in = known (state h) caller let_in
+callers_have_authority h caller let_in = known (state h) caller (all_launched h) let_in
 
 -- ---- each of them, in one list
 
@@ -140,7 +142,7 @@ none_held : (o : Option StoredStatement) → is_some o ≡ false → o ≡ None
 none_held None is = refl
 none_held (Some s) is = cc is
 
-found_add : (held : List StoredStatement) (x : StoredStatement) → is_held x.id held ≡ false → held_under x.id (add held x) ≡ Some x
+pub found_add : (held : List StoredStatement) (x : StoredStatement) → is_held x.id held ≡ false → held_under x.id (add held x) ≡ Some x
 found_add held x new =
     ap (λ l. held_under x.id l) (add-new held x new)
     ∙ (find-append (λ (s : StoredStatement). bytes_eq s.id x.id) held (x ∷ [])
@@ -220,7 +222,7 @@ puts_are_held sameness limit h caller id t clock draw lawful accepted =
     let n : WithId = record { id = id; tree = t } in
     let behind = is_behind_it limit (end_place limit h) h x (write_said (effect st x)) (brought st at.by at.moment (n ∷ [])) refl accepted in
     let reasons = no_reason (barred Store at.by ∷ refused_form id (view t) ∷ missing st (Put id t) ∷ conflict st at (Put id t) ∷ []) behind.0 in
-    let authority = known st caller reasons.0 in
+    let authority = known st caller (all_launched h) reasons.0 in
     let statements = behind.2 ∙ ap (λ o. add_each held (kept_by at.moment o (n ∷ []))) authority.1 in
     subst (λ l. IsHeldSame l n) (sym statements)
     (whole_list at.moment authority.0 held (n ∷ []) refl (λ s is. taken_under st at.by held t id s reasons.1.1.1.0 is, tt) (sameness.reflexive (view t) lawful.0, tt)).0
@@ -234,12 +236,11 @@ batches_are_whole sameness limit h caller trees clock draw small lawful accepted
     let batch : List WithId = batch_with_ids h trees draw in
     let behind = is_behind_it limit (end_place limit h) h x (write_said (effect st x)) (brought st at.by at.moment batch) refl accepted in
     let reasons = no_reason (barred Store at.by ∷ refused_batch trees ∷ missing st (Post trees) ∷ conflict st at (Post trees) ∷ []) behind.0 in
-    let authority = known st caller reasons.0 in
-    let statements = behind.2 ∙ ap (λ o. add_each held (kept_by at.moment o batch)) authority.1 in
-    let few : length held + length trees < WORDS = few_held held trees small in (
+    let authority = known st caller (all_launched h) reasons.0 in
+    let statements = behind.2 ∙ ap (λ o. add_each held (kept_by at.moment o batch)) authority.1 in (
       behind.1,
       subst (λ l. AllByRecursion (IsHeldSame l) batch) (sym statements)
-          (whole_list at.moment authority.0 held batch (batch_distinct held draw.name trees few reasons.1.0)
-          (taken_from st at held at.supply trees reasons.1.1.1.0 (batch_new held draw.name trees few))
+          (whole_list at.moment authority.0 held batch (batch_distinct st draw.name trees small reasons.1.0)
+          (taken_from st at held at.supply trees reasons.1.1.1.0 (batch_new st draw.name trees small))
           (alike_from sameness at.supply trees lawful)),
     )

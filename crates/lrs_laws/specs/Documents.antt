@@ -4,17 +4,23 @@ use Rattle.std.specs.Prelude.{◌≡◌, ◌↔◌, ◌&&◌, ℕ, ℤ, List, []
 use Rattle.std.specs.Cmp.Lexicographic.{slice_cmp}
 use Rattle.std.specs.List.Sorted.{IsStrictlySortedBy}
 use Rattle.std.specs.Ordering.{nat_cmp}
+use Rattle.cmi5_course.specs.declared.launch.Launch.{Launch}
+use Rattle.cmi5_course.specs.declared.launch.Mode.{Mode}
 use Rattle.lrs_agents.specs.declared.identifiers.Ifi.{Ifi}
 use Rattle.lrs_command.specs.declared.command.Command.TheVariants.{Read, Write}
 use Rattle.lrs_command.specs.declared.command.Read.TheVariants as read
 use Rattle.lrs_history.specs.Answers.{document_said}
-use Rattle.lrs_history.specs.Effects.{document_by}
+use Rattle.lrs_history.specs.Effects.{Occasion, document_by, occasion}
 use Rattle.lrs_history.specs.History.{answer, only, refused, state}
+use Rattle.lrs_history.specs.Launches.{Target, data_at, data_key, target}
 use Rattle.lrs_history.specs.Refusals.{refused_agent, refused_document}
-use Rattle.lrs_laws.specs.Laws.{IsLetIn}
+use Rattle.lrs_history.specs.Sessions.{outside, overstepped}
+use Rattle.lrs_history.specs.Whose.{launch_of}
+use Rattle.lrs_laws.specs.Laws.{IsLetIn, who_in}
 use Rattle.lrs_media.specs.Media.{is_json}
 use Rattle.lrs_names.specs.Members.{is_one_of}
 use Rattle.lrs_names.specs.declared.draw.Draw.{Draw}
+use Rattle.lrs_parts.specs.State.{State}
 use Rattle.lrs_record.specs.declared.entry.Caller.{Caller}
 use Rattle.lrs_record.specs.declared.entry.Entry.{Entry}
 use Rattle.lrs_record.specs.declared.entry.How.TheVariants as how
@@ -43,21 +49,46 @@ pub record Makes (limit : ℕ) (h : List Entry) (w : AWrite) (e : Entry) : Type 
   pub draw : Draw
   pub made : (answer limit h caller (Write w) clock draw).entry ≡ Some e
 
+-- the launch of a caller that is a session
+abbrev pub launch_in : List Entry → Caller → Option Launch
+launch_in h caller = launch_of (state h) (who_in h caller)
+
+-- The caller is let in, and if it is a session it may look at the documents of that agent and that registration.
+pub record MayLook (h : List Entry) (caller : Caller) (agent : Ifi) (registration : Option (List ℕ)) : Type 0 where
+  pub let_in : IsLetIn h caller
+  pub own : outside (launch_in h caller) agent registration ≡ None
+
+-- It may also write, or drop, the one of that state, or all of them where no state is given.
+pub record MayChange (h : List Entry) (caller : Caller) (agent : Ifi) (registration chosen : Option (List ℕ))
+    : Type 0 where
+  pub let_in : IsLetIn h caller
+  pub own : overstepped (launch_in h caller) agent registration chosen ≡ None
+
 -- ---- what becomes of a document
 
+-- what a launch makes of the document under a key, if its unit is there: its data comes under the data's own key
+abbrev pub launched_over : Occasion → StateKey → Option Document → Mode → Option (List ℕ) → Option Target
+    → Option Document
+launched_over at key held mode return_url None = held
+launched_over at key held mode return_url (Some t) =
+    if is_same_key (data_key t) key then Some (data_at t mode return_url (at.supply 0) at.moment) else held
+
 -- What an entry makes of the document under a key: one that is written under it comes, and one that is dropped goes.
-abbrev pub document_after : StateKey → Option Document → ℕ → AWrite → Option Document
-document_after key held moment (write.State by k media bytes) =
-    if is_same_key k key then Some (document_by by media bytes moment held) else held
-document_after key held moment (Drop activity agent registration chosen) =
+abbrev pub document_after : State → Occasion → StateKey → Option Document → AWrite → Option Document
+document_after st at key held (write.State by k media bytes) =
+    if is_same_key k key then Some (document_by by media bytes at.moment held) else held
+document_after st at key held (Drop activity agent registration chosen) =
     if is_of activity agent registration key && is_state chosen key then None else held
-document_after key held moment other = held
+document_after st at key held (write.Launch registration unit mode return_url) =
+    launched_over at key held mode return_url (target st registration unit)
+document_after st at key held other = held
 
 -- The document under a key is the fold of the entries on it: no other entry touches it.
 abbrev pub DocumentsAreFolds : Type 0
 DocumentsAreFolds =
     (h : List Entry) (e : Entry) (key : StateKey)
-    → document_in (h ++ e ∷ []) key ≡ document_after key (document_in h key) e.moment e.write
+    → document_in (h ++ e ∷ []) key
+    ≡ document_after (state h) (occasion (state h) e) key (document_in h key) e.write
 
 -- A document that was posted over a held one is the two objects merged, under the new type.
 abbrev pub PostedDocumentsAreMerged : Type 0
@@ -80,16 +111,18 @@ abbrev pub UnmergeableIsTold : Type 0
 UnmergeableIsTold =
     (limit : ℕ) (h : List Entry) (caller : Caller) (key : StateKey) (media bytes : List ℕ) (held : Document)
     (clock : ℕ) (draw : Draw)
-    → IsLetIn h caller → refused_document key.agent media bytes ≡ None → document_in h key ≡ Some held
+    → MayChange h caller key.agent key.registration (Some key.state) → refused_document key.agent media bytes ≡ None
+    → document_in h key ≡ Some held
     → let told = answer limit h caller (Write (write.State how.Post key media bytes)) clock draw in
     (is_json held.media && is_json media ≡ false → told ≡ only (refused (Broken (rule.T 1))))
     × (is_json held.media && is_json media ≡ true → merge held.bytes bytes ≡ None
     → told ≡ only (refused (Broken (rule.T 2))))
 
--- Whoever is let in is shown the document that is held, with its own type, and is told 404 where none is.
+-- Whoever may look at it is shown the document that is held, with its own type, and is told 404 where none is.
 abbrev pub HeldDocumentsAreShown : Type 0
 HeldDocumentsAreShown =
-    (limit : ℕ) (h : List Entry) (caller : Caller) (key : StateKey) (clock : ℕ) (draw : Draw) → IsLetIn h caller
+    (limit : ℕ) (h : List Entry) (caller : Caller) (key : StateKey) (clock : ℕ) (draw : Draw)
+    → MayLook h caller key.agent key.registration
     → answer limit h caller (Read (read.Documents (One key))) clock draw ≡ only (document_said (document_in h key))
 
 -- A deletion of nothing makes no entry.
@@ -97,7 +130,7 @@ abbrev pub NothingIsDroppedQuietly : Type 0
 NothingIsDroppedQuietly =
     (limit : ℕ) (h : List Entry) (caller : Caller) (clock : ℕ) (draw : Draw) (activity : List ℕ) (agent : Ifi)
     (registration chosen : Option (List ℕ))
-    → IsLetIn h caller → refused_agent agent ≡ None
+    → MayChange h caller agent registration chosen → refused_agent agent ≡ None
     → keys_in activity agent registration chosen (state h).documents ≡ []
     → answer limit h caller (Write (Drop activity agent registration chosen)) clock draw ≡ only Same
 

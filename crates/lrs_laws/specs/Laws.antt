@@ -1,26 +1,31 @@
 -- What follows from the definitions over every history: an id names one statement, for good, a batch is kept whole, and
 -- the pages of a list give it whole.
-use Rattle.std.specs.Prelude.{◌≡◌, ◌≢◌, ◌<◌, ◌≤◌, ◌+◌, ◌==◌, ℕ, List, [], ◌∷◌, ◌++◌, length, map, take, Option, Some}
-use Rattle.std.specs.Prelude.{None, MatchOption, true, false, IsTrue}
+use Rattle.std.specs.Prelude.{◌≡◌, ◌≢◌, ◌<◌, ◌≤◌, ◌+◌, ◌^◌, ◌==◌, ℕ, List, [], ◌∷◌, ◌++◌, length, map, take, Option}
+use Rattle.std.specs.Prelude.{Some, None, MatchOption, true, false, IsTrue}
 use Rattle.std.specs.List.{AllByRecursion, IsDistinct}
+use Rattle.cmi5_course.specs.Courses.{course_key}
 use Rattle.lrs_record.specs.declared.entry.Area.TheVariants.{Store}
 use Rattle.lrs_command.specs.declared.command.Command.{Command}
 use Rattle.lrs_command.specs.declared.command.Command.TheVariants.{Read, Write}
 use Rattle.lrs_command.specs.declared.command.Read.TheVariants as read
 use Rattle.lrs_command.specs.declared.who.Who.{Who}
-use Rattle.lrs_history.specs.Effects.{Occasion, occasion, supply_in}
+use Rattle.lrs_history.specs.Effects.{Occasion, given_in, occasion, supply_in}
 use Rattle.lrs_history.specs.History.{Answer, answer, next_entry, only, refused, state, with_entry, IsLegal}
-use Rattle.lrs_history.specs.Refusals.{barred, refused_in, refused_batch, refused_form}
+use Rattle.lrs_history.specs.Refusals.{barred, is_session, refused_in, refused_batch, refused_form}
 use Rattle.lrs_command.specs.Areas.{command_area}
 use Rattle.lrs_history.specs.Whose.{authority_of, sight_of, who_is}
 use Rattle.lrs_json.specs.View.{view}
 use Rattle.lrs_json.specs.declared.tree.Tree.{Tree}
 use Rattle.lrs_names.specs.declared.draw.Draw.{Draw}
 use Rattle.lrs_names.specs.declared.id.TheConstants.{WORDS}
-use Rattle.lrs_parts.specs.State.{used_in}
+use Rattle.lrs_names.specs.Members.{is_one_of}
+use Rattle.lrs_parts.specs.Launches.{session_ids}
+use Rattle.lrs_parts.specs.Registrations.{registration_ids}
+use Rattle.lrs_parts.specs.State.{State, used_in}
 use Rattle.lrs_record.specs.Entries.{AreLawfulTrees, IsLawfulTree}
 use Rattle.lrs_record.specs.declared.entry.Caller.{Caller}
 use Rattle.lrs_record.specs.declared.entry.Entry.{Entry}
+use Rattle.lrs_record.specs.declared.entry.Write.{Write as AWrite}
 use Rattle.lrs_record.specs.declared.entry.Write.TheVariants.{Put, Post}
 use Rattle.lrs_replies.specs.Texts.{ids_body}
 use Rattle.lrs_replies.specs.declared.answered.Answered.TheVariants.{Same, Shown}
@@ -105,6 +110,10 @@ StrangersAreToldAlike =
 abbrev pub NamesOne : Type 0
 NamesOne = (h : List Entry) → IsTrue (are_distinct (ids_of (state h).statements))
 
+-- no two courses have one id
+abbrev pub CoursesNameOne : Type 0
+CoursesNameOne = (h : List Entry) → IsTrue (are_distinct (map course_key (state h).courses))
+
 -- what an id names, it names after every further entry
 abbrev pub NamesForGood : Type 0
 NamesForGood = (h more : List Entry) (id : List ℕ) (s : StoredStatement) → held_under id (state h).statements ≡ Some s
@@ -158,6 +167,19 @@ MadeIdsAreNew =
     → IsTrue (are_distinct (ids_under (batch_with_ids h trees draw)))
     × AllByRecursion (λ (n : WithId). own_id (view n.tree) ≡ None → (used_in (state h)).is_used n.id ≡ false)
     (batch_with_ids h trees draw)
+
+-- the id is that of no statement, of no registration and of no session
+pub record IsUnused (st : State) (id : List ℕ) : Type 0 where
+  pub statements : is_one_of (ids_of st.statements) id ≡ false
+  pub registrations : is_one_of (registration_ids st.registrations) id ≡ false
+  pub sessions : is_one_of (session_ids st.launches) id ≡ false
+
+-- The first two ids that a write of the desk can make aren't used, and aren't the same: such writes bring none.
+abbrev pub DeskIdsAreNew : Type 0
+DeskIdsAreNew =
+    (h : List Entry) (write : AWrite) (draw : Draw) → given_in write ≡ [] → (used_in (state h)).count + 2 < WORDS
+    → let supply = supply_in (state h) write draw in
+    IsUnused (state h) (supply 0) × IsUnused (state h) (supply 1) × (supply 0 ≢ supply 1)
 
 -- it isn't refused
 abbrev pub IsAccepted : Answer → Type 0
@@ -248,11 +270,12 @@ FirstPagesAreTold =
     ≡ only (Shown (page_body query (length all) all (page_behind query (sight_in h caller) all None))
     (Some (state h).last))
 
--- A link is told the same page for ever, as the history h has it, whatever is accepted after h.
+-- A link is told the same page for ever, as the history h has it, whatever is accepted after h. A session's
+-- token tells its place, and a store counts its entries in 64 bits.
 abbrev pub LinksStay : Type 0
 LinksStay =
     (limit : ℕ) (h more : List Entry) (caller : Caller) (link : MoreLink) (clock : ℕ) (draw : Draw) → IsLegal limit h
-    → IsLetIn h caller
+    → (is_session (who_in h caller) ≡ true → length (h ++ more) < 2 ^ 64) → IsLetIn h caller
     → link.asof ≤ length (state h).statements
     → let all = (state h).statements in
     answer limit (h ++ more) caller (Read (read.More link)) clock draw

@@ -1,2 +1,4 @@
 pub mod Laws
 pub mod Documents
+pub mod Fetches
+pub mod Sessions

@@ -1,13 +1,17 @@
 ghost use Rattle.lrs_laws.specs.Documents.{DocumentsAreFolds, HeldDocumentsAreShown, IdsTellDocuments, MergedIsRead, NothingIsDroppedQuietly, PostedDocumentsAreMerged, UnmergeableIsTold};
-ghost use Rattle.lrs_laws.specs.Laws.{BatchConflictsAreTold, BatchesAreWhole, CallersHaveAuthority, ConflictsAreTold, FirstPagesAreTold, LinksGoOn, LinksStay, LinksWhereMoreComes, MadeIdsAreNew, NamesForGood, NamesOne, PagesEnd, PagesGiveTheList, PositionsComeOnce, PutsAreHeld, RepeatedBatchesAreTaken, RepeatsAreTaken, StaysVoided, StrangersAreToldAlike};
+ghost use Rattle.lrs_laws.specs.Fetches.{FetchesGive, KeysGiveOnce, UsedKeysAreTold};
+ghost use Rattle.lrs_laws.specs.Laws.{BatchConflictsAreTold, BatchesAreWhole, CallersHaveAuthority, ConflictsAreTold, CoursesNameOne, DeskIdsAreNew, FirstPagesAreTold, LinksGoOn, LinksStay, LinksWhereMoreComes, MadeIdsAreNew, NamesForGood, NamesOne, PagesEnd, PagesGiveTheList, PositionsComeOnce, PutsAreHeld, RepeatedBatchesAreTaken, RepeatsAreTaken, StaysVoided, StrangersAreToldAlike};
+ghost use Rattle.lrs_laws.specs.Sessions.{GivenTokensAct, KeysAreTheirLaunches, LaunchesLeaveStatements, OtherTokensAreUnknown, SessionTokensWereGiven, SessionsAreBarredFromTheDesk, SessionsAreLaunched, SessionsKeepLaunchData, SessionsKeepToTheirDocuments, SessionsSeeTheirRegistration};
 
 /// Over every history whoever is let in has an authority, and who isn't is told the same whatever it asks. An id names
-/// one statement, for good, and what is voided stays so. A repeat makes no entry, and another statement under the id is
-/// told it, alone and in a batch. Made ids are new, what isn't refused is held, and a batch is kept whole.
+/// one statement, for good, no two courses have one, and what is voided stays so. A repeat makes no entry, and another
+/// statement under the id is told it, alone and in a batch. Made ids are new, what isn't refused is held, and a batch is
+/// kept whole.
 pub fn law_of_names()
     ensures authority { CallersHaveAuthority }
     ensures strangers { StrangersAreToldAlike }
     ensures one { NamesOne }
+    ensures courses { CoursesNameOne }
     ensures good { NamesForGood }
     ensures voided { StaysVoided }
     ensures repeats { RepeatsAreTaken }
@@ -15,6 +19,7 @@ pub fn law_of_names()
     ensures repeated_batches { RepeatedBatchesAreTaken }
     ensures batch_conflicts { BatchConflictsAreTold }
     ensures made { MadeIdsAreNew }
+    ensures desk { DeskIdsAreNew }
     ensures held { PutsAreHeld }
     ensures whole { BatchesAreWhole }
 {}
@@ -32,9 +37,9 @@ pub fn law_of_pages()
 {}
 
 /// Over every history the document under a key is made by the entries on that key alone: it is what was put, what
-/// was merged, or none once it was dropped. What is merged can be read and merged again; what can't be is told why.
-/// What is held is shown, and a deletion of nothing makes no entry. The ids that are told are those of the documents
-/// that are held, in the order of their bytes.
+/// was merged, what a launch told its unit, or none once it was dropped. What is merged can be read and merged again;
+/// what can't be is told why. What is held is shown to everyone who may look at it, and a deletion of nothing makes no
+/// entry. The ids that are told are those of the documents that are held, in the order of their bytes.
 pub fn law_of_documents()
     ensures folds { DocumentsAreFolds }
     ensures merged { PostedDocumentsAreMerged }
@@ -43,4 +48,30 @@ pub fn law_of_documents()
     ensures shown { HeldDocumentsAreShown }
     ensures quiet { NothingIsDroppedQuietly }
     ensures ids { IdsTellDocuments }
+{}
+
+/// Over every legal history a fetch key gives one token, once: a fetch that was accepted gave a token, no later one has
+/// the same key, and whoever comes with it again is told that it was used.
+pub fn law_of_fetches()
+    ensures give { FetchesGive }
+    ensures once { KeysGiveOnce }
+    ensures used { UsedKeysAreTold }
+{}
+
+/// Over every history a session is that of a launch, and its token was given away by a fetch. A token that a fetch gave
+/// away acts, for good, in the session of the launch whose entry gave the key away; one that is neither an admin's nor a
+/// provider's, and that no fetch gave away, is nobody's. A launch leaves its statement. A session sees the statements of
+/// its launch's registration and no others, is let in at no command of the desk, and has no documents but those of its
+/// launch's actor, in its launch's registration or in none; of these it never changes what its launch wrote.
+pub fn law_of_sessions()
+    ensures launched { SessionsAreLaunched }
+    ensures given { SessionTokensWereGiven }
+    ensures act { GivenTokensAct }
+    ensures keys { KeysAreTheirLaunches }
+    ensures left { LaunchesLeaveStatements }
+    ensures others { OtherTokensAreUnknown }
+    ensures sight { SessionsSeeTheirRegistration }
+    ensures desk { SessionsAreBarredFromTheDesk }
+    ensures documents { SessionsKeepToTheirDocuments }
+    ensures launch_data { SessionsKeepLaunchData }
 {}

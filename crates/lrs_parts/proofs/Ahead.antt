@@ -1,23 +1,43 @@
--- Places that are made ahead in the parts.
+-- Places that were made ahead in the parts, and taken back.
 use Rattle.std.specs.Cmp.Lexicographic.{slice_cmp}
 use Rattle.std.specs.Ordering.{nat_cmp}
-use Rattle.lrs_parts.specs.Parts.{AddsNoPlaces, MakesPlacesFor}
-use Rattle.lrs_parts.specs.Providers.{token_of}
+use Rattle.cmi5_course.specs.Courses.{course_key}
+use Rattle.cmi5_course.specs.Launches.{session_of}
+use Rattle.lrs_parts.specs.Counted.{AddsNone, MakesPlaceFor, TakesPlaceBackFor}
+use Rattle.lrs_parts.specs.Launches.{key_text, token_text}
+use Rattle.lrs_parts.specs.Learning.{AddsNoLearningPlaces, MakesLearningPlaces, TakesLearningPlacesBack}
+use Rattle.lrs_parts.specs.Parts.{AddsNoPlaces}
+use Rattle.lrs_parts.specs.Registrations.{registration_key}
 use Rattle.lrs_parts.specs.declared.effect.Effect.{Effect}
+use Rattle.lrs_parts.specs.declared.learning.Learning.{Learning}
 use Rattle.lrs_parts.specs.declared.parts.Parts.{Parts}
-use Rattle.lrs_register.proofs.Ahead.{none_made}
-use Rattle.lrs_register.specs.Register.{is_key_of}
-use Rattle.xapi_docs.specs.Docs.{is_written}
-use Rattle.xapi_docs.proofs.Back.{no_place_made}
-use Rattle.xapi_index.specs.Statements.{is_held, is_target}
+use Rattle.lrs_register.proofs.Ahead.{made_and_back}
+use Rattle.lrs_register.specs.Register.{Registered, is_key_of}
+use Rattle.lrs_register.specs.declared.change.Change.{Change}
+use Rattle.std.proofs.Common.{ℕ, List}
 
-pub none_for : (parts : Parts) (x : Effect) → MakesPlacesFor parts parts x
-none_for parts x = record {
-  providers = none_made (slice_cmp nat_cmp) (λ k. is_key_of (slice_cmp nat_cmp) token_of x.providers.new k) parts.providers.places;
-  ids = none_made (slice_cmp nat_cmp) (λ k. is_held k x.statements) parts.statements.ids;
-  targets = none_made (slice_cmp nat_cmp) (λ k. is_target k x.statements) parts.statements.targets;
-  documents = no_place_made (is_written x.documents) parts.documents;
+-- ---- one register
+
+pub back : {T : Type 0} (key_of : T → List ℕ) (change : Change T) (before mid new : Registered (List ℕ) T)
+    → MakesPlaceFor (slice_cmp nat_cmp) key_of change before mid → TakesPlaceBackFor (slice_cmp nat_cmp) key_of change mid new → AddsNone (slice_cmp nat_cmp) before new
+back key_of change before mid new = made_and_back (slice_cmp nat_cmp) (λ k. is_key_of (slice_cmp nat_cmp) key_of change.new k) before.places mid.places new.places
+
+-- ---- all of them
+
+pub learning_back : (before mid new : Learning) (x : Effect) → MakesLearningPlaces before mid x → TakesLearningPlacesBack mid new x → AddsNoLearningPlaces before new
+learning_back before mid new x made taken = record {
+  courses = back course_key x.courses before.courses mid.courses new.courses made.courses taken.courses;
+  registrations = back registration_key x.registrations before.registrations mid.registrations new.registrations made.registrations taken.registrations;
+  launches = back session_of x.launches before.launches mid.launches new.launches made.launches taken.launches;
+  keys = back key_text x.keys before.keys mid.keys new.keys made.keys taken.keys;
+  tokens = back token_text x.tokens before.tokens mid.tokens new.tokens made.tokens taken.tokens;
 }
 
 pub none_more : (parts : Parts) → AddsNoPlaces parts parts
-none_more parts = record { providers = λ k has. has; ids = λ k has. has; targets = λ k has. has; documents = λ k has. has }
+none_more parts = record {
+  providers = λ k has. has;
+  learning = record { courses = λ k has. has; registrations = λ k has. has; launches = λ k has. has; keys = λ k has. has; tokens = λ k has. has };
+  ids = λ k has. has;
+  targets = λ k has. has;
+  documents = λ k has. has;
+}

@@ -1,2 +1,3 @@
-pub mod Tokens
+pub mod Counting
+pub mod Keys
 pub mod Ahead

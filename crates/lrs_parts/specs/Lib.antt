@@ -1,5 +1,10 @@
+pub mod Counted
 pub mod Founding
 pub mod Providers
+pub mod Courses
+pub mod Learners
+pub mod Registrations
+pub mod Launches
 pub mod State
-pub mod Rooms
+pub mod Learning
 pub mod Parts

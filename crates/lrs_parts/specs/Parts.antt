@@ -2,7 +2,9 @@
 use Rattle.std.specs.Prelude.{◌+◌, ◌<◌, ◌^◌}
 use Rattle.std.specs.Cmp.Lexicographic.{slice_cmp}
 use Rattle.std.specs.Ordering.{nat_cmp}
-use Rattle.lrs_parts.specs.Rooms.{HasRoomForProvider, MakesProviderPlace}
+use Rattle.lrs_parts.specs.Counted.{AddsNone, HasRoomToCount, MakesPlaceFor}
+use Rattle.lrs_parts.specs.Learning.{AddsNoLearningPlaces, IsLearningReadyFor, MakesLearningPlaces}
+use Rattle.lrs_parts.specs.Providers.{token_of}
 use Rattle.lrs_parts.specs.State.{State}
 use Rattle.lrs_parts.specs.declared.effect.Effect.{Effect}
 use Rattle.lrs_parts.specs.declared.parts.Parts.{Parts}
@@ -18,30 +20,38 @@ state_of parts = record {
   providers = parts.providers.held;
   statements = parts.statements.held;
   documents = documents_in parts.documents;
+  courses = parts.learning.courses.held;
+  registrations = parts.learning.registrations.held;
+  launches = parts.learning.launches.held;
+  keys = parts.learning.keys.held;
+  tokens = parts.learning.tokens.held;
   length = parts.length;
   last = parts.last;
 }
 
 -- there is room for each of its changes, and one entry more can be counted
 pub record IsReadyFor (parts : Parts) (effect : Effect) : Type 0 where
-  pub providers : HasRoomForProvider parts.providers effect.providers
+  pub providers : HasRoomToCount (slice_cmp nat_cmp) token_of parts.providers effect.providers
   pub statements : IsIndexReadyFor parts.statements effect.statements
   pub documents : HasRoomForDocuments parts.documents effect.documents
+  pub learning : IsLearningReadyFor parts.learning effect
   pub length : parts.length + 1 < 2 ^ 64
 
 -- ---- places that are made ahead
 
 -- places were made for what an effect brings, and for nothing else
 pub record MakesPlacesFor (old new : Parts) (effect : Effect) : Type 0 where
-  pub providers : MakesProviderPlace old.providers new.providers effect.providers
+  pub providers : MakesPlaceFor (slice_cmp nat_cmp) token_of effect.providers old.providers new.providers
   pub ids : MakesPlaces (slice_cmp nat_cmp) (λ k. is_held k effect.statements) old.statements.ids new.statements.ids
   pub targets : MakesPlaces (slice_cmp nat_cmp) (λ k. is_target k effect.statements) old.statements.targets
       new.statements.targets
   pub documents : docs.MakesPlaces (is_written effect.documents) old.documents new.documents
+  pub learning : MakesLearningPlaces old.learning new.learning effect
 
 -- no part has a place that it hadn't
 pub record AddsNoPlaces (old new : Parts) : Type 0 where
-  pub providers : AddsNoPlace (slice_cmp nat_cmp) old.providers.places new.providers.places
+  pub providers : AddsNone (slice_cmp nat_cmp) old.providers new.providers
   pub ids : AddsNoPlace (slice_cmp nat_cmp) old.statements.ids new.statements.ids
   pub targets : AddsNoPlace (slice_cmp nat_cmp) old.statements.targets new.statements.targets
   pub documents : docs.AddsNoPlace old.documents new.documents
+  pub learning : AddsNoLearningPlaces old.learning new.learning

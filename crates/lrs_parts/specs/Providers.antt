@@ -1,11 +1,11 @@
 -- The providers in the order in which they were made, each with its name and its token.
-use Rattle.std.specs.Prelude.{ℕ, ◌==◌, ◌&&◌, ◌||◌, nat_le, Bool, List, length, position, Option}
+use Rattle.std.specs.Prelude.{ℕ, ◌==◌, ◌&&◌, ◌||◌, nat_le, Bool, List, length, Option}
 use Rattle.std.specs.List.{list_all}
 use Rattle.std.specs.Char.{is_ascii_alphanumeric}
-use Rattle.std.specs.Str.{bytes_eq}
+use Rattle.lrs_parts.specs.Counted.{list_after, place_under}
 use Rattle.lrs_parts.specs.declared.providers.HeldProvider.{HeldProvider}
 use Rattle.lrs_parts.specs.declared.providers.TheConstants.{LONGEST_NAME}
-use Rattle.lrs_register.specs.Changes.{unchanged, with_change}
+use Rattle.lrs_register.specs.Changes.{unchanged}
 use Rattle.lrs_register.specs.declared.change.Change.{Change}
 
 abbrev pub token_of : HeldProvider → List ℕ
@@ -13,7 +13,7 @@ token_of provider = provider.token
 
 -- the place of the first provider with the token
 abbrev pub place_of_token : List ℕ → List HeldProvider → Option ℕ
-place_of_token token providers = position (λ c. bytes_eq c.token token) providers
+place_of_token token providers = place_under token_of token providers
 
 -- ---- what is changed
 
@@ -24,11 +24,8 @@ ProvidersChange = Change HeldProvider
 abbrev pub unchanged_providers : ProvidersChange
 unchanged_providers = unchanged
 
-abbrev pub has_token_of : HeldProvider → HeldProvider → Bool
-has_token_of provider other = bytes_eq provider.token other.token
-
 abbrev pub providers_after : List HeldProvider → ProvidersChange → List HeldProvider
-providers_after providers change = with_change has_token_of providers change
+providers_after providers change = list_after token_of providers change
 
 -- ---- names
 

@@ -1,11 +1,20 @@
 -- What a store holds, in parts, and what an entry changes in them. Each part has its own change and its own step.
 use Rattle.std.specs.Prelude.{ℕ, ◌+◌, ◌&&◌, ◌∷◌, Bool, true, false, not, List, [], Option, None, is_none}
-use Rattle.lrs_parts.specs.Providers.{providers_after, unchanged_providers}
+use Rattle.cmi5_course.specs.Courses.{Course}
+use Rattle.cmi5_course.specs.declared.launch.Launch.{Launch}
+use Rattle.lrs_parts.specs.Courses.{courses_after, unchanged_courses}
 use Rattle.lrs_parts.specs.Founding.{founding_after}
+use Rattle.lrs_parts.specs.Launches.{keys_after, launches_after, session_ids, tokens_after, unchanged_keys}
+use Rattle.lrs_parts.specs.Launches.{unchanged_launches, unchanged_tokens}
+use Rattle.lrs_parts.specs.Providers.{providers_after, unchanged_providers}
+use Rattle.lrs_parts.specs.Registrations.{registration_ids, registrations_after, unchanged_registrations}
+use Rattle.lrs_parts.specs.declared.launches.HeldKey.{HeldKey}
+use Rattle.lrs_parts.specs.declared.launches.HeldToken.{HeldToken}
 use Rattle.lrs_parts.specs.declared.providers.HeldProvider.{HeldProvider}
 use Rattle.lrs_parts.specs.declared.effect.Effect.{Effect}
 use Rattle.lrs_parts.specs.declared.founding.Founding.{Founding}
-use Rattle.lrs_ids.specs.Ids.{Used, those}
+use Rattle.lrs_parts.specs.declared.registrations.HeldRegistration.{HeldRegistration}
+use Rattle.lrs_ids.specs.Ids.{Used, either, those}
 use Rattle.lrs_parts.specs.declared.acceptance.Acceptance.TheVariants.{Plain}
 use Rattle.lrs_register.specs.Changes.{changes}
 use Rattle.xapi_index.specs.Statements.{add_each, ids_of}
@@ -23,13 +32,35 @@ pub record State : Type 0 where
   pub statements : List StoredStatement
   -- the documents in the order of their keys, at most one under a key
   pub documents : Documents
+  -- the courses in the order in which they came, each under an id of its own
+  pub courses : List Course
+  -- the registrations in the order in which they were made, each under an id of its own
+  pub registrations : List HeldRegistration
+  -- the launches in their order, each with a session of its own
+  pub launches : List Launch
+  -- the keys that launches made, each for one token
+  pub keys : List HeldKey
+  -- the tokens that were given away for keys
+  pub tokens : List HeldToken
   -- how many entries there are
   pub length : ℕ
   -- the last entry's moment
   pub last : ℕ
 
 abbrev pub nothing : State
-nothing = record { founding = None; providers = []; statements = []; documents = []; length = 0; last = 0 }
+nothing = record {
+  founding = None;
+  providers = [];
+  statements = [];
+  documents = [];
+  courses = [];
+  registrations = [];
+  launches = [];
+  keys = [];
+  tokens = [];
+  length = 0;
+  last = 0;
+}
 
 -- an entry of this moment that changes no part
 abbrev pub no_change : ℕ → Effect
@@ -38,6 +69,11 @@ no_change moment = record {
   providers = unchanged_providers;
   statements = [];
   documents = Unchanged;
+  courses = unchanged_courses;
+  registrations = unchanged_registrations;
+  launches = unchanged_launches;
+  keys = unchanged_keys;
+  tokens = unchanged_tokens;
   moment = moment;
   acceptance = Plain;
 }
@@ -46,9 +82,16 @@ abbrev pub is_empty : {A : Type 0} → List A → Bool
 is_empty [] = true
 is_empty (x ∷ xs) = false
 
+-- it changes no course, no registration, no launch, no key and no token
+abbrev pub changes_no_course : Effect → Bool
+changes_no_course x =
+    not (changes x.courses) && not (changes x.registrations) && not (changes x.launches) && not (changes x.keys)
+    && not (changes x.tokens)
+
 abbrev pub changes_nothing : Effect → Bool
 changes_nothing x =
     is_none x.founding && not (changes x.providers) && not (changes_documents x.documents) && is_empty x.statements
+    && changes_no_course x
 
 -- Each part takes its own change in.
 abbrev pub apply : State → Effect → State
@@ -57,10 +100,17 @@ apply st x = record {
   providers = providers_after st.providers x.providers;
   statements = add_each st.statements x.statements;
   documents = documents_after st.documents x.documents;
+  courses = courses_after st.courses x.courses;
+  registrations = registrations_after st.registrations x.registrations;
+  launches = launches_after st.launches x.launches;
+  keys = keys_after st.keys x.keys;
+  tokens = tokens_after st.tokens x.tokens;
   length = st.length + 1;
   last = x.moment;
 }
 
--- the ids that are used: those of the statements
+-- the ids that are used: those of the statements, of the registrations, and of the sessions of launches
 abbrev pub used_in : State → Used
-used_in st = those (ids_of st.statements)
+used_in st =
+    either (those (ids_of st.statements))
+    (either (those (registration_ids st.registrations)) (those (session_ids st.launches)))

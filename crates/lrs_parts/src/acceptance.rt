@@ -1,3 +1,4 @@
+use cmi5_course::Method;
 use lrs_json::{Items, Text};
 use lrs_names::Id;
 
@@ -9,5 +10,24 @@ pub enum Acceptance {
     /// The ids under which its own statements go.
     Ids(Items<Id>),
     /// The place of the provider that it makes, and its token.
-    Provider { place: usize, token: Text },
+    Provider {
+        place: usize,
+        token: Text,
+    },
+    /// The id of the course that stands.
+    Course(Text),
+    /// The id of the registration that it makes.
+    Registration(Id),
+    /// The session of the launch that it makes, how its unit wants to be shown, and where its content is opened.
+    Launch {
+        session: Id,
+        method: Method,
+        url: Text,
+    },
+    /// The token that it gives away.
+    Token(Text),
+    /// That no token is given away any more, because it was once.
+    KeyUsed,
+    /// That no token is given away any more, because the session is closed.
+    SessionClosed,
 }

@@ -1,7 +1,10 @@
 ghost use Rattle.std.specs.Prelude.{◌≡◌};
-ghost use Rattle.lrs_parts.specs.State.{changes_nothing, no_change};
+ghost use Rattle.lrs_parts.specs.State.{changes_no_course, changes_nothing, no_change};
 
-use crate::{Acceptance, Founding, ProvidersChange};
+use crate::{
+    Acceptance, CoursesChange, Founding, KeysChange, LaunchesChange, ProvidersChange,
+    RegistrationsChange, TokensChange,
+};
 use lrs_json::Items;
 use lrs_time::Moment;
 use std::alloc::Global;
@@ -15,6 +18,11 @@ pub struct Effect {
     pub providers: ProvidersChange,
     pub statements: Items<StoredStatement>,
     pub documents: DocumentsChange,
+    pub courses: CoursesChange,
+    pub registrations: RegistrationsChange,
+    pub launches: LaunchesChange,
+    pub keys: KeysChange,
+    pub tokens: TokensChange,
     pub moment: Moment,
     pub acceptance: Acceptance,
 }
@@ -29,6 +37,11 @@ impl Effect {
             providers: ProvidersChange::none(),
             statements: Items::new(alloc),
             documents: DocumentsChange::Unchanged,
+            courses: CoursesChange::none(),
+            registrations: RegistrationsChange::none(),
+            launches: LaunchesChange::none(),
+            keys: KeysChange::none(),
+            tokens: TokensChange::none(),
             moment,
             acceptance: Acceptance::Plain,
         }
@@ -42,5 +55,17 @@ impl Effect {
             && !self.providers.changes()
             && !self.documents.changes()
             && self.statements.is_empty()
+            && self.changes_no_course()
+    }
+
+    // Whether no course, no registration, no launch, no key and no token is changed.
+    fn changes_no_course(&self) -> bool
+        ensures { result ≡ changes_no_course self.now }
+    {
+        !self.courses.changes()
+            && !self.registrations.changes()
+            && !self.launches.changes()
+            && !self.keys.changes()
+            && !self.tokens.changes()
     }
 }

@@ -15,7 +15,7 @@ pub struct Founding {
     /// The token of its first admin.
     pub admin: Text,
     /// The address under which it is reached, with which its own names begin.
-    pub base: Text,
+    pub base: Iri,
 }
 
 /// Whether the token is the one that the store was founded with.

@@ -5,7 +5,7 @@ ghost use Rattle.lrs_parts.specs.Parts.{state_of, AddsNoPlaces, IsReadyFor, Make
 ghost use Rattle.lrs_parts.specs.State.{apply, nothing};
 ghost use Rattle.lrs_parts.specs.declared.parts.Parts.{Parts as SpecParts};
 
-use crate::{Effect, Founding, Providers};
+use crate::{Effect, Founding, Learning, Providers};
 use lrs_ids::UsedIds;
 use lrs_json::Memory;
 use lrs_names::Id;
@@ -21,6 +21,7 @@ pub struct Parts {
     pub providers: Providers,
     pub statements: Index,
     pub documents: Docs,
+    pub learning: Learning,
     /// How many entries there are.
     pub length: u64,
     /// The last entry's moment.
@@ -37,6 +38,7 @@ impl Parts {
             providers: Providers::new(alloc),
             statements: Index::new(alloc),
             documents: Docs::new(alloc),
+            learning: Learning::new(alloc),
             length: 0,
             last: Moment::clamp(0),
         }
@@ -53,7 +55,8 @@ impl Parts {
         }
         self.providers.ready(&effect.providers)?;
         self.statements.ready(effect.statements.as_slice())?;
-        self.documents.ready_change(&effect.documents)
+        self.documents.ready_change(&effect.documents)?;
+        self.learning.ready(effect)
     }
 
     /// Takes back the places that were made for an effect which doesn't come: then there are none but those before.
@@ -65,6 +68,7 @@ impl Parts {
         self.providers.release(&effect.providers);
         self.statements.release(effect.statements.as_slice());
         self.documents.release_change(&effect.documents);
+        self.learning.release(effect);
     }
 
     /// Takes an effect in for which there is room. It takes no memory.
@@ -77,6 +81,11 @@ impl Parts {
             providers,
             statements,
             documents,
+            courses,
+            registrations,
+            launches,
+            keys,
+            tokens,
             moment,
             acceptance: _,
         } = effect;
@@ -84,12 +93,17 @@ impl Parts {
         self.providers.install(providers);
         self.statements.install(statements.into_vec());
         self.documents.install_change(documents);
+        self.learning.courses.install(courses);
+        self.learning.registrations.install(registrations);
+        self.learning.launches.install(launches);
+        self.learning.keys.install(keys);
+        self.learning.tokens.install(tokens);
         self.length += 1;
         self.last = moment;
     }
 }
 
-// The ids of the statements are used.
+// The ids of the statements and of the registrations are used, and those of the sessions of launches.
 impl UsedIds for Parts {
     ghost use Rattle.lrs_parts.specs.Parts.{state_of};
     ghost use Rattle.lrs_parts.specs.State.{used_in};
@@ -98,10 +112,14 @@ impl UsedIds for Parts {
 
     fn is_used(&self, id: &Id) -> bool {
         self.statements.is_used(id)
+            || self.learning.registrations.is_used(id)
+            || self.learning.launches.is_used(id)
     }
 
     fn count(&self) -> u128 {
-        self.statements.count()
+        self.statements.len() as u128
+            + self.learning.registrations.len() as u128
+            + self.learning.launches.len() as u128
     }
 }
 

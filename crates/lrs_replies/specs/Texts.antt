@@ -1,6 +1,8 @@
 -- The texts that the store makes: tokens, and the bodies of its answers.
 use Rattle.std.specs.Prelude.{ℕ, List, [], ◌∷◌, ◌++◌, map, Bool, true, false, codes}
 use Rattle.std.specs.Fmt.{decimal}
+use Rattle.cmi5_course.specs.Words.{method_text}
+use Rattle.cmi5_course.specs.declared.unit.Method.{Method}
 use Rattle.lrs_json.specs.Json.{array, string}
 use Rattle.lrs_json.specs.View.{elements_of}
 use Rattle.lrs_json.specs.Written.{comma_if, written}
@@ -31,3 +33,40 @@ ids_body ids = codes "[" ++ ids_text false ids
 -- the state ids of documents, each as a string of JSON
 abbrev pub states_body : List (List ℕ) → List ℕ
 states_body states = written (array (elements_of (map string states)))
+
+-- ---- the desk
+
+-- {"course":"ID"}
+abbrev pub course_body : List ℕ → List ℕ
+course_body id = codes "{\"course\":" ++ written (string id) ++ codes "}"
+
+-- {"registration":"R"}
+abbrev pub registration_body : List ℕ → List ℕ
+registration_body id = codes "{\"registration\":\"" ++ id_text id ++ codes "\"}"
+
+-- how a unit wants to be shown
+abbrev pub opened_in : Method → List ℕ
+opened_in method = codes "\",\"launchMethod\":\"" ++ method_text method
+
+-- the address to go to
+abbrev pub opened_at : List ℕ → List ℕ
+opened_at url = codes "\",\"url\":" ++ written (string url) ++ codes "}"
+
+-- both, behind the text of an id
+abbrev pub opening_text : Method → List ℕ → List ℕ
+opening_text method url = opened_in method ++ opened_at url
+
+-- {"session":"S","launchMethod":"M","url":"U"}
+abbrev pub launch_body : List ℕ → Method → List ℕ → List ℕ
+launch_body session method url = codes "{\"session\":\"" ++ id_text session ++ opening_text method url
+
+-- {"auth-token":"T"}: the token of a session (cmi5 Quartz, section 8.2.2)
+abbrev pub session_token_body : List ℕ → List ℕ
+session_token_body token = codes "{\"auth-token\":\"" ++ token ++ codes "\"}"
+
+-- why no token is given away (cmi5 Quartz, section 8.2.3): the key was used, or its session is closed
+abbrev pub key_used_body : List ℕ
+key_used_body = codes "{\"error-code\":\"1\",\"error-text\":\"The fetch key was used.\"}"
+
+abbrev pub session_closed_body : List ℕ
+session_closed_body = codes "{\"error-code\":\"2\",\"error-text\":\"The session is closed.\"}"

@@ -26,10 +26,12 @@ pub enum Answered {
 }
 
 /// Why a command is refused.
-#[derive(Clone, Copy, PartialEq, Eq)]
+#[derive(Drop)]
 pub enum Refusal {
     /// Another statement is held under that id.
     Conflict(Id),
+    /// Another course is held under that id, an IRI.
+    CourseConflict(Text),
     /// The journal's file would have more bytes than it may.
     Full { need: u64, limit: u64 },
     /// Its form breaks this rule.

@@ -4,14 +4,17 @@ ghost use Rattle.lrs_json.specs.Written.{comma_if};
 ghost use Rattle.lrs_names.specs.Ids.{id_text};
 ghost use Rattle.lrs_record.specs.Entries.{word_text};
 ghost use Rattle.lrs_replies.specs.Texts.{token_text, provider_body, ids_body, states_body, versions_body};
+ghost use Rattle.lrs_replies.specs.Texts.{course_body, key_used_body, launch_body, opened_at, opened_in, opening_text, registration_body, session_closed_body, session_token_body};
 
+use cmi5_course::Method;
 use lrs_json::appending::{put_comma, put_quoted};
 use lrs_json::{Memory, Text, utf8_text};
 use lrs_names::Id;
 use lrs_record::put_word;
 use std::alloc::Global;
 
-/// The token of a provider whose entry stands at that place and was drawn with that secret.
+/// The token, or the fetch key, that an entry gives away. The entry stands at that place and was
+/// drawn with that secret.
 pub fn token_text(alloc: Global, place: u64, secret: u128) -> Result<Text, Memory>
     ensures { IfOk result (λ token. token ≡ token_text place secret) }
 {
@@ -87,4 +90,88 @@ pub fn states_text(alloc: Global, states: &[Text]) -> Result<Vec<u8>, Memory>
     }
     body.push(b']')?;
     Ok(body)
+}
+
+/// The body that tells the id of a course, an IRI.
+pub fn course_text(alloc: Global, id: &Text) -> Result<Vec<u8>, Memory>
+    ensures { IfOk result (λ body. body.items ≡ course_body id.now) }
+{
+    let mut body = b"{\"course\":".to_vec(alloc)?;
+    put_quoted(id.as_str(), &mut body)?;
+    body.push(b'}')?;
+    Ok(body)
+}
+
+/// The body that tells the id of a registration.
+pub fn registration_text(alloc: Global, id: &Id) -> Result<Vec<u8>, Memory>
+    ensures { IfOk result (λ body. body.items ≡ registration_body id.now) }
+{
+    let mut body = b"{\"registration\":\"".to_vec(alloc)?;
+    body.extend_from_slice(&id.text())?;
+    body.extend_from_slice(b"\"}")?;
+    Ok(body)
+}
+
+/// The body that tells of a launch its session, how its unit wants to be shown, and the address to go to.
+pub fn launch_text(
+    alloc: Global,
+    session: &Id,
+    method: Method,
+    url: &Text,
+) -> Result<Vec<u8>, Memory>
+    ensures { IfOk result (λ body. body.items ≡ launch_body session.now method url.now) }
+{
+    let mut body = b"{\"session\":\"".to_vec(alloc)?;
+    body.extend_from_slice(&session.text())?;
+    put_opening(method, url, &mut body)?;
+    Ok(body)
+}
+
+// The rest of the object, behind the session's id.
+fn put_opening(method: Method, url: &Text, body: &mut Vec<u8>) -> Result<(), Memory>
+    ensures { OnOk result (body.new.items ≡ body.old.items ++ opening_text method url.now) }
+{
+    put_method(method, body)?;
+    put_address(url, body)
+}
+
+fn put_method(method: Method, body: &mut Vec<u8>) -> Result<(), Memory>
+    ensures { OnOk result (body.new.items ≡ body.old.items ++ opened_in method) }
+{
+    body.extend_from_slice(b"\",\"launchMethod\":\"")?;
+    body.extend_from_slice(method.text().as_bytes())?;
+    Ok(())
+}
+
+fn put_address(url: &Text, body: &mut Vec<u8>) -> Result<(), Memory>
+    ensures { OnOk result (body.new.items ≡ body.old.items ++ opened_at url.now) }
+{
+    body.extend_from_slice(b"\",\"url\":")?;
+    put_quoted(url.as_str(), body)?;
+    body.push(b'}')?;
+    Ok(())
+}
+
+/// The body that gives the token of a session away (cmi5 Quartz, section 8.2.2).
+pub fn session_token_text(alloc: Global, token: &Text) -> Result<Vec<u8>, Memory>
+    ensures { IfOk result (λ body. body.items ≡ session_token_body token.now) }
+{
+    let mut body = b"{\"auth-token\":\"".to_vec(alloc)?;
+    body.extend_from_slice(token.as_bytes())?;
+    body.extend_from_slice(b"\"}")?;
+    Ok(body)
+}
+
+/// The body that tells that a fetch key was used (cmi5 Quartz, section 8.2.3).
+pub fn key_used_text(alloc: Global) -> Result<Vec<u8>, Memory>
+    ensures { IfOk result (λ body. body.items ≡ key_used_body) }
+{
+    Ok(b"{\"error-code\":\"1\",\"error-text\":\"The fetch key was used.\"}".to_vec(alloc)?)
+}
+
+/// The body that tells that the session of a fetch key is closed (cmi5 Quartz, section 8.2.3).
+pub fn session_closed_text(alloc: Global) -> Result<Vec<u8>, Memory>
+    ensures { IfOk result (λ body. body.items ≡ session_closed_body) }
+{
+    Ok(b"{\"error-code\":\"2\",\"error-text\":\"The session is closed.\"}".to_vec(alloc)?)
 }

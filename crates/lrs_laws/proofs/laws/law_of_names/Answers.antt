@@ -1,8 +1,9 @@
 use Rattle.xapi_alike.proofs.Laws.{same_is_sameness}
 use Rattle.lrs_history.proofs.Strangers.{told_barred}
 use Rattle.lrs_laws.proofs.Again.{batch_conflicts_are_told, conflicts_are_told, repeated_batches_are_taken, repeats_are_taken}
+use Rattle.lrs_laws.proofs.CourseLaws.{courses_name_one}
 use Rattle.lrs_laws.proofs.Keepers.{names_for_good, names_one, stays_voided}
-use Rattle.lrs_laws.proofs.NewIds.{made_ids_are_new}
+use Rattle.lrs_laws.proofs.NewIds.{desk_ids_are_new, made_ids_are_new}
 use Rattle.lrs_laws.proofs.WholeBatches.{batches_are_whole, callers_have_authority, puts_are_held}
 use Rattle.lrs_laws.proofs.laws.law_of_names.Goals as goal
 
@@ -14,6 +15,9 @@ returns-clause-strangers c = told_barred
 
 pub returns-clause-one : goal.returns-clause-one
 returns-clause-one c = names_one
+
+pub returns-clause-courses : goal.returns-clause-courses
+returns-clause-courses c = courses_name_one
 
 pub returns-clause-good : goal.returns-clause-good
 returns-clause-good c = names_for_good
@@ -35,6 +39,9 @@ returns-clause-batch_conflicts c = batch_conflicts_are_told
 
 pub returns-clause-made : goal.returns-clause-made
 returns-clause-made c = made_ids_are_new
+
+pub returns-clause-desk : goal.returns-clause-desk
+returns-clause-desk c = desk_ids_are_new
 
 pub returns-clause-held : goal.returns-clause-held
 returns-clause-held c = puts_are_held same_is_sameness

@@ -3,24 +3,12 @@ use Rattle.std.specs.Cmp.Lexicographic.{slice_cmp}
 use Rattle.std.specs.Ordering.{nat_cmp}
 use Rattle.lrs_register.specs.Places.{TakesPlacesBack}
 use Rattle.lrs_register.proofs.Ahead.{made_and_back}
-use Rattle.lrs_register.specs.Register.{is_key_of}
+use Rattle.lrs_parts.proofs.Ahead.{back, learning_back}
 use Rattle.lrs_parts.specs.Providers.{token_of}
 use Rattle.xapi_docs.specs.Docs.{is_written}
 use Rattle.xapi_docs.proofs.Back.{made_and_back as docs_made_and_back}
 use Rattle.xapi_index.specs.Statements.{is_held, is_target}
 use Rattle.lrs_parts.proofs.parts.Parts.release.Goals as goal
-
-pub returns-clause-same : goal.returns-clause-same
-returns-clause-same c =
-    let old = c.args.self.now in
-    λ i. record {
-      founding = old.founding;
-      providers = c.release.ensures.held i;
-      statements = c.release-2.ensures.held i;
-      documents = c.release_change.ensures.held i;
-      length = old.length;
-      last = old.last;
-    }
 
 pub returns-clause-undone : goal.returns-clause-undone
 returns-clause-undone c = λ before made.
@@ -28,10 +16,11 @@ returns-clause-undone c = λ before made.
     let old = c.args.self.now in
     let new = c.release-2.new.self in
     record {
-      providers = made_and_back (slice_cmp nat_cmp) (λ k. is_key_of (slice_cmp nat_cmp) token_of x.providers.new k) before.providers.places old.providers.places c.release.new.self.places made.providers c.release.ensures.back;
+      providers = back token_of x.providers before.providers old.providers c.release.new.self made.providers c.release.ensures.back;
       ids = made_and_back (slice_cmp nat_cmp) (λ k. is_held k x.statements) before.statements.ids old.statements.ids new.ids made.ids
           (subst (λ xs. TakesPlacesBack (slice_cmp nat_cmp) (λ k. is_held k xs) old.statements.ids new.ids) c.as_slice.ensures c.release-2.ensures.ids);
       targets = made_and_back (slice_cmp nat_cmp) (λ k. is_target k x.statements) before.statements.targets old.statements.targets new.targets made.targets
           (subst (λ xs. TakesPlacesBack (slice_cmp nat_cmp) (λ k. is_target k xs) old.statements.targets new.targets) c.as_slice.ensures c.release-2.ensures.targets);
       documents = docs_made_and_back (is_written x.documents) before.documents old.documents c.release_change.new.self made.documents c.release_change.ensures;
+      learning = learning_back before.learning old.learning c.release-3.new.self x made.learning c.release-3.ensures.back;
     }

@@ -1,0 +1,19 @@
+use Rattle.lrs_ids.specs.Ids.{either, those}
+use Rattle.lrs_parts.proofs.Counting.{either_counted, those_counted}
+use Rattle.lrs_parts.specs.Launches.{session_ids}
+use Rattle.lrs_parts.specs.Registrations.{registration_ids}
+use Rattle.xapi_index.specs.Statements.{ids_of}
+use Rattle.std.proofs.Common.{arith}
+use Rattle.lrs_parts.proofs.parts.PartsUsedIds.count.Goals as goal
+
+pub returns-clause-counted : goal.returns-clause-counted
+returns-clause-counted c =
+    let parts = c.args.self.now in
+    let statements = ids_of parts.statements.held in
+    let registrations = registration_ids parts.learning.registrations.held in
+    let sessions = session_ids parts.learning.launches.held in
+    either_counted (those statements) (either (those registrations) (those sessions)) (those_counted statements)
+    (either_counted (those registrations) (those sessions) (those_counted registrations) (those_counted sessions))
+
+pub returns-clause-few : goal.returns-clause-few
+returns-clause-few c = omega arith

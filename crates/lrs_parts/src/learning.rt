@@ -1,0 +1,61 @@
+// Courses and their learners.
+ghost use Rattle.std.specs.Prelude.{◌≡◌, [], OnOk};
+ghost use Rattle.lrs_parts.specs.Learning.{IsLearningReadyFor, KeepsLearning, MakesLearningPlaces};
+ghost use Rattle.lrs_parts.specs.Learning.{TakesLearningPlacesBack};
+
+use crate::{Courses, Effect, Keys, Launches, Registrations, Tokens};
+use lrs_json::Memory;
+use std::alloc::Global;
+
+/// What a store holds of courses and of their learners.
+#[derive(Drop)]
+pub struct Learning {
+    pub courses: Courses,
+    pub registrations: Registrations,
+    pub launches: Launches,
+    pub keys: Keys,
+    pub tokens: Tokens,
+}
+
+impl Learning {
+    pub(crate) fn new(alloc: Global) -> Learning
+        ensures courses { result.courses.held ≡ [] }
+        ensures registrations { result.registrations.held ≡ [] }
+        ensures launches { result.launches.held ≡ [] }
+        ensures keys { result.keys.held ≡ [] }
+        ensures tokens { result.tokens.held ≡ [] }
+    {
+        Learning {
+            courses: Courses::new(alloc),
+            registrations: Registrations::new(alloc),
+            launches: Launches::new(alloc),
+            keys: Keys::new(alloc),
+            tokens: Tokens::new(alloc),
+        }
+    }
+
+    // Makes room for an effect in each of its registers.
+    pub(crate) fn ready(&mut self, effect: &Effect) -> Result<(), Memory>
+        ensures same { KeepsLearning self.old self.new }
+        ensures ready { OnOk result (IsLearningReadyFor self.new effect.now) }
+        ensures made { MakesLearningPlaces self.old self.new effect.now }
+    {
+        self.courses.ready(&effect.courses)?;
+        self.registrations.ready(&effect.registrations)?;
+        self.launches.ready(&effect.launches)?;
+        self.keys.ready(&effect.keys)?;
+        self.tokens.ready(&effect.tokens)
+    }
+
+    // Takes back the places that were made for an effect which doesn't come.
+    pub(crate) fn release(&mut self, effect: &Effect)
+        ensures same { KeepsLearning self.old self.new }
+        ensures back { TakesLearningPlacesBack self.old self.new effect.now }
+    {
+        self.courses.release(&effect.courses);
+        self.registrations.release(&effect.registrations);
+        self.launches.release(&effect.launches);
+        self.keys.release(&effect.keys);
+        self.tokens.release(&effect.tokens);
+    }
+}
