@@ -65,6 +65,10 @@ has_found (r ∷ ks) t k is = by_test (bytes_eq (row_of r).pattern t) refl is (�
 -- each route is in the table, wherever it stands there
 in_table : (k : Route) → Has patterns (row_of k).pattern k
 in_table route.Providers = has_found routes (row_of route.Providers).pattern route.Providers refl
+in_table route.Courses = has_found routes (row_of route.Courses).pattern route.Courses refl
+in_table route.Launches = has_found routes (row_of route.Launches).pattern route.Launches refl
+in_table route.Registrations = has_found routes (row_of route.Registrations).pattern route.Registrations refl
+in_table route.Fetch = has_found routes (row_of route.Fetch).pattern route.Fetch refl
 in_table route.About = has_found routes (row_of route.About).pattern route.About refl
 in_table route.ActivityProfiles = has_found routes (row_of route.ActivityProfiles).pattern route.ActivityProfiles refl
 in_table route.States = has_found routes (row_of route.States).pattern route.States refl
@@ -93,6 +97,10 @@ neat_from (x ∷ t) e =
 
 neat_route : (k : Route) → Neat (row_of k).pattern
 neat_route route.Providers = neat_from (row_of route.Providers).pattern refl
+neat_route route.Courses = neat_from (row_of route.Courses).pattern refl
+neat_route route.Launches = neat_from (row_of route.Launches).pattern refl
+neat_route route.Registrations = neat_from (row_of route.Registrations).pattern refl
+neat_route route.Fetch = neat_from (row_of route.Fetch).pattern refl
 neat_route route.About = neat_from (row_of route.About).pattern refl
 neat_route route.ActivityProfiles = neat_from (row_of route.ActivityProfiles).pattern refl
 neat_route route.States = neat_from (row_of route.States).pattern refl

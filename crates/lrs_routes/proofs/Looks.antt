@@ -1,5 +1,5 @@
 -- What a look at parameters, and at a body, finds.
-use Rattle.std.proofs.Common.{◌≡◌, ℕ, List, Option, Some, None, refl, sym, ◌∙◌, subst, IsErrAnd}
+use Rattle.std.proofs.Common.{◌≡◌, ℕ, List, Option, Some, None, refl, sym, ap, ◌∙◌, subst, IsErrAnd}
 use Rattle.std.specs.Prelude.{Result, Ok, Err}
 use Rattle.lrs_rules.specs.declared.rule.Rule.{Rule}
 use Rattle.xapi_parameters.specs.Pairs.{AreTexts}
@@ -7,7 +7,9 @@ use Rattle.xapi_parameters.specs.declared.pair.Pair.{Pair}
 use Rattle.xapi_parameters.specs.declared.refused.QueryRefused.{QueryRefused}
 use Rattle.xapi_parameters.specs.declared.refused.QueryRefused.TheVariants.{BadLink, BadParameter, Memory}
 use Rattle.lrs_routes.specs.FormRefused.{refused_of_query}
-use Rattle.lrs_routes.specs.Looks.{Finds, OnlyDecoded}
+use Rattle.lrs_routes.specs.Looks.{Finds, IsInParameters, OnlyDecoded}
+use Rattle.lrs_routes.specs.Operations.{ParameterForm}
+use Rattle.lrs_routes.specs.declared.values.ParameterValue.{ParameterValue}
 use Rattle.lrs_routes.specs.declared.form_refused.FormRefused.{FormRefused}
 use Rattle.lrs_routes.specs.declared.form_refused.FormRefused.TheVariants as form_refused
 use Rattle.lrs_routes.proofs.Stages.{decoded_found, decoded_none}
@@ -27,6 +29,11 @@ refused_at own pairs IsValue (BadParameter number) texts broken bad = (decoded_f
 refused_at own pairs IsValue BadLink texts broken bad = (decoded_found own pairs texts 14 (bad refl), refl)
 refused_at own pairs IsValue Memory texts broken bad = tt
 
+-- a value that is read of them
+pub value_passed : {T : Type 0} (own : Own) (Is : List Pair → T → Type 0) (form : ParameterForm) (value : ParameterValue) (now pairs : List Pair) (t : T) → now ≡ pairs → AreTexts pairs
+    → own None now × Is now t → (Is pairs t → IsInParameters form pairs value) → OnlyDecoded own pairs None × IsInParameters form pairs value
+value_passed own Is form value now pairs t same texts found made = (decoded_passed own now pairs same texts found.0, made (subst (λ (ps : List Pair). Is ps t) same found.1))
+
 pub decoded_refused : {T : Type 0} (own : Own) (now pairs : List Pair) (IsValue : T → Type 0) (refused : QueryRefused) (given : FormRefused) → now ≡ pairs → AreTexts pairs
     → ((number : ℕ) → refused ≡ BadParameter number → own (Some number) now) → (refused ≡ BadLink → own (Some 14) now) → given ≡ refused_of_query refused
     → Finds (OnlyDecoded own pairs) IsValue (Err given)
@@ -34,6 +41,13 @@ decoded_refused own now pairs IsValue refused given same texts broken bad is =
     let found = refused_at own pairs IsValue refused texts (λ number e. subst (λ (ps : List Pair). own (Some number) ps) same (broken number e))
     (λ e. subst (λ (ps : List Pair). own (Some 14) ps) same (bad e)) in
     subst (λ (f : FormRefused). Finds (OnlyDecoded own pairs) IsValue (Err f)) (sym is) found
+
+-- a refusal that is never that of a link
+pub value_refused : {S T : Type 0} (own : Own) (now pairs : List Pair) (IsValue : T → Type 0) (refused : QueryRefused) (given : FormRefused) → now ≡ pairs → AreTexts pairs
+    → ((number : ℕ) → ◌≡◌ {A = Result S QueryRefused} (Err refused) (Err (BadParameter number)) → own (Some number) now) → (◌≡◌ {A = Result S QueryRefused} (Err refused) (Err BadLink) → ⊥)
+    → given ≡ refused_of_query refused → Finds (OnlyDecoded own pairs) IsValue (Err given)
+value_refused own now pairs IsValue refused given same texts broken plain is =
+    decoded_refused own now pairs IsValue refused given same texts (λ number e. broken number (ap Err e)) (λ e. absurd (plain (ap Err e))) is
 
 -- where the refusal names one rule, it names no other, and no link
 pub one_broken : (own : Own) (now : List Pair) (rule : ℕ) (refused : QueryRefused) → refused ≡ BadParameter rule → own (Some rule) now

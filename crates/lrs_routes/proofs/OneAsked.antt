@@ -15,6 +15,7 @@ use Rattle.lrs_json.proofs.Back.{same_tree}
 use Rattle.lrs_json.specs.declared.limits.TheConstants.{DEPTH}
 use Rattle.lrs_json_reader.proofs.Scan.{shallow-scan}
 use Rattle.lrs_names.specs.Members.{text_under}
+use Rattle.lrs_names.specs.Rules.{least}
 use Rattle.lrs_rules.specs.Rules.{BreaksJson}
 use Rattle.lrs_command.specs.declared.command.Command.{Command}
 use Rattle.lrs_command.specs.declared.command.Command.TheVariants as command
@@ -29,15 +30,19 @@ use Rattle.xapi_parameters.proofs.LinkAlone.{links_alone}
 use Rattle.lrs_routes.specs.Asked.{Agree, IsAsked}
 use Rattle.lrs_rules.specs.declared.rule.Rule.TheVariants as rule
 use Rattle.lrs_routes.specs.Fields.{allows_json}
-use Rattle.lrs_routes.specs.Forms.{AreStrings, BodyBreaks, FirstBroken, Decoded, IsCommand, LeastOfNone, Means, ParametersBreak, Spelled, StatementBody, Tested, first_unlike, has_just, parameters_of}
-use Rattle.lrs_routes.specs.Operations.{BodyForm, any_body, statement_body, statements_body, document_body, strings_body, ParameterForm, any_parameters, no_parameters, parameters_of_get, parameters_of_link, parameters_of_put, parameters_of_document, parameters_of_documents, parameters_of_drop, IsBodyValue, IsParameterValue, batch_of, command_of, form_of, names_of}
+use Rattle.lrs_routes.specs.Forms.{AreStrings, BodyBreaks, FirstBroken, Decoded, IsCommand, IsLeastOf, IsUnbroken, LeastOfNone, Means, ParametersBreak, Spelled, StatementBody, Tested, first_unlike, has_just, nowhere, parameters_of}
+use Rattle.lrs_routes.specs.Operations.{BodyForm, any_body, statement_body, statements_body, document_body, strings_body, course_body, enrolment_body, launch_body, ParameterForm, any_parameters, no_parameters, parameters_of_get, parameters_of_link, parameters_of_put, parameters_of_document, parameters_of_documents, parameters_of_drop, IsBodyValue, IsParameterValue, batch_of, command_of, form_of, names_of}
 use Rattle.lrs_routes.specs.declared.asked.Asked.{Asked}
 use Rattle.lrs_routes.specs.declared.asked.RouteRefused.{RouteRefused}
 use Rattle.lrs_routes.specs.declared.operation.Operation.{Operation}
 use Rattle.lrs_routes.specs.declared.values.BodyValue.{BodyValue}
 use Rattle.lrs_routes.specs.declared.values.BodyValue.TheVariants as body
+use Rattle.lrs_routes.specs.DeskBodies.{IsEnrolmentIn, IsLaunchIn, enrolment_faults, launch_faults}
+use Rattle.lrs_routes.specs.Parts.{part_of}
 use Rattle.lrs_routes.specs.declared.values.ParameterValue.{ParameterValue}
 use Rattle.lrs_routes.specs.declared.values.ParameterValue.TheVariants as parameter
+use Rattle.lrs_routes.specs.declared.values.PartValue.{PartValue}
+use Rattle.lrs_routes.proofs.DeskBodies.{one_enrolment, one_launch}
 use Rattle.lrs_routes.proofs.Alone.{asked_alone, refused_alone}
 use Rattle.lrs_routes.proofs.Batches.{same_trees}
 use Rattle.lrs_routes.proofs.OneDocument.{one_dropped, one_key, one_wanted}
@@ -188,6 +193,10 @@ strings_once members j a b h k =
     let unlike : Broken = option_map (λ number. rule.B number) (first_unlike members j) in
     tested_once (has_just (names_of members) j) (rule.B 1) (λ x. x ≡ unlike) a b (both a b unlike) h k
 
+least_once : OneJson → (faults : Json → List ℕ) (bytes : List ℕ) (a b : Broken) → Spelled bytes a (λ j. IsLeastOf (faults j) a) → Spelled bytes b (λ j. IsLeastOf (faults j) b) → a ≡ b
+least_once one faults bytes a b h k =
+    spelled_once one bytes (λ j x. IsLeastOf (faults j) x) a b (λ j. both a b (option_map (λ number. rule.B number) (least (faults j)))) h k
+
 -- the body tells one rule
 body_once : OneJson → (form : BodyForm) (request : Request) (a b : Broken) → BodyBreaks form request a → BodyBreaks form request b → a ≡ b
 body_once one any_body request a b h k = both a b None h k
@@ -196,6 +205,9 @@ body_once one statements_body request a b h k = statement_once one request a b h
 body_once one document_body request a b h k = both a b None h k
 body_once one (strings_body members) request a b h k =
     spelled_once one request.body (λ j x. AreStrings members j x) a b (λ j. strings_once members j a b) h k
+body_once one course_body request a b h k = spelled_once one request.body (λ _ x. x ≡ None) a b (λ _. both a b None) h k
+body_once one enrolment_body request a b h k = least_once one enrolment_faults request.body a b h k
+body_once one launch_body request a b h k = least_once one launch_faults request.body a b h k
 
 -- the parameters tell one rule, where what follows does
 parameters_once : (form : ParameterForm) (pairs : List Pair) (next : Broken → Type 0) (a b : Broken) → (next a → next b → a ≡ b)
@@ -253,19 +265,31 @@ body_value_once one (strings_body members) request a b h k =
     let values : h.1 ≡ k.1 = one_value one request.body h.1 k.1 h.2 k.2 in
     let texts : h.0 ≡ k.0 = some_texts h.0 k.0 (sym h.3 ∙ ap (λ (j : Json). map (λ member. text_under member.0 j) members) values ∙ k.3) in
     h.4 ∙ ap body.Strings texts ∙ sym k.4
+body_value_once one course_body request a b h k =
+    let trees : h.0 ≡ k.0 = same_tree h.0 k.0 (one_value one request.body (view h.0) (view k.0) h.1 k.1) in
+    h.2 ∙ ap body.Course trees ∙ sym k.2
+body_value_once one enrolment_body request a b h k =
+    one_enrolment k.0 a b (subst (λ (j : Json). IsEnrolmentIn j a) (one_value one request.body h.0 k.0 h.1 k.1) h.2) k.2
+body_value_once one launch_body request a b h k =
+    one_launch k.0 a b (subst (λ (j : Json). IsLaunchIn j a) (one_value one request.body h.0 k.0 h.1 k.1) h.2) k.2
 
 -- what a form means that breaks no rule
-means_once : OneJson → (o : Operation) (request : Request) (c d : Command) → FirstBroken o request None → Means o request c → Means o request d → c ≡ d
-means_once one o request c d unbroken h k =
+means_once : OneJson → (o : Operation) (request : Request) (p : PartValue) (c d : Command) → FirstBroken o request None → Means o request p c → Means o request p d → c ≡ d
+means_once one o request p c d unbroken h k =
     let pairs = parameters_of request.query in
     let queries : h.0 ≡ k.0 = parameter_value_once (form_of o).parameters pairs (BodyBreaks (form_of o).body request None) h.0 k.0 unbroken h.2 k.2 in
     let bodies : h.1 ≡ k.1 = body_value_once one (form_of o).body request h.1 k.1 h.3 k.3 in
-    let commands : command_of o h.0 h.1 ≡ command_of o k.0 k.1 = λ i. command_of o (queries i) (bodies i) in
+    let commands : command_of o h.0 p h.1 ≡ command_of o k.0 p k.1 = λ i. command_of o (queries i) p (bodies i) in
     some_same c d (sym h.4 ∙ commands ∙ k.4)
 
+unbroken_once : OneJson → (area : Area) (o : Operation) (request : Request) (c d : Command) (p : Option PartValue) → FirstBroken o request None
+    → MatchOption p (c ≡ nowhere area) (λ there. Means o request there c) → MatchOption p (d ≡ nowhere area) (λ there. Means o request there d) → c ≡ d
+unbroken_once one area o request c d None first h k = h ∙ sym k
+unbroken_once one area o request c d (Some p) first h k = means_once one o request p c d first h k
+
 command_at : OneJson → (area : Area) (o : Operation) (request : Request) (c d : Command) (a b : Broken) → a ≡ b → FirstBroken o request a
-    → MatchOption a (Means o request c) (λ r. c ≡ command.Refused area 400 r) → MatchOption b (Means o request d) (λ r. d ≡ command.Refused area 400 r) → c ≡ d
-command_at one area o request c d None None e first h k = means_once one o request c d first h k
+    → MatchOption a (IsUnbroken area o request c) (λ r. c ≡ command.Refused area 400 r) → MatchOption b (IsUnbroken area o request d) (λ r. d ≡ command.Refused area 400 r) → c ≡ d
+command_at one area o request c d None None e first h k = unbroken_once one area o request c d (part_of (form_of o).part request.path) first h k
 command_at one area o request c d None (Some r) e first h k = absurd (none_some r e)
 command_at one area o request c d (Some r) None e first h k = absurd (none_some r (sym e))
 command_at one area o request c d (Some r) (Some s) e first h k = let same : r ≡ s = cc e in h ∙ ap (λ (x : Rule). command.Refused area 400 x) same ∙ sym k

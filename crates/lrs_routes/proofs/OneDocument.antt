@@ -1,5 +1,5 @@
 -- The parameters of a request for documents ask for one thing.
-use Rattle.std.proofs.Common.{◌≡◌, ℕ, ℤ, List, Option, Some, None, MatchOption, codes, sym, ap, ◌∙◌}
+use Rattle.std.proofs.Common.{◌≡◌, ℕ, List, Option, Some, None, MatchOption, codes, sym, ap, ◌∙◌}
 use Rattle.lrs_agents.specs.declared.identifiers.Ifi.{Ifi}
 use Rattle.xapi_keys.specs.declared.state_key.StateKey.{StateKey}
 use Rattle.xapi_keys.specs.declared.wanted.WantedDocuments.{WantedDocuments}

@@ -1,6 +1,6 @@
 -- A body that is an object of just these strings.
-use Rattle.std.proofs.Common.{◌≡◌, ℕ, false, List, length, map, Option, Some, None, refl, sym, ap, ◌∙◌, inl, inr, subst}
-use Rattle.std.specs.Prelude.{Result, Ok, Err, is_some, option_and_then}
+use Rattle.std.proofs.Common.{◌≡◌, ℕ, false, List, length, map, Option, Some, None, refl, sym, ap, ◌∙◌, subst}
+use Rattle.std.specs.Prelude.{is_some, option_and_then}
 use Rattle.std.specs.Option.{option_map_or}
 use Rattle.std.proofs.lemmas.List.{length-map}
 use Rattle.lrs_http.specs.declared.request.Request.{Request}
@@ -9,30 +9,12 @@ use Rattle.lrs_json.specs.Json.{Json, null, boolean, number, string, array, obje
 use Rattle.lrs_json.specs.View.{view}
 use Rattle.lrs_json.specs.declared.tree.Tree.{Tree}
 use Rattle.lrs_names.specs.Members.{has_member_that, is_string, text_of, text_under}
-use Rattle.lrs_rules.specs.declared.rule.Rule.{Rule}
-use Rattle.lrs_routes.specs.Forms.{AreStrings, Spelled}
 use Rattle.lrs_routes.specs.Operations.{AreTextsOf, OfBody, strings_body, texts_under}
-use Rattle.lrs_routes.specs.Looks.{AreStringsOf, Finds, IsInBody, IsTreeOf, OnlySpelled}
-use Rattle.lrs_routes.specs.declared.form_refused.FormRefused.{FormRefused}
-use Rattle.lrs_routes.specs.declared.form_refused.FormRefused.TheVariants as form_refused
+use Rattle.lrs_routes.specs.Looks.{AreStringsOf, IsInBody, IsTreeOf}
 use Rattle.lrs_routes.specs.declared.values.BodyValue.{BodyValue}
-use Rattle.lrs_routes.specs.declared.values.BodyValue.TheVariants as body
 
 abbrev Members : Type 0
 Members = List (List ℕ × ℕ)
-
-some_none : (r : Rule) → ◌≡◌ {A = Option Rule} (Some r) None → ⊥
-some_none r e = cc e
-
-abbrev Behind : List ℕ → Members → Option Rule → Type 0
-Behind bytes members broken = Spelled bytes broken (λ j. AreStrings members j broken)
-
--- a rule on JSON that is broken hides what follows
-pub spelled_stops : (bytes : List ℕ) (members : Members) (r : Rule) → OnlySpelled bytes (Some r) → Behind bytes members (Some r)
-spelled_stops bytes members r h = elim h [
-  | inl good ↦ absurd (some_none r good.2)
-  | inr bad ↦ inr bad
-]
 
 -- there are as many texts as members
 as_many : (j : Json) (members : Members) (texts : List (List ℕ)) → AreTextsOf members j texts → length texts ≡ length members
@@ -40,17 +22,11 @@ as_many j members texts e =
     let same : length (texts_under members j) ≡ length (map Some texts) = ap (λ (os : List (Option (List ℕ))). length os) e in
     sym (length-map texts Some) ∙ sym same ∙ length-map members (λ (member : List ℕ × ℕ). text_under member.0 j)
 
-value_found : (request : Request) (members : Members) (tree : Tree) (value : BodyValue) → IsTreeOf request.body tree → AreStringsOf members (view tree) value → IsInBody (strings_body members) request value
-value_found request members tree value of are = record {
+pub strings_value : (request : Request) (members : Members) (tree : Tree) (value : BodyValue) → IsTreeOf request.body tree → AreStringsOf members (view tree) value → IsInBody (strings_body members) request value
+strings_value request members tree value of are = record {
   is = (are.0, view tree, of.spelled, are.1, are.2);
   kind = subst (λ (v : BodyValue). OfBody (strings_body members) v) (sym are.2) (as_many (view tree) members are.0 are.1);
 }
-
-pub strings_found : (request : Request) (members : Members) (tree : Tree) (r : Result BodyValue FormRefused) → IsTreeOf request.body tree
-    → Finds (AreStrings members (view tree)) (AreStringsOf members (view tree)) r → Finds (Behind request.body members) (IsInBody (strings_body members) request) r
-strings_found request members tree (Ok value) of h = (inl (view tree, of.spelled, h.0), value_found request members tree value of h.1)
-strings_found request members tree (Err (form_refused.Broken rule)) of h = (inl (view tree, of.spelled, h.0), h.1)
-strings_found request members tree (Err form_refused.Memory) of h = tt
 
 -- ---- the texts, one after the other
 

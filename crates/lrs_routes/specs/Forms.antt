@@ -8,6 +8,7 @@ use Rattle.lrs_json.specs.Json.{Json}
 use Rattle.lrs_json.specs.declared.limits.TheConstants.{DEPTH}
 use Rattle.lrs_json_reader.specs.Refusals.{Spells}
 use Rattle.lrs_names.specs.Members.{has_member, has_member_that, has_only, is_string}
+use Rattle.lrs_names.specs.Rules.{least}
 use Rattle.lrs_rules.specs.Rules.{BreaksJson}
 use Rattle.lrs_record.specs.declared.entry.Area.{Area}
 use Rattle.lrs_command.specs.declared.command.Command.{Command}
@@ -18,15 +19,18 @@ use Rattle.xapi_parameters.specs.Documents.{LeastOfDocument, LeastOfDocuments, L
 use Rattle.xapi_parameters.specs.Pairs.{AreTexts, pairs_of}
 use Rattle.xapi_parameters.specs.Parameters.{Demands, LeastOfGet, LeastOfLink, LeastOfPut}
 use Rattle.xapi_parameters.specs.declared.pair.Pair.{Pair}
+use Rattle.lrs_routes.specs.DeskBodies.{enrolment_faults, launch_faults}
 use Rattle.lrs_routes.specs.Fields.{allows_json}
 use Rattle.lrs_routes.specs.Operations.{ParameterForm, any_parameters, no_parameters, parameters_of_get}
 use Rattle.lrs_routes.specs.Operations.{parameters_of_link, parameters_of_put, parameters_of_document}
 use Rattle.lrs_routes.specs.Operations.{parameters_of_documents, parameters_of_drop, BodyForm, any_body, statement_body}
-use Rattle.lrs_routes.specs.Operations.{statements_body, document_body, strings_body, IsParameterValue, IsBodyValue}
-use Rattle.lrs_routes.specs.Operations.{command_of, form_of, names_of}
+use Rattle.lrs_routes.specs.Operations.{statements_body, document_body, strings_body, course_body, enrolment_body}
+use Rattle.lrs_routes.specs.Operations.{launch_body, IsParameterValue, IsBodyValue, command_of, form_of, names_of}
+use Rattle.lrs_routes.specs.Parts.{part_of}
 use Rattle.lrs_routes.specs.declared.operation.Operation.{Operation}
 use Rattle.lrs_routes.specs.declared.values.BodyValue.{BodyValue}
 use Rattle.lrs_routes.specs.declared.values.ParameterValue.{ParameterValue}
+use Rattle.lrs_routes.specs.declared.values.PartValue.{PartValue}
 
 -- ---- what is looked at, each after the one before: it is in order and the rest tells what is broken, or this is
 
@@ -92,6 +96,10 @@ AreStrings members j broken =
     Tested (has_just (names_of members) j) (rule.B 1) broken
     (broken ≡ option_map (λ number. rule.B number) (first_unlike members j))
 
+-- the least of the rules B of these numbers
+abbrev pub IsLeastOf : List ℕ → Option Rule → Type 0
+IsLeastOf numbers broken = broken ≡ option_map (λ number. rule.B number) (least numbers)
+
 -- of the form of the body
 abbrev pub BodyBreaks : BodyForm → Request → Option Rule → Type 0
 BodyBreaks any_body request broken = broken ≡ None
@@ -99,6 +107,9 @@ BodyBreaks statement_body request broken = StatementBody request broken
 BodyBreaks statements_body request broken = StatementBody request broken
 BodyBreaks document_body request broken = broken ≡ None
 BodyBreaks (strings_body members) request broken = Spelled request.body broken (λ j. AreStrings members j broken)
+BodyBreaks course_body request broken = Spelled request.body broken (λ course. broken ≡ None)
+BodyBreaks enrolment_body request broken = Spelled request.body broken (λ j. IsLeastOf (enrolment_faults j) broken)
+BodyBreaks launch_body request broken = Spelled request.body broken (λ j. IsLeastOf (launch_faults j) broken)
 
 -- The first rule that the request's form breaks, None if it breaks none.
 abbrev pub FirstBroken : Operation → Request → Option Rule → Type 0
@@ -106,16 +117,27 @@ FirstBroken operation request broken =
     ParametersBreak (form_of operation).parameters (parameters_of request.query) broken
     (BodyBreaks (form_of operation).body request broken)
 
--- What the request means, if its form breaks no rule.
-abbrev pub Means : Operation → Request → Command → Type 0
-Means operation request command =
+-- What the request means with that part of its path, if its form breaks no rule.
+abbrev pub Means : Operation → Request → PartValue → Command → Type 0
+Means operation request part command =
     (q : ParameterValue) × (b : BodyValue) × IsParameterValue (form_of operation).parameters
     (parameters_of request.query) q
-    × IsBodyValue (form_of operation).body request b × (command_of operation q b ≡ Some command)
+    × IsBodyValue (form_of operation).body request b × (command_of operation q part b ≡ Some command)
 
--- The command of a request to a route of that area: what it means, or the refusal by the first rule that its form
--- breaks.
+-- The refusal of a path in which a part is no id: nothing is there. A refusal by 404 tells its caller no rule; the one
+-- here is that on ids.
+abbrev pub nowhere : Area → Command
+nowhere area = Refused area 404 (rule.P 5)
+
+-- the command of a request that breaks no rule: what it means, unless the part of its path is no id
+abbrev pub IsUnbroken : Area → Operation → Request → Command → Type 0
+IsUnbroken area operation request command =
+    MatchOption (part_of (form_of operation).part request.path) (command ≡ nowhere area)
+    (λ part. Means operation request part command)
+
+-- The command of a request to a route of that area: the refusal by the first rule that its form breaks, or what it is
+-- if it breaks none.
 abbrev pub IsCommand : Area → Operation → Request → Command → Type 0
 IsCommand area operation request command =
     (broken : Option Rule) × FirstBroken operation request broken
-    × MatchOption broken (Means operation request command) (λ rule. command ≡ Refused area 400 rule)
+    × MatchOption broken (IsUnbroken area operation request command) (λ rule. command ≡ Refused area 400 rule)

@@ -2,6 +2,8 @@ pub mod Paths
 pub mod Table
 pub mod Fields
 pub mod FormRefused
+pub mod Parts
+pub mod DeskBodies
 pub mod Operations
 pub mod Forms
 pub mod Looks

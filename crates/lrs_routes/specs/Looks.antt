@@ -1,5 +1,6 @@
 -- What is looked at in a request, and what each look gives.
-use Rattle.std.specs.Prelude.{◌≡◌, ℕ, Bool, true, false, List, Option, Some, None, Result, Ok, Err, IsTrue}
+use Rattle.std.specs.Prelude.{◌≡◌, ◌⊎◌, ℕ, Bool, true, false, List, Option, Some, None, Result, Ok, Err, IsTrue}
+use Rattle.std.specs.Prelude.{MatchOption}
 use Rattle.lrs_http.specs.declared.request.Request.{Request}
 use Rattle.lrs_json.specs.Fits.{IsReadable}
 use Rattle.lrs_json.specs.Json.{Json}
@@ -15,13 +16,15 @@ use Rattle.lrs_rules.specs.declared.rule.Rule.TheVariants as rule
 use Rattle.xapi_parameters.specs.declared.pair.Pair.{Pair}
 use Rattle.lrs_routes.specs.Forms.{Decoded, Means, ParametersBreak, Spelled}
 use Rattle.lrs_routes.specs.Operations.{AreTextsOf, BodyForm, ParameterForm, IsBodyValue, IsParameterValue, OfBody}
-use Rattle.lrs_routes.specs.Operations.{OfParameters}
+use Rattle.lrs_routes.specs.Operations.{OfParameters, command_of, form_of}
+use Rattle.lrs_routes.specs.Parts.{part_of}
 use Rattle.lrs_routes.specs.declared.form_refused.FormRefused.{FormRefused}
 use Rattle.lrs_routes.specs.declared.form_refused.FormRefused.TheVariants as form_refused
 use Rattle.lrs_routes.specs.declared.operation.Operation.{Operation}
 use Rattle.lrs_routes.specs.declared.values.BodyValue.{BodyValue}
 use Rattle.lrs_routes.specs.declared.values.BodyValue.TheVariants as body
 use Rattle.lrs_routes.specs.declared.values.ParameterValue.{ParameterValue}
+use Rattle.lrs_routes.specs.declared.values.PartValue.{PartValue}
 
 -- a rule on fields, parameters, JSON or bodies
 abbrev pub is_form_rule : Rule → Bool
@@ -31,9 +34,9 @@ is_form_rule (rule.J number) = true
 is_form_rule (rule.B number) = true
 is_form_rule other = false
 
--- A form is refused with 400, by such a rule.
+-- A form is refused with 400, and a path with 404, by such a rule.
 abbrev pub HasFormRule : Command → Type 0
-HasFormRule (Refused area status rule) = (status ≡ 400) × IsTrue (is_form_rule rule)
+HasFormRule (Refused area status rule) = ((status ≡ 400) ⊎ (status ≡ 404)) × IsTrue (is_form_rule rule)
 HasFormRule other = Unit {0}
 
 -- What comes of a look: a value, if nothing is broken, or the first rule that is. Running out of memory is free.
@@ -82,7 +85,19 @@ abbrev pub IsNoRefusal : Command → Type 0
 IsNoRefusal (Refused area status rule) = ⊥
 IsNoRefusal other = HasReadTrees other
 
--- the command that a request means
-pub record IsMeant (operation : Operation) (request : Request) (command : Command) : Type 0 where
-  pub means : Means operation request command
+-- a command that a request means
+pub record IsMeant (operation : Operation) (request : Request) (part : PartValue) (command : Command) : Type 0 where
+  pub means : Means operation request part command
   pub plain : IsNoRefusal command
+
+-- what comes of the part of the path, once the parameters and the body gave these: the command, or none where the part
+-- is no id
+abbrev pub IsGiven : Operation → List ℕ → ParameterValue → BodyValue → Option Command → Type 0
+IsGiven operation path q b found =
+    MatchOption (part_of (form_of operation).part path) (found ≡ None)
+    (λ part. MatchOption found ⊥ (λ command. (command_of operation q part b ≡ Some command) × IsNoRefusal command))
+
+abbrev pub IsMeantThere : Operation → Request → Option Command → Type 0
+IsMeantThere operation request found =
+    MatchOption (part_of (form_of operation).part request.path) (found ≡ None)
+    (λ part. MatchOption found ⊥ (IsMeant operation request part))

@@ -1,5 +1,5 @@
--- The operations: a row for each, with what it asks of the parameters and of the body, and the command of what the two
--- give.
+-- The operations: a row for each, with what it asks of the parameters, of the part of the path and of the body, and the
+-- command of what the three give.
 use Rattle.std.specs.Prelude.{◌≡◌, ℕ, List, [], ◌∷◌, map, length, Option, Some, None, codes}
 use Rattle.lrs_json.specs.Fits.{IsReadable}
 use Rattle.lrs_json.specs.Json.{Json, null, boolean, number, string, array, object, Elements, no_elements, element}
@@ -13,6 +13,7 @@ use Rattle.lrs_http.specs.declared.request.Request.{Request}
 use Rattle.lrs_record.specs.declared.entry.How.{How}
 use Rattle.lrs_record.specs.declared.entry.How.TheVariants as how
 use Rattle.lrs_record.specs.declared.entry.Write.TheVariants.{Provider, Put, Post, State, Drop}
+use Rattle.lrs_record.specs.declared.entry.Write.TheVariants.{Course, Enrol, Launch, Fetch}
 use Rattle.lrs_command.specs.declared.command.Command.{Command}
 use Rattle.lrs_command.specs.declared.command.Command.TheVariants.{Write, Read}
 use Rattle.lrs_command.specs.declared.command.Read.TheVariants as read
@@ -26,12 +27,16 @@ use Rattle.xapi_query.specs.declared.link.MoreLink.{MoreLink}
 use Rattle.xapi_parameters.specs.declared.dropped.DroppedDocuments.{DroppedDocuments}
 use Rattle.xapi_parameters.specs.declared.pair.Pair.{Pair}
 use Rattle.xapi_query.specs.declared.wanted.Wanted.{Wanted}
+use Rattle.lrs_routes.specs.DeskBodies.{IsEnrolmentIn, IsLaunchIn}
+use Rattle.lrs_routes.specs.Parts.{PartForm, no_part, text_part, id_part}
 use Rattle.lrs_routes.specs.declared.operation.Operation.{Operation}
 use Rattle.lrs_routes.specs.declared.operation.Operation.TheVariants as operation
 use Rattle.lrs_routes.specs.declared.values.BodyValue.{BodyValue}
 use Rattle.lrs_routes.specs.declared.values.BodyValue.TheVariants as body
 use Rattle.lrs_routes.specs.declared.values.ParameterValue.{ParameterValue}
 use Rattle.lrs_routes.specs.declared.values.ParameterValue.TheVariants as parameter
+use Rattle.lrs_routes.specs.declared.values.PartValue.{PartValue}
+use Rattle.lrs_routes.specs.declared.values.PartValue.TheVariants as part
 
 -- ---- the rows
 
@@ -46,24 +51,30 @@ pub data ParameterForm : Type 0 where
   parameters_of_documents : ParameterForm
   parameters_of_drop : ParameterForm
 
--- What the body is to be: any, as it isn't looked at; a statement; statements; any bytes, which are a document; or an
--- object of just these members, each a string, and each with the number of the rule that it breaks where it is none.
+-- What the body is to be: any, as it isn't looked at; a statement; statements; any bytes, which are a document; an
+-- object of just these members, each a string, and each with the number of the rule that it breaks where it is none; a
+-- course, which may be any JSON; an enrolment; or a launch.
 pub data BodyForm : Type 0 where
   any_body : BodyForm
   statement_body : BodyForm
   statements_body : BodyForm
   document_body : BodyForm
   strings_body : List (List ℕ × ℕ) → BodyForm
+  course_body : BodyForm
+  enrolment_body : BodyForm
+  launch_body : BodyForm
 
 abbrev pub names_of : List (List ℕ × ℕ) → List (List ℕ)
 names_of members = map (λ member. member.0) members
 
 pub record Form : Type 0 where
   pub parameters : ParameterForm
+  pub part : PartForm
   pub body : BodyForm
 
+-- of an operation that asks for no part of the path
 abbrev form : ParameterForm → BodyForm → Form
-form parameters body = record { parameters = parameters; body = body }
+form parameters body = record { parameters = parameters; part = no_part; body = body }
 
 abbrev pub form_of : Operation → Form
 form_of operation.TellVersions = form any_parameters any_body
@@ -77,6 +88,12 @@ form_of operation.PostDocument = form parameters_of_document document_body
 form_of operation.DropDocuments = form parameters_of_drop any_body
 form_of operation.GetProfile = form any_parameters any_body
 form_of operation.MakeProvider = form no_parameters (strings_body ((codes "name", 2) ∷ []))
+form_of operation.TakeCourse = form no_parameters course_body
+form_of operation.EnrolLearner = form no_parameters enrolment_body
+form_of operation.LaunchUnit =
+    record { parameters = no_parameters; part = id_part (codes "/desk/registrations/"); body = launch_body }
+form_of operation.FetchToken =
+    record { parameters = any_parameters; part = text_part (codes "/fetch/"); body = any_body }
 
 -- the write of a document
 abbrev pub written : How → ParameterValue → BodyValue → Option Command
@@ -86,20 +103,25 @@ written h other b = None
 abbrev pub dropping : DroppedDocuments → Command
 dropping dropped = Write (Drop dropped.activity dropped.agent dropped.registration dropped.state)
 
--- The command of what the parameters and the body give. None if these aren't what the row asks for.
-abbrev pub command_of : Operation → ParameterValue → BodyValue → Option Command
-command_of operation.TellVersions q b = Some (Read read.About)
-command_of operation.GetStatements (parameter.Wanted wanted) b = Some (Read (read.Statements wanted))
-command_of operation.GetMoreStatements (parameter.Link link) b = Some (Read (read.More link))
-command_of operation.PostStatements q (body.Statements statements) = Some (Write (Post statements))
-command_of operation.PutStatement (parameter.Id id) (body.Statement statement) = Some (Write (Put id statement))
-command_of operation.GetDocuments (parameter.Documents wanted) b = Some (Read (read.Documents wanted))
-command_of operation.PutDocument q b = written how.Put q b
-command_of operation.PostDocument q b = written how.Post q b
-command_of operation.DropDocuments (parameter.Dropped dropped) b = Some (dropping dropped)
-command_of operation.GetProfile q b = Some (Read read.Profile)
-command_of operation.MakeProvider q (body.Strings (name ∷ [])) = Some (Write (Provider name))
-command_of other q b = None
+-- The command of what the parameters, the part and the body give. None if these aren't what the row asks for.
+abbrev pub command_of : Operation → ParameterValue → PartValue → BodyValue → Option Command
+command_of operation.TellVersions q p b = Some (Read read.About)
+command_of operation.GetStatements (parameter.Wanted wanted) p b = Some (Read (read.Statements wanted))
+command_of operation.GetMoreStatements (parameter.Link link) p b = Some (Read (read.More link))
+command_of operation.PostStatements q p (body.Statements statements) = Some (Write (Post statements))
+command_of operation.PutStatement (parameter.Id id) p (body.Statement statement) = Some (Write (Put id statement))
+command_of operation.GetDocuments (parameter.Documents wanted) p b = Some (Read (read.Documents wanted))
+command_of operation.PutDocument q p b = written how.Put q b
+command_of operation.PostDocument q p b = written how.Post q b
+command_of operation.DropDocuments (parameter.Dropped dropped) p b = Some (dropping dropped)
+command_of operation.GetProfile q p b = Some (Read read.Profile)
+command_of operation.MakeProvider q p (body.Strings (name ∷ [])) = Some (Write (Provider name))
+command_of operation.TakeCourse q p (body.Course tree) = Some (Write (Course tree))
+command_of operation.EnrolLearner q p (body.Enrolment course actor) = Some (Write (Enrol course actor))
+command_of operation.LaunchUnit q (part.Id registration) (body.Launch unit mode return_url) =
+    Some (Write (Launch registration unit mode return_url))
+command_of operation.FetchToken q (part.Text key) b = Some (Write (Fetch key))
+command_of other q p b = None
 
 -- ---- what the parameters give
 
@@ -152,6 +174,10 @@ IsBodyValue document_body request value = value ≡ body.Document (media_of requ
 IsBodyValue (strings_body members) request value =
     (texts : List (List ℕ)) × (j : Json) × Spells DEPTH request.body j × AreTextsOf members j texts
     × (value ≡ body.Strings texts)
+IsBodyValue course_body request value = (tree : Tree) × Spells DEPTH request.body (view tree)
+    × (value ≡ body.Course tree)
+IsBodyValue enrolment_body request value = (j : Json) × Spells DEPTH request.body j × IsEnrolmentIn j value
+IsBodyValue launch_body request value = (j : Json) × Spells DEPTH request.body j × IsLaunchIn j value
 
 -- ---- the kinds of values
 
@@ -174,4 +200,7 @@ OfBody statement_body (body.Statement tree) = IsReadable DEPTH (view tree)
 OfBody statements_body (body.Statements trees) = AreLawfulTrees trees
 OfBody document_body (body.Document media bytes) = Unit {0}
 OfBody (strings_body members) (body.Strings texts) = length texts ≡ length members
+OfBody course_body (body.Course tree) = IsReadable DEPTH (view tree)
+OfBody enrolment_body (body.Enrolment course actor) = Unit {0}
+OfBody launch_body (body.Launch unit mode return_url) = Unit {0}
 OfBody form value = ⊥

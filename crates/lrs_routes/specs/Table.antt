@@ -3,6 +3,7 @@ use Rattle.std.specs.Prelude.{ℕ, List, [], ◌∷◌, ◌++◌, Bool, true, fa
 use Rattle.std.specs.Str.{bytes_eq}
 use Rattle.lrs_http.specs.declared.request.Method.{Method}
 use Rattle.lrs_http.specs.declared.request.Method.TheVariants.{Get, Put, Post, Delete, Other}
+use Rattle.matchit.specs.Rows.{param_token}
 use Rattle.lrs_record.specs.declared.entry.Area.{Area}
 use Rattle.lrs_record.specs.declared.entry.Area.TheVariants as area
 use Rattle.lrs_routes.specs.declared.table.Allow.{Allow}
@@ -26,6 +27,13 @@ row pattern area versioned methods = record { pattern = pattern; area = area; ve
 
 abbrev pub row_of : Route → Row
 row_of route.Providers = row (codes "/desk/callers") area.Desk false ((Post, operation.MakeProvider) ∷ [])
+row_of route.Courses = row (codes "/desk/courses") area.Desk false ((Post, operation.TakeCourse) ∷ [])
+row_of route.Launches =
+    row (codes "/desk/registrations/" ++ param_token ∷ codes "/launches") area.Desk false
+    ((Post, operation.LaunchUnit) ∷ [])
+row_of route.Registrations =
+    row (codes "/desk/registrations") area.Desk false ((Post, operation.EnrolLearner) ∷ [])
+row_of route.Fetch = row (codes "/fetch/" ++ param_token ∷ []) area.Free false ((Post, operation.FetchToken) ∷ [])
 row_of route.About = row (codes "/xapi/about") area.Free false ((Get, operation.TellVersions) ∷ [])
 row_of route.ActivityProfiles =
     row (codes "/xapi/activities/profile") area.Store true ((Get, operation.GetProfile) ∷ [])
@@ -41,8 +49,8 @@ row_of route.Statements = row (codes "/xapi/statements") area.Store true
 -- each route, in the order in which the router has their paths: a longer one before its beginning
 abbrev pub routes : List Route
 routes =
-    route.Providers ∷ route.About ∷ route.ActivityProfiles ∷ route.States ∷ route.AgentProfiles ∷ route.MoreStatements
-    ∷ route.Statements
+    route.Providers ∷ route.Courses ∷ route.Launches ∷ route.Registrations ∷ route.Fetch ∷ route.About
+    ∷ route.ActivityProfiles ∷ route.States ∷ route.AgentProfiles ∷ route.MoreStatements ∷ route.Statements
     ∷ []
 
 -- the routes' patterns, as the router has them

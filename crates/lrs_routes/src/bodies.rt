@@ -70,7 +70,7 @@ pub(crate) fn strings_in(
     ensures { Finds (BodyBreaks (strings_body (map (λ m. (m.0.now, m.1)) members.now)) request.now)
         (IsInBody (strings_body (map (λ m. (m.0.now, m.1)) members.now)) request.now) result }
 {
-    let body = tree(alloc, request.body.as_slice())?;
+    let body = body_tree(alloc, request)?;
     let strings = strings_of(alloc, &body, members);
     drop(body);
     strings
@@ -80,10 +80,17 @@ fn statement_tree(alloc: Global, request: &Request) -> Result<Tree, FormRefused>
     ensures { Finds (StatementBody request.now) (IsTreeOf request.now.body) result }
 {
     if allows_json(&request.media) {
-        tree(alloc, request.body.as_slice())
+        body_tree(alloc, request)
     } else {
         Err(FormRefused::Broken(Rule::F(3)))
     }
+}
+
+/// The body as JSON.
+pub(crate) fn body_tree(alloc: Global, request: &Request) -> Result<Tree, FormRefused>
+    ensures { Finds (OnlySpelled request.now.body) (IsTreeOf request.now.body) result }
+{
+    tree(alloc, request.body.as_slice())
 }
 
 fn tree(alloc: Global, bytes: &[u8]) -> Result<Tree, FormRefused>

@@ -1,17 +1,21 @@
 // The form of a request, and the command that it means.
-ghost use Rattle.std.specs.Prelude.{IfOk};
+ghost use Rattle.std.specs.Prelude.{◌≡◌, IfOk, MatchOption};
 ghost use Rattle.lrs_command.specs.Commands.{HasReadTrees};
-ghost use Rattle.lrs_routes.specs.Forms.{FirstBroken, IsCommand};
-ghost use Rattle.lrs_routes.specs.Looks.{Finds, HasFormRule, IsMeant};
+ghost use Rattle.lrs_routes.specs.Forms.{FirstBroken, IsCommand, nowhere};
+ghost use Rattle.lrs_routes.specs.Operations.{OfBody, OfParameters, form_of};
+ghost use Rattle.lrs_routes.specs.Looks.{Finds, HasFormRule, IsGiven, IsMeantThere};
 
 use crate::form_refused::FormRefused;
 use crate::operation::Operation;
+use crate::values::{BodyValue, ParameterValue};
 use lrs_command::{Area, Command};
 use lrs_http::Request;
 use lrs_json::Memory;
+use lrs_rules::Rule;
 use std::alloc::Global;
 
-/// The command of a request to a route of that area. A form that is refused is a command, too.
+/// The command of a request to a route of that area. A form that is refused is a command, too, and so is a path of
+/// which a part is no id.
 pub fn command(
     alloc: Global,
     area: Area,
@@ -23,7 +27,7 @@ pub fn command(
     ensures rules { IfOk result HasFormRule }
 {
     match meaning(alloc, operation, request) {
-        Ok(command) => Ok(command),
+        Ok(found) => Ok(found_or_nowhere(area, found)),
         Err(FormRefused::Broken(rule)) => Ok(Command::Refused {
             area,
             status: 400,
@@ -33,15 +37,59 @@ pub fn command(
     }
 }
 
-// The parameters first, and then the body.
-fn meaning(alloc: Global, operation: Operation, request: &Request) -> Result<Command, FormRefused>
-    ensures { Finds (FirstBroken operation request.now) (IsMeant operation request.now) result }
+fn found_or_nowhere(area: Area, found: Option<Command>) -> Command
+    ensures { MatchOption found (result ≡ nowhere area) (λ command. result ≡ command) }
+{
+    match found {
+        Some(command) => command,
+        None => Command::Refused {
+            area,
+            status: 404,
+            rule: Rule::P(5),
+        },
+    }
+}
+
+// The parameters first, then the body, and then the part of the path.
+fn meaning(
+    alloc: Global,
+    operation: Operation,
+    request: &Request,
+) -> Result<Option<Command>, FormRefused>
+    ensures { Finds (FirstBroken operation request.now) (IsMeantThere operation request.now) result }
 {
     let query = operation.parameter_value(alloc, &request.query)?;
     match operation.body_value(alloc, request) {
-        Ok(body) => Ok(operation.command(query, body)),
+        Ok(body) => Ok(meant_there(alloc, operation, request.path.as_str(), query, body)?),
         Err(refused) => {
             drop(query);
+            Err(refused)
+        }
+    }
+}
+
+// What the parameters and the body mean, unless the part of the path is no id.
+fn meant_there(
+    alloc: Global,
+    operation: Operation,
+    path: &str,
+    query: ParameterValue,
+    body: BodyValue,
+) -> Result<Option<Command>, Memory>
+    requires query { OfParameters (form_of operation).parameters query }
+    requires body { OfBody (form_of operation).body body }
+    ensures { IfOk result (IsGiven operation path.now query body) }
+{
+    match operation.part_value(alloc, path) {
+        Ok(Some(part)) => Ok(Some(operation.command(query, part, body))),
+        Ok(None) => {
+            drop(query);
+            drop(body);
+            Ok(None)
+        }
+        Err(refused) => {
+            drop(query);
+            drop(body);
             Err(refused)
         }
     }

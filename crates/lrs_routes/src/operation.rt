@@ -1,15 +1,22 @@
-ghost use Rattle.std.specs.Prelude.{◌≡◌, Some};
+ghost use Rattle.std.specs.Prelude.{◌≡◌, Some, IfOk};
 ghost use Rattle.lrs_routes.specs.Forms.{BodyBreaks, parameters_of};
-ghost use Rattle.lrs_routes.specs.Operations.{OfBody, OfParameters, command_of, document_body, dropping, form_of, parameters_of_document, written};
+ghost use Rattle.lrs_routes.specs.Operations.{OfBody, OfParameters, command_of, document_body, dropping, form_of, launch_body, parameters_of_document, written};
+ghost use Rattle.lrs_routes.specs.Parts.{OfPart, part_of};
 ghost use Rattle.lrs_routes.specs.Looks.{Finds, IsInBody, IsInParameters, IsNoRefusal, OnlyParameters};
+ghost use Rattle.lrs_routes.specs.declared.operation.Operation.TheVariants as operation;
+ghost use Rattle.lrs_routes.specs.declared.values.ParameterValue.TheVariants as parameter;
+ghost use Rattle.lrs_routes.specs.declared.values.PartValue.TheVariants as part;
 
 use crate::bodies::{document_in, statement_in, statements_in, strings_in};
+use crate::desk_bodies::{course_in, enrolment_in, launch_in};
 use crate::form_refused::FormRefused;
 use crate::parameters::{documents_in, dropped_in, id_in, key_in, link_in, nothing_in, wanted_in};
-use crate::values::{BodyValue, ParameterValue, first};
+use crate::parts;
+use crate::values::{BodyValue, ParameterValue, PartValue, first};
 use lrs_command::{Command, Read};
 use lrs_http::Request;
-use lrs_json::Text;
+use lrs_json::{Memory, Text};
+use lrs_names::Id;
 use lrs_record::{How, Write};
 use std::alloc::Global;
 use xapi_parameters::DroppedDocuments;
@@ -39,6 +46,14 @@ pub(crate) enum Operation {
     GetProfile,
     /// Makes a provider and its token.
     MakeProvider,
+    /// Takes a course up.
+    TakeCourse,
+    /// Enrols a learner in a course.
+    EnrolLearner,
+    /// Launches a unit of the course of a registration.
+    LaunchUnit,
+    /// Gives the token of a session away.
+    FetchToken,
 }
 
 impl Operation {
@@ -52,14 +67,31 @@ impl Operation {
             (IsInParameters (form_of self).parameters (parameters_of query.now)) result }
     {
         match self {
-            Operation::TellVersions | Operation::GetProfile => Ok(ParameterValue::Nothing),
+            Operation::TellVersions | Operation::GetProfile | Operation::FetchToken => Ok(
+                ParameterValue::Nothing,
+            ),
             Operation::GetDocuments => documents_in(alloc, query),
             Operation::PutDocument | Operation::PostDocument => key_in(alloc, query),
             Operation::DropDocuments => dropped_in(alloc, query),
             Operation::GetStatements => wanted_in(alloc, query),
             Operation::GetMoreStatements => link_in(alloc, query),
             Operation::PutStatement => id_in(alloc, query),
-            Operation::PostStatements | Operation::MakeProvider => nothing_in(alloc, query),
+            Operation::PostStatements
+            | Operation::MakeProvider
+            | Operation::TakeCourse
+            | Operation::EnrolLearner
+            | Operation::LaunchUnit => nothing_in(alloc, query),
+        }
+    }
+
+    /// What the part of the path is, none if it is no id where one is asked for.
+    pub(crate) fn part_value(self, alloc: Global, path: &str) -> Result<Option<PartValue>, Memory>
+        ensures { IfOk result (λ found. found ≡ part_of (form_of self).part path.now) }
+    {
+        match self {
+            Operation::FetchToken => parts::text_in(alloc, path, "/fetch/"),
+            Operation::LaunchUnit => Ok(parts::id_in(path, "/desk/registrations/")),
+            _ => Ok(Some(PartValue::Nothing)),
         }
     }
 
@@ -78,19 +110,52 @@ impl Operation {
             | Operation::GetMoreStatements
             | Operation::GetDocuments
             | Operation::DropDocuments
-            | Operation::GetProfile => Ok(BodyValue::Nothing),
+            | Operation::GetProfile
+            | Operation::FetchToken => Ok(BodyValue::Nothing),
             Operation::PutDocument | Operation::PostDocument => document_in(alloc, request),
             Operation::PostStatements => statements_in(alloc, request),
             Operation::PutStatement => statement_in(alloc, request),
             Operation::MakeProvider => strings_in(alloc, request, &[("name", 2)]),
+            Operation::TakeCourse => course_in(alloc, request),
+            Operation::EnrolLearner => enrolment_in(alloc, request),
+            Operation::LaunchUnit => launch_in(alloc, request),
         }
     }
 
-    /// The command of what the two give.
-    pub(crate) fn command(self, query: ParameterValue, body: BodyValue) -> Command
+    /// The command of what the three give.
+    pub(crate) fn command(self, query: ParameterValue, part: PartValue, body: BodyValue) -> Command
         requires query { OfParameters (form_of self).parameters query }
+        requires part { OfPart (form_of self).part part }
         requires body { OfBody (form_of self).body body }
-        ensures is { command_of self query body ≡ Some result }
+        ensures is { command_of self query part body ≡ Some result }
+        ensures plain { IsNoRefusal result }
+    {
+        match part {
+            PartValue::Nothing => self.command_of_whole(query, body),
+            PartValue::Text(key) => {
+                drop(query);
+                drop(body);
+                match self {
+                    Operation::FetchToken => Command::Write(Write::Fetch { key }),
+                    _ => unreachable!(),
+                }
+            }
+            PartValue::Id(id) => {
+                drop(query);
+                match self {
+                    Operation::LaunchUnit => launched(id, body),
+                    _ => unreachable!(),
+                }
+            }
+        }
+    }
+
+    // The command of an operation that asks for no part of the path.
+    fn command_of_whole(self, query: ParameterValue, body: BodyValue) -> Command
+        requires query { OfParameters (form_of self).parameters query }
+        requires part { OfPart (form_of self).part part.Nothing }
+        requires body { OfBody (form_of self).body body }
+        ensures is { command_of self query part.Nothing body ≡ Some result }
         ensures plain { IsNoRefusal result }
     {
         match self {
@@ -159,6 +224,24 @@ impl Operation {
                     _ => unreachable!(),
                 }
             }
+            Operation::TakeCourse => {
+                drop(query);
+                match body {
+                    BodyValue::Course(tree) => Command::Write(Write::Course { tree }),
+                    _ => unreachable!(),
+                }
+            }
+            Operation::EnrolLearner => {
+                drop(query);
+                match body {
+                    BodyValue::Enrolment { course, actor } => Command::Write(Write::Enrol {
+                        course,
+                        actor,
+                    }),
+                    _ => unreachable!(),
+                }
+            }
+            Operation::LaunchUnit | Operation::FetchToken => unreachable!(),
         }
     }
 }
@@ -198,4 +281,24 @@ fn dropping(dropped: DroppedDocuments) -> Command
         registration,
         state,
     })
+}
+
+fn launched(registration: Id, body: BodyValue) -> Command
+    requires { OfBody launch_body body }
+    ensures is { command_of operation.LaunchUnit parameter.Nothing (part.Id registration) body ≡ Some result }
+    ensures plain { IsNoRefusal result }
+{
+    match body {
+        BodyValue::Launch {
+            unit,
+            mode,
+            return_url,
+        } => Command::Write(Write::Launch {
+            registration,
+            unit,
+            mode,
+            return_url,
+        }),
+        _ => unreachable!(),
+    }
 }

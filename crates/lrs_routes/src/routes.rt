@@ -1,4 +1,4 @@
-ghost use Rattle.std.specs.Prelude.{◌≡◌, ◌≢◌, ◌⊎◌, IfOk, Err, Result, MatchOption, MatchResult, map};
+ghost use Rattle.std.specs.Prelude.{◌≡◌, ◌≢◌, ◌⊎◌, [], IfOk, OnOk, Err, Result, MatchOption, MatchResult, map};
 ghost use Rattle.lrs_command.specs.Commands.{HasReadTrees};
 ghost use Rattle.lrs_record.specs.Entries.{IsLawfulCaller};
 ghost use Rattle.lrs_routes.specs.Asked.{Agree, IsAsked, IsCommandOf, IsRouteRefused, IsRouted, IsRoutedAs};
@@ -145,12 +145,30 @@ fn router(alloc: Global) -> Result<Router<Route>, InsertError>
     ensures { IfOk result (λ r. map (λ row. (row.0, row.1.value)) r ≡ patterns) }
 {
     let mut router = Router::new(alloc);
+    match fill(&mut router) {
+        Ok(()) => Ok(router),
+        Err(refused) => {
+            drop(router);
+            Err(refused)
+        }
+    }
+}
+
+// The paths of the table. The router has them in an order of its own.
+fn fill(router: &mut Router<Route>) -> Result<(), InsertError>
+    requires { router.old ≡ [] }
+    ensures { OnOk result (map (λ row. (row.0, row.1.value)) router.new ≡ patterns) }
+{
     router.insert("/desk/callers", Route::Providers)?;
+    router.insert("/desk/courses", Route::Courses)?;
+    router.insert("/desk/registrations", Route::Registrations)?;
+    router.insert("/desk/registrations/{r}/launches", Route::Launches)?;
+    router.insert("/fetch/{key}", Route::Fetch)?;
     router.insert("/xapi/about", Route::About)?;
     router.insert("/xapi/activities/profile", Route::ActivityProfiles)?;
     router.insert("/xapi/activities/state", Route::States)?;
     router.insert("/xapi/agents/profile", Route::AgentProfiles)?;
     router.insert("/xapi/statements", Route::Statements)?;
     router.insert("/xapi/statements/more", Route::MoreStatements)?;
-    Ok(router)
+    Ok(())
 }

@@ -9,6 +9,10 @@ use lrs_http::Method;
 #[derive(Clone, Copy, Debug, PartialEq, Eq)]
 pub(crate) enum Route {
     Providers,
+    Courses,
+    Launches,
+    Registrations,
+    Fetch,
     About,
     ActivityProfiles,
     States,
@@ -29,7 +33,11 @@ impl Allow {
         ensures { result.now ≡ listed (methods_of self.now) }
     {
         match self.route {
-            Route::Providers => "POST",
+            Route::Providers
+            | Route::Courses
+            | Route::Launches
+            | Route::Registrations
+            | Route::Fetch => "POST",
             Route::About | Route::ActivityProfiles | Route::AgentProfiles | Route::MoreStatements =>
                 "GET",
             Route::States => "DELETE, GET, POST, PUT",
@@ -44,8 +52,9 @@ impl Route {
         ensures { result ≡ (row_of self).area }
     {
         match self {
-            Route::Providers => Area::Desk,
-            Route::About => Area::Free,
+            Route::Providers | Route::Courses | Route::Launches | Route::Registrations =>
+                Area::Desk,
+            Route::Fetch | Route::About => Area::Free,
             Route::ActivityProfiles
             | Route::States
             | Route::AgentProfiles
@@ -64,7 +73,12 @@ impl Route {
             | Route::AgentProfiles
             | Route::MoreStatements
             | Route::Statements => true,
-            Route::Providers | Route::About => false,
+            Route::Providers
+            | Route::Courses
+            | Route::Launches
+            | Route::Registrations
+            | Route::Fetch
+            | Route::About => false,
         }
     }
 
@@ -75,6 +89,10 @@ impl Route {
     {
         match (self, method) {
             (Route::Providers, Method::Post) => Ok(Operation::MakeProvider),
+            (Route::Courses, Method::Post) => Ok(Operation::TakeCourse),
+            (Route::Launches, Method::Post) => Ok(Operation::LaunchUnit),
+            (Route::Registrations, Method::Post) => Ok(Operation::EnrolLearner),
+            (Route::Fetch, Method::Post) => Ok(Operation::FetchToken),
             (Route::About, Method::Get) => Ok(Operation::TellVersions),
             (Route::ActivityProfiles, Method::Get) => Ok(Operation::GetProfile),
             (Route::States, Method::Delete) => Ok(Operation::DropDocuments),

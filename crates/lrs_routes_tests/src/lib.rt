@@ -2,4 +2,10 @@
 #![tactic(auto)]
 
 #[cfg(test)]
+mod asking;
+#[cfg(test)]
+mod desk;
+#[cfg(test)]
+mod documents;
+#[cfg(test)]
 mod requests;

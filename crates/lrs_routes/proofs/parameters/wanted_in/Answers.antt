@@ -1,25 +1,19 @@
-use Rattle.std.proofs.Common.{◌∙◌, List, refl, subst}
+use Rattle.std.proofs.Common.{◌∙◌, refl}
 use Rattle.xapi_parameters.specs.Wants.{IsWanted}
 use Rattle.xapi_parameters.specs.Parameters.{LeastOfGet}
-use Rattle.xapi_parameters.specs.declared.pair.Pair.{Pair}
 use Rattle.lrs_routes.specs.Forms.{parameters_of}
 use Rattle.lrs_routes.specs.Operations.{parameters_of_get}
 use Rattle.lrs_routes.specs.Looks.{IsInParameters}
-use Rattle.lrs_routes.proofs.Looks.{decoded_passed, decoded_refused}
+use Rattle.lrs_routes.specs.declared.values.ParameterValue.TheVariants as parameter
+use Rattle.lrs_routes.proofs.Looks.{value_passed, value_refused}
 use Rattle.lrs_routes.proofs.parameters.wanted_in.Goals as goal
 
 pub returns-in-Ok : goal.returns-in-Ok
 returns-in-Ok c =
-    let pairs = parameters_of c.args.query.now in
-    let same = c.as_slice.ensures.value ∙ c.in_ok-parameters.ensures.0 in
-    let is = subst (λ (ps : List Pair). IsWanted ps c.in-Ok.wanted) same c.in-Ok.ensures.wanted.1 in (
-      decoded_passed LeastOfGet c.as_slice.result.now pairs same c.in_ok-parameters.ensures.1 c.in-Ok.ensures.wanted.0,
-      record { is = (c.in-Ok.wanted, is, refl); kind = tt },
-    )
+    value_passed LeastOfGet IsWanted parameters_of_get (parameter.Wanted c.in-Ok.wanted) c.as_slice.result.now (parameters_of c.args.query.now) c.in-Ok.wanted (c.as_slice.ensures.value ∙ c.in_ok-parameters.ensures.0) c.in_ok-parameters.ensures.1 c.in-Ok.ensures.wanted
+    (λ is. record { is = (c.in-Ok.wanted, is, refl); kind = tt })
 
 pub returns : goal.returns
 returns c =
     let pairs = parameters_of c.args.query.now in
-    let same = c.as_slice.ensures.value ∙ c.in_ok-parameters.ensures.0 in
-    decoded_refused LeastOfGet c.as_slice.result.now pairs (IsInParameters parameters_of_get pairs) c.in-Err.refused c.from.result same c.in_ok-parameters.ensures.1 (λ number e. c.in-Err.ensures.broken number (cc e))
-    (λ e. absurd (c.in-Err.ensures.plain (cc e))) c.from.ensures
+    value_refused LeastOfGet c.as_slice.result.now pairs (IsInParameters parameters_of_get pairs) c.in-Err.refused c.from.result (c.as_slice.ensures.value ∙ c.in_ok-parameters.ensures.0) c.in_ok-parameters.ensures.1 c.in-Err.ensures.broken c.in-Err.ensures.plain c.from.ensures
