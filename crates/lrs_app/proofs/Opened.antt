@@ -87,11 +87,12 @@ is_trouble other = false
 
 refused_calm : (r : Refusal) (end : Ending) → EndsRefused r end → is_trouble end ≡ false
 refused_calm (refusal.Conflict held) end e = ap is_trouble e
+refused_calm (refusal.CourseConflict held) end e = absurd e
 refused_calm (refusal.Full need limit) end e = ap is_trouble e
 refused_calm (refusal.Broken r) end e = ap is_trouble e
 refused_calm refusal.TooLong end e = ap is_trouble e
 refused_calm refusal.Unauthorized end e = absurd e
-refused_calm (refusal.Forbidden rule) end e = absurd e
+refused_calm (refusal.Forbidden rule) end e = ap is_trouble e.1
 refused_calm refusal.NotFound end e = absurd e
 
 saying_calm : (id : List ℕ) (s : Answered) (end : Ending) → EndsSaying id s end → is_trouble end ≡ false

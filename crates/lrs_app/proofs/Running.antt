@@ -1,7 +1,9 @@
 -- From the steps of a command to what a run says.
-use Rattle.std.proofs.Common.{◌≡◌, ℕ, List, Option, ap, sym, ◌∙◌, subst}
+use Rattle.std.proofs.Common.{◌≡◌, ℕ, List, [], Option, Some, MatchOption, Result, Ok, Err, IfOk, ap, refl, sym, ◌∙◌, subst}
 use Rattle.lrs_disk.specs.Door.{DoorState}
+use Rattle.lrs_disk.specs.Faults.{HasCause}
 use Rattle.lrs_disk.specs.Lobby.{DoorsAsked}
+use Rattle.lrs_disk.specs.declared.failed.Failed.{Failed}
 use Rattle.lrs_disk.specs.Shelf.{AddsName}
 use Rattle.lrs_disk.specs.declared.disk.Disk as disks
 use Rattle.lrs_names.specs.declared.draw.Draw.{Draw}
@@ -12,13 +14,17 @@ use Rattle.lrs_command_line.specs.Shapes.{Denotes}
 use Rattle.lrs_command_line.specs.declared.words.ProgramCommand.{ProgramCommand}
 use Rattle.lrs_command_line.specs.declared.words.ProgramCommand.TheVariants as words
 use Rattle.lrs_console.specs.declared.ending.Ending.{Ending}
+use Rattle.lrs_fold.specs.Own.{founding_entry}
 use Rattle.lrs_parts.specs.Founding.{IsBase}
 use Rattle.lrs_hall.specs.Talks.{Talk}
 use Rattle.lrs_app.specs.Disks.{Taken, taken_now}
-use Rattle.lrs_app.specs.Service.{CountsOn, Doors}
+use Rattle.lrs_app.specs.Doing.{InitDoes, IntakeDoes, ServeDoes}
+use Rattle.lrs_app.specs.Service.{CountsOn, Doors, responses_of}
+use Rattle.lrs_app.specs.declared.program.Done as doing
 use Rattle.lrs_app.specs.declared.program.Ended as program
+use Rattle.lrs_app.specs.declared.program.Report.{Report}
 use Rattle.lrs_app.specs.Steps.{DenotesInRange}
-use Rattle.lrs_app.specs.Run.{Outside, HasEndingCause, IntakeEnds, IntakeRuns, InitOnDisk, InitRuns, SparesInput, ServeRuns, ServesDisk, CommandRuns}
+use Rattle.lrs_app.specs.Run.{Outside, HasEndingCause, IntakeEnds, IntakeLeaves, IntakeRuns, InitLeaves, InitOnDisk, InitRuns, PrintsEnding, ReadsOnce, SparesDoors, SparesInput, ServeLeaves, ServeRuns, ServesDisk, TakesFile, CommandRuns, taken_from}
 
 -- what a lobby tells of its doors is the same
 pub same_doors : {a b : Option (List DoorsAsked)} {c d : Option (List DoorState)} {m n : ℕ} → a ≡ b → c ≡ d → m ≡ n
@@ -68,6 +74,132 @@ module _ {D : Type 0} (d : disks.Ghosts D) (disk : D) (taken : Taken) (n : ℕ) 
     subst (λ (t : Taken). CountsOn t.mark.faults talks (d.fault_count disk)) same counts,
     subst (λ (t : Taken). ServesDisk d t disk address connections seed before after talks n end) same serves,
   )
+
+-- what a shelf tells of the disk that it gave for a file, or of the call that failed
+pub record IsTakenFrom {D : Type 0} (d : disks.Ghosts D) (before after : Outside) (file : List ℕ) (taken : Result D Failed) : Type 0 where
+  pub told : IfOk taken (λ disk. d.told disk ≡ before.holds file)
+  pub begins : IfOk taken (λ disk. d.fault_count disk ≡ before.begins file)
+  pub starts : IfOk taken (λ disk. d.time disk ≡ before.starts file)
+  pub cause : HasCause before.shelf_faults after.shelf_faults taken
+
+-- the same of the name under which the file was asked for
+pub is_taken : {D : Type 0} (d : disks.Ghosts D) (before after : Outside) (taken : Result D Failed) {name file : List ℕ} → name ≡ file
+    → IfOk taken (λ disk. d.told disk ≡ before.holds name) → IfOk taken (λ disk. d.fault_count disk ≡ before.begins name)
+    → IfOk taken (λ disk. d.time disk ≡ before.starts name) → HasCause before.shelf_faults after.shelf_faults taken
+    → IsTakenFrom d before after file taken
+is_taken d before after taken same told begins starts cause =
+    subst (λ (f : List ℕ). IsTakenFrom d before after f taken) same (record { told = told; begins = begins; starts = starts; cause = cause })
+
+-- no connection was served
+abbrev pub IsQuiet : {D : Type 0} → doing.Done D → Type 0
+IsQuiet done = (done.report.talks ≡ []) × (done.report.responses ≡ 0)
+
+-- what a command did with the file's disk, or without it, is what it leaves
+module _ {D : Type 0} (d : disks.Ghosts D) (before after : Outside) (file : List ℕ) (done : doing.Done D) where
+  init_left : (taken : Result D Failed) (admin base : List ℕ) (limit clock : ℕ) → IsTakenFrom d before after file taken
+      → InitDoes d taken limit (founding_entry admin base clock) done
+      → InitLeaves d file admin base limit clock before after done.disk done.report.length done.ending × IsQuiet done
+  init_left (Ok old) admin base limit clock from does = (
+    subst (λ (o : Option D). InitLeaves d file admin base limit clock before after o done.report.length done.ending) (sym does.1.back)
+        (init_leaves d does.0 (taken_from before file) done.report.length done.ending old limit (founding_entry admin base clock)
+        (same_taken (d.told old) (d.fault_count old) (d.time old) before.holds before.begins before.starts {name = file} {file = file} refl from.told from.begins from.starts) does.2 does.3),
+    (does.1.talks, does.1.responses),
+  )
+  init_left (Err failed) admin base limit clock from does = (
+    subst (λ (o : Option D). InitLeaves d file admin base limit clock before after o done.report.length done.ending) (sym does.disk)
+        (does.ended, from.cause.failed refl, does.length),
+    (does.talks, does.responses),
+  )
+
+  intake_left : (taken : Result D Failed) (clock : ℕ) (draw : Draw) → IsTakenFrom d before after file taken
+      → IntakeDoes d taken clock draw before.left after.left before.input_faults after.input_faults done
+      → IntakeLeaves d file clock draw before after done.disk done.report.length done.ending × IsQuiet done
+  intake_left (Ok old) clock draw from does = (
+    subst (λ (o : Option D). IntakeLeaves d file clock draw before after o done.report.length done.ending) (sym does.1.back)
+        (intake_leaves d does.0 (taken_from before file) done.report.length done.ending old before.left clock draw before.input_faults after.input_faults
+        (same_taken (d.told old) (d.fault_count old) (d.time old) before.holds before.begins before.starts {name = file} {file = file} refl from.told from.begins from.starts) does.2 does.3),
+    (does.1.talks, does.1.responses),
+  )
+  intake_left (Err failed) clock draw from does = (
+    subst (λ (o : Option D). IntakeLeaves d file clock draw before after o done.report.length done.ending) (sym does.0.disk)
+        ((does.0.ended, from.cause.failed refl, does.0.length), record { left = does.1; faults = does.2 }),
+    (does.0.talks, does.0.responses),
+  )
+
+  serve_left : (taken : Result D Failed) (address : List ℕ) (connections : ℕ) (seed : List ℕ) → IsTakenFrom d before after file taken
+      → ServeDoes d taken address connections seed before.lobby after.lobby done
+      → ServeLeaves d file address connections seed before after done.disk done.report.talks done.report.length done.ending
+      × (done.report.responses ≡ responses_of done.report.talks)
+  serve_left (Ok old) address connections seed from does = (
+    subst (λ (o : Option D). ServeLeaves d file address connections seed before after o done.report.talks done.report.length done.ending) (sym does.1)
+        (serve_leaves d does.0 (taken_from before file) done.report.length done.ending old address connections seed before.lobby after.lobby done.report.talks
+        (same_taken (d.told old) (d.fault_count old) (d.time old) before.holds before.begins before.starts {name = file} {file = file} refl from.told from.begins from.starts)
+        does.5 does.3 does.4),
+    does.2,
+  )
+  serve_left (Err failed) address connections seed from does = (
+    subst (λ (o : Option D). ServeLeaves d file address connections seed before after o done.report.talks done.report.length done.ending) (sym does.0.disk)
+        ((does.0.ended, from.cause.failed refl, does.0.length), does.1, does.0.talks),
+    does.0.responses ∙ sym (ap responses_of does.0.talks),
+  )
+
+  -- and a run of it, which ends by its line
+  module _ (o : program.Ended D) (same_disk : o.disk ≡ done.disk) (same_report : o.report ≡ done.report)
+      (takes : TakesFile file before after) (prints : PrintsEnding done.ending before after o.status) where
+    pub init_runs : (taken : Result D Failed) (admin base : List ℕ) (limit clock : ℕ) → ReadsOnce clock before after → SparesDoors before after
+        → IsTakenFrom d before after file taken → InitDoes d taken limit (founding_entry admin base clock) done
+        → InitRuns d file admin base limit before after o
+    init_runs taken admin base limit clock reads doors from does =
+        let left = init_left taken admin base limit clock from does in (
+          clock,
+          done.ending,
+          record {
+            reads = reads;
+            takes = takes;
+            doors = doors;
+            silent = (ap (λ (r : Report). r.talks) same_report ∙ left.1.0, ap (λ (r : Report). r.responses) same_report ∙ left.1.1);
+            prints = prints;
+          },
+          subst (λ (x : Option D). InitLeaves d file admin base limit clock before after x o.report.length done.ending) (sym same_disk)
+              (subst (λ (r : Report). InitLeaves d file admin base limit clock before after done.disk r.length done.ending) (sym same_report) left.0),
+        )
+
+    pub intake_runs : (taken : Result D Failed) (clock : ℕ) (draw : Draw) → ReadsOnce clock before after → SparesDoors before after
+        → IsTakenFrom d before after file taken
+        → IntakeDoes d taken clock draw before.left after.left before.input_faults after.input_faults done
+        → IntakeRuns d file draw before after o
+    intake_runs taken clock draw reads doors from does =
+        let left = intake_left taken clock draw from does in (
+          clock,
+          done.ending,
+          record {
+            reads = reads;
+            takes = takes;
+            doors = doors;
+            silent = (ap (λ (r : Report). r.talks) same_report ∙ left.1.0, ap (λ (r : Report). r.responses) same_report ∙ left.1.1);
+            prints = prints;
+          },
+          subst (λ (x : Option D). IntakeLeaves d file clock draw before after x o.report.length done.ending) (sym same_disk)
+              (subst (λ (r : Report). IntakeLeaves d file clock draw before after done.disk r.length done.ending) (sym same_report) left.0),
+        )
+
+    pub serve_runs : (taken : Result D Failed) (address : List ℕ) (connections : ℕ) (seed : List ℕ) → after.readings ≡ before.readings
+        → IsTakenFrom d before after file taken → ServeDoes d taken address connections seed before.lobby after.lobby done
+        → ServeRuns d file address connections seed before after o
+    serve_runs taken address connections seed readings from does =
+        let left = serve_left taken address connections seed from does in (
+          done.ending,
+          readings,
+          takes,
+          subst (λ (r : Report). r.responses ≡ responses_of r.talks) (sym same_report) left.1,
+          subst (λ (x : Option D). ServeLeaves d file address connections seed before after x o.report.talks o.report.length done.ending) (sym same_disk)
+              (subst (λ (r : Report). ServeLeaves d file address connections seed before after done.disk r.talks r.length done.ending) (sym same_report) left.0),
+          prints,
+        )
+
+-- the command that was found
+pub found_one : {X : Type 0} (N : Type 0) (P : X → Type 0) (o : Option X) (x : X) → o ≡ Some x → MatchOption o N P → P x
+found_one {X} N P o x is m = subst (λ (v : Option X). MatchOption v N P) is m
 
 -- what the words of init mean is done
 pub does_init : {D : Type 0} (d : disks.Ghosts D) (c : CommandLine) (read : ProgramCommand) (file admin base : List ℕ) (limit : ℕ) (seed : List ℕ) (before after : Outside) (o : program.Ended D)

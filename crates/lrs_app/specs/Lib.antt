@@ -1,5 +1,6 @@
 pub mod ClosingSteps
 pub mod Disks
+pub mod Doing
 pub mod Run
 pub mod Steps
 pub mod Service

@@ -49,8 +49,9 @@ fn ending_refused(refusal: Refusal) -> Ending
         Refusal::Full { need, limit } => Ending::Full { need, limit },
         Refusal::Broken(rule) => Ending::Refused(rule),
         Refusal::TooLong => Ending::TooLong,
+        Refusal::Forbidden(rule) => Ending::Refused(rule),
+        Refusal::CourseConflict(_) => unreachable!(),
         Refusal::Unauthorized => unreachable!(),
-        Refusal::Forbidden(_) => unreachable!(),
         Refusal::NotFound => unreachable!(),
     }
 }

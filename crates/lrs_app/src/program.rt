@@ -1,17 +1,18 @@
-ghost use Rattle.std.specs.Prelude.{◌≡◌, ℕ, [], List, Option, None};
-ghost use Rattle.lrs_parts.specs.Founding.{IsToken, IsBase};
-ghost use Rattle.lrs_command_line.specs.CommandLine.{CommandLine, IsInRange};
-ghost use Rattle.lrs_command_line.specs.Shapes.{Denotes};
-ghost use Rattle.lrs_app.specs.Run.{CommandRuns, Runs, IntakeRuns, InitRuns, ServeRuns, PrintsLine, outside};
-ghost use Rattle.lrs_app.specs.Steps.{DenotesInRange};
+ghost use Rattle.std.specs.Prelude.{◌≡◌, [], IfOk};
+ghost use Rattle.lrs_fold.specs.Own.{founding_entry};
+ghost use Rattle.lrs_journal.specs.Journal.{IsSynced};
 ghost use Rattle.lrs_journal.specs.Store.{IsLimit};
+ghost use Rattle.lrs_parts.specs.Founding.{IsToken, IsBase};
+ghost use Rattle.lrs_app.specs.Doing.{InitDoes, IntakeDoes, IsUndone, ServeDoes};
+ghost use Rattle.lrs_app.specs.Run.{PrintsLine, Runs, outside};
+ghost use Rattle.lrs_app.specs.Service.{doors};
 
 use crate::init::init_disk;
 use crate::intake::intake_disk;
 use crate::serve::{count_responses, serve_disk};
 use lrs_command_line::{ProgramCommand, read_words};
 use lrs_console::{Ending, finish};
-use lrs_disk::{Lobby, Shelf, Sink, Source};
+use lrs_disk::{Disk, Failed, Lobby, Shelf, Sink, Source};
 use lrs_hall::{Draws, Talk};
 use lrs_json::{Items, Memory, Text};
 use lrs_names::Draw;
@@ -51,106 +52,117 @@ pub struct Ended<D> {
     pub report: Report,
 }
 
-// A run that uses nothing but the output from here on.
-fn idle<D, O: Sink>(alloc: Global, out: &mut O, ending: Ending) -> Ended<D>
-    ensures printed { PrintsLine ending (O.taken out.old) (O.taken out.new) (O.fault_count out.old)
-        (O.fault_count out.new) result.status }
-    ensures disk { result.disk ≡ None }
-    ensures length { result.report.length ≡ 0 }
-    ensures talks { result.report.talks ≡ [] }
-    ensures responses { result.report.responses ≡ 0 }
+// What a command did, before its line is printed.
+#[derive(Drop)]
+struct Done<D> {
+    ending: Ending,
+    disk: Option<D>,
+    report: Report,
+}
+
+// Nothing was done: there was no command, or no disk.
+fn undone<D>(alloc: Global, ending: Ending) -> Done<D>
+    ensures { IsUndone ending result }
 {
-    Ended {
-        status: finish(out, ending),
+    Done {
+        ending,
         disk: None,
         report: silent(alloc, 0),
     }
 }
 
-// Takes a statement in over the file's disk.
-fn intake<S: Shelf, B: Lobby, I: Source, O: Sink>(
-    alloc: Global,
-    file: &Text,
-    shelf: &mut S,
-    lobby: &mut B,
-    input: &mut I,
-    out: &mut O,
-    draw: &Draw,
-) -> Ended<S::Disk>
-    ensures { IntakeRuns S.Disk.Disk file.now draw.now
-        (outside S.Shelf B.Lobby O.Sink shelf.old lobby.old out.old (I.left input.old) (I.fault_count input.old))
-        (outside S.Shelf B.Lobby O.Sink shelf.new lobby.new out.new (I.left input.new) (I.fault_count input.new))
-        result }
+// Ends a run by its line.
+fn end_run<D, O: Sink>(out: &mut O, done: Done<D>) -> Ended<D>
+    ensures printed { PrintsLine done.ending (O.taken out.old) (O.taken out.new) (O.fault_count out.old)
+        (O.fault_count out.new) result.status }
+    ensures disk { result.disk ≡ done.disk }
+    ensures report { result.report ≡ done.report }
 {
-    let clock = lobby.now();
-    match shelf.take(file.as_str()) {
+    let Done {
+        ending,
+        disk,
+        report,
+    } = done;
+    Ended {
+        status: finish(out, ending),
+        disk,
+        report,
+    }
+}
+
+// Takes a statement in over the file's disk.
+fn intake<D: Disk, I: Source>(
+    alloc: Global,
+    taken: Result<D, Failed>,
+    input: &mut I,
+    clock: u64,
+    draw: &Draw,
+) -> Done<D>
+    requires { IfOk taken (λ disk. IsSynced D.told D.image disk) }
+    ensures { IntakeDoes D.Disk taken clock draw.now (I.left input.old) (I.left input.new) (I.fault_count input.old)
+        (I.fault_count input.new) result }
+{
+    match taken {
         Ok(disk) => {
             let (ending, disk, length) = intake_disk(alloc, disk, input, clock, draw);
-            Ended {
-                status: finish(out, ending),
+            Done {
+                ending,
                 disk: Some(disk),
                 report: silent(alloc, length),
             }
         }
-        Err(_) => idle(alloc, out, Ending::DiskFault),
+        Err(_) => undone(alloc, Ending::DiskFault),
     }
 }
 
-// Makes a store on the file's disk. Of the input nothing is asked.
-fn init<S: Shelf, B: Lobby, O: Sink>(
+// Makes a store on the file's disk.
+fn init<D: Disk>(
     alloc: Global,
-    file: &Text,
+    taken: Result<D, Failed>,
     admin: &Text,
     base: &Text,
     limit: u64,
-    shelf: &mut S,
-    lobby: &mut B,
-    out: &mut O,
-) -> Ended<S::Disk>
+    clock: u64,
+) -> Done<D>
+    requires settled { IfOk taken (λ disk. IsSynced D.told D.image disk) }
     requires limit { IsLimit limit }
     requires admin { IsToken admin.now }
     requires base { IsBase base.now }
-    ensures { (left : Option (List ℕ)) (count : ℕ) → InitRuns S.Disk.Disk file.now admin.now base.now limit
-        (outside S.Shelf B.Lobby O.Sink shelf.old lobby.old out.old left count)
-        (outside S.Shelf B.Lobby O.Sink shelf.new lobby.new out.new left count)
-        result }
+    ensures { InitDoes D.Disk taken limit (founding_entry admin.now base.now clock) result }
 {
-    let clock = lobby.now();
-    match shelf.take(file.as_str()) {
+    match taken {
         Ok(disk) => {
             let (ending, disk, length) = init_disk(alloc, disk, admin, base, limit, clock);
-            Ended {
-                status: finish(out, ending),
+            Done {
+                ending,
                 disk: Some(disk),
                 report: silent(alloc, length),
             }
         }
-        Err(_) => idle(alloc, out, Ending::DiskFault),
+        Err(_) => undone(alloc, Ending::DiskFault),
     }
 }
 
-// Serves over the file's disk. Of the input nothing is asked.
-fn serve<S: Shelf, B: Lobby, O: Sink>(
+// Serves over the file's disk.
+fn serve<D: Disk, B: Lobby>(
     alloc: Global,
-    file: &Text,
+    taken: Result<D, Failed>,
+    lobby: &mut B,
     address: &Text,
     connections: u32,
-    shelf: &mut S,
-    lobby: &mut B,
-    out: &mut O,
     seed: [u8; 32],
-) -> Ended<S::Disk>
-    ensures { (left : Option (List ℕ)) (count : ℕ) → ServeRuns S.Disk.Disk file.now address.now connections seed
-        (outside S.Shelf B.Lobby O.Sink shelf.old lobby.old out.old left count)
-        (outside S.Shelf B.Lobby O.Sink shelf.new lobby.new out.new left count)
-        result }
+) -> Done<D>
+    requires { IfOk taken (λ disk. IsSynced D.told D.image disk) }
+    ensures serves { ServeDoes D.Disk taken address.now connections seed (doors B.Lobby lobby.old)
+        (doors B.Lobby lobby.new) result }
+    ensures readings { B.readings lobby.new ≡ B.readings lobby.old }
 {
-    match shelf.take(file.as_str()) {
+    match taken {
         Ok(disk) => {
             let service = serve_disk(alloc, disk, lobby, address, connections, seed);
             let responses = count_responses(service.talks.as_slice());
-            Ended {
-                status: finish(out, service.ending),
+            Done {
+                ending: service.ending,
                 disk: Some(service.disk),
                 report: Report {
                     talks: service.talks,
@@ -159,42 +171,7 @@ fn serve<S: Shelf, B: Lobby, O: Sink>(
                 },
             }
         }
-        Err(_) => idle(alloc, out, Ending::DiskFault),
-    }
-}
-
-// Does what a command line asks.
-fn obey<S: Shelf, B: Lobby, I: Source, O: Sink>(
-    alloc: Global,
-    command: &ProgramCommand,
-    shelf: &mut S,
-    lobby: &mut B,
-    input: &mut I,
-    out: &mut O,
-    seed: [u8; 32],
-) -> Ended<S::Disk>
-    requires { DenotesInRange command.now }
-    ensures { (c : CommandLine) → IsInRange c → Denotes command.now c → CommandRuns S.Disk.Disk c seed
-        (outside S.Shelf B.Lobby O.Sink shelf.old lobby.old out.old (I.left input.old) (I.fault_count input.old))
-        (outside S.Shelf B.Lobby O.Sink shelf.new lobby.new out.new (I.left input.new) (I.fault_count input.new))
-        result }
-{
-    match command {
-        ProgramCommand::Init {
-            file,
-            admin,
-            base,
-            limit,
-        } => init(alloc, file, admin, base, *limit, shelf, lobby, out),
-        ProgramCommand::Intake { file } => {
-            let draw = Draws::new(seed, 0).next();
-            intake(alloc, file, shelf, lobby, input, out, &draw)
-        }
-        ProgramCommand::Serve {
-            file,
-            address,
-            connections,
-        } => serve(alloc, file, address, *connections, shelf, lobby, out, seed),
+        Err(_) => undone(alloc, Ending::DiskFault),
     }
 }
 
@@ -222,13 +199,35 @@ pub fn run<S: Shelf, B: Lobby, I: Source, O: Sink>(
         (outside S.Shelf B.Lobby O.Sink shelf.new lobby.new out.new (I.left input.new) (I.fault_count input.new))
         result }
 {
-    match read_words(alloc, words) {
-        Ok(Some(command)) => {
-            let ended = obey(alloc, &command, shelf, lobby, input, out, seed);
-            drop(command);
-            ended
+    let command = match read_words(alloc, words) {
+        Ok(Some(command)) => command,
+        Ok(None) => return end_run(out, undone(alloc, Ending::Usage)),
+        Err(Memory) => return end_run(out, undone(alloc, Ending::Memory)),
+    };
+    match command {
+        ProgramCommand::Init {
+            file,
+            admin,
+            base,
+            limit,
+        } => {
+            let clock = lobby.now();
+            let taken = shelf.take(file.as_str());
+            end_run(out, init(alloc, taken, &admin, &base, limit, clock))
         }
-        Ok(None) => idle(alloc, out, Ending::Usage),
-        Err(Memory) => idle(alloc, out, Ending::Memory),
+        ProgramCommand::Intake { file } => {
+            let clock = lobby.now();
+            let taken = shelf.take(file.as_str());
+            let draw = Draws::new(seed, 0).next();
+            end_run(out, intake(alloc, taken, input, clock, &draw))
+        }
+        ProgramCommand::Serve {
+            file,
+            address,
+            connections,
+        } => {
+            let taken = shelf.take(file.as_str());
+            end_run(out, serve(alloc, taken, lobby, &address, connections, seed))
+        }
     }
 }

@@ -6,7 +6,7 @@
 // is the call that fails, as `disk:0` or `input:0`, or `room:` and how many bytes the output takes, or `-`. INPUT is
 // `statement`, `other` or `unnamed`, or is given as it is. After a LINE that is cut off stands `..`, and `changed` after
 // the line if the file isn't as it was, with a status by which it has to be.
-use crate::outside::{Around, Ran, STATEMENT, run_over, store};
+use lrs_app_runs::{Around, Ran, STATEMENT, run_over, store, stored};
 use std::alloc::Global;
 use std::slice::from_ref;
 use std::test::Fail;
@@ -20,22 +20,13 @@ const UNNAMED: &str =
 // The header alone is no store of a history.
 const HEADER: &[u8] = b"\x01LRSJRNL\x01\0\0\0\0\0\x01\0\0";
 
-// The store of one founding entry: the header, the frame's gate and length, the entry, and the end gate.
-const STORED: &[u8] =
-    b"\x01LRSJRNL\x01\0\0\0\0\0\x01\0\0\x01\0\0\0\xba{\"caller\":\"*\",\"moment\":1700000000000,\"draw\":\"0000000000000000000000000000000000000000000000000000000000000000\",\"command\":{\"found\":{\"admin\":\"adminadmin\",\"base\":\"http://127.0.0.1:8080/\"}}}\0";
-
-/// That store. A function that names the bytes themselves takes long to prove.
-pub(crate) fn stored() -> &'static [u8] {
-    STORED
-}
-
 /// What the file of this name holds.
 pub(crate) fn file_of<'a>(name: &str, last: &'a [u8]) -> &'a [u8] {
     match name {
         "none" => &[],
         "header" => HEADER,
         "letter" => b"a letter",
-        "store" => STORED,
+        "store" => stored(),
         _ => last,
     }
 }
@@ -154,6 +145,7 @@ last - intake s <other => 10 2 conflict 11111111-1111-4111-8111-111111111111
 last - intake s <{ => 10 2 refused J2
 last - intake s <unnamed => 10 2 refused no id
 last - intake s <[1] => 10 2 refused S1
+last - intake s <{"id":"22222222-2222-4222-8222-222222222222","actor":{"mbox":"mailto:a@b"},"verb":{"id":"http://v/1"},"object":{"id":"http://a/1"},"context":{"contextActivities":{"category":[{"id":"https://w3id.org/xapi/cmi5/context/categories/cmi5"}]}}} => 10 2 refused C1
 last - intake s <statement => 0 2 11111111-1111-4111-8111-111111111111
 "#,
     )

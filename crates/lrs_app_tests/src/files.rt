@@ -1,6 +1,6 @@
 //! `init` and `intake` over real files.
-use crate::outside::{STATEMENT, words_of, wrong_at};
 use lrs_app::run;
+use lrs_app_runs::{STATEMENT, words_of, wrong_at};
 use lrs_edge::{FileShelf, StdSource, TcpLobby};
 use lrs_in_memory::MemSink;
 use lrs_json::Text;

@@ -1,4 +1,5 @@
-//! The tests of lrs_app, and of the program, which only calls `run`: over the outside in memory, and over real files.
+//! The tests of lrs_app, and of the program, which only calls `run`: over the outside in memory, and over real files. What
+//! a stop leaves is tested in lrs_app_stops_tests.
 #![tactic(auto)]
 
 #[cfg(test)]
@@ -6,10 +7,6 @@ mod commands;
 #[cfg(test)]
 mod files;
 #[cfg(test)]
-mod outside;
-#[cfg(test)]
 mod serving;
-#[cfg(test)]
-mod stops;
 #[cfg(test)]
 mod words;

@@ -1,17 +1,12 @@
 //! What `serve` answers and leaves.
-use crate::commands::{file_of, stored};
-use crate::outside::{Around, Ran, file_behind, joined, run_over, store, wrong_at};
+use crate::commands::file_of;
+use lrs_app_runs::{
+    Around, DISK, GET, MAKE, POST, PUT, Ran, SERVE, file_behind, joined, run_over, store, stored,
+    wrong_at,
+};
 use lrs_hall::Finish;
 use std::alloc::Global;
 use std::test::Fail;
-
-pub(crate) const SERVE: &str = "serve s 127.0.0.1:8080 --workers 1 --connections 2";
-
-pub(crate) const PUT: &str =
-    "PUT /xapi/statements?statementId=11111111-1111-4111-8111-111111111111 HTTP/1.1\r\nX-Experience-API-Version: 1.0.3\r\nAuthorization: Basic adminadmin\r\nContent-Length: 131\r\n\r\n{\"id\":\"11111111-1111-4111-8111-111111111111\",\"actor\":{\"mbox\":\"mailto:a@b\"},\"verb\":{\"id\":\"http://v/1\"},\"object\":{\"id\":\"http://a/1\"}}";
-
-pub(crate) const GET: &str =
-    "GET /xapi/statements?statementId=11111111-1111-4111-8111-111111111111 HTTP/1.1\r\nX-Experience-API-Version: 1.0.3\r\nAuthorization: Basic adminadmin\r\n\r\n";
 
 const NO_CONTENT: &str = "HTTP/1.1 204 No Content\r\nX-Experience-API-Version: 1.0.3\r\n\r\n";
 
@@ -208,9 +203,6 @@ fn a_part_of_a_put_is_not_answered(rt: HostRuntime) -> Result<(), Fail> {
 // The token's digits were computed by an independent program: the secret of the first draw of stream 1.
 const PROVIDER: &str = "d8968f3a519aade770c5c943b8f94a2b-1";
 
-pub(crate) const MAKE: &str =
-    "POST /desk/callers HTTP/1.1\r\nAuthorization: Basic adminadmin\r\nContent-Length: 14\r\n\r\n{\"name\":\"p.1\"}";
-
 const MADE: &str =
     "HTTP/1.1 200 OK\r\nContent-Type: application/json\r\nContent-Length: 57\r\nX-Experience-API-Version: 1.0.3\r\n\r\n{\"caller\":0,\"token\":\"d8968f3a519aade770c5c943b8f94a2b-1\"}";
 
@@ -230,9 +222,6 @@ fn a_provider_is_made_and_keeps_to_its_area(rt: HostRuntime) -> Result<(), Fail>
     let answers = joined(rt.alloc(), &[MADE, NO_CONTENT, FORBIDDEN])?;
     check_answers(rt.alloc(), stored(), stream.as_str(), answers.as_str())
 }
-
-pub(crate) const POST: &str =
-    "POST /xapi/statements HTTP/1.1\r\nX-Experience-API-Version: 1.0.3\r\nAuthorization: Basic adminadmin\r\nContent-Length: 131\r\n\r\n{\"id\":\"11111111-1111-4111-8111-111111111111\",\"actor\":{\"mbox\":\"mailto:a@b\"},\"verb\":{\"id\":\"http://v/1\"},\"object\":{\"id\":\"http://a/1\"}}";
 
 const POST_NONE: &str =
     "POST /xapi/statements HTTP/1.1\r\nX-Experience-API-Version: 1.0.3\r\nAuthorization: Basic adminadmin\r\nContent-Length: 2\r\n\r\n[]";
@@ -299,9 +288,6 @@ fn a_server_opens_a_store_and_ends_by_what_fails_first(rt: HostRuntime) -> Resul
     }
     Ok(())
 }
-
-pub(crate) const DISK: &str =
-    "HTTP/1.1 503 Service Unavailable\r\nContent-Type: application/json\r\nContent-Length: 16\r\nX-Experience-API-Version: 1.0.3\r\n\r\n{\"error\":\"disk\"}";
 
 // What a PUT is sent and what is printed if the disk fails for good: while the store is opened, before the entry's
 // gate is written, after that, or not at all.

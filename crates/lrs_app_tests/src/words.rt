@@ -1,5 +1,5 @@
 //! Lines of words that are no command.
-use crate::outside::{Around, run_over};
+use lrs_app_runs::{Around, run_over};
 use std::alloc::Global;
 use std::test::Fail;
 

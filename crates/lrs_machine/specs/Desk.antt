@@ -88,8 +88,8 @@ pub record IsOnDisk {D : Type 0} (told : D → Option (List ℕ)) (image : D →
 -- ---- what an act leaves in memory
 
 -- Where no entry came of it, no place is in memory that wasn't there before.
-abbrev pub Spares : {D : Type 0} → Desk D → Desk D → Type 0
-Spares old new = length (history new) ≡ length (history old) → AddsNoPlaces old.parts new.parts
+abbrev pub LeavesNoPlace : {D : Type 0} → Desk D → Desk D → Type 0
+LeavesNoPlace old new = length (history new) ≡ length (history old) → AddsNoPlaces old.parts new.parts
 
 -- ---- who is let in
 

@@ -50,7 +50,7 @@ pub(crate) fn act<D: Disk>(
     ensures cause { HasDiskCause (D.fault_count journal.old.disk) (D.fault_count journal.new.disk) result.said }
     ensures landed { result.landed ≡ landed_of journal.old journal.new (option_map (λ s. s.value) result.made) }
     // An act that makes no entry leaves no place behind, so a store that can't write doesn't grow by places.
-    ensures spared { IsNone result.made → AddsNoPlaces fold.old.parts fold.new.parts }
+    ensures places { IsNone result.made → AddsNoPlaces fold.old.parts fold.new.parts }
 {
     match journal.settle() {
         Ok(landed) => {
@@ -87,7 +87,7 @@ fn answer<D: Disk>(
         (outcome (state_of fold.old) caller command clock draw.now) result.0 (option_map (λ s. s.value) result.1) }
     ensures sound { IsJournal D.told D.image journal.new }
     ensures cause { HasDiskCause (D.fault_count journal.old.disk) (D.fault_count journal.new.disk) result.0 }
-    ensures spared { IsNone result.1 → AddsNoPlaces fold.old.parts fold.new.parts }
+    ensures places { IsNone result.1 → AddsNoPlaces fold.old.parts fold.new.parts }
 {
     match fold.outcome(alloc, caller, command, clock, draw) {
         Ok(Outcome::Said(said)) => (Ok(said), None),

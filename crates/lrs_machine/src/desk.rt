@@ -16,7 +16,7 @@ ghost use Rattle.lrs_replies.specs.declared.reply.Trouble.{Trouble};
 ghost use Rattle.lrs_fold.specs.Own.{put_of, IsOfPut, IsPut};
 ghost use Rattle.lrs_machine.specs.Line.{in_doubt, sure};
 ghost use Rattle.lrs_machine.specs.Acts.{Acts, HasDiskCause};
-ghost use Rattle.lrs_machine.specs.Desk.{history, HoldsPrefix, IsOnDisk, KeepsLine, LeavesStore, Spares, StopsWithin, lets_in, receipt_of};
+ghost use Rattle.lrs_machine.specs.Desk.{history, HoldsPrefix, IsOnDisk, KeepsLine, LeavesNoPlace, LeavesStore, StopsWithin, lets_in, receipt_of};
 ghost use Rattle.lrs_machine.specs.Steps.{Happens, line_after};
 
 use crate::acting::{Done, act};
@@ -157,7 +157,7 @@ impl<D: Disk> Desk<D> {
         ensures tells { TellsAlike (D.told self.old.disk) (D.told self.new.disk) }
         ensures later { D.time self.old.disk ≤ D.time self.new.disk }
         ensures stops { StopsWithin D.told D.time D.image_since self.old self.new }
-        ensures spared { Spares self.old self.new }
+        ensures places { LeavesNoPlace self.old self.new }
         ensures durable { IsOnDisk D.told D.image D.time D.image_since self.new }
     {
         let Done { said, made, landed } = act(
@@ -226,7 +226,7 @@ impl<D: Disk> Desk<D> {
         ensures tells { TellsAlike (D.told self.old.disk) (D.told self.new.disk) }
         ensures later { D.time self.old.disk ≤ D.time self.new.disk }
         ensures stops { StopsWithin D.told D.time D.image_since self.old self.new }
-        ensures spared { Spares self.old self.new }
+        ensures places { LeavesNoPlace self.old self.new }
         ensures durable { IsOnDisk D.told D.image D.time D.image_since self.new }
         ensures receipt { result.1 ≡ receipt_of D.time D.fault_count self.old self.new (status_in result.0) clock }
     {
@@ -259,7 +259,7 @@ impl<D: Disk> Desk<D> {
         ensures later { D.time self.old.disk ≤ D.time self.new.disk }
         // A crash at any moment of the act leaves the first entries, at least all that stood without doubt before.
         ensures stops { StopsWithin D.told D.time D.image_since self.old self.new }
-        ensures spared { Spares self.old self.new }
+        ensures places { LeavesNoPlace self.old self.new }
         ensures durable { IsOnDisk D.told D.image D.time D.image_since self.new }
         ensures receipt { result.1 ≡ receipt_of D.time D.fault_count self.old self.new result.0.status clock }
     {

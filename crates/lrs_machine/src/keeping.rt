@@ -31,7 +31,7 @@ pub(crate) fn keep<D: Disk>(
         result.0 (option_map (λ s. s.value) result.1) }
     ensures sound { IsJournal D.told D.image journal.new }
     ensures cause { HasDiskCause (D.fault_count journal.old.disk) (D.fault_count journal.new.disk) result.0 }
-    ensures spared { IsNone result.1 → AddsNoPlaces fold.old.parts fold.new.parts }
+    ensures places { IsNone result.1 → AddsNoPlaces fold.old.parts fold.new.parts }
 {
     if let Err(Full { need, limit }) = journal.room(accepted.text.as_slice()) {
         drop(accepted);
@@ -62,7 +62,7 @@ fn append<D: Disk>(
         result.0 (option_map (λ s. s.value) result.1) }
     ensures sound { IsJournal D.told D.image journal.new }
     ensures cause { HasDiskCause (D.fault_count journal.old.disk) (D.fault_count journal.new.disk) result.0 }
-    ensures spared { IsNone result.1 → (before : Parts) → MakesPlacesFor before fold.old.parts accepted.effect
+    ensures places { IsNone result.1 → (before : Parts) → MakesPlacesFor before fold.old.parts accepted.effect
         → AddsNoPlaces before fold.new.parts }
 {
     let Accepted {

@@ -1,5 +1,5 @@
 // What lists of statements are answered over one desk: filters, references, pages.
-use crate::desk_rows::check_rows;
+use lrs_machine_rows::check_rows;
 use std::test::Fail;
 
 // Two statements that refer to one another, and one that refers to the first of them.

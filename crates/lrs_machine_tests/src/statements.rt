@@ -1,5 +1,5 @@
 // What statements are answered over one desk: repeats, batches, made ids, voiding.
-use crate::desk_rows::check_rows;
+use lrs_machine_rows::check_rows;
 use std::alloc::Global;
 use std::test::Fail;
 

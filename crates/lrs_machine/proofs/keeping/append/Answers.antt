@@ -31,14 +31,14 @@ returns-else-in_doubt-clause-kept g c = λ v is.
     failed_does g.D.Disk.told g.D.Disk.time g.D.Disk.image_since old new (state_of c.args.fold.now) (state_of c.release-else-in_doubt.new.self) v c.requires.settled none
     (unchanged_where g.D.Disk.told old new c.as_slice.result.now none (c.in-Err-Failed.ensures.failed (ap (λ e. Err e) c.in-Err-Failed.field-0-is))) c.release-else-in_doubt.ensures.same c.append.ensures.later (c.in-Err-Failed.ensures.any_moment_err refl none)
 
-pub returns-in-Ok-clause-spared : goal.returns-in-Ok-clause-spared
-returns-in-Ok-clause-spared g c = λ none. absurd (cc none)
+pub returns-in-Ok-clause-places : goal.returns-in-Ok-clause-places
+returns-in-Ok-clause-places g c = λ none. absurd (cc none)
 
-pub returns-in-Err-Full-clause-spared : goal.returns-in-Err-Full-clause-spared
-returns-in-Err-Full-clause-spared g c = λ none before made. c.release.ensures.undone before made
+pub returns-in-Err-Full-clause-places : goal.returns-in-Err-Full-clause-places
+returns-in-Err-Full-clause-places g c = λ none before made. c.release.ensures.undone before made
 
-pub returns-then-in_doubt-clause-spared : goal.returns-then-in_doubt-clause-spared
-returns-then-in_doubt-clause-spared g c = λ none. absurd (cc none)
+pub returns-then-in_doubt-clause-places : goal.returns-then-in_doubt-clause-places
+returns-then-in_doubt-clause-places g c = λ none. absurd (cc none)
 
-pub returns-else-in_doubt-clause-spared : goal.returns-else-in_doubt-clause-spared
-returns-else-in_doubt-clause-spared g c = λ none before made. c.release-else-in_doubt.ensures.undone before made
+pub returns-else-in_doubt-clause-places : goal.returns-else-in_doubt-clause-places
+returns-else-in_doubt-clause-places g c = λ none before made. c.release-else-in_doubt.ensures.undone before made

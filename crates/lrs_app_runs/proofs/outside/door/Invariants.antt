@@ -1,6 +1,6 @@
 use Rattle.std.proofs.Common.{All}
 use Rattle.lrs_in_memory.specs.MemLink.{IsUnused}
-use Rattle.lrs_app_tests.proofs.outside.door.Given as goal
+use Rattle.lrs_app_runs.proofs.outside.door.Given as goal
 
 -- no link was used so far
 abbrev pub invariant-loop-stream : goal.invariant-loop-stream

@@ -10,9 +10,6 @@ use lrs_json::{Items, Text};
 use std::alloc::Global;
 use std::test::Fail;
 
-pub const STATEMENT: &str =
-    r#"{"id":"11111111-1111-4111-8111-111111111111","actor":{"mbox":"mailto:a@b"},"verb":{"id":"http://v/1"},"object":{"id":"http://a/1"}}"#;
-
 const CLOCK: u64 = 1_700_000_000_000;
 
 /// What is around a run.

@@ -1,10 +1,10 @@
 // A script of acts over one desk: what is left of it if it is stopped at any moment, and what comes of it if a
 // call of the disk fails.
-use crate::desk_rows::{answered, founded, wrong_row};
 use lrs_command::{Command, Read};
 use lrs_disk::Disk;
 use lrs_in_memory::{MemDisk, Pending};
 use lrs_machine::Desk;
+use lrs_machine_rows::{answered, founded, wrong_row};
 use lrs_names::Draw;
 use lrs_record::Caller;
 use std::alloc::Global;

@@ -50,16 +50,12 @@ const PROVIDER: &str = "00000000000000000000000000000005-1";
 const NOW: u64 = 1_700_000_000_000;
 
 /// A new desk over a disk of which the calls with these numbers fail.
-pub(crate) fn founded(alloc: Global, failing: Vec<u64>) -> Result<Desk<MemDisk>, Fail> {
+pub fn founded(alloc: Global, failing: Vec<u64>) -> Result<Desk<MemDisk>, Fail> {
     founded_in(alloc, failing, 1_048_576)
 }
 
 /// The same, with a file of at most so many bytes.
-pub(crate) fn founded_in(
-    alloc: Global,
-    failing: Vec<u64>,
-    limit: u64,
-) -> Result<Desk<MemDisk>, Fail> {
+pub fn founded_in(alloc: Global, failing: Vec<u64>, limit: u64) -> Result<Desk<MemDisk>, Fail> {
     let admin = Text::of(alloc, ADMIN)?;
     let base = Text::of(alloc, "http://127.0.0.1:8080/")?;
     founded_by(alloc, failing, limit, &admin, &base)
@@ -93,12 +89,12 @@ fn founded_by(
 }
 
 /// Fails with the first row that a new desk answers otherwise, and its answer.
-pub(crate) fn check_rows(alloc: Global, rows: &str) -> Result<(), Fail> {
+pub fn check_rows(alloc: Global, rows: &str) -> Result<(), Fail> {
     check_rows_in(alloc, 1_048_576, rows)
 }
 
 /// The same over a file of at most so many bytes.
-pub(crate) fn check_rows_in(alloc: Global, limit: u64, rows: &str) -> Result<(), Fail> {
+pub fn check_rows_in(alloc: Global, limit: u64, rows: &str) -> Result<(), Fail> {
     let wrong = first_wrong(alloc, limit, rows)?;
     if wrong.is_empty() {
         Ok(())
@@ -116,11 +112,7 @@ fn first_wrong(alloc: Global, limit: u64, rows: &str) -> Result<String, Fail> {
 }
 
 /// The first row that this desk answers otherwise, and its answer, or no text.
-pub(crate) fn first_wrong_of(
-    alloc: Global,
-    desk: &mut Desk<MemDisk>,
-    rows: &str,
-) -> Result<String, Fail> {
+pub fn first_wrong_of(alloc: Global, desk: &mut Desk<MemDisk>, rows: &str) -> Result<String, Fail> {
     for row in rows.lines() {
         let wrong = wrong_row(alloc, desk, row)?;
         if !wrong.is_empty() {
@@ -131,11 +123,7 @@ pub(crate) fn first_wrong_of(
 }
 
 /// What was asked and answered in this row, if something else was expected.
-pub(crate) fn wrong_row(
-    alloc: Global,
-    desk: &mut Desk<MemDisk>,
-    row: &str,
-) -> Result<String, Fail> {
+pub fn wrong_row(alloc: Global, desk: &mut Desk<MemDisk>, row: &str) -> Result<String, Fail> {
     if row.is_empty() || row.starts_with("//") {
         return Ok(String::new(alloc));
     }
@@ -160,11 +148,7 @@ pub(crate) fn first_word(text: &str) -> (&str, &str) {
 }
 
 /// What a desk answers to what is asked, in short.
-pub(crate) fn answered(
-    alloc: Global,
-    desk: &mut Desk<MemDisk>,
-    asked: &str,
-) -> Result<String, Fail> {
+pub fn answered(alloc: Global, desk: &mut Desk<MemDisk>, asked: &str) -> Result<String, Fail> {
     let (who, ask) = first_word(asked);
     let (word, behind) = first_word(ask);
     let before = desk.length();

@@ -1,7 +1,7 @@
 //! What `init`, `intake` and `serve` leave if they are stopped at any moment, or if the disk fails.
-use crate::commands::stored;
-use crate::outside::{Around, Ran, STATEMENT, joined, run_over, wrong_at};
-use crate::serving::{DISK, GET, MAKE, POST, PUT, SERVE};
+use lrs_app_runs::{
+    Around, DISK, GET, MAKE, POST, PUT, Ran, SERVE, STATEMENT, joined, run_over, stored, wrong_at,
+};
 use lrs_disk::Disk;
 use lrs_in_memory::{MemDisk, Pending};
 use lrs_machine::Receipt;
@@ -80,7 +80,8 @@ fn check_moments(alloc: Global, file: &[u8], ran: &Ran) -> Result<(), Fail> {
     Ok(())
 }
 
-// Whether `init` fails over this file where this call of the disk does. A stop at any moment has to leave what it may.
+// Whether `init` fails over this file where this call of the disk does. It has to say so just where the disk failed, and
+// a stop at any moment has to leave what it may.
 fn fails(alloc: Global, file: &[u8], call: u64) -> Result<bool, Fail> {
     let disk_fails = [call];
     let around = Around {
@@ -90,8 +91,15 @@ fn fails(alloc: Global, file: &[u8], call: u64) -> Result<bool, Fail> {
     let ran = run_over(alloc, INIT, &around)?;
     let checked = check_moments(alloc, file, &ran);
     let fails = ran.ends(5, "disk fault\n");
+    let faults = match ran.disk() {
+        Some(disk) => disk.faults(),
+        None => 0,
+    };
     drop(ran);
     checked?;
+    if fails != (faults > 0) {
+        return Err(Fail::from("a fault that isn't told"));
+    }
     Ok(fails)
 }
 

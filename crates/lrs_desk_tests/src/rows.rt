@@ -1,0 +1,336 @@
+// What requests are answered over one desk in a test, as a text of rows.
+//
+//   WHO METHOD TARGET BODY => STATUS BODY      a request, and its reply; `kept` behind it if an entry is kept
+//   draw NAME SECRET                           what is drawn for the requests from here on
+//
+// WHO is `admin`, `nobody`, or a token. The body and the spaces in it go to the end. A line after `//` is none.
+// `kept` stands behind a reply if there is one more entry, with their number if there are several. A document's own media
+// type stands before its body. Any other body is JSON by its type: else there is a word for it.
+//
+// In rows `ID` and two digits stand for the id that ends with them, `ACTOR` for the sample learner's Agent, `LEARNER` for
+// its text in launch addresses, `AGENT` and `OTHER` for it and another one as parameters, `BASE` for the store's address,
+// `STATE` for the documents of the sample unit, `KEY` and `TOKEN` for the fetch key and the token of the sample session,
+// `CMI5` for cmi5's category, `VERB/` for what its verbs begin with.
+use lrs_http::{Method, Request};
+use lrs_in_memory::MemDisk;
+use lrs_json::{Items, Text};
+use lrs_machine::{Body, Desk, Media, Reply, is_base, is_token};
+use lrs_names::Draw;
+use lrs_routes::{Asked, RouteRefused, Routes};
+use std::alloc::Global;
+use std::test::Fail;
+
+const ADMIN: &str = "adminadmin";
+
+const NOW: u64 = 1_700_000_000_000;
+
+// What stands for what, in this order.
+const SHORT: [(&str, &str); 11] = [
+    (
+        "ACTOR",
+        r#"{"account":{"homePage":"https://p.example","name":"k1"}}"#,
+    ),
+    (
+        "LEARNER",
+        r#"{"objectType":"Agent","account":{"homePage":"https://p.example","name":"k1"}}"#,
+    ),
+    (
+        "AGENT",
+        "%7B%22account%22:%7B%22homePage%22:%22https://p.example%22,%22name%22:%22k1%22%7D%7D",
+    ),
+    (
+        "OTHER",
+        "%7B%22account%22:%7B%22homePage%22:%22https://p.example%22,%22name%22:%22k2%22%7D%7D",
+    ),
+    (
+        "STATE",
+        "/xapi/activities/state?activityId=BASEactivities/0/2",
+    ),
+    ("BASE", "http://127.0.0.1:8080/"),
+    ("KEY", "00000000000000000000000000000001-3"),
+    ("TOKEN", "00000000000000000000000000000002-4"),
+    ("CMI5", "https://w3id.org/xapi/cmi5/context/categories/cmi5"),
+    ("VERB/", "http://adlnet.gov/expapi/verbs/"),
+    ("ID", "00000000-0000-4000-8000-0000000000"),
+];
+
+/// A new desk.
+pub(crate) fn founded(alloc: Global) -> Result<Desk<MemDisk>, Fail> {
+    let admin = Text::of(alloc, ADMIN)?;
+    let base = Text::of(alloc, "http://127.0.0.1:8080/")?;
+    if !is_token(&admin) {
+        return Err(Fail::from("no token"));
+    }
+    if !is_base(alloc, &base)? {
+        return Err(Fail::from("no base"));
+    }
+    let disk = MemDisk::new(alloc, Vec::new(alloc), Vec::new(alloc), 999, 9_999_999)?;
+    match Desk::found(alloc, disk, 16_777_216, &admin, &base, NOW) {
+        Ok(desk) => Ok(desk),
+        Err(refused) => {
+            drop(refused);
+            Err(Fail::from("not founded"))
+        }
+    }
+}
+
+/// Fails with the first row that a new desk answers otherwise, and its answer.
+pub(crate) fn check_rows(alloc: Global, rows: &str) -> Result<(), Fail> {
+    let mut desk = founded(alloc)?;
+    let wrong = wrong_rows(alloc, &mut desk, rows);
+    drop(desk);
+    verdict(wrong)
+}
+
+/// The same, for rows over a new desk, and for later ones over what is opened from its disk.
+pub(crate) fn check_reopened(alloc: Global, rows: &str, later: &str) -> Result<(), Fail> {
+    let mut desk = founded(alloc)?;
+    let wrong = wrong_rows(alloc, &mut desk, rows);
+    match desk.close() {
+        Ok(disk) => verdict_behind(alloc, wrong, disk, later),
+        Err((_, disk)) => {
+            drop(disk);
+            verdict(wrong)?;
+            Err(Fail::from("not closed"))
+        }
+    }
+}
+
+fn verdict_behind(
+    alloc: Global,
+    wrong: Result<String, Fail>,
+    disk: MemDisk,
+    rows: &str,
+) -> Result<(), Fail> {
+    match verdict(wrong) {
+        Ok(()) => verdict(wrong_behind(alloc, disk, rows)),
+        Err(fail) => {
+            drop(disk);
+            Err(fail)
+        }
+    }
+}
+
+fn reopened(alloc: Global, disk: MemDisk) -> Result<Desk<MemDisk>, Fail> {
+    match Desk::recover(alloc, disk) {
+        Ok(desk) => Ok(desk),
+        Err((_, disk)) => {
+            drop(disk);
+            Err(Fail::from("not opened"))
+        }
+    }
+}
+
+// The first row that a desk over this disk answers otherwise.
+fn wrong_behind(alloc: Global, disk: MemDisk, rows: &str) -> Result<String, Fail> {
+    let mut desk = reopened(alloc, disk)?;
+    let wrong = wrong_rows(alloc, &mut desk, rows);
+    drop(desk);
+    wrong
+}
+
+fn verdict(wrong: Result<String, Fail>) -> Result<(), Fail> {
+    let wrong = wrong?;
+    if wrong.is_empty() {
+        Ok(())
+    } else {
+        Err(Fail::from(wrong))
+    }
+}
+
+// The first row that this desk answers otherwise, and its answer, or no text.
+fn wrong_rows(alloc: Global, desk: &mut Desk<MemDisk>, rows: &str) -> Result<String, Fail> {
+    let routes = Routes::new(alloc)?;
+    let wrong = first_wrong(alloc, &routes, desk, rows);
+    drop(routes);
+    wrong
+}
+
+fn first_wrong(
+    alloc: Global,
+    routes: &Routes,
+    desk: &mut Desk<MemDisk>,
+    rows: &str,
+) -> Result<String, Fail> {
+    let mut draw = Draw {
+        name: 80,
+        secret: 5,
+    };
+    for row in rows.lines() {
+        if let Some(drawn) = row.strip_prefix("draw ") {
+            draw = draw_of(drawn)?;
+        } else {
+            let wrong = wrong_row(alloc, routes, desk, &draw, row)?;
+            if !wrong.is_empty() {
+                return Ok(wrong);
+            }
+        }
+    }
+    Ok(String::new(alloc))
+}
+
+fn draw_of(text: &str) -> Result<Draw, Fail> {
+    let (name, secret) = text.split_once(' ').ok_or("no draw")?;
+    Ok(Draw {
+        name: number(name)?,
+        secret: number(secret)?,
+    })
+}
+
+fn number(text: &str) -> Result<u128, Fail> {
+    match text.parse::<u128>() {
+        Ok(number) => Ok(number),
+        Err(_) => Err(Fail::from("no number")),
+    }
+}
+
+// What was asked and answered in this row, if something else was expected.
+fn wrong_row(
+    alloc: Global,
+    routes: &Routes,
+    desk: &mut Desk<MemDisk>,
+    draw: &Draw,
+    row: &str,
+) -> Result<String, Fail> {
+    if row.is_empty() || row.starts_with("//") {
+        return Ok(String::new(alloc));
+    }
+    let row = written_out(alloc, row)?;
+    let (asked, expected) = row.as_str().split_once(" => ").ok_or("no answer")?;
+    let found = answered(alloc, routes, desk, draw, asked)?;
+    if found.as_str() == expected {
+        Ok(String::new(alloc))
+    } else {
+        Ok(format!(in alloc; "{asked} => {found}")?)
+    }
+}
+
+// The text with all that is short in full.
+fn written_out(alloc: Global, text: &str) -> Result<String, Fail> {
+    let mut whole = String::from_str(alloc, text)?;
+    for (short, long) in SHORT {
+        whole = whole.as_str().replace(alloc, short, long)?;
+    }
+    Ok(whole)
+}
+
+// A word, and what follows the space after it.
+fn first_word(text: &str) -> (&str, &str) {
+    text.split_once(' ').unwrap_or((text, ""))
+}
+
+// What a desk answers to a request, in short.
+fn answered(
+    alloc: Global,
+    routes: &Routes,
+    desk: &mut Desk<MemDisk>,
+    draw: &Draw,
+    asked: &str,
+) -> Result<String, Fail> {
+    let before = desk.length();
+    let request = request(alloc, asked)?;
+    let asked = routes.command_of(alloc, request);
+    match asked {
+        Ok(Asked { caller, command }) => {
+            let (reply, _receipt) = desk.act(caller, command, NOW, draw);
+            let text = reply_text(alloc, &reply, before, desk.length());
+            drop(reply);
+            text
+        }
+        Err(refused) => refused_text(alloc, refused),
+    }
+}
+
+fn refused_text(alloc: Global, refused: RouteRefused) -> Result<String, Fail> {
+    match refused {
+        RouteRefused::NoRoute => Ok(String::from_str(alloc, "no route")?),
+        RouteRefused::NoMethod { allow } => Ok(String::from_str(alloc, allow.text())?),
+        RouteRefused::NoVersion => Ok(String::from_str(alloc, "no version")?),
+        RouteRefused::Memory => Err(Fail::from("memory")),
+    }
+}
+
+fn request(alloc: Global, asked: &str) -> Result<Request, Fail> {
+    let (who, behind) = first_word(asked);
+    let (method, behind) = first_word(behind);
+    let (target, body) = first_word(behind);
+    let credential = credential(alloc, who)?;
+    let body = Items::from_vec(body.as_bytes().to_vec(alloc)?);
+    let version = Text::of(alloc, "1.0.3")?;
+    let media = Text::of(alloc, "application/json")?;
+    let (path, query) = path_of(alloc, target)?;
+    Ok(Request {
+        method: method_of(method),
+        path,
+        query,
+        version: Some(version),
+        credential,
+        media: Some(media),
+        closes: false,
+        body,
+    })
+}
+
+fn path_of(alloc: Global, target: &str) -> Result<(Text, Option<Text>), Fail> {
+    match target.split_once('?') {
+        Some((path, query)) => Ok((Text::of(alloc, path)?, Some(Text::of(alloc, query)?))),
+        None => Ok((Text::of(alloc, target)?, None)),
+    }
+}
+
+fn credential(alloc: Global, who: &str) -> Result<Option<Text>, Fail> {
+    let token = match who {
+        "nobody" => return Ok(None),
+        "admin" => ADMIN,
+        other => other,
+    };
+    let field = format!(in alloc; "Basic {token}")?;
+    Ok(Some(Text::of(alloc, field.as_str())?))
+}
+
+fn method_of(name: &str) -> Method {
+    match name {
+        "GET" => Method::Get,
+        "PUT" => Method::Put,
+        "POST" => Method::Post,
+        "DELETE" => Method::Delete,
+        _ => Method::Other,
+    }
+}
+
+// How many entries are kept, by the numbers of those before and after.
+fn kept_text(alloc: Global, before: u64, after: u64) -> Result<String, Fail> {
+    match after.checked_sub(before) {
+        Some(0) => Ok(String::new(alloc)),
+        Some(1) => Ok(String::from_str(alloc, "kept")?),
+        Some(more) => Ok(format!(in alloc; "kept {more}")?),
+        None => Ok(String::from_str(alloc, "lost")?),
+    }
+}
+
+// A document's own media type, or what is wrong with that of another reply.
+fn media_text<'a>(media: &'a Media, body: &str) -> &'a str {
+    match media {
+        Media::Own(media) => media.as_str(),
+        Media::Json => { if body.is_empty() { "typed" } else { "" } }
+        Media::Empty => { if body.is_empty() { "" } else { "untyped" } }
+    }
+}
+
+fn reply_text(alloc: Global, reply: &Reply, before: u64, after: u64) -> Result<String, Fail> {
+    let body = match &reply.body {
+        Body::Made(body) => str::from_utf8(body.as_slice())?,
+        Body::Disk => "disk",
+        Body::Memory => "memory",
+    };
+    let kept = kept_text(alloc, before, after)?;
+    let parts = [media_text(&reply.media, body), body, kept.as_str()];
+    let mut text = reply.status.to_string(alloc)?;
+    for part in parts {
+        if !part.is_empty() {
+            text.push(' ')?;
+            text.push_str(part)?;
+        }
+    }
+    Ok(text)
+}
