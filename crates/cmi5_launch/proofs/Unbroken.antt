@@ -29,7 +29,7 @@ use Rattle.lrs_agent_texts.specs.Texts.{text_given}
 use Rattle.cmi5_launch.specs.Made.{context_activities, context_of, launched_context, launched_extensions, launched_json, made_json, verb_json}
 use Rattle.cmi5_launch.specs.declared.made.Made.{Made}
 use Rattle.cmi5_launch.specs.declared.made.Made.TheVariants.{Launched}
-use Rattle.cmi5_launch.specs.Names.{cmi5_category, launch_mode, launch_parameters, launch_url, launched, mastery_score, move_on, session_id}
+use Rattle.cmi5_launch.specs.Names.{cmi5_category, launch_parameters, launched, mastery_score}
 
 -- ---- no rule
 
@@ -43,46 +43,16 @@ none_broken (r ∷ rules) e = absurd (never r (least rules) e)
 
 -- ---- names that are IRIs
 
-launched_is : is_iri launched ≡ true
-unfolding is_iri chars
-launched_is = refl
-
-category_is : is_iri cmi5_category ≡ true
-unfolding is_iri chars
-category_is = refl
-
-session_is : is_iri session_id ≡ true
-unfolding is_iri chars
-session_is = refl
-
-mode_is : is_iri launch_mode ≡ true
-unfolding is_iri chars
-mode_is = refl
-
-url_is : is_iri launch_url ≡ true
-unfolding is_iri chars
-url_is = refl
-
-move_on_is : is_iri move_on ≡ true
-unfolding is_iri chars
-move_on_is = refl
-
-score_is : is_iri mastery_score ≡ true
-unfolding is_iri chars
-score_is = refl
-
-parameters_are : is_iri launch_parameters ≡ true
-unfolding is_iri chars
-parameters_are = refl
-
 given_are : (score parameters : Option (List ℕ)) → are_iris (members_of (number_given mastery_score score ++ text_given launch_parameters parameters)) ≡ true
+unfolding is_iri chars
 given_are None None = refl
-given_are None (Some text) = rw parameters_are refl
-given_are (Some score) None = rw score_is refl
-given_are (Some score) (Some text) = rw (score_is, parameters_are) refl
+given_are None (Some text) = refl
+given_are (Some score) None = refl
+given_are (Some score) (Some text) = refl
 
 extensions_are : (mode : Mode) (unit : units.Unit) (session : List ℕ) → are_iris (members_of (launched_extensions mode unit session)) ≡ true
-extensions_are mode unit session = rw (session_is, mode_is, url_is, move_on_is) (given_are unit.mastery_text unit.parameters)
+unfolding is_iri chars
+extensions_are mode unit session = given_are unit.mastery_text unit.parameters
 
 -- ---- the parts of a statement
 
@@ -95,8 +65,8 @@ unfolding activities_faults faults_of_activities
 only_unbroken id iri = ap (λ rules. rules ++ []) (activity_unbroken id iri)
 
 pub activities_unbroken : (publisher : List ℕ) → is_iri publisher ≡ true → context_activities_faults (context_activities publisher (only_activity cmi5_category)) ≡ []
-unfolding context_activities_faults
-activities_unbroken publisher iri = rw (only_unbroken publisher iri, only_unbroken cmi5_category category_is) refl
+unfolding context_activities_faults is_iri chars
+activities_unbroken publisher iri = rw (only_unbroken publisher iri, only_unbroken cmi5_category refl) refl
 
 form_of_context : (mode : Mode) (unit : units.Unit) (publisher registration session : List ℕ) → id_of (id_text registration) ≡ Some registration → is_context (launched_context mode unit publisher registration session) ≡ true
 unfolding is_context
@@ -119,8 +89,8 @@ context_unbroken mode unit publisher registration session activities back =
     (ap (λ b. unless b 27) (form_of_context mode unit publisher registration session back)) (no_context_agents mode unit publisher registration session) activities (ap (λ b. unless b 6) (extensions_are mode unit session))
 
 verb_unbroken : verb_faults (verb_json launched (codes "launched")) ≡ []
-unfolding verb_faults is_verb is_language_tag
-verb_unbroken = ap (λ b. unless b 6 ++ []) launched_is
+unfolding verb_faults is_verb is_language_tag is_iri chars
+verb_unbroken = refl
 
 -- ---- no null
 

@@ -10,7 +10,7 @@ pub const COMPLETED: &str = "http://adlnet.gov/expapi/verbs/completed";
 pub const PASSED: &str = "http://adlnet.gov/expapi/verbs/passed";
 /// A unit was failed (section 9.3.5).
 pub const FAILED: &str = "http://adlnet.gov/expapi/verbs/failed";
-/// A session was given up (section 9.3.6).
+/// A session was abandoned (section 9.3.6).
 pub const ABANDONED: &str = "https://w3id.org/xapi/adl/verbs/abandoned";
 /// A unit was waived (section 9.3.7).
 pub const WAIVED: &str = "https://w3id.org/xapi/adl/verbs/waived";

@@ -1,17 +1,16 @@
 -- When two normal forms are alike: equal, but for the order of an object's members and of a bag.
 use Rattle.std.specs.Prelude.{ℕ, suc, ◌==◌, List, Bool, true, false, not, ◌&&◌, ◌||◌, if◌then◌else◌}
-use Rattle.std.specs.Ordering.{is_eq, int_eq}
+use Rattle.std.specs.Ordering.{int_eq}
 use Rattle.std.specs.Str.{bytes_eq}
-use Rattle.lrs_decimal.specs.Values.{order}
 use Rattle.lrs_time.specs.Duration.{same_span}
-use Rattle.xapi_values.specs.Numbers.{is_decimal}
+use Rattle.xapi_values.specs.Numbers.{are_equal}
 use Rattle.xapi_values.specs.Kinds.{same_kind}
 use Rattle.xapi_alike.specs.Normal.{Words, letters, uuid, instant, lasting, Normal, nothing, truth, amount, words}
 use Rattle.xapi_alike.specs.Normal.{items, thing, Normals, none, more, Named, unnamed, named}
 
 -- one spelling, or two of one value
 abbrev pub same_amount : List ℕ → List ℕ → Bool
-same_amount s t = bytes_eq s t || (is_decimal s && is_decimal t && is_eq (order s t))
+same_amount s t = bytes_eq s t || are_equal s t
 
 -- spans agree in each field, the seconds to the hundredth
 abbrev pub same_words : Words → Words → Bool

@@ -1,37 +1,21 @@
 // Numbers and texts.
 ghost use Rattle.std.specs.Prelude.{◌≡◌};
-ghost use Rattle.xapi_values.specs.Numbers.{is_decimal};
 ghost use Rattle.xapi_alike.specs.Normal.{id_or, instant_or, span_or, said_at};
 ghost use Rattle.xapi_alike.specs.Alike.{same_amount, same_words};
 ghost use Rattle.lrs_names.specs.Ids.{id_of};
 ghost use Rattle.lrs_time.specs.Reading.{timestamp_at, duration_at};
-ghost use Rattle.std.specs.Ordering.{is_eq};
-ghost use Rattle.lrs_decimal.specs.Values.{order};
-ghost use Rattle.std.specs.Prelude.{◌&&◌};
 
 use crate::place::Place;
 use lrs_json::Text;
 use lrs_names::Id;
 use lrs_time::{Duration, read_timestamp};
-use xapi_values::numbers::decimal_of;
+use xapi_values::numbers::are_equal;
 
 /// Whether the spellings of numbers are one, or are of one value.
 pub fn is_same_amount(a: &Text, b: &Text) -> bool
     ensures { result ≡ same_amount a.now b.now }
 {
     a == b || are_equal(a.as_bytes(), b.as_bytes())
-}
-
-fn are_equal(a: &[u8], b: &[u8]) -> bool
-    ensures { result ≡ (is_decimal a.now && is_decimal b.now && is_eq (order a.now b.now)) }
-{
-    let Some(x) = decimal_of(a) else {
-        return false;
-    };
-    let Some(y) = decimal_of(b) else {
-        return false;
-    };
-    x.cmp(&y).is_eq()
 }
 
 /// Whether the texts say the same at that place.

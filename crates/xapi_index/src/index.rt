@@ -142,7 +142,8 @@ impl Index {
         !statement.is_voiding() && self.is_target(&statement.id())
     }
 
-    fn is_target(&self, id: &Id) -> bool
+    /// Whether a statement that is held voids the one of that id, held or not.
+    pub fn is_target(&self, id: &Id) -> bool
         ensures { result ≡ is_target id.now self.now.held }
     {
         self.voiding(id).is_some()

@@ -13,7 +13,11 @@ mod stored;
 pub use activities::has_context_activity;
 pub use length::{LONGEST_STATEMENT, is_too_long};
 pub use lrs_json::Memory;
-pub use members::{own_id, target_of};
+pub use members::{
+    activity_of, extension_of, has_duration, own_id, registration_of, result_boolean,
+    scaled_spelling, target_of, verb_of,
+};
+pub use parties::is_actor;
 pub use refused::{StatementRefused, judge};
 pub use statement::Statement;
 pub use stored::StoredStatement;

@@ -31,6 +31,7 @@ pub fn own_id(statement: &Tree) -> Option<Id>
     }
 }
 
+/// The id of its verb, an IRI.
 #[tactic(auto, unfolding(crate::specs::Statement::verb_of))]
 pub fn verb_of(statement: &Tree) -> &str
     ensures { result.now ≡ verb_of (view statement.now) }
@@ -53,6 +54,7 @@ fn registration_in(context: &Tree) -> Option<Id>
     }
 }
 
+/// The registration that its context names, a UUID.
 #[tactic(auto, unfolding(crate::specs::Statement::registration_of))]
 pub fn registration_of(statement: &Tree) -> Option<Id>
     ensures { result ≡ registration_of (view statement.now) }
@@ -93,6 +95,7 @@ fn activity_in(object: &Tree) -> Option<&Text>
     }
 }
 
+/// The id of the Activity that is its object, an IRI.
 #[tactic(auto, unfolding(crate::specs::Statement::activity_of))]
 pub fn activity_of(statement: &Tree) -> Option<&Text>
     ensures { option_map (λ t. t.now) result ≡ activity_of (view statement.now) }
@@ -103,6 +106,7 @@ pub fn activity_of(statement: &Tree) -> Option<&Text>
     }
 }
 
+/// What the extension of its context of that name holds.
 #[tactic(auto, unfolding(crate::specs::Statement::extension_of))]
 pub fn extension_of<'a>(statement: &'a Tree, id: &str) -> Option<&'a Tree>
     ensures { option_map (λ t. view t.now) result ≡ extension_of id.now (view statement.now) }
@@ -134,6 +138,7 @@ fn member_boolean(tree: &Tree, name: &str) -> Option<bool>
     }
 }
 
+/// What its result says under that name, if it is a truth value.
 #[tactic(auto, unfolding(crate::specs::Statement::result_boolean))]
 pub fn result_boolean(statement: &Tree, name: &str) -> Option<bool>
     ensures { result ≡ result_boolean name.now (view statement.now) }
@@ -144,8 +149,9 @@ pub fn result_boolean(statement: &Tree, name: &str) -> Option<bool>
     }
 }
 
+/// How the scaled score of its result is spelled.
 #[tactic(auto, unfolding(crate::specs::Statement::scaled_of))]
-fn scaled_spelling(statement: &Tree) -> Option<&[u8]>
+pub fn scaled_spelling(statement: &Tree) -> Option<&[u8]>
     ensures { option_map (λ s. s.now) result ≡ scaled_of (view statement.now) }
 {
     let Some(outcome) = statement.get("result") else {
@@ -167,6 +173,7 @@ pub fn scaled_of(statement: &Tree) -> Option<Decimal>
     }
 }
 
+/// Whether its result has a duration.
 #[tactic(auto, unfolding(crate::specs::Statement::has_duration))]
 pub fn has_duration(statement: &Tree) -> bool
     ensures { result ≡ has_duration (view statement.now) }

@@ -142,6 +142,7 @@ fn is_agent_of(actor: &Tree, ifi: &Ifi) -> bool
     }
 }
 
+/// Whether its actor is the Agent of that identifier.
 #[tactic(auto, unfolding(crate::specs::Parties::actor_of))]
 pub fn is_actor(statement: &Tree, ifi: &Ifi) -> bool
     ensures { IsTrue result ↔ (actor_of (view statement.now) ≡ Some ifi.now) }

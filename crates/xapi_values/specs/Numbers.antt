@@ -2,7 +2,7 @@
 use Rattle.std.specs.Prelude.{◌≡◌, IsTrue, ℕ, List, [], ◌∷◌, Bool, true, false, ◌&&◌, Option, Some, None}
 use Rattle.std.specs.Prelude.{option_and_then, codes, if◌then◌else◌}
 use Rattle.std.specs.Option.{option_map_or}
-use Rattle.std.specs.Ordering.{is_lt, is_le}
+use Rattle.std.specs.Ordering.{is_eq, is_lt, is_le}
 use Rattle.std.specs.declared.cmp.Ordering.{Ordering}
 use Rattle.lrs_decimal.specs.Numbers.{IsNumber, number_end}
 use Rattle.lrs_decimal.specs.Range.{is_in_range, is_whole}
@@ -40,6 +40,10 @@ is_number j = option_map_or is_decimal (spelling_of j) false
 -- the spelling of the member, if it is a number
 abbrev pub member_number : List ℕ → Json → Option (List ℕ)
 member_number name j = option_and_then spelling_of (find name j)
+
+-- both are numbers in range, of one value
+abbrev pub are_equal : List ℕ → List ℕ → Bool
+are_equal s t = is_decimal s && is_decimal t && is_eq (order s t)
 
 -- how two numbers lie, if both are such
 unfoldable pub compared : List ℕ → List ℕ → Option Ordering

@@ -2,7 +2,7 @@
 ghost use Rattle.std.specs.Prelude.{◌≡◌, ◌↔◌, IsTrue, option_map, is_some, IfSome};
 ghost use Rattle.lrs_decimal.specs.Values.{HasValue};
 ghost use Rattle.lrs_json.specs.View.{view};
-ghost use Rattle.xapi_values.specs.Numbers.{IsNumberInRange, is_decimal, is_number, spelling_of, member_number, compared, is_below, is_not_above, is_natural, is_count, are_numbers, are_in_order, is_score};
+ghost use Rattle.xapi_values.specs.Numbers.{IsNumberInRange, are_equal, is_decimal, is_number, spelling_of, member_number, compared, is_below, is_not_above, is_natural, is_count, are_numbers, are_in_order, is_score};
 ghost use Rattle.lrs_names.specs.Members.{if_member};
 
 use lrs_decimal::{Decimal, is_whole};
@@ -10,7 +10,8 @@ use lrs_json::{Text, Tree};
 use lrs_names::has_only;
 use std::cmp::Ordering;
 
-fn spelling_of(tree: &Tree) -> Option<&[u8]>
+/// How a number is spelled.
+pub fn spelling_of(tree: &Tree) -> Option<&[u8]>
     ensures { option_map (λ s. s.now) result ≡ spelling_of (view tree.now) }
 {
     match tree {
@@ -54,6 +55,19 @@ pub fn is_number(tree: &Tree) -> bool
     }
 }
 
+/// Whether both are numbers in range, of one value.
+pub fn are_equal(a: &[u8], b: &[u8]) -> bool
+    ensures { result ≡ are_equal a.now b.now }
+{
+    let Some(first) = decimal_of(a) else {
+        return false;
+    };
+    let Some(second) = decimal_of(b) else {
+        return false;
+    };
+    first.cmp(&second).is_eq()
+}
+
 #[tactic(auto, unfolding(crate::specs::Numbers::compared))]
 fn compared(a: &[u8], b: &[u8]) -> Option<Ordering>
     ensures { result ≡ compared a.now b.now }
@@ -67,8 +81,9 @@ fn compared(a: &[u8], b: &[u8]) -> Option<Ordering>
     Some(first.cmp(&second))
 }
 
+/// Whether the first is less than the second. Where one isn't there, or is no number in range, nothing is asked.
 #[tactic(auto, unfolding(crate::specs::Numbers::is_below))]
-fn is_below(a: Option<&[u8]>, b: Option<&[u8]>) -> bool
+pub fn is_below(a: Option<&[u8]>, b: Option<&[u8]>) -> bool
     ensures { result ≡ is_below (option_map (λ s. s.now) a.entry) (option_map (λ s. s.now) b.entry) }
 {
     match (a, b) {
@@ -77,8 +92,9 @@ fn is_below(a: Option<&[u8]>, b: Option<&[u8]>) -> bool
     }
 }
 
+/// Whether the first isn't greater than the second. Where one isn't there, or is no number in range, nothing is asked.
 #[tactic(auto, unfolding(crate::specs::Numbers::is_not_above))]
-fn is_not_above(a: Option<&[u8]>, b: Option<&[u8]>) -> bool
+pub fn is_not_above(a: Option<&[u8]>, b: Option<&[u8]>) -> bool
     ensures { result ≡ is_not_above (option_map (λ s. s.now) a.entry) (option_map (λ s. s.now) b.entry) }
 {
     match (a, b) {
