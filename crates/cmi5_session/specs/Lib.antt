@@ -1,0 +1,4 @@
+pub mod Own
+pub mod Phases
+pub mod Views
+pub mod Rules

@@ -1,0 +1,15 @@
+//! Sessions of launched units: how far one has come, what the rules look at besides the statement that comes, and the
+//! twenty rules on what may be said of a learner (cmi5 Quartz, section 9). Begin with `rules`.
+#![tactic(auto)]
+
+mod own;
+mod phase;
+mod rules;
+mod verb;
+mod view;
+
+pub use cmi5_course::{Launch, Mode};
+pub use own::{has_own, is_cmi5_defined};
+pub use phase::Phase;
+pub use rules::{Forbidden, permitted, permitted_outside};
+pub use view::{SessionView, view_of};

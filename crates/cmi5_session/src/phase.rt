@@ -1,0 +1,73 @@
+// How far a session has come.
+ghost use Rattle.std.specs.Prelude.{◌≡◌};
+ghost use Rattle.cmi5_session.specs.Phases.{is_over, phase_behind, phase_of};
+ghost use Rattle.lrs_json.specs.View.{view};
+
+use crate::own::{has_own, says};
+use cmi5_launch::names::{INITIALIZED, TERMINATED};
+use lrs_json::Tree;
+use lrs_names::Id;
+use xapi_index::Index;
+
+/// How far a session has come (cmi5 Quartz, section 9.3).
+#[derive(Clone, Copy, Debug, PartialEq, Eq)]
+pub enum Phase {
+    /// Its unit was launched.
+    Launched,
+    /// Its token was fetched.
+    Fetched,
+    /// Its content said that it began.
+    Initialized,
+    /// Its content said that it ended.
+    Terminated,
+    /// The store abandoned it.
+    Abandoned,
+}
+
+impl Phase {
+    /// Whether nothing more comes of the session.
+    pub(crate) fn is_over(self) -> bool
+        ensures { result ≡ is_over self }
+    {
+        match self {
+            Phase::Launched | Phase::Fetched | Phase::Initialized => false,
+            Phase::Terminated | Phase::Abandoned => true,
+        }
+    }
+
+    /// The phase behind one statement more of the session's own.
+    pub(crate) fn behind(self, statement: &Tree) -> Phase
+        ensures { result ≡ phase_behind self (view statement.now) }
+    {
+        if self.is_over() {
+            return self;
+        }
+        if says(TERMINATED, statement) {
+            return Phase::Terminated;
+        }
+        if says(INITIALIZED, statement) {
+            return Phase::Initialized;
+        }
+        self
+    }
+}
+
+/// How far the session has come whose token was fetched or not, and which was abandoned or not.
+pub(crate) fn phase_of(statements: &Index, session: &Id, fetched: bool, abandoned: bool) -> Phase
+    ensures { result ≡ phase_of session.now fetched abandoned statements.now.held }
+{
+    if abandoned {
+        return Phase::Abandoned;
+    }
+    if has_own(statements, session, TERMINATED) {
+        return Phase::Terminated;
+    }
+    if has_own(statements, session, INITIALIZED) {
+        return Phase::Initialized;
+    }
+    if fetched {
+        Phase::Fetched
+    } else {
+        Phase::Launched
+    }
+}
