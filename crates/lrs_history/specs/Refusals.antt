@@ -3,16 +3,19 @@
 -- of a course the rules K; of an enrolment its actor (B3); of `found` 404), an earlier list that there is not (P14),
 -- what a session may not do with documents (A3 to A5), what a write speaks of that isn't there (404), what can't be
 -- merged into the document that is held (T1, T2), another course under its id (409), then for each statement in its
--- order another one under its id (409) or what a new one may not be (C1, C2). What a read asks for that isn't there is
--- told in its answer.
+-- order another one under its id (409) or what a new one may not be (C1 to C20). What a read asks for that isn't there
+-- is told in its answer.
 use Rattle.std.specs.Prelude.{ℕ, ◌==◌, ◌&&◌, ◌||◌, nat_lt, Bool, true, false, not, List, [], ◌∷◌, length, Option, Some}
-use Rattle.std.specs.Prelude.{None, is_none, option_map, if◌then◌else◌}
+use Rattle.std.specs.Prelude.{None, ◌++◌, is_none, option_and_then, option_map, slice_get, if◌then◌else◌}
 use Rattle.std.specs.List.{list_any}
 use Rattle.std.specs.Option.{option_or}
 use Rattle.std.specs.Str.{bytes_eq}
 use Rattle.cmi5_course.specs.Courses.{Course, course_key, course_of, same_course}
 use Rattle.cmi5_course.specs.Rules as course
 use Rattle.cmi5_course.specs.declared.launch.Launch.{Launch}
+use Rattle.cmi5_session.specs.Rules.{broken_outside}
+use Rattle.cmi5_session.specs.Rules as session
+use Rattle.cmi5_session.specs.Views.{view_of}
 use Rattle.lrs_record.specs.declared.entry.Area.{Area}
 use Rattle.lrs_record.specs.declared.entry.Area.TheVariants.{Free, Store, Desk}
 use Rattle.lrs_command.specs.Areas.{read_area}
@@ -27,10 +30,10 @@ use Rattle.lrs_rules.specs.declared.rule.Rule.{Rule}
 use Rattle.lrs_rules.specs.declared.rule.Rule.TheVariants as rule
 use Rattle.lrs_command.specs.declared.who.Who.{Who}
 use Rattle.lrs_command.specs.declared.who.Who.TheVariants as who
-use Rattle.lrs_history.specs.Effects.{Occasion, with_ids_in, occasion}
+use Rattle.lrs_history.specs.Effects.{Occasion, new_by, occasion, with_ids_in}
 use Rattle.lrs_history.specs.Launches.{target}
-use Rattle.lrs_history.specs.Sessions.{is_defined, outside, overstepped}
-use Rattle.lrs_history.specs.Whose.{authority_of, launch_of}
+use Rattle.lrs_history.specs.Sessions.{outside, overstepped}
+use Rattle.lrs_history.specs.Whose.{launch_of}
 use Rattle.lrs_history.specs.declared.admitting.TheConstants.{LONGEST_DOCUMENT, LONGEST_MEDIA, MOST_OF_BATCH}
 use Rattle.lrs_json.specs.Json.{Json}
 use Rattle.lrs_json.specs.View.{view}
@@ -54,11 +57,11 @@ use Rattle.xapi_docs.specs.Merging.{merge}
 use Rattle.xapi_docs.specs.declared.documents.Document.{Document}
 use Rattle.xapi_keys.specs.declared.wanted.WantedDocuments.{WantedDocuments}
 use Rattle.xapi_keys.specs.declared.wanted.WantedDocuments.TheVariants.{One, Ids}
-use Rattle.xapi_index.specs.Batches.{WithId, given_ids, kept_by}
+use Rattle.xapi_index.specs.Batches.{WithId, given_ids}
 use Rattle.lrs_ids.specs.Choices.{first_some, when}
 use Rattle.lrs_ids.specs.Ids.{are_distinct}
-use Rattle.xapi_index.specs.Statements.{add_each, held_under}
-use Rattle.xapi_rules.specs.Rules.{broken_rule, is_voiding}
+use Rattle.xapi_index.specs.Statements.{held_under}
+use Rattle.xapi_rules.specs.Rules.{broken_rule}
 use Rattle.xapi_statement.specs.Stored.{StoredStatement}
 use Rattle.xapi_statement.specs.Statement.{is_too_long, own_id}
 
@@ -197,46 +200,47 @@ course_conflict st course = refused_beside course (course_under (course_key cour
 
 -- ---- what statements meet in the store
 
-abbrev pub may_void : Who → Bool
-may_void who.Admin = true
-may_void other = false
+-- The least of the rules on sessions that a new statement of a caller breaks, after those before it: one of C1 and C2,
+-- or of C2 to C20 if the caller is a session. A session that speaks has fetched its token, and none is abandoned.
+abbrev pub broken_by : State → Who → List StoredStatement → Json → Option ℕ
+broken_by st who.Unknown before j = broken_outside false j
+broken_by st who.Admin before j = broken_outside true j
+broken_by st (who.Provider k) before j = broken_outside false j
+broken_by st (who.Session k) before j =
+    option_and_then (λ l. session.broken_rule (view_of l true false before) j) (slice_get st.launches k)
 
-abbrev pub is_session : Who → Bool
-is_session (who.Session k) = true
-is_session other = false
+abbrev pub told_forbidden : Option ℕ → Option Refusal
+told_forbidden number = option_map (λ n. Forbidden (rule.C n)) number
 
--- Why a new statement isn't kept: only a session writes one that cmi5 defines (C1), only an admin voids (C2). Those
--- before it are held, or stand before it in its batch.
+-- Why a new statement isn't kept. Those before it are held, or stand before it in its batch.
 abbrev pub forbidden : State → Who → List StoredStatement → Json → Option Refusal
-forbidden st by before j = first_some (
-    when (is_defined j && not (is_session by)) (Forbidden (rule.C 1))
-    ∷ when (is_voiding j && not (may_void by)) (Forbidden (rule.C 2))
-    ∷ [])
+forbidden st by before j = told_forbidden (broken_by st by before j)
 
--- why a statement of this id isn't kept, if that one is held under it
-abbrev pub refused_over : State → Who → List StoredStatement → List ℕ → Json → Option StoredStatement → Option Refusal
-refused_over st by before id j None = forbidden st by before j
-refused_over st by before id j (Some held) = when (not (same (view held.received) j)) (Conflict id)
+-- Why a statement of this id isn't kept, if that one is held under it. If none is, what is told of a new one is told.
+abbrev pub refused_over : Option Refusal → List ℕ → Json → Option StoredStatement → Option Refusal
+refused_over if_new id j None = if_new
+refused_over if_new id j (Some held) = when (not (same (view held.received) j)) (Conflict id)
 
 -- Why a statement isn't kept that comes under an id. A made one is that of no held statement.
-abbrev pub refused_under : State → Who → List StoredStatement → Option (List ℕ) → Json → Option Refusal
-refused_under st by before None j = forbidden st by before j
-refused_under st by before (Some id) j = refused_over st by before id j (held_under id st.statements)
+abbrev pub refused_under : State → Option Refusal → Option (List ℕ) → Json → Option Refusal
+refused_under st if_new None j = if_new
+refused_under st if_new (Some id) j = refused_over if_new id j (held_under id st.statements)
 
--- those before the next one, after this one
+-- those before the next one, after this one: it is one of them if it isn't held
 abbrev pub before_next : State → Occasion → List StoredStatement → WithId → List StoredStatement
-before_next st at before n = add_each before (kept_by at.moment (authority_of st at.by) (n ∷ []))
+before_next st at before n = before ++ new_by st at.by at.moment (n ∷ [])
 
 -- Each in its order, with those before it. No two of them have one id, so none comes under that of an earlier one of
 -- them.
 abbrev pub refused_in : State → Occasion → List StoredStatement → List WithId → Option Refusal
 refused_in st at before [] = None
 refused_in st at before (n ∷ ns) = option_or
-    (refused_under st at.by before (own_id (view n.tree)) (view n.tree))
+    (refused_under st (forbidden st at.by before (view n.tree)) (own_id (view n.tree)) (view n.tree))
     (refused_in st at (before_next st at before n) ns)
 
 abbrev pub conflict : State → Occasion → Write → Option Refusal
-conflict st at (Put id statement) = refused_under st at.by st.statements (Some id) (view statement)
+conflict st at (Put id statement) =
+    refused_under st (forbidden st at.by st.statements (view statement)) (Some id) (view statement)
 conflict st at (Post statements) = refused_in st at st.statements (with_ids_in at (Post statements))
 conflict st at (write.Course tree) = course_conflict st (course_of tree)
 conflict st at other = None

@@ -1,48 +1,24 @@
 -- Sessions: whether one is closed, and what it may do with documents.
-use Rattle.std.specs.Prelude.{ℕ, ◌&&◌, Bool, true, false, not, List, [], ◌∷◌, Option, Some, None, codes, slice_get}
-use Rattle.std.specs.List.{list_any}
+use Rattle.std.specs.Prelude.{ℕ, ◌&&◌, Bool, true, false, not, List, [], ◌∷◌, Option, Some, None, slice_get}
 use Rattle.std.specs.Option.{option_map_or}
 use Rattle.std.specs.Str.{bytes_eq}
 use Rattle.cmi5_course.specs.declared.launch.Launch.{Launch}
-use Rattle.cmi5_launch.specs.Names.{cmi5_category, launch_data_state, terminated}
+use Rattle.cmi5_launch.specs.Names.{launch_data_state, terminated}
+use Rattle.cmi5_session.specs.Own.{has_own}
 use Rattle.lrs_agents.specs.Identifiers.{same_ifi}
 use Rattle.lrs_agents.specs.declared.identifiers.Ifi.{Ifi}
 use Rattle.lrs_ids.specs.Choices.{first_some, when}
-use Rattle.lrs_json.specs.Json.{Json}
-use Rattle.lrs_json.specs.View.{view}
 use Rattle.lrs_parts.specs.State.{State}
 use Rattle.lrs_replies.specs.declared.answered.Refusal.{Refusal}
 use Rattle.lrs_replies.specs.declared.answered.Refusal.TheVariants.{Forbidden}
 use Rattle.lrs_rules.specs.declared.rule.Rule.TheVariants as rule
-use Rattle.xapi_format.specs.declared.authority.Authority.{Authority}
-use Rattle.xapi_format.specs.declared.authority.Authority.TheVariants.{Admin, Provider, Session, Desk}
-use Rattle.xapi_statement.specs.Statement.{has_context_activity, verb_of}
-use Rattle.xapi_statement.specs.Stored.{StoredStatement}
 
 -- ---- whether a session is closed
 
-abbrev pub is_of_session : List ℕ → Authority → Bool
-is_of_session id Admin = false
-is_of_session id (Provider k name) = false
-is_of_session id (Session own) = bytes_eq own id
-is_of_session id Desk = false
-
--- cmi5 defines what it means: its category activities hold cmi5's own (cmi5 Quartz, section 9.6.2.1)
-abbrev pub is_defined : Json → Bool
-is_defined j = has_context_activity (codes "category") cmi5_category j
-
--- the session's own statement that ends it
-abbrev pub terminates : List ℕ → StoredStatement → Bool
-terminates id s =
-    is_of_session id s.authority && is_defined (view s.received) && bytes_eq (verb_of (view s.received)) terminated
-
--- Such a statement is held, voided or not.
-abbrev pub is_terminated : List ℕ → List StoredStatement → Bool
-is_terminated id statements = list_any (terminates id) statements
-
--- the session of the launch of that place is closed
+-- The session of the launch of that place is closed: it said that it ended, voided or not.
 abbrev pub is_closed : State → ℕ → Bool
-is_closed st k = option_map_or (λ (l : Launch). is_terminated l.session st.statements) (slice_get st.launches k) false
+is_closed st k =
+    option_map_or (λ (l : Launch). has_own l.session terminated st.statements) (slice_get st.launches k) false
 
 -- ---- what a session may do with documents
 

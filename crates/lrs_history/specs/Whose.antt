@@ -1,5 +1,5 @@
 -- Who a caller is, under whose authority its statements stand, and what it sees.
-use Rattle.std.specs.Prelude.{ℕ, List, Option, Some, None, option_map, slice_get, if◌then◌else◌}
+use Rattle.std.specs.Prelude.{ℕ, Bool, true, false, List, Option, Some, None, option_map, slice_get, if◌then◌else◌}
 use Rattle.lrs_command.specs.declared.who.Who.{Who}
 use Rattle.lrs_command.specs.declared.who.Who.TheVariants as who
 use Rattle.cmi5_course.specs.declared.launch.Launch.{Launch}
@@ -30,6 +30,11 @@ abbrev pub who_is : State → Caller → Who
 who_is st Nobody = who.Unknown
 who_is st Operator = who.Admin
 who_is st (Token token) = who_presents st token
+
+-- the caller is a session
+abbrev pub acts_in_session : Who → Bool
+acts_in_session (who.Session k) = true
+acts_in_session other = false
 
 -- the launch of a session
 abbrev pub launch_of : State → Who → Option Launch

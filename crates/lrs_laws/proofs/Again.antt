@@ -5,11 +5,10 @@ use Rattle.std.specs.List.{AllByRecursion}
 use Rattle.std.specs.Option.{option_or}
 use Rattle.lrs_record.specs.declared.entry.Area.TheVariants.{Store}
 use Rattle.lrs_command.specs.declared.command.Command.TheVariants as command
-use Rattle.lrs_command.specs.declared.who.Who.{Who}
 use Rattle.lrs_history.specs.Answers.{write_said}
 use Rattle.lrs_history.specs.Effects.{Occasion, effect}
 use Rattle.lrs_history.specs.History.{answer, answer_of, end_place, next_entry, only, refused, said_at_once, state, outcome_by}
-use Rattle.lrs_history.specs.Refusals.{barred, before_next, conflict, refused_batch, refused_form, refused_in, refused_over, refused_under, refusal}
+use Rattle.lrs_history.specs.Refusals.{barred, before_next, conflict, forbidden, refused_batch, refused_form, refused_in, refused_over, refused_under, refusal}
 use Rattle.lrs_history.specs.Whose.{authority_of}
 use Rattle.lrs_json.specs.View.{view}
 use Rattle.lrs_json.specs.declared.tree.Tree.{Tree}
@@ -67,11 +66,11 @@ put_met : (h : List Entry) (caller : Caller) (id : List ℕ) (t : Tree) (s : Sto
 put_met h caller id t s clock draw b meets is =
     let st : State = state h in
     let held : List StoredStatement = st.statements in
-    last_reason (barred Store (who_in h caller) ∷ refused_form id (view t) ∷ []) (refused_under st (who_in h caller) held (Some id) (view t)) (meets.let_in, (meets.formed, tt))
-    ∙ (ap (λ o. refused_over st (who_in h caller) held id (view t) o) meets.held ∙ ap (λ c. when (not c) (Conflict id)) is)
+    last_reason (barred Store (who_in h caller) ∷ refused_form id (view t) ∷ []) (refused_under st (forbidden st (who_in h caller) held (view t)) (Some id) (view t)) (meets.let_in, (meets.formed, tt))
+    ∙ (ap (λ o. refused_over (forbidden st (who_in h caller) held (view t)) id (view t) o) meets.held ∙ ap (λ c. when (not c) (Conflict id)) is)
 
 -- where it is held, it isn't new
-old_one : (moment : ℕ) (o : Option Authority) (held : List StoredStatement) (n : WithId) → is_held n.id held ≡ true → new_ones held (kept_by moment o (n ∷ [])) ≡ []
+pub old_one : (moment : ℕ) (o : Option Authority) (held : List StoredStatement) (n : WithId) → is_held n.id held ≡ true → new_ones held (kept_by moment o (n ∷ [])) ≡ []
 old_one moment None held n is = refl
 old_one moment (Some by) held n is = ap (λ b. if b then [] else held_of moment by n ∷ []) is
 
@@ -103,16 +102,17 @@ post_met : (h : List Entry) (caller : Caller) (trees : List Tree) (clock : ℕ) 
 post_met h caller trees clock draw o together is =
     last_reason (barred Store (who_in h caller) ∷ refused_batch trees ∷ []) (conflict (state h) (occasion_of h caller trees clock draw) (Post trees)) (together.let_in, (together.formed, tt)) ∙ is
 
-repeated : (st : State) (by : Who) (before : List StoredStatement) (t : Tree) → Repeats st.statements t → refused_under st by before (own_id (view t)) (view t) ≡ None
-repeated st by before t again =
-    ap (λ o. refused_under st by before o (view t)) again.own
-    ∙ (ap (λ o. refused_over st by before again.id (view t) o) again.there ∙ ap (λ b. when (not b) (Conflict again.id)) again.equal)
+-- whatever would be told of it if it were new
+repeated : (st : State) (new : Option Refusal) (t : Tree) → Repeats st.statements t → refused_under st new (own_id (view t)) (view t) ≡ None
+repeated st new t again =
+    ap (λ o. refused_under st new o (view t)) again.own
+    ∙ (ap (λ o. refused_over new again.id (view t) o) again.there ∙ ap (λ b. when (not b) (Conflict again.id)) again.equal)
 
 none_refused : (st : State) (at : Occasion) (before : List StoredStatement) (supply : Supply) (ts : List Tree) → AllByRecursion (Repeats st.statements) ts → refused_in st at before (with_ids supply ts) ≡ None
 none_refused st at before supply [] each = refl
 none_refused st at before supply (t ∷ ts) each =
     let n : WithId = record { id = id_for (supply 0) (own_id (view t)); tree = t } in
-    ap (λ o. option_or o (refused_in st at (before_next st at before n) (with_ids (supply_behind supply (own_id (view t))) ts))) (repeated st at.by before t each.0)
+    ap (λ o. option_or o (refused_in st at (before_next st at before n) (with_ids (supply_behind supply (own_id (view t))) ts))) (repeated st (forbidden st at.by before (view t)) t each.0)
     ∙ none_refused st at (before_next st at before n) (supply_behind supply (own_id (view t))) ts each.1
 
 -- they go under the ids that they give themselves
@@ -140,27 +140,27 @@ repeated_batches_are_taken limit h caller trees clock draw together each =
     (ap (λ xs. changes_nothing (record (no_change at.moment) { statements = xs })) (none_new at.moment (authority_of (state h) at.by) (state h).statements at.supply trees each))
     ∙ ap (λ ids. Some (Shown (ids_body ids) None)) (own_names (state h).statements at.supply trees each))
 
-contradicted : (st : State) (by : Who) (before : List StoredStatement) (t : Tree) (id : List ℕ) → Contradicts st.statements t id → refused_under st by before (own_id (view t)) (view t) ≡ Some (Conflict id)
-contradicted st by before t id against =
-    ap (λ o. refused_under st by before o (view t)) against.own
-    ∙ (ap (λ o. refused_over st by before id (view t) o) against.there ∙ ap (λ b. when (not b) (Conflict id)) against.other)
+contradicted : (st : State) (new : Option Refusal) (t : Tree) (id : List ℕ) → Contradicts st.statements t id → refused_under st new (own_id (view t)) (view t) ≡ Some (Conflict id)
+contradicted st new t id against =
+    ap (λ o. refused_under st new o (view t)) against.own
+    ∙ (ap (λ o. refused_over new id (view t) o) against.there ∙ ap (λ b. when (not b) (Conflict id)) against.other)
 
-pub first_none : (o p : Option Refusal) → option_or o p ≡ None → (o ≡ None) × (p ≡ None)
+pub first_none : {A : Type 0} (o p : Option A) → option_or o p ≡ None → (o ≡ None) × (p ≡ None)
 first_none None p is = (refl, is)
 first_none (Some r) p is = cc is
 
-pub no_reason : (os : List (Option Refusal)) → first_some os ≡ None → AllByRecursion (λ o. o ≡ None) os
+pub no_reason : {A : Type 0} (os : List (Option A)) → first_some os ≡ None → AllByRecursion (λ o. o ≡ None) os
 no_reason [] is = tt
 no_reason (o ∷ os) is = let first = first_none o (first_some os) is in (first.0, no_reason os first.1)
 
 first_refused : (st : State) (at : Occasion) (before : List StoredStatement) (supply : Supply) (ts behind : List Tree) (t : Tree) (r : Refusal) → refused_in st at before (with_ids supply ts) ≡ None
-    → ((those : List StoredStatement) → refused_under st at.by those (own_id (view t)) (view t) ≡ Some r) → refused_in st at before (with_ids supply (ts ++ t ∷ behind)) ≡ Some r
+    → ((new : Option Refusal) → refused_under st new (own_id (view t)) (view t) ≡ Some r) → refused_in st at before (with_ids supply (ts ++ t ∷ behind)) ≡ Some r
 first_refused st at before supply [] behind t r none is =
     let n : WithId = record { id = id_for (supply 0) (own_id (view t)); tree = t } in
-    ap (λ o. option_or o (refused_in st at (before_next st at before n) (with_ids (supply_behind supply (own_id (view t))) behind))) (is before)
+    ap (λ o. option_or o (refused_in st at (before_next st at before n) (with_ids (supply_behind supply (own_id (view t))) behind))) (is (forbidden st at.by before (view t)))
 first_refused st at before supply (x ∷ ts) behind t r none is =
     let n : WithId = record { id = id_for (supply 0) (own_id (view x)); tree = x } in
-    let both = first_none (refused_under st at.by before (own_id (view x)) (view x)) (refused_in st at (before_next st at before n) (with_ids (supply_behind supply (own_id (view x))) ts)) none in
+    let both = first_none (refused_under st (forbidden st at.by before (view x)) (own_id (view x)) (view x)) (refused_in st at (before_next st at before n) (with_ids (supply_behind supply (own_id (view x))) ts)) none in
     ap (λ o. option_or o (refused_in st at (before_next st at before n) (with_ids (supply_behind supply (own_id (view x))) (ts ++ t ∷ behind)))) both.0
     ∙ first_refused st at (before_next st at before n) (supply_behind supply (own_id (view x))) ts behind t r both.1 is
 
@@ -171,4 +171,4 @@ batch_conflicts_are_told limit h caller before behind t id clock draw together n
     at_once limit h caller (Post trees) clock draw (refused (Conflict id))
     (said_refused (state h) (post_entry h caller trees clock draw) (Conflict id)
     (post_met h caller trees clock draw (Some (Conflict id)) together
-    (first_refused (state h) at (state h).statements at.supply before behind t (Conflict id) none (λ those. contradicted (state h) at.by those t id against))))
+    (first_refused (state h) at (state h).statements at.supply before behind t (Conflict id) none (λ new. contradicted (state h) new t id against))))

@@ -19,3 +19,9 @@ pub mod OpenedSessions
 pub mod CourseLaws
 pub mod KeyLaws
 pub mod LaunchLaws
+pub mod Permitted
+pub mod MayFollow
+pub mod Walking
+pub mod SpokenInOrder
+pub mod SeenTrees
+pub mod CountedOnce

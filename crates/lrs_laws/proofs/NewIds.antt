@@ -121,7 +121,7 @@ made_free used counted ids most word n fits =
 abbrev next_word : ℕ → ℕ
 next_word free = (free + 1) % WORDS
 
-or_right : (a b : Bool) → b ≡ true → a || b ≡ true
+pub or_right : (a b : Bool) → b ≡ true → a || b ≡ true
 or_right true b is = refl
 or_right false b is = is
 
@@ -133,7 +133,7 @@ pub and_right : (a b : Bool) → a && b ≡ true → b ≡ true
 and_right true b is = is
 and_right false b is = cc is
 
-both_true : (a b : Bool) → a ≡ true → b ≡ true → a && b ≡ true
+pub both_true : (a b : Bool) → a ≡ true → b ≡ true → a && b ≡ true
 both_true true b p q = q
 both_true false b p q = p
 

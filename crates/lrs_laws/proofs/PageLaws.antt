@@ -14,8 +14,8 @@ use Rattle.lrs_rules.specs.declared.rule.Rule.TheVariants as rule
 use Rattle.lrs_history.specs.Answers.{page_said, read_said}
 use Rattle.lrs_history.specs.Effects.{effect}
 use Rattle.lrs_history.specs.History.{only, refused_or, state, state_from, step, IsFounding, IsLegal, founds, is_operator, is_zero}
-use Rattle.lrs_history.specs.Refusals.{barred, is_session, read_refusal, too_late}
-use Rattle.lrs_history.specs.Whose.{known_as, sight_in as sight_in_launch, sight_of, who_is}
+use Rattle.lrs_history.specs.Refusals.{barred, read_refusal, too_late}
+use Rattle.lrs_history.specs.Whose.{acts_in_session, known_as, sight_in as sight_in_launch, sight_of, who_is}
 use Rattle.lrs_json.specs.Written.{written}
 use Rattle.lrs_laws.specs.Laws.{FirstPagesAreTold, Follows, LinksGoOn, LinksStay, LinksWhereMoreComes, PagesEnd, PagesGiveTheList, PositionsComeOnce, IsLetIn, sight_in, who_in}
 use Rattle.lrs_laws.proofs.Keepers.{state_from-append}
@@ -272,14 +272,14 @@ who_on h su (Token token) founding known acts is =
     by_admin true admin let_in = refl
     by_admin false no_admin let_in = by_places (place_of_token token (state h).providers) (launch_of_token token (state h).tokens) refl refl no_admin let_in
 
-who_stays : (limit : ℕ) (h more : List Entry) (caller : Caller) → IsLegal limit h → (is_session (who_in h caller) ≡ true → length (h ++ more) < 2 ^ 64) → IsLetIn h caller → who_in (h ++ more) caller ≡ who_in h caller
+who_stays : (limit : ℕ) (h more : List Entry) (caller : Caller) → IsLegal limit h → (acts_in_session (who_in h caller) ≡ true → length (h ++ more) < 2 ^ 64) → IsLetIn h caller → who_in (h ++ more) caller ≡ who_in h caller
 who_stays limit h more caller legal few let_in =
     let founding = has_founding limit h legal in
     ap (λ st. who_is st caller) (state_from-append nothing h more)
     ∙ who_on h (state_from (state h) more) caller (founding_on (state h) more founding.0 founding.1 ∙ sym founding.1)
     (λ token k is. known_on token k (state h) more is)
     (λ token k by none is. (
-      no_provider_on h token (state h) more (token_given h token k is) (omega (arith, state_length h)) (omega (arith, few (ap is_session by), state_length h, length-append h more)) none,
+      no_provider_on h token (state h) more (token_given h token k is) (omega (arith, state_length h)) (omega (arith, few (ap acts_in_session by), state_length h, length-append h more)) none,
       launch_on token (state h) more k is,
     )) let_in
 

@@ -16,7 +16,7 @@ use Rattle.lrs_command.specs.declared.who.Who.TheVariants as who
 use Rattle.lrs_history.specs.Answers.{write_said}
 use Rattle.lrs_history.specs.Effects.{Occasion, brought, effect, occasion}
 use Rattle.lrs_history.specs.History.{Answer, answer_of, end_place, next_entry, need, only, refused, state, outcome_by, with_entry}
-use Rattle.lrs_history.specs.Refusals.{barred, before_next, conflict, missing, refusal, refused_batch, refused_form, refused_in, refused_over, refused_under}
+use Rattle.lrs_history.specs.Refusals.{barred, before_next, conflict, forbidden, missing, refusal, refused_batch, refused_form, refused_in, refused_over, refused_under}
 use Rattle.lrs_history.specs.Whose.{authority_of, known_as, who_is}
 use Rattle.lrs_history.proofs.Room.{no_room, kept_answer}
 use Rattle.lrs_json.specs.View.{view}
@@ -170,8 +170,8 @@ added moment by held (n ∷ ns) apart = (
 abbrev IsTaken : List StoredStatement → WithId → Type 0
 IsTaken held n = (s : StoredStatement) → held_under n.id held ≡ Some s → same (view s.received) (view n.tree) ≡ true
 
-taken_under : (st : State) (by : Who) (before : List StoredStatement) (t : Tree) (id : List ℕ) (s : StoredStatement) → refused_under st by before (Some id) (view t) ≡ None → held_under id st.statements ≡ Some s → same (view s.received) (view t) ≡ true
-taken_under st by before t id s none is = by_same (same (view s.received) (view t)) (sym (ap (λ o. refused_over st by before id (view t) o) is) ∙ none)
+taken_under : (st : State) (new : Option Refusal) (t : Tree) (id : List ℕ) (s : StoredStatement) → refused_under st new (Some id) (view t) ≡ None → held_under id st.statements ≡ Some s → same (view s.received) (view t) ≡ true
+taken_under st new t id s none is = by_same (same (view s.received) (view t)) (sym (ap (λ o. refused_over new id (view t) o) is) ∙ none)
   where
     by_same : (b : Bool) → when (not b) (Conflict id) ≡ None → b ≡ true
     by_same true q = refl
@@ -183,14 +183,14 @@ taken_from st at before supply [] none new = tt
 taken_from st at before supply (t ∷ ts) none new = (
   λ s is. by_own s (own_id (view t)) refl is,
   taken_from st at (before_next st at before (record { id = id_for (supply 0) (own_id (view t)); tree = t })) (supply_behind supply (own_id (view t))) ts
-      (first_none (refused_under st at.by before (own_id (view t)) (view t)) _ none).1 new.1,
+      (first_none (refused_under st (forbidden st at.by before (view t)) (own_id (view t)) (view t)) _ none).1 new.1,
 )
   where
     by_own : (s : StoredStatement) (o : Option (List ℕ)) → own_id (view t) ≡ o → held_under (id_for (supply 0) (own_id (view t))) st.statements ≡ Some s → same (view s.received) (view t) ≡ true
     by_own s None own is = absurd (false≢true (sym (new.0 own) ∙ ap (λ o. is_some o) is))
     by_own s (Some id) own is =
-        taken_under st at.by before t id s
-        (sym (ap (λ o. refused_under st at.by before o (view t)) own) ∙ (first_none (refused_under st at.by before (own_id (view t)) (view t)) _ none).0)
+        taken_under st (forbidden st at.by before (view t)) t id s
+        (sym (ap (λ o. refused_under st (forbidden st at.by before (view t)) o (view t)) own) ∙ (first_none (refused_under st (forbidden st at.by before (view t)) (own_id (view t)) (view t)) _ none).0)
         (sym (ap (λ o. held_under (id_for (supply 0) o) st.statements) own) ∙ is)
 
 alike_from : IsSameness → (supply : Supply) (ts : List Tree) → AreLawfulTrees ts → AllByRecursion (λ (n : WithId). same (view n.tree) (view n.tree) ≡ true) (with_ids supply ts)
@@ -225,7 +225,7 @@ puts_are_held sameness limit h caller id t clock draw lawful accepted =
     let authority = known st caller (all_launched h) reasons.0 in
     let statements = behind.2 ∙ ap (λ o. add_each held (kept_by at.moment o (n ∷ []))) authority.1 in
     subst (λ l. IsHeldSame l n) (sym statements)
-    (whole_list at.moment authority.0 held (n ∷ []) refl (λ s is. taken_under st at.by held t id s reasons.1.1.1.0 is, tt) (sameness.reflexive (view t) lawful.0, tt)).0
+    (whole_list at.moment authority.0 held (n ∷ []) refl (λ s is. taken_under st (forbidden st at.by held (view t)) t id s reasons.1.1.1.0 is, tt) (sameness.reflexive (view t) lawful.0, tt)).0
 
 pub batches_are_whole : IsSameness → BatchesAreWhole
 batches_are_whole sameness limit h caller trees clock draw small lawful accepted =

@@ -11,9 +11,9 @@ use Rattle.lrs_command.specs.declared.command.Read.TheVariants as read
 use Rattle.lrs_command.specs.declared.who.Who.{Who}
 use Rattle.lrs_history.specs.Effects.{Occasion, given_in, occasion, supply_in}
 use Rattle.lrs_history.specs.History.{Answer, answer, next_entry, only, refused, state, with_entry, IsLegal}
-use Rattle.lrs_history.specs.Refusals.{barred, is_session, refused_in, refused_batch, refused_form}
+use Rattle.lrs_history.specs.Refusals.{barred, refused_in, refused_batch, refused_form}
 use Rattle.lrs_command.specs.Areas.{command_area}
-use Rattle.lrs_history.specs.Whose.{authority_of, sight_of, who_is}
+use Rattle.lrs_history.specs.Whose.{acts_in_session, authority_of, sight_of, who_is}
 use Rattle.lrs_json.specs.View.{view}
 use Rattle.lrs_json.specs.declared.tree.Tree.{Tree}
 use Rattle.lrs_names.specs.declared.draw.Draw.{Draw}
@@ -275,7 +275,7 @@ FirstPagesAreTold =
 abbrev pub LinksStay : Type 0
 LinksStay =
     (limit : ℕ) (h more : List Entry) (caller : Caller) (link : MoreLink) (clock : ℕ) (draw : Draw) → IsLegal limit h
-    → (is_session (who_in h caller) ≡ true → length (h ++ more) < 2 ^ 64) → IsLetIn h caller
+    → (acts_in_session (who_in h caller) ≡ true → length (h ++ more) < 2 ^ 64) → IsLetIn h caller
     → link.asof ≤ length (state h).statements
     → let all = (state h).statements in
     answer limit (h ++ more) caller (Read (read.More link)) clock draw

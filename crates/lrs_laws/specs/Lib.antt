@@ -2,3 +2,4 @@ pub mod Laws
 pub mod Documents
 pub mod Fetches
 pub mod Sessions
+pub mod Speaking

@@ -2,6 +2,8 @@ use Rattle.lrs_laws.proofs.LaunchLaws.{launches_leave_statements}
 use Rattle.lrs_laws.proofs.KeyLaws.{keys_are_their_launches}
 use Rattle.lrs_laws.proofs.OpenedSessions.{given_tokens_act}
 use Rattle.lrs_laws.proofs.SessionLaws.{other_tokens_are_unknown, session_tokens_were_given, sessions_are_barred_from_the_desk, sessions_are_launched, sessions_keep_launch_data, sessions_keep_to_their_documents, sessions_see_their_registration}
+use Rattle.lrs_laws.proofs.CountedOnce.{results_count_once}
+use Rattle.lrs_laws.proofs.SpokenInOrder.{sessions_speak_in_order}
 use Rattle.lrs_laws.proofs.laws.law_of_sessions.Goals as goal
 
 pub returns-clause-launched : goal.returns-clause-launched
@@ -33,3 +35,9 @@ returns-clause-documents c = sessions_keep_to_their_documents
 
 pub returns-clause-launch_data : goal.returns-clause-launch_data
 returns-clause-launch_data c = sessions_keep_launch_data
+
+pub returns-clause-order : goal.returns-clause-order
+returns-clause-order c = sessions_speak_in_order
+
+pub returns-clause-results : goal.returns-clause-results
+returns-clause-results c = results_count_once

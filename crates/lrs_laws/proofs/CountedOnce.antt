@@ -1,0 +1,319 @@
+-- That a unit was completed, and that it was passed, counts once in a registration.
+use Rattle.std.proofs.Common.{◌≡◌, ℕ, List, [], ◌∷◌, ◌++◌, Bool, true, false, not, ◌&&◌, ◌||◌, Option, Some, None, refl, sym, ap, subst, ◌∙◌, append_assoc, append-nil}
+use Rattle.std.specs.Prelude.{codes, option_map, slice_get, if◌then◌else◌}
+use Rattle.std.specs.List.{AllByRecursion, list_any}
+use Rattle.std.specs.Option.{option_map_or}
+use Rattle.std.specs.Str.{bytes_eq}
+use Rattle.std.specs.Cmp.Lexicographic.{same_text}
+use Rattle.std.proofs.lemmas.List.Folds.{list_any-append}
+use Rattle.cmi5_course.specs.declared.launch.Launch.{Launch}
+use Rattle.cmi5_course.specs.declared.launch.Mode.{Mode}
+use Rattle.cmi5_course.specs.declared.unit.Unit as units
+use Rattle.cmi5_launch.specs.Made.{launched_json}
+use Rattle.cmi5_launch.specs.Names.{completed, launched, move_on_category, passed}
+use Rattle.cmi5_session.specs.Own.{is_cmi5_defined}
+use Rattle.cmi5_session.specs.Rules.{begins_again, broken_by_values, broken_defined, broken_outside, broken_rule, is_normal, tells_result, verb_named}
+use Rattle.cmi5_session.specs.Views.{SeenSession, counts, counts_still, has_counting, view_of}
+use Rattle.lrs_agents.specs.declared.agents.Agent.{Agent}
+use Rattle.lrs_command.specs.declared.who.Who.{Who}
+use Rattle.lrs_command.specs.declared.who.Who.TheVariants as who
+use Rattle.lrs_history.specs.Effects.{Occasion, new_by}
+use Rattle.lrs_history.specs.Launches.{activity_at, launched_at}
+use Rattle.lrs_history.specs.Refusals.{broken_by}
+use Rattle.lrs_history.specs.Whose.{authority_of}
+use Rattle.lrs_ids.specs.Choices.{first_some, when}
+use Rattle.lrs_json.specs.Json.{Json}
+use Rattle.lrs_json.specs.Trees.{tree_of}
+use Rattle.lrs_json.specs.View.{view}
+use Rattle.lrs_laws.proofs.Again.{first_none, no_reason}
+use Rattle.lrs_laws.proofs.Keepers.{left_false, or_false, right_false}
+use Rattle.lrs_laws.proofs.NewIds.{and_left, and_right, both_true}
+use Rattle.lrs_laws.proofs.Permitted.{broken_as, permitted, spoken, when_none}
+use Rattle.lrs_laws.proofs.SeenTrees.{seen_tree}
+use Rattle.lrs_laws.proofs.Walking.{KeptByLaunches, KeptByWrites, SpeaksIn, Steps, its_new, its_rule, none_told, over_legal}
+use Rattle.lrs_laws.specs.Speaking.{ResultsCountOnce, count_once, counts_again}
+use Rattle.lrs_parts.specs.State.{State}
+use Rattle.xapi_format.specs.declared.authority.Authority.{Authority}
+use Rattle.xapi_format.specs.declared.authority.Authority.TheVariants.{Session}
+use Rattle.xapi_index.specs.Batches.{WithId, held_of, kept_by}
+use Rattle.xapi_index.specs.Statements.{add, add_each, is_held, is_target, is_that_id, new_ones, voids}
+use Rattle.xapi_rules.specs.Rules.{is_voiding}
+use Rattle.xapi_statement.specs.Statement.{activity_of, has_context_activity, registration_of, target_of, verb_of}
+use Rattle.xapi_statement.specs.Stored.{StoredStatement}
+
+-- ---- one list
+
+abbrev CountsOnce : Launch → List ℕ → List StoredStatement → Type 0
+CountsOnce launch verb statements = count_once launch verb [] statements ≡ true
+
+once_push : (launch : Launch) (verb : List ℕ) (before ss : List StoredStatement) (s : StoredStatement) → count_once launch verb before ss ≡ true → counts_again launch verb (before ++ ss) s ≡ false
+    → count_once launch verb before (ss ++ s ∷ []) ≡ true
+once_push launch verb before [] s once new =
+    both_true (not (counts_again launch verb before s)) true (ap (λ b. not b) (sym (ap (λ l. counts_again launch verb l s) (append-nil before)) ∙ new)) refl
+once_push launch verb before (x ∷ ss) s once new =
+    both_true (not (counts_again launch verb before x)) (count_once launch verb (before ++ x ∷ []) (ss ++ s ∷ []))
+    (and_left (not (counts_again launch verb before x)) (count_once launch verb (before ++ x ∷ []) ss) once)
+    (once_push launch verb (before ++ x ∷ []) ss s (and_right (not (counts_again launch verb before x)) (count_once launch verb (before ++ x ∷ []) ss) once)
+    (ap (λ l. counts_again launch verb l s) (append_assoc before (x ∷ []) ss) ∙ new))
+
+-- none of these counts
+abbrev NoneCounts : Launch → List ℕ → List StoredStatement → Type 0
+NoneCounts launch verb statements = AllByRecursion (λ (s : StoredStatement). counts launch verb (view s.received) ≡ false) statements
+
+once_each : (launch : Launch) (verb : List ℕ) (held xs : List StoredStatement) → NoneCounts launch verb xs → CountsOnce launch verb held → CountsOnce launch verb (add_each held xs)
+once_each launch verb held [] others once = once
+once_each launch verb held (x ∷ xs) others once = once_each launch verb (add held x) xs others.1 (by_held (is_held x.id held))
+  where
+    by_held : (b : Bool) → CountsOnce launch verb (if b then held else held ++ x ∷ [])
+    by_held true = once
+    by_held false = once_push launch verb [] held x once (ap (λ b. b && has_counting launch verb held) others.0)
+
+-- ---- a list with fewer statements
+
+-- The new list has none that the old one hasn't, and what the old one voids it voids, too.
+record Fewer (old new : List StoredStatement) : Type 0 where
+  pub none : (p : StoredStatement → Bool) → list_any p old ≡ false → list_any p new ≡ false
+  pub targets : (id : List ℕ) → is_target id new ≡ is_target id old
+
+not_fewer : (held : List StoredStatement) → Fewer held held
+not_fewer held = record { none = λ p is. is; targets = λ id. refl }
+
+fewer_skip : (old new : List StoredStatement) (x : StoredStatement) → is_voiding (view x.received) ≡ false → Fewer old new → Fewer (old ++ x ∷ []) new
+fewer_skip old new x voids_none fewer = record {
+  none = λ p is. fewer.none p (left_false (list_any p old) (list_any p (x ∷ [])) (sym (list_any-append p old (x ∷ [])) ∙ is));
+  targets = λ id. fewer.targets id
+      ∙ (sym (or_false (is_target id old)) ∙ (ap (λ b. is_target id old || (is_that_id id (if b then target_of (view x.received) else None) || false)) (sym voids_none)
+      ∙ sym (list_any-append (voids id) old (x ∷ []))));
+}
+
+fewer_push : (old new : List StoredStatement) (x : StoredStatement) → Fewer old new → Fewer (old ++ x ∷ []) (new ++ x ∷ [])
+fewer_push old new x fewer = record {
+  none = λ p is.
+      let both : list_any p old || list_any p (x ∷ []) ≡ false = sym (list_any-append p old (x ∷ [])) ∙ is in
+      list_any-append p new (x ∷ [])
+      ∙ (ap (λ b. b || list_any p (x ∷ [])) (fewer.none p (left_false (list_any p old) (list_any p (x ∷ [])) both)) ∙ right_false (list_any p old) (list_any p (x ∷ [])) both);
+  targets = λ id. list_any-append (voids id) new (x ∷ []) ∙ (ap (λ b. b || is_target id (x ∷ [])) (fewer.targets id) ∙ sym (list_any-append (voids id) old (x ∷ [])));
+}
+
+same_tests : (p q : StoredStatement → Bool) → ((x : StoredStatement) → p x ≡ q x) → (xs : List StoredStatement) → list_any p xs ≡ list_any q xs
+same_tests p q same [] = refl
+same_tests p q same (x ∷ xs) = ap (λ b. b || list_any p xs) (same x) ∙ ap (λ b. q x || b) (same_tests p q same xs)
+
+-- none counts still where none did
+none_still : (launch : Launch) (verb : List ℕ) (old new : List StoredStatement) → Fewer old new → has_counting launch verb old ≡ false → has_counting launch verb new ≡ false
+none_still launch verb old new fewer none =
+    same_tests (counts_still launch verb new) (counts_still launch verb old)
+    (λ x. ap (λ b. counts launch verb (view x.received) && not (not (is_voiding (view x.received)) && b)) (fewer.targets x.id)) new
+    ∙ fewer.none (counts_still launch verb old) none
+
+add_each-push : (held more : List StoredStatement) (x : StoredStatement) → add_each held (more ++ x ∷ []) ≡ add (add_each held more) x
+add_each-push held [] x = refl
+add_each-push held (y ∷ more) x = add_each-push (add held y) more x
+
+-- ---- what the rules permit
+
+-- Behind the mode, the category and what the result tells comes the rule that it counts once.
+one_result : (v : SeenSession) (j : Json) (begins tells again : Bool) (number : ℕ) (values : Option ℕ)
+    → first_some (when begins 12
+    ∷ when (not (is_normal v.launch.mode)) 13
+    ∷ when (not (has_context_activity (codes "category") move_on_category j)) 14
+    ∷ when (not tells) 15
+    ∷ when again number
+    ∷ values ∷ []) ≡ None → again ≡ false
+one_result v j begins tells again number values free =
+    let each = no_reason (when begins 12
+    ∷ when (not (is_normal v.launch.mode)) 13
+    ∷ when (not (has_context_activity (codes "category") move_on_category j)) 14
+    ∷ when (not tells) 15
+    ∷ when again number
+    ∷ values ∷ []) free in
+    when_none again number each.1.1.1.1.0
+
+abbrev begins_as : SeenSession → List ℕ → Bool
+begins_as v verb = option_map_or (begins_again v.phase) (verb_named verb) false
+
+abbrev tells_as : List ℕ → Json → Bool
+tells_as verb j = option_map_or tells_result (verb_named verb) (λ x. true) j
+
+abbrev values_as : SeenSession → List ℕ → Json → Option ℕ
+values_as v verb j = option_map_or (broken_by_values v.launch.mastery) (verb_named verb) (λ x. None) j
+
+-- the id of a verb whose statements count once
+record IsResult (id : List ℕ) : Type 0 where
+  pub about : (v : SeenSession) (j : Json) → broken_defined v (verb_named id) j ≡ None → is_that_id v.launch.activity (activity_of j) ≡ true
+  pub first : (l : Launch) (before : List StoredStatement) (j : Json) → broken_defined (view_of l true false before) (verb_named id) j ≡ None → has_counting l id before ≡ false
+  pub other : bytes_eq launched id ≡ false
+
+completed_counts : IsResult completed
+completed_counts = record {
+  about = λ v j free. (spoken v j (broken_as v completed j) free).0;
+  first = λ l before j free.
+      let v : SeenSession = view_of l true false before in
+      one_result v j (begins_as v completed) (tells_as completed j) v.completed 16 (values_as v completed j) (spoken v j (broken_as v completed j) free).1;
+  other = refl;
+}
+
+passed_counts : IsResult passed
+passed_counts = record {
+  about = λ v j free. (spoken v j (broken_as v passed j) free).0;
+  first = λ l before j free.
+      let v : SeenSession = view_of l true false before in
+      one_result v j (begins_as v passed) (tells_as passed j) v.passed 17 (values_as v passed j) (spoken v j (broken_as v passed j) free).1;
+  other = refl;
+}
+
+same_id : (a b : List ℕ) (o : Option (List ℕ)) → is_that_id a o ≡ true → is_that_id b o ≡ true → a ≡ b
+same_id a b None here there = cc here
+same_id a b (Some id) here there = sym (same_text id a (sym here)) ∙ same_text id b (sym there)
+
+-- what counts for a registration and an activity
+abbrev counting_in : List ℕ → List ℕ → List ℕ → List StoredStatement → Bool
+counting_in registration activity id ss =
+    list_any (λ (s : StoredStatement).
+    (bytes_eq (verb_of (view s.received)) id && is_that_id registration (registration_of (view s.received)) && is_that_id activity (activity_of (view s.received)) && is_cmi5_defined (view s.received))
+    && not (not (is_voiding (view s.received)) && is_target s.id ss)) ss
+
+same_counting : (launch l : Launch) (id : List ℕ) (ss : List StoredStatement) → launch.registration ≡ l.registration → launch.activity ≡ l.activity → has_counting launch id ss ≡ has_counting l id ss
+same_counting launch l id ss registration activity = ap (λ r. counting_in r launch.activity id ss) registration ∙ ap (λ a. counting_in l.registration a id ss) activity
+
+-- what counts is permitted where none counts still
+counts_first : (id : List ℕ) → IsResult id → (launch l : Launch) (before : List StoredStatement) (j : Json) → broken_rule (view_of l true false before) j ≡ None → counts launch id j ≡ true
+    → has_counting launch id before ≡ false
+counts_first id result launch l before j free is =
+    let v : SeenSession = view_of l true false before in
+    let is_verb : Bool = bytes_eq (verb_of j) id in
+    let registered : Bool = is_that_id launch.registration (registration_of j) in
+    let about : Bool = is_that_id launch.activity (activity_of j) in
+    let unit_too : is_verb && registered && about ≡ true = and_left (is_verb && registered && about) (is_cmi5_defined j) is in
+    let verb_too : is_verb && registered ≡ true = and_left (is_verb && registered) about unit_too in
+    let defined : is_cmi5_defined j ≡ true = and_right (is_verb && registered && about) (is_cmi5_defined j) is in
+    let same : verb_of j ≡ id = same_text (verb_of j) id (sym (and_left is_verb registered verb_too)) in
+    let asked = permitted v j free in
+    let as_verb : broken_defined v (verb_named id) j ≡ None =
+    sym (ap (λ b. if b then broken_defined v (verb_named (verb_of j)) j else None) defined ∙ ap (λ x. broken_defined v (verb_named x) j) same) ∙ asked.as_defined in
+    same_counting launch l id before (same_id launch.registration l.registration (registration_of j) (and_right is_verb registered verb_too) asked.registered)
+    (same_id launch.activity l.activity (activity_of j) (and_right (is_verb && registered) about unit_too) (result.about v j as_verb))
+    ∙ result.first l before j as_verb
+
+-- ---- what a session says
+
+-- Of the statements that are held with the new ones so far none is missing where they are looked at, and results count
+-- once among them.
+abbrev Counted : State → Launch → List ℕ → List StoredStatement → Type 0
+Counted st launch id more = Fewer (st.statements ++ more) (add_each st.statements more) × CountsOnce launch id (add_each st.statements more)
+
+counted_next : (id : List ℕ) → IsResult id → (launch : Launch) (st : State) (at : Occasion) (l : Launch) → SpeaksIn st at l → Steps st at (Counted st launch id)
+counted_next id result launch st at l speaks more n free so_far =
+    subst (λ xs. Counted st launch id (more ++ xs)) (sym (its_new st at l n speaks)) (by_held (is_held n.id st.statements))
+  where
+    x : StoredStatement
+    x = held_of at.moment (Session l.session) n
+
+    before : List StoredStatement
+    before = st.statements ++ more
+
+    now : List StoredStatement
+    now = add_each st.statements more
+
+    asked : broken_rule (view_of l true false before) (view n.tree) ≡ None
+    asked = its_rule st at l before (view n.tree) speaks free
+
+    voids_none : is_voiding (view n.tree) ≡ false
+    voids_none = (permitted (view_of l true false before) (view n.tree) asked).voids_none
+
+    new : (b : Bool) → counts launch id (view n.tree) ≡ b → b && has_counting launch id now ≡ false
+    new true is = none_still launch id before now so_far.0 (counts_first id result launch l before (view n.tree) asked is)
+    new false is = refl
+
+    by_again : (b : Bool) → Fewer (before ++ x ∷ []) (if b then now else now ++ x ∷ []) × CountsOnce launch id (if b then now else now ++ x ∷ [])
+    by_again true = (fewer_skip before now x voids_none so_far.0, so_far.1)
+    by_again false = (fewer_push before now x so_far.0, once_push launch id [] now x so_far.1 (new (counts launch id (view n.tree)) refl))
+
+    by_held : (b : Bool) → Counted st launch id (more ++ (if b then [] else x ∷ []))
+    by_held true = subst (Counted st launch id) (sym (append-nil more)) so_far
+    by_held false =
+        subst (λ old. Fewer old (add_each st.statements (more ++ x ∷ [])) × CountsOnce launch id (add_each st.statements (more ++ x ∷ []))) (append_assoc st.statements more (x ∷ []))
+        (subst (λ held. Fewer (before ++ x ∷ []) held × CountsOnce launch id held) (sym (add_each-push st.statements more x)) (by_again (is_held x.id now)))
+
+-- ---- what others say
+
+and_false : (b : Bool) → b && false ≡ false
+and_false true = refl
+and_false false = refl
+
+each_append : {A : Type 0} (P : A → Type 0) (xs ys : List A) → AllByRecursion P xs → AllByRecursion P ys → AllByRecursion P (xs ++ ys)
+each_append P [] ys first next = next
+each_append P (x ∷ xs) ys first next = (first.0, each_append P xs ys first.1 next)
+
+-- what is new of one statement that doesn't count
+uncounted : (launch : Launch) (id : List ℕ) (moment : ℕ) (o : Option Authority) (held : List StoredStatement) (n : WithId) → counts launch id (view n.tree) ≡ false
+    → NoneCounts launch id (new_ones held (kept_by moment o (n ∷ [])))
+uncounted launch id moment None held n none = tt
+uncounted launch id moment (Some by) held n none = by_held (is_held n.id held)
+  where
+    by_held : (b : Bool) → NoneCounts launch id (if b then [] else held_of moment by n ∷ [])
+    by_held true = tt
+    by_held false = (none, tt)
+
+-- a caller who is no session says nothing that cmi5 defines
+none_next : (launch : Launch) (id : List ℕ) (st : State) (at : Occasion) (admin : Bool) → ((before : List StoredStatement) (j : Json) → broken_by st at.by before j ≡ broken_outside admin j)
+    → Steps st at (NoneCounts launch id)
+none_next launch id st at admin outside more n free so_far =
+    let j : Json = view n.tree in
+    let unbroken : broken_outside admin j ≡ None = sym (outside (st.statements ++ more) j) ∙ none_told (broken_by st at.by (st.statements ++ more) j) free in
+    let first : when (is_cmi5_defined j) 1 ≡ None = (first_none (when (is_cmi5_defined j) 1) _ unbroken).0 in
+    let matches : Bool = bytes_eq (verb_of j) id && is_that_id launch.registration (registration_of j) && is_that_id launch.activity (activity_of j) in
+    each_append (λ (s : StoredStatement). counts launch id (view s.received) ≡ false) more (new_by st at.by at.moment (n ∷ [])) so_far
+    (uncounted launch id at.moment (authority_of st at.by) st.statements n (ap (λ b. matches && b) (when_none (is_cmi5_defined j) 1 first) ∙ and_false matches))
+
+-- ---- the law
+
+kept_by_writes : (id : List ℕ) → IsResult id → (launch : Launch) → KeptByWrites (CountsOnce launch id)
+kept_by_writes id result launch st at ns met once = by_caller at.by refl
+  where
+    held : List StoredStatement
+    held = st.statements
+
+    by_outside : (admin : Bool) → ((before : List StoredStatement) (j : Json) → broken_by st at.by before j ≡ broken_outside admin j) → CountsOnce launch id (add_each held (new_by st at.by at.moment ns))
+    by_outside admin outside = once_each launch id held (new_by st at.by at.moment ns) (met (NoneCounts launch id) (none_next launch id st at admin outside) tt) once
+
+    by_launch : (k : ℕ) (o : Option Launch) → at.by ≡ who.Session k → slice_get st.launches k ≡ o → CountsOnce launch id (add_each held (new_by st at.by at.moment ns))
+    by_launch k None acts there =
+        let none_new : new_by st at.by at.moment ns ≡ [] =
+        ap (λ by. new_by st by at.moment ns) acts ∙ ap (λ o. new_ones held (kept_by at.moment (option_map (λ (l : Launch). Session l.session) o) ns)) there in
+        subst (λ xs. CountsOnce launch id (add_each held xs)) (sym none_new) once
+    by_launch k (Some l) acts there =
+        let so_far : Counted st launch id [] = (subst (λ old. Fewer old held) (sym (append-nil held)) (not_fewer held), once) in
+        (met (Counted st launch id) (counted_next id result launch st at l (record { place = k; acts = acts; launched = there })) so_far).1
+
+    by_caller : (by : Who) → at.by ≡ by → CountsOnce launch id (add_each held (new_by st at.by at.moment ns))
+    by_caller who.Unknown is = by_outside false (λ before j. ap (λ by. broken_by st by before j) is)
+    by_caller who.Admin is = by_outside true (λ before j. ap (λ by. broken_by st by before j) is)
+    by_caller (who.Provider k) is = by_outside false (λ before j. ap (λ by. broken_by st by before j) is)
+    by_caller (who.Session k) is = by_launch k (slice_get st.launches k) is refl
+
+-- what the store says of a launch has another verb
+named_launched : (mode : Mode) (unit : units.Unit) (actor : Agent) (activity publisher registration session : List ℕ) → verb_of (launched_json mode unit actor activity publisher registration session) ≡ launched
+unfolding verb_of
+named_launched mode unit actor activity publisher registration session = refl
+
+says_launched : (mode : Mode) (unit : units.Unit) (actor : Agent) (activity publisher registration session : List ℕ)
+    → verb_of (view (tree_of (launched_json mode unit actor activity publisher registration session))) ≡ launched
+says_launched mode unit actor activity publisher registration session =
+    ap verb_of (seen_tree (launched_json mode unit actor activity publisher registration session)) ∙ named_launched mode unit actor activity publisher registration session
+
+kept_by_launches : (id : List ℕ) → IsResult id → (launch : Launch) → KeptByLaunches (CountsOnce launch id)
+kept_by_launches id result launch t mode session made moment held once =
+    let j : Json = view (tree_of (launched_json mode t.unit t.registration.actor (activity_at t) t.publisher t.registration.id session)) in
+    let registered : Bool = is_that_id launch.registration (registration_of j) in
+    let about : Bool = is_that_id launch.activity (activity_of j) in
+    let none : counts launch id j ≡ false =
+    ap (λ v. bytes_eq v id && registered && about && is_cmi5_defined j) (says_launched mode t.unit t.registration.actor (activity_at t) t.publisher t.registration.id session)
+    ∙ ap (λ b. b && registered && about && is_cmi5_defined j) result.other in
+    once_each launch id held (launched_at t mode session made moment) (none, tt) once
+
+pub results_count_once : ResultsCountOnce
+results_count_once limit h launch legal = (
+  over_legal (CountsOnce launch completed) (kept_by_writes completed completed_counts launch) (kept_by_launches completed completed_counts launch) refl limit h legal,
+  over_legal (CountsOnce launch passed) (kept_by_writes passed passed_counts launch) (kept_by_launches passed passed_counts launch) refl limit h legal,
+)
