@@ -1,10 +1,9 @@
 -- What isn't refused for its form is judged: its statements or its course break no rule, who is enrolled is a learner.
-use Rattle.std.proofs.Common.{◌≡◌, ℕ, List, [], ◌∷◌, refl, Option, Some, None, Bool, true, false, not, ◌||◌}
+use Rattle.std.proofs.Common.{◌≡◌, ℕ, List, [], ◌∷◌, refl, Option, Some, None, Bool, true, false, not}
 use Rattle.std.specs.List.{AllByRecursion}
 use Rattle.std.specs.Prelude.{option_map}
 use Rattle.std.specs.Option.{option_or}
 use Rattle.cmi5_course.specs.Rules as course
-use Rattle.lrs_agents.specs.declared.agents.Agent.{Agent}
 use Rattle.lrs_rules.specs.declared.rule.Rule.TheVariants as rule
 use Rattle.lrs_fold.specs.Judged.{IsJudged, IsJudgedTree}
 use Rattle.lrs_history.specs.Refusals.{bad_form, broken, broken_in, is_too_large, other_id, refused_batch, refused_course, refused_form}
@@ -15,7 +14,6 @@ use Rattle.lrs_record.specs.Entries.{IsLawfulWrite}
 use Rattle.lrs_record.specs.declared.entry.Write.{Write}
 use Rattle.lrs_record.specs.declared.entry.Write.TheVariants.{Found, Put, Post, Enrol}
 use Rattle.lrs_record.specs.declared.entry.Write.TheVariants as write
-use Rattle.lrs_replies.specs.declared.answered.Refusal.{Refusal}
 use Rattle.lrs_replies.specs.declared.answered.Refusal.TheVariants.{Broken, TooLong}
 use Rattle.xapi_index.specs.Batches.{given_ids}
 use Rattle.lrs_parts.specs.Learners.{is_learner}

@@ -1,14 +1,11 @@
 pub mod Judged
-pub mod Alone
+pub mod Together
 pub mod Naming
+pub mod Pushed
 pub mod Coming
 pub mod Late
 pub mod Outcomes
 pub mod Puts
 pub mod Founded
 pub mod Again
-pub mod Walks
-pub mod Launched
-pub mod Courses
-pub mod Desk
 pub mod Written

@@ -1,18 +1,18 @@
 -- What is said to a put of the program itself: it is refused neither as of a caller who isn't let in nor as of no command,
 -- and it is shown no text.
-use Rattle.std.proofs.Common.{◌≡◌, ℕ, List, [], ◌∷◌, Option, Some, None, Bool, true, false, not, ◌&&◌, refl}
+use Rattle.std.proofs.Common.{ℕ, List, [], ◌∷◌, Option, Some, None, Bool, true, false, not, ◌&&◌, refl}
 use Rattle.std.specs.Prelude.{if◌then◌else◌, option_map}
 use Rattle.std.specs.Option.{option_or}
 use Rattle.std.specs.Str.{bytes_eq}
+use Rattle.cmi5_session.specs.Own.{is_cmi5_defined}
+use Rattle.cmi5_session.specs.Rules.{broken_outside}
 use Rattle.lrs_command.specs.declared.command.Command.{Command}
 use Rattle.lrs_command.specs.declared.command.Command.TheVariants as command
 use Rattle.lrs_rules.specs.declared.rule.Rule.TheVariants as rule
-use Rattle.lrs_command.specs.declared.who.Who.TheVariants as who
 use Rattle.lrs_fold.specs.Own.{IsPut, MayRefusePut, SaysOfPut}
 use Rattle.lrs_history.specs.Effects.{effect}
 use Rattle.lrs_history.specs.History.{next_entry, refused, outcome, outcome_by}
-use Rattle.lrs_history.specs.Refusals.{broken, forbidden, other_id, refused_form, refused_over}
-use Rattle.lrs_history.specs.Sessions.{is_defined}
+use Rattle.lrs_history.specs.Refusals.{broken, other_id, refused_form, refused_over, told_forbidden}
 use Rattle.lrs_json.specs.Json.{Json}
 use Rattle.lrs_json.specs.View.{view}
 use Rattle.lrs_names.specs.declared.draw.Draw.{Draw}
@@ -23,7 +23,7 @@ use Rattle.lrs_record.specs.declared.entry.Entry.{Entry}
 use Rattle.lrs_record.specs.declared.entry.Write.TheVariants.{Put}
 use Rattle.lrs_replies.specs.declared.answered.Answered.TheVariants.{Kept, Same}
 use Rattle.lrs_replies.specs.declared.answered.Refusal.{Refusal}
-use Rattle.lrs_replies.specs.declared.answered.Refusal.TheVariants.{Broken, Conflict, Forbidden, TooLong}
+use Rattle.lrs_replies.specs.declared.answered.Refusal.TheVariants.{Broken, Conflict, TooLong}
 use Rattle.xapi_alike.specs.Same.{same}
 use Rattle.lrs_ids.specs.Choices.{first_some, when}
 use Rattle.xapi_index.specs.Statements.{held_under}
@@ -56,18 +56,14 @@ may_form id j = may_or (when (is_too_long j) TooLong) (first_some (broken (broke
     (may_or (broken (broken_rule j)) (first_some (other_id id (own_id j) ∷ [])) (may_break (broken_rule j)) (may_or (other_id id (own_id j)) None (may_be_other id (own_id j)) tt))
 
 -- an admin writes no statement that cmi5 defines, and may void
-may_define : (b : Bool) → MayRefuse (when (b && true) (Forbidden (rule.C 1)))
-may_define true = refl
-may_define false = tt
+may_say : (defined voiding : Bool) → MayRefuse (told_forbidden (first_some (when defined 1 ∷ when (voiding && false) 2 ∷ [])))
+may_say true voiding = refl
+may_say false true = tt
+may_say false false = tt
 
-may_void : (b : Bool) → MayRefuse (when (b && false) (Forbidden (rule.C 2)))
-may_void true = tt
-may_void false = tt
-
-may_meet : (st : State) (before : List StoredStatement) (id : List ℕ) (j : Json) (held : Option StoredStatement) → MayRefuse (refused_over st who.Admin before id j held)
-may_meet st before id j None = may_or (when (is_defined j && true) (Forbidden (rule.C 1))) (first_some (when (is_voiding j && false) (Forbidden (rule.C 2)) ∷ [])) (may_define (is_defined j))
-    (may_or (when (is_voiding j && false) (Forbidden (rule.C 2))) None (may_void (is_voiding j)) tt)
-may_meet st before id j (Some held) = may_when (not (same (view held.received) j)) (Conflict id) tt
+may_meet : (id : List ℕ) (j : Json) (held : Option StoredStatement) → MayRefuse (refused_over (told_forbidden (broken_outside true j)) id j held)
+may_meet id j None = may_say (is_cmi5_defined j) (is_voiding j)
+may_meet id j (Some held) = may_when (not (same (view held.received) j)) (Conflict id) tt
 
 by_refusal : (o : Option Refusal) (b : Bool) (e : Entry) → MayRefuse o
     → SaysOfPut (outcome_by (option_or (option_map refused o) (when b (if b then Same else Kept))) e (if b then Same else Kept))
@@ -78,9 +74,9 @@ by_refusal None false e may = tt
 pub put_says : (st : State) (caller : Caller) (c : Command) (clock : ℕ) (draw : Draw) → IsPut caller c → SaysOfPut (outcome st caller c clock draw)
 put_says st Operator (command.Write (Put id statement)) clock draw is =
     let e : Entry = next_entry st Operator (Put id statement) clock draw in
-    by_refusal (first_some (None ∷ refused_form id (view statement) ∷ refused_over st who.Admin st.statements id (view statement) (held_under id st.statements) ∷ [])) (changes_nothing (effect st e)) e
-    (may_or (refused_form id (view statement)) (option_or (refused_over st who.Admin st.statements id (view statement) (held_under id st.statements)) None) (may_form id (view statement))
-    (may_or (refused_over st who.Admin st.statements id (view statement) (held_under id st.statements)) None (may_meet st st.statements id (view statement) (held_under id st.statements)) tt))
+    by_refusal (first_some (None ∷ refused_form id (view statement) ∷ refused_over (told_forbidden (broken_outside true (view statement))) id (view statement) (held_under id st.statements) ∷ [])) (changes_nothing (effect st e)) e
+    (may_or (refused_form id (view statement)) (option_or (refused_over (told_forbidden (broken_outside true (view statement))) id (view statement) (held_under id st.statements)) None) (may_form id (view statement))
+    (may_or (refused_over (told_forbidden (broken_outside true (view statement))) id (view statement) (held_under id st.statements)) None (may_meet id (view statement) (held_under id st.statements)) tt))
 put_says st Operator other clock draw is = absurd is
 put_says st Nobody c clock draw is = absurd is
 put_says st (Token token) c clock draw is = absurd is

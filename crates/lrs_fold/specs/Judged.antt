@@ -1,5 +1,5 @@
 -- Writes that were looked at.
-use Rattle.std.specs.Prelude.{◌≡◌, List, None, IsTrue}
+use Rattle.std.specs.Prelude.{◌≡◌, None, IsTrue}
 use Rattle.std.specs.List.{AllByRecursion}
 use Rattle.cmi5_course.specs.Rules as course
 use Rattle.lrs_json.specs.Fits.{Fits}

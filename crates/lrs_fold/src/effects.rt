@@ -17,6 +17,7 @@ use crate::Fold;
 use lrs_agents::Ifi;
 use lrs_command::Who;
 use lrs_json::{Items, Memory, Text, Tree};
+use lrs_learning::{enrolling, fetching, launching, taking};
 use lrs_names::{Draw, Id, Iri};
 use lrs_parts::{Acceptance, Effect, Founding, HeldProvider, ProvidersChange};
 use lrs_record::{Entry, How, Moment, Write};
@@ -67,18 +68,34 @@ impl Fold {
                 effect
             }
             Write::Course { tree } => {
-                let effect = self.taking(alloc, moment, &tree);
+                let effect = taking(alloc, &self.parts, moment, &tree);
                 drop(tree);
                 effect
             }
-            Write::Enrol { course, actor } => self.enrolling(alloc, moment, &draw, course, actor),
+            Write::Enrol { course, actor } => enrolling(
+                alloc,
+                &self.parts,
+                moment,
+                &draw,
+                course,
+                actor,
+            ),
             Write::Launch {
                 registration,
                 unit,
                 mode,
                 return_url,
-            } => self.launching(alloc, moment, &draw, registration, unit, mode, return_url),
-            Write::Fetch { key } => self.fetching(alloc, moment, &draw, key),
+            } => launching(
+                alloc,
+                &self.parts,
+                moment,
+                &draw,
+                registration,
+                unit,
+                mode,
+                return_url,
+            ),
+            Write::Fetch { key } => fetching(alloc, &self.parts, moment, &draw, key),
         }
     }
 
@@ -220,14 +237,32 @@ impl Fold {
             ≡ new_by (state_of self.now.parts) who moment (with_these_ids ids.now statements.items)) }
     {
         let mut added = Vec::with_capacity(alloc, ids.len())?;
+        self.push_each(&mut added, who, moment, ids, statements)?;
+        Ok(added)
+    }
+
+    // Puts those of a batch that aren't held after the new ones.
+    fn push_each(
+        &self,
+        added: &mut Vec<StoredStatement>,
+        who: Who,
+        moment: Moment,
+        ids: &[Id],
+        statements: Vec<Tree>,
+    ) -> Result<(), Memory>
+        requires { AllByRecursion IsJudgedTree statements.items }
+        ensures { OnOk result (added.new.items
+            ≡ added.old.items
+            ++ new_by (state_of self.now.parts) who moment (with_these_ids ids.now statements.items)) }
+    {
         let mut statements = statements.into_iter();
         for id in ids {
             match statements.next() {
-                Some(statement) => self.push_new(&mut added, who, moment, id, statement)?,
-                None => return Ok(added),
+                Some(statement) => self.push_new(added, who, moment, id, statement)?,
+                None => return Ok(()),
             }
         }
-        Ok(added)
+        Ok(())
     }
 }
 

@@ -1,19 +1,20 @@
 // Why a write is refused.
-ghost use Rattle.std.specs.Prelude.{◌≡◌, IfOk, Ok, None};
+ghost use Rattle.std.specs.Prelude.{◌≡◌, ℕ, List, IfOk, Ok, None};
 ghost use Rattle.std.specs.Option.{option_copied};
 ghost use Rattle.lrs_fold.specs.Judged.{IsJudged};
-ghost use Rattle.lrs_history.specs.Effects.{Occasion};
+ghost use Rattle.lrs_fold.specs.Meeting.{occasion_of};
 ghost use Rattle.lrs_history.specs.Refusals.{bad_form, conflict, refusal, refusal_at, unmergeable, unmergeable_with};
 ghost use Rattle.lrs_parts.specs.Parts.{state_of};
 ghost use Rattle.lrs_record.specs.Entries.{IsLawfulWrite};
 
 use crate::Fold;
-use crate::desk_refusals::refused_course;
 use crate::forms::{refused_batch, refused_form};
 use lrs_command::Who;
 use lrs_history::{barred, refused_actor, refused_agent, refused_document, refused_name};
 use lrs_json::{Memory, Text};
+use lrs_learning::{course_conflict, missing, refused_course};
 use lrs_media::is_json;
+use lrs_names::Draw;
 use lrs_record::{Entry, How, Write};
 use lrs_replies::Refusal;
 use lrs_rules::Rule;
@@ -74,14 +75,21 @@ impl Fold {
         ensures refused { IfOk result (λ refused. refused ≡ refusal (state_of self.now.parts) entry.now) }
         ensures judged { result ≡ Ok None → IsJudged entry.now.write }
     {
-        self.refusal_of(alloc, self.who(&entry.caller), &entry.write)
+        self.refusal_of(alloc, self.who(&entry.caller), &entry.draw, &entry.write)
     }
 
     #[tactic(auto, using(crate::proofs::Judged::judged_form))]
-    fn refusal_of(&self, alloc: Global, who: Who, write: &Write) -> Result<Option<Refusal>, Memory>
+    fn refusal_of(
+        &self,
+        alloc: Global,
+        who: Who,
+        draw: &Draw,
+        write: &Write,
+    ) -> Result<Option<Refusal>, Memory>
         requires { IsLawfulWrite write.now }
-        ensures refused { IfOk result (λ refused. (at : Occasion) → at.by ≡ who
-            → refused ≡ refusal_at (state_of self.now.parts) at write.now) }
+        ensures refused { IfOk result (λ refused. (moment : ℕ) (token : List ℕ) → refused
+            ≡ refusal_at (state_of self.now.parts)
+            (occasion_of (state_of self.now.parts) who draw.now write.now moment token) write.now) }
         ensures judged { result ≡ Ok None → IsJudged write.now }
     {
         if let Some(refusal) = barred(write.area(), who) {
@@ -93,13 +101,13 @@ impl Fold {
         if let Some(refusal) = self.bad_role(who, write) {
             return Ok(Some(refusal));
         }
-        if let Some(refusal) = self.missing(write) {
+        if let Some(refusal) = missing(&self.parts, write) {
             return Ok(Some(refusal));
         }
         if let Some(refusal) = self.unmergeable(alloc, write)? {
             return Ok(Some(refusal));
         }
-        self.conflict(alloc, who, write)
+        self.conflict(alloc, who, draw, write)
     }
 
     // Why a document isn't merged into the one that is held.
@@ -123,15 +131,24 @@ impl Fold {
     }
 
     // What a write meets in the store.
-    fn conflict(&self, alloc: Global, who: Who, write: &Write) -> Result<Option<Refusal>, Memory>
+    fn conflict(
+        &self,
+        alloc: Global,
+        who: Who,
+        draw: &Draw,
+        write: &Write,
+    ) -> Result<Option<Refusal>, Memory>
         requires { IsLawfulWrite write.now }
-        ensures { IfOk result (λ refused. (at : Occasion) → at.by ≡ who
-            → refused ≡ conflict (state_of self.now.parts) at write.now) }
+        ensures { IfOk result (λ refused. (moment : ℕ) (token : List ℕ) → refused
+            ≡ conflict (state_of self.now.parts)
+            (occasion_of (state_of self.now.parts) who draw.now write.now moment token) write.now) }
     {
         match write {
-            Write::Put { id, statement } => Ok(self.refused_under(who, Some(*id), statement)),
-            Write::Post { statements } => Ok(self.refused_each(who, statements.as_slice())),
-            Write::Course { tree } => self.course_conflict(alloc, tree),
+            Write::Put { id, statement } => Ok(self.refused_under(who, id, statement)),
+            Write::Post { statements } => {
+                self.refused_together(alloc, who, draw, statements.as_slice())
+            }
+            Write::Course { tree } => course_conflict(alloc, &self.parts, tree),
             _ => Ok(None),
         }
     }

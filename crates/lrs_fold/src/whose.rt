@@ -1,6 +1,7 @@
-// Who a caller is, and under whose authority its statements stand.
+// Who a caller is, under whose authority its statements stand, what it sees, and what it does with documents.
 ghost use Rattle.std.specs.Prelude.{◌≡◌, IfOk};
 ghost use Rattle.std.specs.Option.{option_copied};
+ghost use Rattle.lrs_history.specs.Refusals.{bad_role};
 ghost use Rattle.lrs_history.specs.Whose.{authority_of, known_as, launch_of, sight_of, who_is, who_presents};
 ghost use Rattle.lrs_parts.specs.Launches.{launch_of_token};
 ghost use Rattle.lrs_parts.specs.Parts.{state_of};
@@ -8,9 +9,11 @@ ghost use Rattle.lrs_parts.specs.Parts.{state_of};
 use crate::Fold;
 use cmi5_course::Launch;
 use lrs_command::Who;
+use lrs_history::overstepped;
 use lrs_json::{Memory, Text};
 use lrs_parts::is_admin;
-use lrs_record::Caller;
+use lrs_record::{Caller, Write};
+use lrs_replies::Refusal;
 use xapi_query::Sight;
 use xapi_statement::Authority;
 
@@ -55,6 +58,28 @@ impl Fold {
         match who {
             Who::Session(number) => self.parts.learning.launches.get(number),
             Who::Unknown | Who::Admin | Who::Provider(_) => None,
+        }
+    }
+
+    /// Why a caller doesn't do that to documents.
+    pub(crate) fn bad_role(&self, who: Who, write: &Write) -> Option<Refusal>
+        ensures { result ≡ bad_role (state_of self.now.parts) who write.now }
+    {
+        let launch = self.launch_of(who);
+        match write {
+            Write::State { key, .. } => overstepped(
+                launch,
+                &key.agent,
+                &key.registration,
+                Some(&key.state),
+            ),
+            Write::Drop {
+                agent,
+                registration,
+                state,
+                ..
+            } => overstepped(launch, agent, registration, state.as_ref()),
+            _ => None,
         }
     }
 

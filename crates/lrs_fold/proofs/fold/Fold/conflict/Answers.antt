@@ -1,11 +1,15 @@
-use Rattle.std.proofs.Common.{◌∙◌, ap, sym}
-use Rattle.lrs_fold.proofs.Alone.{batch_refused}
-use Rattle.lrs_fold.specs.Meeting.{refused_each}
+use Rattle.std.proofs.Common.{sym, ap, ◌∙◌}
+use Rattle.std.proofs.lemmas.Result.{IfOk-weaker}
+use Rattle.lrs_fold.specs.Meeting.{occasion_of}
 use Rattle.lrs_history.specs.Refusals.{conflict}
 use Rattle.lrs_parts.specs.Parts.{state_of}
+use Rattle.lrs_record.specs.declared.entry.Write.TheVariants.{Post}
 use Rattle.lrs_fold.proofs.fold.Fold.conflict.Goals as goal
 
 pub returns-in-Post : goal.returns-in-Post
-returns-in-Post c = λ at is.
-    c.refused_each.ensures ∙ (ap (λ ts. refused_each (state_of c.args.self.now.parts) c.args.who ts) c.as_slice.ensures
-    ∙ (batch_refused (state_of c.args.self.now.parts) c.args.who c.in-Post.statements at is ∙ ap (λ w. conflict (state_of c.args.self.now.parts) at w) (sym c.in-Post.is)))
+returns-in-Post c =
+    let st = state_of c.args.self.now.parts in
+    IfOk-weaker c.refused_together.result _ _
+    (λ refused told moment token. told moment token
+    ∙ ap (λ w. conflict st (occasion_of st c.args.who c.args.draw.now w moment token) w) (ap Post c.as_slice.ensures ∙ sym c.in-Post.is))
+    c.refused_together.ensures

@@ -2,7 +2,7 @@
 use Rattle.std.proofs.Common.{◌≡◌}
 use Rattle.std.proofs.lemmas.Result.{IfOk-weaker}
 use Rattle.lrs_command.specs.declared.who.Who.{Who}
-use Rattle.lrs_fold.specs.Occasions.{occasion_at}
+use Rattle.lrs_learning.specs.Occasions.{occasion_at}
 use Rattle.lrs_history.specs.Effects.{effect, enrolling, fetching, launching}
 use Rattle.lrs_history.specs.Launches.{target}
 use Rattle.lrs_history.specs.Whose.{who_is}

@@ -1,0 +1,11 @@
+use Rattle.std.proofs.Common.{sym, ap, ◌∙◌, arith}
+use Rattle.cmi5_session.specs.Views.{seen}
+use Rattle.lrs_fold.proofs.Naming.{no_trees_left}
+use Rattle.lrs_fold.specs.Meeting.{refused_behind}
+use Rattle.lrs_parts.specs.Parts.{state_of}
+use Rattle.lrs_fold.proofs.fold.Fold.refused_behind.Goals as goal
+
+pub returns : goal.returns
+returns c =
+    sym (ap (refused_behind (state_of c.args.self.now.parts) (seen c.loop-at.session)) (no_trees_left c.args.ids.now c.args.statements.now c.loop-at.at (omega arith)))
+    ∙ c.loop-at.invariant

@@ -1,0 +1,36 @@
+// What a write speaks of that isn't there.
+ghost use Rattle.std.specs.Prelude.{◌≡◌};
+ghost use Rattle.lrs_history.specs.Refusals.{missing};
+ghost use Rattle.lrs_parts.specs.Parts.{state_of};
+
+use crate::courses::place_of_course;
+use crate::targets::target;
+use lrs_parts::Parts;
+use lrs_record::Write;
+use lrs_replies::Refusal;
+
+/// Why a write doesn't find what it speaks of: the course of an enrolment, the registration or the unit of a launch,
+/// the key of a fetch.
+pub fn missing(parts: &Parts, write: &Write) -> Option<Refusal>
+    ensures { result ≡ missing (state_of parts.now) write.now }
+{
+    match write {
+        Write::Enrol { course, .. } => match place_of_course(parts, course) {
+            Some(_) => None,
+            None => Some(Refusal::NotFound),
+        },
+        Write::Launch {
+            registration,
+            unit,
+            ..
+        } => match target(parts, registration, unit) {
+            Some(_) => None,
+            None => Some(Refusal::NotFound),
+        },
+        Write::Fetch { key } => match parts.learning.keys.find(key) {
+            Some(_) => None,
+            None => Some(Refusal::NotFound),
+        },
+        _ => None,
+    }
+}

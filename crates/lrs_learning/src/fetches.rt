@@ -1,0 +1,86 @@
+// What a fetch does: it gives the token of a session away.
+ghost use Rattle.std.specs.Prelude.{◌≡◌, IfOk};
+ghost use Rattle.lrs_command.specs.declared.who.Who.{Who as SpecWho};
+ghost use Rattle.lrs_history.specs.Effects.{fetching, giving, telling};
+ghost use Rattle.lrs_history.specs.Sessions.{is_closed};
+ghost use Rattle.lrs_learning.specs.Occasions.{occasion_at};
+ghost use Rattle.lrs_parts.specs.Launches.{key_under};
+ghost use Rattle.lrs_parts.specs.Parts.{state_of};
+
+use cmi5_launch::names::TERMINATED;
+use cmi5_session::has_own;
+use lrs_json::{Memory, Text};
+use lrs_names::Draw;
+use lrs_parts::{Acceptance, Effect, HeldKey, HeldToken, Parts, TokensChange};
+use lrs_record::Moment;
+use lrs_replies::token_text;
+use std::alloc::Global;
+
+/// Gives the token of a key's session away, unless it was given or the session is closed.
+pub fn fetching(
+    alloc: Global,
+    parts: &Parts,
+    moment: Moment,
+    draw: &Draw,
+    key: Text,
+) -> Result<Effect, Memory>
+    ensures { IfOk result (λ made. (by : SpecWho) → made
+        ≡ fetching (state_of parts.now) (occasion_at (state_of parts.now) by moment draw.now)
+        (key_under key (state_of parts.now).keys)) }
+{
+    let Some(held) = parts.learning.keys.find(&key) else {
+        return Ok(Effect::no_change(alloc, moment));
+    };
+    if held.fetched {
+        return Ok(telling(alloc, moment, Acceptance::KeyUsed));
+    }
+    if is_closed(parts, held.launch) {
+        return Ok(telling(alloc, moment, Acceptance::SessionClosed));
+    }
+    giving(alloc, parts, moment, draw, held)
+}
+
+// The token tells the place of its entry.
+fn giving(
+    alloc: Global,
+    parts: &Parts,
+    moment: Moment,
+    draw: &Draw,
+    key: &HeldKey,
+) -> Result<Effect, Memory>
+    ensures { IfOk result (λ made. (by : SpecWho) → made
+        ≡ giving (occasion_at (state_of parts.now) by moment draw.now) key.now) }
+{
+    let token = token_text(alloc, parts.length, draw.secret)?;
+    let told = token.clone()?;
+    let text = key.key.clone()?;
+    let mut effect = telling(alloc, moment, Acceptance::Token(told));
+    effect.keys.replaced = Some(HeldKey {
+        key: text,
+        launch: key.launch,
+        fetched: true,
+    });
+    effect.tokens = TokensChange::of_new(HeldToken {
+        token,
+        launch: key.launch,
+    });
+    Ok(effect)
+}
+
+// Whether the session of the launch of that number is closed.
+fn is_closed(parts: &Parts, number: u32) -> bool
+    ensures { result ≡ is_closed (state_of parts.now) number }
+{
+    match parts.learning.launches.get(number) {
+        Some(launch) => has_own(&parts.statements, &launch.session, TERMINATED),
+        None => false,
+    }
+}
+
+fn telling(alloc: Global, moment: Moment, told: Acceptance) -> Effect
+    ensures { result ≡ telling moment told }
+{
+    let mut effect = Effect::no_change(alloc, moment);
+    effect.acceptance = told;
+    effect
+}

@@ -1,0 +1,413 @@
+// What a launch brings.
+ghost use Rattle.std.specs.Prelude.{◌≡◌, false, length, IfOk, OnOk, Some};
+ghost use Rattle.cmi5_launch.specs.Addresses.{IsAddress};
+ghost use Rattle.lrs_command.specs.declared.who.Who.{Who as SpecWho};
+ghost use Rattle.lrs_history.specs.Effects.{coming, launching};
+ghost use Rattle.lrs_history.specs.Launches.{activity_at, address_at, data_at, data_key, launch_at, launched_at, target};
+ghost use Rattle.lrs_learning.specs.Occasions.{occasion_at};
+ghost use Rattle.lrs_learning.specs.Targets.{seen};
+ghost use Rattle.lrs_parts.specs.Parts.{state_of};
+ghost use Rattle.lrs_parts.specs.State.{no_change};
+ghost use Rattle.lrs_parts.specs.declared.acceptance.Acceptance.TheVariants as acceptance;
+ghost use Rattle.lrs_replies.specs.Texts.{token_text};
+ghost use Rattle.xapi_docs.specs.declared.changes.DocumentsChange.TheVariants.{Written};
+
+use crate::ids::two_ids;
+use crate::targets::{LentTarget, target};
+use cmi5_course::{Launch, Mode};
+use cmi5_launch::names::LAUNCH_DATA;
+use cmi5_launch::{Made, launch_address, launch_data, made_statement};
+use lrs_json::{Items, Memory, Text};
+use lrs_names::{Draw, Id, Iri};
+use lrs_parts::{Acceptance, Effect, HeldKey, KeysChange, LaunchesChange, Parts};
+use lrs_record::Moment;
+use lrs_replies::token_text;
+use std::alloc::Global;
+use xapi_docs::{Document, DocumentsChange};
+use xapi_keys::StateKey;
+use xapi_statement::{Authority, StoredStatement};
+
+/// Launches the unit of that id in the course of that registration, if both are there.
+pub fn launching(
+    alloc: Global,
+    parts: &Parts,
+    moment: Moment,
+    draw: &Draw,
+    registration: Id,
+    unit: Iri,
+    mode: Mode,
+    return_url: Option<Iri>,
+) -> Result<Effect, Memory>
+    ensures { IfOk result (λ made. (by : SpecWho) → made
+        ≡ launching (state_of parts.now) (occasion_at (state_of parts.now) by moment draw.now) mode
+        return_url (target (state_of parts.now) registration unit)) }
+{
+    let mut effect = Effect::no_change(alloc, moment);
+    let Some(found) = target(parts, &registration, &unit) else {
+        return Ok(effect);
+    };
+    match launch_into(
+        alloc,
+        parts,
+        moment,
+        draw,
+        &found,
+        mode,
+        &return_url,
+        &mut effect,
+    ) {
+        Ok(()) => Ok(effect),
+        Err(refused) => {
+            drop(effect);
+            Err(refused)
+        }
+    }
+}
+
+// Puts what comes of a launch into an effect that has its moment alone.
+fn launch_into(
+    alloc: Global,
+    parts: &Parts,
+    moment: Moment,
+    draw: &Draw,
+    target: &LentTarget<'_>,
+    mode: Mode,
+    return_url: &Option<Iri>,
+    effect: &mut Effect,
+) -> Result<(), Memory>
+    requires address { IsAddress target.now.unit.now.url }
+    requires alone { effect.old ≡ no_change moment }
+    ensures { OnOk result ((by : SpecWho) → effect.new
+        ≡ launching (state_of parts.now)
+        (occasion_at (state_of parts.now) by moment draw.now) mode return_url.now
+        (Some (seen target.now))) }
+{
+    let (session, id) = two_ids(alloc, parts, draw)?;
+    let activity = target.activity(alloc)?;
+    let launched = launch_as(
+        alloc, parts, moment, draw, target, &activity, mode, return_url, session, id, effect,
+    );
+    drop(activity);
+    launched
+}
+
+// The same under that id of the unit, of the session and of the statement.
+fn launch_as(
+    alloc: Global,
+    parts: &Parts,
+    moment: Moment,
+    draw: &Draw,
+    target: &LentTarget<'_>,
+    activity: &Iri,
+    mode: Mode,
+    return_url: &Option<Iri>,
+    session: Id,
+    id: Id,
+    effect: &mut Effect,
+) -> Result<(), Memory>
+    requires address { IsAddress target.now.unit.now.url }
+    requires activity { activity.now ≡ activity_at (seen target.now) }
+    ensures { OnOk result (effect.new ≡ record effect.old {
+      statements = launched_at (seen target.now) mode session id moment;
+      documents = Written (data_key (seen target.now))
+          (data_at (seen target.now) mode return_url.now session moment);
+      launches = coming (launch_at (seen target.now) mode session);
+      keys = coming (record {
+        key = token_text parts.now.length draw.now.secret;
+        launch = length (state_of parts.now).launches;
+        fetched = false;
+      });
+      acceptance = acceptance.Launch session target.now.unit.now.method
+          (address_at (seen target.now) (token_text parts.now.length draw.now.secret));
+    }) }
+{
+    add_key(alloc, parts, draw, target, activity, session, effect)?;
+    add_data(
+        alloc, target, activity, mode, return_url, session, moment, effect,
+    )?;
+    add_launch(target, activity, mode, session, effect)?;
+    add_statement(alloc, target, activity, mode, session, id, moment, effect)
+}
+
+// The key, and the address that tells it.
+fn add_key(
+    alloc: Global,
+    parts: &Parts,
+    draw: &Draw,
+    target: &LentTarget<'_>,
+    activity: &Iri,
+    session: Id,
+    effect: &mut Effect,
+) -> Result<(), Memory>
+    requires address { IsAddress target.now.unit.now.url }
+    requires activity { activity.now ≡ activity_at (seen target.now) }
+    ensures { OnOk result (effect.new ≡ record effect.old {
+      keys = coming (record {
+        key = token_text parts.now.length draw.now.secret;
+        launch = length (state_of parts.now).launches;
+        fetched = false;
+      });
+      acceptance = acceptance.Launch session target.now.unit.now.method
+          (address_at (seen target.now) (token_text parts.now.length draw.now.secret));
+    }) }
+{
+    let launch = next_launch(parts)?;
+    let key = token_text(alloc, parts.length, draw.secret)?;
+    match told(alloc, target, activity, &key, session) {
+        Ok(told) => {
+            set_acceptance(effect, told);
+            set_key(effect, key, launch);
+            Ok(())
+        }
+        Err(refused) => {
+            drop(key);
+            Err(refused)
+        }
+    }
+}
+
+// Each field is set by a function of its own, which only drops what was there.
+
+fn set_acceptance(effect: &mut Effect, told: Acceptance)
+    ensures { effect.new ≡ record effect.old { acceptance = told } }
+{
+    effect.acceptance = told;
+}
+
+fn set_key(effect: &mut Effect, key: Text, launch: u32)
+    ensures { effect.new ≡ record effect.old {
+      keys = coming (record { key = key; launch = launch; fetched = false });
+    } }
+{
+    effect.keys = KeysChange::of_new(HeldKey {
+        key,
+        launch,
+        fetched: false,
+    });
+}
+
+fn set_documents(effect: &mut Effect, change: DocumentsChange)
+    ensures { effect.new ≡ record effect.old { documents = change } }
+{
+    effect.documents = change;
+}
+
+fn set_launch(effect: &mut Effect, launch: Launch)
+    ensures { effect.new ≡ record effect.old { launches = coming launch } }
+{
+    effect.launches = LaunchesChange::of_new(launch);
+}
+
+fn set_statements(effect: &mut Effect, made: Items<StoredStatement>)
+    ensures { effect.new ≡ record effect.old { statements = made } }
+{
+    effect.statements = made;
+}
+
+fn add_data(
+    alloc: Global,
+    target: &LentTarget<'_>,
+    activity: &Iri,
+    mode: Mode,
+    return_url: &Option<Iri>,
+    session: Id,
+    moment: Moment,
+    effect: &mut Effect,
+) -> Result<(), Memory>
+    requires { activity.now ≡ activity_at (seen target.now) }
+    ensures { OnOk result (effect.new ≡ record effect.old {
+      documents = Written (data_key (seen target.now))
+          (data_at (seen target.now) mode return_url.now session moment);
+    }) }
+{
+    let change = data(alloc, target, activity, mode, return_url, &session, moment)?;
+    set_documents(effect, change);
+    Ok(())
+}
+
+fn add_launch(
+    target: &LentTarget<'_>,
+    activity: &Iri,
+    mode: Mode,
+    session: Id,
+    effect: &mut Effect,
+) -> Result<(), Memory>
+    requires { activity.now ≡ activity_at (seen target.now) }
+    ensures { OnOk result (effect.new ≡ record effect.old {
+      launches = coming (launch_at (seen target.now) mode session);
+    }) }
+{
+    let launch = launch_at(target, activity, mode, session)?;
+    set_launch(effect, launch);
+    Ok(())
+}
+
+fn add_statement(
+    alloc: Global,
+    target: &LentTarget<'_>,
+    activity: &Iri,
+    mode: Mode,
+    session: Id,
+    id: Id,
+    moment: Moment,
+    effect: &mut Effect,
+) -> Result<(), Memory>
+    requires { activity.now ≡ activity_at (seen target.now) }
+    ensures { OnOk result (effect.new ≡ record effect.old {
+      statements = launched_at (seen target.now) mode session id moment;
+    }) }
+{
+    let made = statements(alloc, target, activity, mode, &session, id, moment)?;
+    set_statements(effect, made);
+    Ok(())
+}
+
+// The number of the next launch. There is none if launches can't be numbered any more.
+fn next_launch(parts: &Parts) -> Result<u32, Memory>
+    ensures { IfOk result (λ number. number ≡ length (state_of parts.now).launches) }
+{
+    match u32::try_from(parts.learning.launches.len()) {
+        Ok(number) => Ok(number),
+        Err(_) => Err(Memory),
+    }
+}
+
+// What its caller is told: where the learner is sent.
+fn told(
+    alloc: Global,
+    target: &LentTarget<'_>,
+    activity: &Iri,
+    key: &Text,
+    session: Id,
+) -> Result<Acceptance, Memory>
+    requires address { IsAddress target.now.unit.now.url }
+    requires activity { activity.now ≡ activity_at (seen target.now) }
+    ensures { IfOk result (λ told. told
+        ≡ acceptance.Launch session target.now.unit.now.method (address_at (seen target.now) key.now)) }
+{
+    let unit = target.unit;
+    let url = launch_address(
+        alloc,
+        unit,
+        target.base.text(),
+        key,
+        target.registration.actor.agent(),
+        &target.registration.id,
+        activity,
+    )?;
+    Ok(Acceptance::Launch {
+        session,
+        method: unit.method,
+        url,
+    })
+}
+
+// The document `LMS.LaunchData` (cmi5 Quartz, section 10.2).
+fn data(
+    alloc: Global,
+    target: &LentTarget<'_>,
+    activity: &Iri,
+    mode: Mode,
+    return_url: &Option<Iri>,
+    session: &Id,
+    moment: Moment,
+) -> Result<DocumentsChange, Memory>
+    requires { activity.now ≡ activity_at (seen target.now) }
+    ensures { IfOk result (λ change. change ≡ Written (data_key (seen target.now))
+        (data_at (seen target.now) mode return_url.now session.now moment)) }
+{
+    let bytes = launch_data(
+        alloc,
+        target.unit,
+        target.publisher,
+        session,
+        mode,
+        return_url,
+    )?;
+    let media = Text::of(alloc, "application/json")?;
+    let document = Document {
+        media,
+        bytes: Items::from_vec(bytes),
+        moment,
+    };
+    match data_key(alloc, target, activity) {
+        Ok(key) => Ok(DocumentsChange::Written { key, document }),
+        Err(refused) => {
+            drop(document);
+            Err(refused)
+        }
+    }
+}
+
+fn data_key(alloc: Global, target: &LentTarget<'_>, activity: &Iri) -> Result<StateKey, Memory>
+    requires { activity.now ≡ activity_at (seen target.now) }
+    ensures { IfOk result (λ key. key ≡ data_key (seen target.now)) }
+{
+    Ok(StateKey {
+        registration: Some(target.registration.id),
+        activity: activity.copy()?,
+        state: Text::of(alloc, LAUNCH_DATA)?,
+        agent: target.registration.actor.agent().ifi.copy()?,
+    })
+}
+
+fn launch_at(
+    target: &LentTarget<'_>,
+    activity: &Iri,
+    mode: Mode,
+    session: Id,
+) -> Result<Launch, Memory>
+    requires { activity.now ≡ activity_at (seen target.now) }
+    ensures { IfOk result (λ launch. launch ≡ launch_at (seen target.now) mode session) }
+{
+    Ok(Launch {
+        session,
+        registration: target.registration.id,
+        mode,
+        activity: activity.copy()?,
+        publisher: target.publisher.copy()?,
+        mastery: mastery_of(target)?,
+        actor: target.registration.actor.agent().ifi.copy()?,
+    })
+}
+
+// The score that passes the unit, as its course spells it.
+fn mastery_of(target: &LentTarget<'_>) -> Result<Option<Text>, Memory>
+    ensures { IfOk result (λ mastery. mastery ≡ (seen target.now).unit.mastery_text) }
+{
+    let unit = target.unit;
+    match &unit.mastery_text {
+        Some(spelling) => Ok(Some(spelling.clone()?)),
+        None => Ok(None),
+    }
+}
+
+// The statement that the store makes of it (cmi5 Quartz, section 9.3.1).
+fn statements(
+    alloc: Global,
+    target: &LentTarget<'_>,
+    activity: &Iri,
+    mode: Mode,
+    session: &Id,
+    id: Id,
+    moment: Moment,
+) -> Result<Items<StoredStatement>, Memory>
+    requires { activity.now ≡ activity_at (seen target.now) }
+    ensures { IfOk result (λ made. made ≡ launched_at (seen target.now) mode session.now id moment) }
+{
+    let made = made_statement(
+        alloc,
+        &Made::Launched {
+            mode,
+            unit: target.unit,
+        },
+        target.registration.actor.agent(),
+        activity,
+        target.publisher,
+        &target.registration.id,
+        session,
+    )?;
+    let mut statements = Items::new(alloc);
+    statements.push(made.complete(id, moment, Authority::Desk))?;
+    Ok(statements)
+}
