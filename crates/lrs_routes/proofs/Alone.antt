@@ -1,5 +1,5 @@
 -- A request has one account, unless memory ran out.
-use Rattle.std.proofs.Common.{◌≡◌, true, false, Option, Some, None, Result, Ok, Err, refl, sym, ap, ◌∙◌, subst, inl, inr, IsErrAnd, MatchResult}
+use Rattle.std.proofs.Common.{◌≡◌, true, false, Option, Some, None, Result, Ok, Err, refl, sym, ap, ◌∙◌, subst, inl, inr}
 use Rattle.lrs_http.specs.declared.request.Request.{Request}
 use Rattle.lrs_command.specs.declared.command.Command.{Command}
 use Rattle.lrs_routes.specs.Asked.{Agree, IsAsked, IsCommandOf, IsRouteRefused, IsRouted, IsRoutedAs, has_version, operation_at}
@@ -89,11 +89,6 @@ module _ (request : Request) where
   asked_alone asked route operation routed caller command (Err refused.NoVersion) o = absurd (version_missing o.0 route o.2 routed.fits o.4 routed.spoken)
   asked_alone asked route operation routed caller command (Err refused.Memory) o = inr (inr refl)
 
-  -- a refusal that is handed on is an account of the request
-  pub asked_handed : (e : RouteRefused) (r : Reading) → IsErrAnd r (λ own. own ≡ e) → IsRouteRefused request.path request.method request.version e → IsAsked request r
-  asked_handed e (Ok asked) is h = absurd is
-  asked_handed e (Err own) is h = subst (λ (x : RouteRefused). IsRouteRefused request.path request.method request.version x) (sym is) h
-
   -- ---- before the parameters and the body are looked at
 
   -- a request is routed in one way
@@ -123,9 +118,3 @@ module _ (request : Request) where
   routed_refused routed (refused.NoMethod allow) h o = absurd (method_missing o.0 h.route routed.operation o.1 h.is.fits o.2 h.is.is)
   routed_refused routed refused.NoVersion h o = absurd (version_missing o.0 h.route o.2 h.is.fits o.4 h.is.spoken)
   routed_refused routed refused.Memory h o = refl
-
-  -- a refusal that is handed on tells why there is no route
-  pub routed_handed : (e : RouteRefused) (r : Result Routed RouteRefused) → IsErrAnd r (λ own. own ≡ e) → IsRouteRefused request.path request.method request.version e
-      → MatchResult r (λ routed. IsRoutedAs request routed) (λ refused. IsRouteRefused request.path request.method request.version refused)
-  routed_handed e (Ok routed) is h = absurd is
-  routed_handed e (Err own) is h = subst (λ (x : RouteRefused). IsRouteRefused request.path request.method request.version x) (sym is) h

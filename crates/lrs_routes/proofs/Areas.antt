@@ -23,8 +23,8 @@ use Rattle.lrs_routes.specs.declared.operation.Operation.{Operation}
 use Rattle.lrs_routes.specs.declared.operation.Operation.TheVariants as operation
 use Rattle.lrs_routes.specs.declared.table.Route.{Route}
 use Rattle.lrs_routes.specs.declared.table.Route.TheVariants as route
-use Rattle.lrs_routes.specs.declared.values.BodyValue.{BodyValue}
-use Rattle.lrs_routes.specs.declared.values.BodyValue.TheVariants as body
+use Rattle.lrs_bodies.specs.declared.body_value.BodyValue.{BodyValue}
+use Rattle.lrs_bodies.specs.declared.body_value.BodyValue.TheVariants as body
 use Rattle.lrs_routes.specs.declared.values.ParameterValue.{ParameterValue}
 use Rattle.lrs_routes.specs.declared.values.ParameterValue.TheVariants as parameter
 use Rattle.lrs_routes.specs.declared.values.PartValue.{PartValue}

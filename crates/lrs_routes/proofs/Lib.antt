@@ -3,14 +3,8 @@ pub mod Sound
 pub mod Complete
 pub mod Leads
 pub mod Stages
-pub mod Looks
-pub mod Readings
-pub mod Batches
 pub mod OneDocument
 pub mod OneWanted
-pub mod Spelled
-pub mod Strings
-pub mod DeskBodies
 pub mod PathParts
 pub mod Alone
 pub mod Areas

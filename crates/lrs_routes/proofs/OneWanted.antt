@@ -14,6 +14,7 @@ use Rattle.xapi_query.specs.declared.query.Query.{Query}
 use Rattle.xapi_parameters.proofs.LinkAlone.{links_alone}
 use Rattle.lrs_rules.specs.declared.rule.Rule.TheVariants as rule
 use Rattle.lrs_routes.specs.Forms.{Decoded}
+use Rattle.lrs_routes.specs.Operations.{parameters_of_get}
 
 id_given : (value : Option (List ℕ)) (id : List ℕ) → option_and_then id_of value ≡ Some id → is_some value ≡ true
 id_given None id e = cc e
@@ -87,7 +88,7 @@ least_at pairs None next own h = own
 least_at pairs (Some n) next own h = absurd (none_some (rule.P n) h)
 
 -- where a GET breaks no rule, its parameters break none
-pub decoded_least : (pairs : List Pair) (next : Type 0) → Decoded LeastOfGet pairs None next → LeastOfGet None pairs
+pub decoded_least : (pairs : List Pair) (next : Type 0) → Decoded parameters_of_get pairs None next → LeastOfGet None pairs
 decoded_least pairs next h = elim h [
   | inl good ↦ least_at pairs good.1.0 next good.1.1 good.1.2
   | inr bad ↦ absurd (none_some (rule.P 1) bad.1)

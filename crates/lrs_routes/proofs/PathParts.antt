@@ -9,14 +9,15 @@ use Rattle.lrs_command.specs.Commands.{HasReadTrees}
 use Rattle.lrs_command.specs.declared.command.Command.{Command}
 use Rattle.lrs_command.specs.declared.command.Command.TheVariants as command
 use Rattle.lrs_http.specs.declared.request.Request.{Request}
+use Rattle.lrs_bodies.specs.Bodies.{IsBodyValue}
 use Rattle.lrs_names.specs.Ids.{id_of}
 use Rattle.lrs_record.specs.declared.entry.Area.{Area}
 use Rattle.lrs_routes.specs.Forms.{FirstBroken, IsCommand, Means, nowhere, parameters_of}
 use Rattle.lrs_routes.specs.Looks.{HasFormRule, IsGiven, IsMeant, IsMeantThere, IsNoRefusal}
-use Rattle.lrs_routes.specs.Operations.{IsBodyValue, IsParameterValue, command_of, form_of}
+use Rattle.lrs_routes.specs.Operations.{IsParameterValue, command_of, form_of}
 use Rattle.lrs_routes.specs.Parts.{OfPart, PartForm, no_part, text_part, id_part, is_slash, part_behind, part_of}
 use Rattle.lrs_routes.specs.declared.operation.Operation.{Operation}
-use Rattle.lrs_routes.specs.declared.values.BodyValue.{BodyValue}
+use Rattle.lrs_bodies.specs.declared.body_value.BodyValue.{BodyValue}
 use Rattle.lrs_routes.specs.declared.values.ParameterValue.{ParameterValue}
 use Rattle.lrs_routes.specs.declared.values.PartValue.{PartValue}
 use Rattle.lrs_routes.specs.declared.values.PartValue.TheVariants as part

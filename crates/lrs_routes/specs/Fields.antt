@@ -1,9 +1,8 @@
--- What the fields of a request say: the version, the credential, the media type of the body.
-use Rattle.std.specs.Prelude.{ℕ, ◌==◌, ◌&&◌, ◌||◌, Bool, true, false, List, [], length, Option, Some, None}
+-- What the fields of a request say: the version and the credential.
+use Rattle.std.specs.Prelude.{ℕ, ◌==◌, ◌&&◌, ◌||◌, Bool, false, List, [], length, Option, Some, None}
 use Rattle.std.specs.Prelude.{if◌then◌else◌, nat_eq, nat_lt, codes}
 use Rattle.std.specs.List.{after_first, before_first, position_or_len, starts_with}
 use Rattle.std.specs.Str.{bytes_eq, str_eq_ignore_ascii_case}
-use Rattle.lrs_media.specs.Media.{is_json}
 use Rattle.lrs_record.specs.declared.entry.Caller.{Caller}
 use Rattle.lrs_record.specs.declared.entry.Caller.TheVariants.{Nobody, Token}
 use Rattle.lrs_record.specs.declared.entry.Area.{Area}
@@ -43,10 +42,3 @@ abbrev pub caller_of : Area → Option (List ℕ) → Caller
 caller_of Free credential = Nobody
 caller_of Store credential = presented credential
 caller_of Desk credential = presented credential
-
--- ---- the media type (RFC 9110, section 8.3.1)
-
--- a type that isn't given, or JSON
-abbrev pub allows_json : Option (List ℕ) → Bool
-allows_json None = true
-allows_json (Some media) = is_json media

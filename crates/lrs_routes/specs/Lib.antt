@@ -1,9 +1,7 @@
 pub mod Paths
 pub mod Table
 pub mod Fields
-pub mod FormRefused
 pub mod Parts
-pub mod DeskBodies
 pub mod Operations
 pub mod Forms
 pub mod Looks

@@ -1,15 +1,10 @@
 -- The operations: a row for each, with what it asks of the parameters, of the part of the path and of the body, and the
 -- command of what the three give.
-use Rattle.std.specs.Prelude.{◌≡◌, ℕ, List, [], ◌∷◌, map, length, Option, Some, None, codes}
-use Rattle.lrs_json.specs.Fits.{IsReadable}
-use Rattle.lrs_json.specs.Json.{Json, null, boolean, number, string, array, object, Elements, no_elements, element}
-use Rattle.lrs_json_reader.specs.Refusals.{Spells}
-use Rattle.lrs_json.specs.View.{view, elements_of}
-use Rattle.lrs_json.specs.declared.tree.Tree.{Tree}
-use Rattle.lrs_json.specs.declared.limits.TheConstants.{DEPTH}
-use Rattle.lrs_names.specs.Members.{text_under}
-use Rattle.lrs_record.specs.Entries.{AreLawfulTrees}
-use Rattle.lrs_http.specs.declared.request.Request.{Request}
+use Rattle.std.specs.Prelude.{◌≡◌, ℕ, List, [], ◌∷◌, Option, Some, None, codes}
+use Rattle.lrs_bodies.specs.Bodies.{BodyForm, any_body, statement_body, statements_body, document_body, strings_body}
+use Rattle.lrs_bodies.specs.Bodies.{course_body, enrolment_body, launch_body}
+use Rattle.lrs_bodies.specs.declared.body_value.BodyValue.{BodyValue}
+use Rattle.lrs_bodies.specs.declared.body_value.BodyValue.TheVariants as body
 use Rattle.lrs_record.specs.declared.entry.How.{How}
 use Rattle.lrs_record.specs.declared.entry.How.TheVariants as how
 use Rattle.lrs_record.specs.declared.entry.Write.TheVariants.{Provider, Put, Post, State, Drop}
@@ -23,16 +18,13 @@ use Rattle.xapi_parameters.specs.Documents.{AreDropped, AreWanted, IsKey}
 use Rattle.xapi_parameters.specs.Links.{IsLink}
 use Rattle.xapi_parameters.specs.Queries.{id_under}
 use Rattle.xapi_parameters.specs.Wants.{IsWanted}
-use Rattle.xapi_query.specs.declared.link.MoreLink.{MoreLink}
 use Rattle.xapi_parameters.specs.declared.dropped.DroppedDocuments.{DroppedDocuments}
 use Rattle.xapi_parameters.specs.declared.pair.Pair.{Pair}
+use Rattle.xapi_query.specs.declared.link.MoreLink.{MoreLink}
 use Rattle.xapi_query.specs.declared.wanted.Wanted.{Wanted}
-use Rattle.lrs_routes.specs.DeskBodies.{IsEnrolmentIn, IsLaunchIn}
 use Rattle.lrs_routes.specs.Parts.{PartForm, no_part, text_part, id_part}
 use Rattle.lrs_routes.specs.declared.operation.Operation.{Operation}
 use Rattle.lrs_routes.specs.declared.operation.Operation.TheVariants as operation
-use Rattle.lrs_routes.specs.declared.values.BodyValue.{BodyValue}
-use Rattle.lrs_routes.specs.declared.values.BodyValue.TheVariants as body
 use Rattle.lrs_routes.specs.declared.values.ParameterValue.{ParameterValue}
 use Rattle.lrs_routes.specs.declared.values.ParameterValue.TheVariants as parameter
 use Rattle.lrs_routes.specs.declared.values.PartValue.{PartValue}
@@ -50,22 +42,6 @@ pub data ParameterForm : Type 0 where
   parameters_of_document : ParameterForm
   parameters_of_documents : ParameterForm
   parameters_of_drop : ParameterForm
-
--- What the body is to be: any, as it isn't looked at; a statement; statements; any bytes, which are a document; an
--- object of just these members, each a string, and each with the number of the rule that it breaks where it is none; a
--- course, which may be any JSON; an enrolment; or a launch.
-pub data BodyForm : Type 0 where
-  any_body : BodyForm
-  statement_body : BodyForm
-  statements_body : BodyForm
-  document_body : BodyForm
-  strings_body : List (List ℕ × ℕ) → BodyForm
-  course_body : BodyForm
-  enrolment_body : BodyForm
-  launch_body : BodyForm
-
-abbrev pub names_of : List (List ℕ × ℕ) → List (List ℕ)
-names_of members = map (λ member. member.0) members
 
 pub record Form : Type 0 where
   pub parameters : ParameterForm
@@ -140,47 +116,6 @@ IsParameterValue parameters_of_documents pairs value = (wanted : WantedDocuments
 IsParameterValue parameters_of_drop pairs value = (dropped : DroppedDocuments) × AreDropped pairs dropped
     × (value ≡ parameter.Dropped dropped)
 
--- ---- what the body gives
-
--- the statements of a body: the items of an array, or any other value alone
-abbrev pub batch_of : Json → Elements
-batch_of null = element null no_elements
-batch_of (boolean b) = element (boolean b) no_elements
-batch_of (number s) = element (number s) no_elements
-batch_of (string s) = element (string s) no_elements
-batch_of (array js) = js
-batch_of (object ms) = element (object ms) no_elements
-
-abbrev pub texts_under : List (List ℕ × ℕ) → Json → List (Option (List ℕ))
-texts_under members j = map (λ member. text_under member.0 j) members
-
--- these are the texts of those members, in their order
-abbrev pub AreTextsOf : List (List ℕ × ℕ) → Json → List (List ℕ) → Type 0
-AreTextsOf members j texts = texts_under members j ≡ map Some texts
-
--- the type of a body; where none is given, that of any bytes
-abbrev pub media_of : Option (List ℕ) → List ℕ
-media_of None = codes "application/octet-stream"
-media_of (Some media) = media
-
-abbrev pub IsBodyValue : BodyForm → Request → BodyValue → Type 0
-IsBodyValue any_body request value = value ≡ body.Nothing
-IsBodyValue statement_body request value = (tree : Tree) × Spells DEPTH request.body (view tree)
-    × (value ≡ body.Statement tree)
-IsBodyValue statements_body request value =
-    (trees : List Tree) × (j : Json) × Spells DEPTH request.body j × (elements_of (map view trees) ≡ batch_of j)
-    × (value ≡ body.Statements trees)
-IsBodyValue document_body request value = value ≡ body.Document (media_of request.media) request.body
-IsBodyValue (strings_body members) request value =
-    (texts : List (List ℕ)) × (j : Json) × Spells DEPTH request.body j × AreTextsOf members j texts
-    × (value ≡ body.Strings texts)
-IsBodyValue course_body request value = (tree : Tree) × Spells DEPTH request.body (view tree)
-    × (value ≡ body.Course tree)
-IsBodyValue enrolment_body request value = (j : Json) × Spells DEPTH request.body j × IsEnrolmentIn j value
-IsBodyValue launch_body request value = (j : Json) × Spells DEPTH request.body j × IsLaunchIn j value
-
--- ---- the kinds of values
-
 -- such a value as parameters of this form give
 abbrev pub OfParameters : ParameterForm → ParameterValue → Type 0
 OfParameters any_parameters parameter.Nothing = Unit {0}
@@ -192,15 +127,3 @@ OfParameters parameters_of_document (parameter.Document key) = Unit {0}
 OfParameters parameters_of_documents (parameter.Documents wanted) = Unit {0}
 OfParameters parameters_of_drop (parameter.Dropped dropped) = Unit {0}
 OfParameters form value = ⊥
-
--- such a value as a body of this form gives; its trees are such as reading gives
-abbrev pub OfBody : BodyForm → BodyValue → Type 0
-OfBody any_body body.Nothing = Unit {0}
-OfBody statement_body (body.Statement tree) = IsReadable DEPTH (view tree)
-OfBody statements_body (body.Statements trees) = AreLawfulTrees trees
-OfBody document_body (body.Document media bytes) = Unit {0}
-OfBody (strings_body members) (body.Strings texts) = length texts ≡ length members
-OfBody course_body (body.Course tree) = IsReadable DEPTH (view tree)
-OfBody enrolment_body (body.Enrolment course actor) = Unit {0}
-OfBody launch_body (body.Launch unit mode return_url) = Unit {0}
-OfBody form value = ⊥

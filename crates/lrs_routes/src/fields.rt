@@ -1,11 +1,10 @@
 // What the fields of a request say.
 ghost use Rattle.std.specs.Prelude.{◌≡◌, IfOk, Some};
 ghost use Rattle.lrs_record.specs.Entries.{IsLawfulCaller};
-ghost use Rattle.lrs_routes.specs.Fields.{allows_json, caller_of, caller_of_token, is_version, presented, speaks};
+ghost use Rattle.lrs_routes.specs.Fields.{caller_of, caller_of_token, is_version, presented, speaks};
 
 use lrs_command::Area;
 use lrs_json::{Memory, Text};
-use lrs_media::is_json;
 use lrs_record::Caller;
 use std::alloc::Global;
 
@@ -60,16 +59,5 @@ fn caller_of_token(alloc: Global, token: &str) -> Result<Caller, Memory>
         Ok(Caller::Nobody)
     } else {
         Ok(Caller::Token(Text::of(alloc, token)?))
-    }
-}
-
-/// Whether a body of this media type, or of none, is taken as JSON. The type is compared in any case (RFC 9110,
-/// section 8.3.1), and its parameters aren't looked at.
-pub fn allows_json(media: &Option<Text>) -> bool
-    ensures { result ≡ allows_json media.now }
-{
-    match media {
-        Some(media) => is_json(media.as_str()),
-        None => true,
     }
 }

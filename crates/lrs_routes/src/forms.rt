@@ -2,12 +2,14 @@
 ghost use Rattle.std.specs.Prelude.{◌≡◌, IfOk, MatchOption};
 ghost use Rattle.lrs_command.specs.Commands.{HasReadTrees};
 ghost use Rattle.lrs_routes.specs.Forms.{FirstBroken, IsCommand, nowhere};
-ghost use Rattle.lrs_routes.specs.Operations.{OfBody, OfParameters, form_of};
-ghost use Rattle.lrs_routes.specs.Looks.{Finds, HasFormRule, IsGiven, IsMeantThere};
+ghost use Rattle.lrs_bodies.specs.Bodies.{OfBody};
+ghost use Rattle.lrs_bodies.specs.Looks.{Finds};
+ghost use Rattle.lrs_routes.specs.Operations.{OfParameters, form_of};
+ghost use Rattle.lrs_routes.specs.Looks.{HasFormRule, IsGiven, IsMeantThere};
 
-use crate::form_refused::FormRefused;
 use crate::operation::Operation;
-use crate::values::{BodyValue, ParameterValue};
+use crate::values::ParameterValue;
+use lrs_bodies::{BodyValue, FormRefused};
 use lrs_command::{Area, Command};
 use lrs_http::Request;
 use lrs_json::Memory;

@@ -1,13 +1,10 @@
 //! From a request to what it asks: the route of its path, its caller, and the command that its parameters, the part of
-//! its path and its body mean. Begin with `routes`; `table` and `operation` list what can be asked, `parameters`,
-//! `parts`, `bodies` and `desk_bodies` read it.
+//! its path and its body mean. Begin with `routes`; `table` and `operation` list what can be asked, `parameters`
+//! and `parts` read it, and `lrs_bodies` the bodies.
 #![tactic(auto)]
 
 mod asked;
-mod bodies;
-mod desk_bodies;
 mod fields;
-mod form_refused;
 mod forms;
 mod operation;
 mod parameters;

@@ -1,25 +1,31 @@
 ghost use Rattle.std.specs.Prelude.{◌≡◌, Some, IfOk};
-ghost use Rattle.lrs_routes.specs.Forms.{BodyBreaks, parameters_of};
-ghost use Rattle.lrs_routes.specs.Operations.{OfBody, OfParameters, command_of, document_body, dropping, form_of, launch_body, parameters_of_document, written};
+ghost use Rattle.lrs_bodies.specs.Bodies.{BodyBreaks, IsInBody, OfBody, document_body, launch_body};
+ghost use Rattle.lrs_bodies.specs.Looks.{Finds};
+ghost use Rattle.lrs_routes.specs.Forms.{looks_at, parameters_of};
+ghost use Rattle.lrs_routes.specs.Looks.{IsInParameters, IsNoRefusal, OnlyParameters, Reads};
+ghost use Rattle.lrs_routes.specs.Operations.{OfParameters, command_of, dropping, form_of, parameters_of_document, written};
 ghost use Rattle.lrs_routes.specs.Parts.{OfPart, part_of};
-ghost use Rattle.lrs_routes.specs.Looks.{Finds, IsInBody, IsInParameters, IsNoRefusal, OnlyParameters};
 ghost use Rattle.lrs_routes.specs.declared.operation.Operation.TheVariants as operation;
 ghost use Rattle.lrs_routes.specs.declared.values.ParameterValue.TheVariants as parameter;
 ghost use Rattle.lrs_routes.specs.declared.values.PartValue.TheVariants as part;
 
-use crate::bodies::{document_in, statement_in, statements_in, strings_in};
-use crate::desk_bodies::{course_in, enrolment_in, launch_in};
-use crate::form_refused::FormRefused;
-use crate::parameters::{documents_in, dropped_in, id_in, key_in, link_in, nothing_in, wanted_in};
+use crate::parameters::{
+    decoded, documents_in, dropped_in, id_in, key_in, link_in, nothing_in, refused_of_query,
+    wanted_in,
+};
 use crate::parts;
-use crate::values::{BodyValue, ParameterValue, PartValue, first};
+use crate::values::{ParameterValue, PartValue, first};
+use lrs_bodies::{
+    BodyValue, FormRefused, read_course, read_document, read_enrolment, read_launch,
+    read_statement, read_statements, read_strings,
+};
 use lrs_command::{Command, Read};
 use lrs_http::Request;
 use lrs_json::{Memory, Text};
 use lrs_names::Id;
 use lrs_record::{How, Write};
 use std::alloc::Global;
-use xapi_parameters::DroppedDocuments;
+use xapi_parameters::{DroppedDocuments, Pair, QueryRefused};
 
 /// What a method of a route is for.
 #[derive(Clone, Copy, Debug, PartialEq, Eq)]
@@ -66,21 +72,45 @@ impl Operation {
         ensures { Finds (OnlyParameters (form_of self).parameters (parameters_of query.now))
             (IsInParameters (form_of self).parameters (parameters_of query.now)) result }
     {
+        if self.looks_at_parameters() {
+            let pairs = decoded(alloc, query)?;
+            match self.read_parameters(alloc, pairs.as_slice()) {
+                Ok(value) => Ok(value),
+                Err(refused) => Err(refused_of_query(refused)),
+            }
+        } else {
+            Ok(ParameterValue::Nothing)
+        }
+    }
+
+    fn looks_at_parameters(self) -> bool
+        ensures { result ≡ looks_at (form_of self).parameters }
+    {
+        match self {
+            Operation::TellVersions | Operation::GetProfile | Operation::FetchToken => false,
+            _ => true,
+        }
+    }
+
+    // What parameters that are texts give.
+    fn read_parameters(self, alloc: Global, pairs: &[Pair]) -> Result<ParameterValue, QueryRefused>
+        ensures { Reads (form_of self).parameters pairs.now result }
+    {
         match self {
             Operation::TellVersions | Operation::GetProfile | Operation::FetchToken => Ok(
                 ParameterValue::Nothing,
             ),
-            Operation::GetDocuments => documents_in(alloc, query),
-            Operation::PutDocument | Operation::PostDocument => key_in(alloc, query),
-            Operation::DropDocuments => dropped_in(alloc, query),
-            Operation::GetStatements => wanted_in(alloc, query),
-            Operation::GetMoreStatements => link_in(alloc, query),
-            Operation::PutStatement => id_in(alloc, query),
+            Operation::GetDocuments => documents_in(alloc, pairs),
+            Operation::PutDocument | Operation::PostDocument => key_in(alloc, pairs),
+            Operation::DropDocuments => dropped_in(alloc, pairs),
+            Operation::GetStatements => wanted_in(alloc, pairs),
+            Operation::GetMoreStatements => link_in(alloc, pairs),
+            Operation::PutStatement => id_in(pairs),
             Operation::PostStatements
             | Operation::MakeProvider
             | Operation::TakeCourse
             | Operation::EnrolLearner
-            | Operation::LaunchUnit => nothing_in(alloc, query),
+            | Operation::LaunchUnit => nothing_in(pairs),
         }
     }
 
@@ -112,13 +142,13 @@ impl Operation {
             | Operation::DropDocuments
             | Operation::GetProfile
             | Operation::FetchToken => Ok(BodyValue::Nothing),
-            Operation::PutDocument | Operation::PostDocument => document_in(alloc, request),
-            Operation::PostStatements => statements_in(alloc, request),
-            Operation::PutStatement => statement_in(alloc, request),
-            Operation::MakeProvider => strings_in(alloc, request, &[("name", 2)]),
-            Operation::TakeCourse => course_in(alloc, request),
-            Operation::EnrolLearner => enrolment_in(alloc, request),
-            Operation::LaunchUnit => launch_in(alloc, request),
+            Operation::PutDocument | Operation::PostDocument => read_document(alloc, request),
+            Operation::PostStatements => read_statements(alloc, request),
+            Operation::PutStatement => read_statement(alloc, request),
+            Operation::MakeProvider => read_strings(alloc, request, &[("name", 2)]),
+            Operation::TakeCourse => read_course(alloc, request),
+            Operation::EnrolLearner => read_enrolment(alloc, request),
+            Operation::LaunchUnit => read_launch(alloc, request),
         }
     }
 

@@ -1,10 +1,8 @@
-// What the parameters, the part of the path and the body of a request give.
+// What the parameters and the part of the path of a request give.
 ghost use Rattle.std.specs.Prelude.{◌≡◌, ◌∷◌, ◌<◌, length};
 
-use cmi5_course::Mode;
-use lrs_agents::Agent;
-use lrs_json::{Items, Text, Tree};
-use lrs_names::{Id, Iri};
+use lrs_json::Text;
+use lrs_names::Id;
 use xapi_keys::{StateKey, WantedDocuments};
 use xapi_parameters::DroppedDocuments;
 use xapi_query::{MoreLink, Wanted};
@@ -37,37 +35,6 @@ pub(crate) enum PartValue {
     Text(Text),
     /// The id that it spells.
     Id(Id),
-}
-
-/// What the body gives.
-#[derive(Drop)]
-pub(crate) enum BodyValue {
-    /// It isn't looked at.
-    Nothing,
-    /// A statement that isn't looked into.
-    Statement(Tree),
-    /// Statements that aren't looked into.
-    Statements(Items<Tree>),
-    /// Its bytes, with their media type.
-    Document {
-        media: Text,
-        bytes: Items<u8>,
-    },
-    /// The strings of an object, in the order of the operation's members.
-    Strings(Items<Text>),
-    /// A course that isn't looked into.
-    Course(Tree),
-    /// The id of a course, and who is enrolled in it.
-    Enrolment {
-        course: Iri,
-        actor: Agent,
-    },
-    /// The id of a unit that is launched, in which mode, and where its content sends the learner back to.
-    Launch {
-        unit: Iri,
-        mode: Mode,
-        return_url: Option<Iri>,
-    },
 }
 
 /// Takes the first text.

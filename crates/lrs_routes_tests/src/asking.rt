@@ -2,8 +2,8 @@
 // reference.
 use lrs_agents::{Agent, Ifi};
 use lrs_command::{Command, Read};
-use lrs_http::{Method, Request};
-use lrs_json::{Items, Text, Tree};
+use lrs_http::Request;
+use lrs_json::{Text, Tree};
 use lrs_names::{Id, Iri};
 use lrs_record::Write;
 use lrs_routes::{Asked, RouteRefused, Routes};
@@ -13,56 +13,6 @@ use std::test::Fail;
 use xapi_keys::WantedDocuments;
 use xapi_query::{Format, Wanted};
 
-// What stands in a table for a field that isn't there: an `Option` in each of its rows costs much to prove.
-pub(crate) const ABSENT: &str = "-";
-
-pub(crate) fn given(text: &str) -> Option<&str> {
-    if text == ABSENT { None } else { Some(text) }
-}
-
-// The fields of a request: its version, its credential and its media type.
-#[derive(Clone, Copy)]
-pub(crate) struct Fields<'a> {
-    pub(crate) version: Option<&'a str>,
-    pub(crate) credential: Option<&'a str>,
-    pub(crate) media: Option<&'a str>,
-}
-
-pub(crate) const FIELDS: Fields<'static> = Fields {
-    version: Some("1.0.3"),
-    credential: Some("Basic token-1"),
-    media: None,
-};
-
-fn text_of(alloc: Global, text: Option<&str>) -> Result<Option<Text>, Fail> {
-    match text {
-        Some(text) => Ok(Some(Text::of(alloc, text)?)),
-        None => Ok(None),
-    }
-}
-
-// A request, and the path and the query of its target.
-#[derive(Clone, Copy)]
-pub(crate) struct Sent<'a> {
-    pub(crate) method: Method,
-    pub(crate) target: (&'a str, Option<&'a str>),
-    pub(crate) fields: Fields<'a>,
-    pub(crate) body: &'a str,
-}
-
-fn request(alloc: Global, sent: Sent<'_>) -> Result<Request, Fail> {
-    Ok(Request {
-        method: sent.method,
-        path: Text::of(alloc, sent.target.0)?,
-        query: text_of(alloc, sent.target.1)?,
-        version: text_of(alloc, sent.fields.version)?,
-        credential: text_of(alloc, sent.fields.credential)?,
-        media: text_of(alloc, sent.fields.media)?,
-        closes: false,
-        body: Items::from_vec(Vec::from_slice(alloc, sent.body.as_bytes())?),
-    })
-}
-
 fn text_of_id(id: &Id, into: &mut String) -> Result<(), Fail> {
     into.push_str(str::from_utf8(&id.text())?)?;
     Ok(())
@@ -70,45 +20,65 @@ fn text_of_id(id: &Id, into: &mut String) -> Result<(), Fail> {
 
 fn show_write(write: &Write, into: &mut String) -> Result<(), Fail> {
     match write {
-        Write::Provider { name } => {
-            into.push_str("provider ")?;
-            into.push_str(name.as_str())?;
-        }
-        Write::Put { id, .. } => {
-            into.push_str("put ")?;
-            text_of_id(id, into)?;
-        }
-        Write::Post { statements } => write!(into, "post {}", statements.len())?,
+        Write::Provider { name } => show_named("provider", name, into),
+        Write::Put { id, .. } => show_id("put", id, into),
+        Write::Post { statements } => show_count(statements.len(), into),
         Write::State {
             how,
             key,
             media,
             bytes,
-        } => {
-            let text = str::from_utf8(bytes.as_slice())?;
-            let state = key.state.as_str();
-            write!(into, "{} {state} [{}] {text}", how.text(), media.as_str())?;
-        }
+        } => show_document(how.text(), &key.state, media, bytes.as_slice(), into),
         Write::Drop {
             activity,
             state,
             ..
-        } => show_dropped(activity, state, into)?,
-        Write::Found { .. } => into.push_str("found")?,
-        Write::Course { tree } => show_course(tree, into)?,
-        Write::Enrol { course, actor } => show_enrolment(course, actor, into)?,
+        } => show_dropped(activity, state, into),
+        Write::Found { .. } => show_word("found", into),
+        Write::Course { tree } => show_course(tree, into),
+        Write::Enrol { course, actor } => show_enrolment(course, actor, into),
         Write::Launch {
             registration,
             unit,
             mode,
             return_url,
         } => {
-            write!(into, "{} {} ", mode.text(), unit.text().as_str())?;
-            text_of_id(registration, into)?;
-            show_return(return_url, into)?;
+            show_named(mode.text(), unit.text(), into)?;
+            show_return(registration, return_url, into)
         }
-        Write::Fetch { key } => write!(into, "fetch {}", key.as_str())?,
+        Write::Fetch { key } => show_named("fetch", key, into),
     }
+}
+
+fn show_named(word: &str, text: &Text, into: &mut String) -> Result<(), Fail> {
+    write!(into, "{word} {}", text.as_str())?;
+    Ok(())
+}
+
+fn show_word(word: &str, into: &mut String) -> Result<(), Fail> {
+    into.push_str(word)?;
+    Ok(())
+}
+
+fn show_id(word: &str, id: &Id, into: &mut String) -> Result<(), Fail> {
+    write!(into, "{word} ")?;
+    text_of_id(id, into)
+}
+
+fn show_count(statements: usize, into: &mut String) -> Result<(), Fail> {
+    write!(into, "post {statements}")?;
+    Ok(())
+}
+
+fn show_document(
+    how: &str,
+    state: &Text,
+    media: &Text,
+    bytes: &[u8],
+    into: &mut String,
+) -> Result<(), Fail> {
+    let text = str::from_utf8(bytes)?;
+    write!(into, "{how} {} [{}] {text}", state.as_str(), media.as_str())?;
     Ok(())
 }
 
@@ -131,7 +101,9 @@ fn show_enrolment(course: &Iri, actor: &Agent, into: &mut String) -> Result<(), 
     Ok(())
 }
 
-fn show_return(address: &Option<Iri>, into: &mut String) -> Result<(), Fail> {
+fn show_return(registration: &Id, address: &Option<Iri>, into: &mut String) -> Result<(), Fail> {
+    into.push_str(" ")?;
+    text_of_id(registration, into)?;
     if let Some(address) = address {
         write!(into, " back to {}", address.text().as_str())?;
     }
@@ -148,31 +120,36 @@ fn show_dropped(activity: &Iri, state: &Option<Text>, into: &mut String) -> Resu
 
 fn show_read(read: &Read, into: &mut String) -> Result<(), Fail> {
     match read {
-        Read::About => into.push_str("about")?,
-        Read::Statements(Wanted::One(id, format)) => {
-            into.push_str(if *format == Format::Ids {
-                "get ids of "
-            } else {
-                "get "
-            })?;
-            text_of_id(id, into)?;
-        }
-        Read::Statements(Wanted::Voided(id, _format)) => {
-            into.push_str("get voided ")?;
-            text_of_id(id, into)?;
-        }
-        Read::Statements(Wanted::Many(query)) => write!(into, "list {}", query.page)?,
-        Read::More(link) => write!(into, "more {} {}", link.asof, link.after)?,
-        Read::Documents(WantedDocuments::One(key)) => {
-            into.push_str("document ")?;
-            into.push_str(key.state.as_str())?;
-        }
-        Read::Documents(WantedDocuments::Ids { activity, .. }) => {
-            into.push_str("document ids of ")?;
-            into.push_str(activity.text().as_str())?;
-        }
-        Read::Profile => into.push_str("profile")?,
+        Read::About => show_word("about", into),
+        Read::Statements(Wanted::One(id, format)) => show_id(word_of(format), id, into),
+        Read::Statements(Wanted::Voided(id, _format)) => show_id("get voided", id, into),
+        Read::Statements(Wanted::Many(query)) => show_page(query.page, into),
+        Read::More(link) => show_places(link.asof, link.after, into),
+        Read::Documents(WantedDocuments::One(key)) => show_named("document", &key.state, into),
+        Read::Documents(WantedDocuments::Ids { activity, .. }) => show_named(
+            "document ids of",
+            activity.text(),
+            into,
+        ),
+        Read::Profile => show_word("profile", into),
     }
+}
+
+fn word_of(format: &Format) -> &'static str {
+    if *format == Format::Ids {
+        "get ids of"
+    } else {
+        "get"
+    }
+}
+
+fn show_page(page: u32, into: &mut String) -> Result<(), Fail> {
+    write!(into, "list {page}")?;
+    Ok(())
+}
+
+fn show_places(asof: u64, after: u64, into: &mut String) -> Result<(), Fail> {
+    write!(into, "more {asof} {after}")?;
     Ok(())
 }
 
@@ -216,7 +193,7 @@ fn show_refused(refused: RouteRefused, into: &mut String) -> Result<(), Fail> {
 }
 
 // What the request asks, in one word.
-fn shown(alloc: Global, routes: &Routes, request: Request) -> Result<String, Fail> {
+pub(crate) fn asked_text(alloc: Global, routes: &Routes, request: Request) -> Result<String, Fail> {
     let mut text = String::new(alloc);
     let shown = match routes.command_of(alloc, request) {
         Ok(asked) => {
@@ -228,15 +205,4 @@ fn shown(alloc: Global, routes: &Routes, request: Request) -> Result<String, Fai
     };
     shown?;
     Ok(text)
-}
-
-// Whether this is what the request asks, in one word.
-pub(crate) fn asks(
-    alloc: Global,
-    routes: &Routes,
-    sent: Sent<'_>,
-    expected: &str,
-) -> Result<bool, Fail> {
-    let request = request(alloc, sent)?;
-    Ok(shown(alloc, routes, request)?.as_str() == expected)
 }

@@ -1,4 +1,4 @@
-//! The tests of lrs_routes.
+//! The tests of lrs_routes and lrs_bodies: what requests ask, as rows of a text. `rows` says what a row is.
 #![tactic(auto)]
 
 #[cfg(test)]
@@ -9,3 +9,7 @@ mod desk;
 mod documents;
 #[cfg(test)]
 mod requests;
+#[cfg(test)]
+mod rows;
+#[cfg(test)]
+mod statements;

@@ -1,10 +1,10 @@
 use Rattle.std.proofs.Common.{ℕ, List, Some, None, subst}
-use Rattle.lrs_routes.specs.Forms.{BodyBreaks, FirstBroken, parameters_of}
+use Rattle.lrs_bodies.specs.Bodies.{BodyBreaks, IsInBody}
+use Rattle.lrs_routes.specs.Forms.{FirstBroken, parameters_of}
 use Rattle.lrs_routes.specs.Operations.{form_of}
-use Rattle.lrs_routes.specs.Looks.{IsGiven, IsInBody, IsInParameters, IsMeantThere, OnlyParameters}
-use Rattle.lrs_routes.proofs.Looks.{finds_refused, finds_handed}
+use Rattle.lrs_routes.specs.Looks.{IsGiven, IsInParameters, IsMeantThere, OnlyParameters}
 use Rattle.lrs_routes.proofs.PathParts.{given_meant}
-use Rattle.lrs_routes.proofs.Stages.{parameters_pass, parameters_stop}
+use Rattle.lrs_routes.proofs.Stages.{finds_handed, finds_refused, parameters_pass, parameters_stop}
 use Rattle.lrs_routes.proofs.forms.meaning.Goals as goal
 
 pub returns-in_err-query : goal.returns-in_err-query

@@ -1,0 +1,67 @@
+-- The bodies of enrolments and launches: each has one value, and a launch that breaks no rule passes each test.
+use Rattle.std.proofs.Common.{◌≡◌, ℕ, Bool, true, false, List, ◌++◌, Option, Some, None, MatchOption, codes, refl, sym, ◌∙◌}
+use Rattle.lrs_agents.specs.Readings.{IsAgentOf}
+use Rattle.lrs_agents.specs.declared.agents.Agent.{Agent}
+use Rattle.lrs_json.specs.Find.{find}
+use Rattle.lrs_json.specs.Json.{Json}
+use Rattle.lrs_names.specs.Iris.{is_iri}
+use Rattle.lrs_names.specs.Members.{if_member, is_string_that}
+use Rattle.lrs_names.specs.Rules.{least, lesser, unless}
+use Rattle.lrs_names.proofs.RuleLemmas.{least-append}
+use Rattle.lrs_bodies.specs.DeskBodies.{IsEnrolmentIn, IsLaunchIn, has_iri, is_launch, is_mode, launch_body_faults}
+use Rattle.lrs_bodies.specs.declared.body_value.BodyValue.{BodyValue}
+use Rattle.lrs_bodies.specs.declared.body_value.BodyValue.TheVariants as body
+
+-- ---- a value gives one enrolment, and one launch
+
+some_same : {A : Type 0} (a b : A) → Some a ≡ Some b → a ≡ b
+some_same a b e = cc e
+
+one_agent : (j : Json) (a b : Agent) → IsAgentOf j a → IsAgentOf j b → a ≡ b
+one_agent j a b h k =
+    let ifi : a.ifi ≡ b.ifi = some_same a.ifi b.ifi (sym h.ifi ∙ k.ifi) in
+    let name : a.name ≡ b.name = sym h.name ∙ k.name in
+    λ i. record { ifi = ifi i; name = name i }
+
+one_actor : (o : Option Json) (a b : Agent) → MatchOption o ⊥ (λ j. IsAgentOf j a) → MatchOption o ⊥ (λ j. IsAgentOf j b) → a ≡ b
+one_actor None a b h k = absurd h
+one_actor (Some j) a b h k = one_agent j a b h k
+
+pub one_enrolment : (j : Json) (a b : BodyValue) → IsEnrolmentIn j a → IsEnrolmentIn j b → a ≡ b
+one_enrolment j a b h k =
+    let course : h.0 ≡ k.0 = some_same h.0 k.0 (sym h.2.course_is ∙ k.2.course_is) in
+    let actor : h.1 ≡ k.1 = one_actor (find (codes "actor") j) h.1 k.1 h.2.actor_is k.2.actor_is in
+    h.3 ∙ (λ i. body.Enrolment (course i) (actor i)) ∙ sym k.3
+
+pub one_launch : (j : Json) (a b : BodyValue) → IsLaunchIn j a → IsLaunchIn j b → a ≡ b
+one_launch j a b h k =
+    let unit : h.0 ≡ k.0 = some_same h.0 k.0 (sym h.3.unit_is ∙ k.3.unit_is) in
+    let mode : h.1 ≡ k.1 = some_same h.1 k.1 (sym h.3.mode_is ∙ k.3.mode_is) in
+    let url : h.2 ≡ k.2 = sym h.3.return_url_is ∙ k.3.return_url_is in
+    h.4 ∙ (λ i. body.Launch (unit i) (mode i) (url i)) ∙ sym k.4
+
+-- ---- a launch that breaks no rule
+
+no_lesser : (a b : Option ℕ) → lesser a b ≡ None → (a ≡ None) × (b ≡ None)
+no_lesser None None e = (refl, refl)
+no_lesser None (Some n) e = absurd (cc e)
+no_lesser (Some m) None e = absurd (cc e)
+no_lesser (Some m) (Some n) e = absurd (cc e)
+
+passed : (passes : Bool) (n : ℕ) → least (unless passes n) ≡ None → passes ≡ true
+passed true n e = refl
+passed false n e = absurd (cc e)
+
+met : (rules : List ℕ) (passes : Bool) (n : ℕ) → least (rules ++ unless passes n) ≡ None → (least rules ≡ None) × (passes ≡ true)
+met rules passes n e =
+    let parts = no_lesser (least rules) (least (unless passes n)) (sym (least-append rules (unless passes n)) ∙ e) in (parts.0, passed passes n parts.1)
+
+pub launch_unbroken : (j : Json) → least (launch_body_faults j) ≡ None
+    → (if_member (codes "mode") (is_string_that is_mode) j ≡ true) × (if_member (codes "returnURL") (is_string_that is_iri) j ≡ true) × (has_iri (codes "unit") j ≡ true)
+launch_unbroken j e =
+    let mode = if_member (codes "mode") (is_string_that is_mode) j in
+    let url = if_member (codes "returnURL") (is_string_that is_iri) j in
+    let units = met (unless (is_launch j) 1 ++ unless mode 4 ++ unless url 7) (has_iri (codes "unit") j) 8 e in
+    let urls = met (unless (is_launch j) 1 ++ unless mode 4) url 7 units.0 in
+    let modes = met (unless (is_launch j) 1) mode 4 urls.0 in
+    (modes.1, urls.1, units.1)

@@ -1,0 +1,5 @@
+pub mod Readings
+pub mod Batches
+pub mod StringBodies
+pub mod DeskBodies
+pub mod OneBody

@@ -1,0 +1,4 @@
+pub mod Media
+pub mod Looks
+pub mod DeskBodies
+pub mod Bodies
