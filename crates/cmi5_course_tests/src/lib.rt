@@ -2,4 +2,8 @@
 #![tactic(auto)]
 
 #[cfg(test)]
-mod tests;
+mod courses;
+#[cfg(test)]
+mod limits;
+#[cfg(test)]
+mod rules;

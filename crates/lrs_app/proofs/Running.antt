@@ -6,6 +6,10 @@ use Rattle.lrs_disk.specs.Lobby.{DoorsAsked}
 use Rattle.lrs_disk.specs.declared.failed.Failed.{Failed}
 use Rattle.lrs_disk.specs.Shelf.{AddsName}
 use Rattle.lrs_disk.specs.declared.disk.Disk as disks
+use Rattle.lrs_disk.specs.declared.lobby.Lobby as lobbies
+use Rattle.lrs_disk.specs.declared.shelf.Shelf as shelves
+use Rattle.lrs_disk.specs.declared.streams.Sink as sinks
+use Rattle.lrs_disk.specs.declared.streams.Source as sources
 use Rattle.lrs_names.specs.declared.draw.Draw.{Draw}
 use Rattle.lrs_record.specs.declared.entry.Entry.{Entry}
 use Rattle.lrs_hall.specs.Draws.{draw_at, start_of}
@@ -24,7 +28,7 @@ use Rattle.lrs_app.specs.declared.program.Done as doing
 use Rattle.lrs_app.specs.declared.program.Ended as program
 use Rattle.lrs_app.specs.declared.program.Report.{Report}
 use Rattle.lrs_app.specs.Steps.{DenotesInRange}
-use Rattle.lrs_app.specs.Run.{Outside, HasEndingCause, IntakeEnds, IntakeLeaves, IntakeRuns, InitLeaves, InitOnDisk, InitRuns, PrintsEnding, ReadsOnce, SparesDoors, SparesInput, ServeLeaves, ServeRuns, ServesDisk, TakesFile, CommandRuns, taken_from}
+use Rattle.lrs_app.specs.Run.{Outside, HasEndingCause, IntakeEnds, IntakeLeaves, IntakeRuns, InitLeaves, InitOnDisk, InitRuns, IsOneStep, PrintsEnding, ReadsOnce, SparesDoors, SparesInput, ServeLeaves, ServeRuns, ServesDisk, TakesFile, CommandRuns, outside, taken_from}
 
 -- what a lobby tells of its doors is the same
 pub same_doors : {a b : Option (List DoorsAsked)} {c d : Option (List DoorState)} {m n : ℕ} → a ≡ b → c ≡ d → m ≡ n
@@ -95,7 +99,14 @@ abbrev pub IsQuiet : {D : Type 0} → doing.Done D → Type 0
 IsQuiet done = (done.report.talks ≡ []) × (done.report.responses ≡ 0)
 
 -- what a command did with the file's disk, or without it, is what it leaves
-module _ {D : Type 0} (d : disks.Ghosts D) (before after : Outside) (file : List ℕ) (done : doing.Done D) where
+module _ {S D B E L I O : Type 0} (d : disks.Ghosts D) (s : shelves.Ghosts S D) (b : lobbies.Ghosts B E L) (i : sources.Ghosts I) (o : sinks.Ghosts O)
+    (shelf shelf_now : S) (lobby lobby_now : B) (input input_now : I) (out out_now : O) (file : List ℕ) (done : doing.Done D) where
+  abbrev pub before : Outside
+  before = outside s b i o shelf lobby input out
+
+  abbrev pub after : Outside
+  after = outside s b i o shelf_now lobby_now input_now out_now
+
   init_left : (taken : Result D Failed) (admin base : List ℕ) (limit clock : ℕ) → IsTakenFrom d before after file taken
       → InitDoes d taken limit (founding_entry admin base clock) done
       → InitLeaves d file admin base limit clock before after done.disk done.report.length done.ending × IsQuiet done
@@ -111,8 +122,7 @@ module _ {D : Type 0} (d : disks.Ghosts D) (before after : Outside) (file : List
     (does.talks, does.responses),
   )
 
-  intake_left : (taken : Result D Failed) (clock : ℕ) (draw : Draw) → IsTakenFrom d before after file taken
-      → IntakeDoes d taken clock draw before.left after.left before.input_faults after.input_faults done
+  intake_left : (taken : Result D Failed) (clock : ℕ) (draw : Draw) → IsTakenFrom d before after file taken → IntakeDoes d i taken clock draw input input_now done
       → IntakeLeaves d file clock draw before after done.disk done.report.length done.ending × IsQuiet done
   intake_left (Ok old) clock draw from does = (
     subst (λ (o : Option D). IntakeLeaves d file clock draw before after o done.report.length done.ending) (sym does.1.back)
@@ -127,7 +137,7 @@ module _ {D : Type 0} (d : disks.Ghosts D) (before after : Outside) (file : List
   )
 
   serve_left : (taken : Result D Failed) (address : List ℕ) (connections : ℕ) (seed : List ℕ) → IsTakenFrom d before after file taken
-      → ServeDoes d taken address connections seed before.lobby after.lobby done
+      → ServeDoes d b taken address connections seed lobby lobby_now done
       → ServeLeaves d file address connections seed before after done.disk done.report.talks done.report.length done.ending
       × (done.report.responses ≡ responses_of done.report.talks)
   serve_left (Ok old) address connections seed from does = (
@@ -144,55 +154,51 @@ module _ {D : Type 0} (d : disks.Ghosts D) (before after : Outside) (file : List
   )
 
   -- and a run of it, which ends by its line
-  module _ (o : program.Ended D) (same_disk : o.disk ≡ done.disk) (same_report : o.report ≡ done.report)
-      (takes : TakesFile file before after) (prints : PrintsEnding done.ending before after o.status) where
+  module _ (ended : program.Ended D) (same_disk : ended.disk ≡ done.disk) (same_report : ended.report ≡ done.report)
+      (takes : TakesFile file before after) (prints : PrintsEnding done.ending before after ended.status) where
+    one_step : (clock : ℕ) → ReadsOnce clock before after → SparesDoors before after → IsQuiet done → IsOneStep file before after ended clock done.ending
+    one_step clock reads doors quiet = record {
+      reads = reads;
+      takes = takes;
+      doors = doors;
+      silent = (ap (λ (r : Report). r.talks) same_report ∙ quiet.0, ap (λ (r : Report). r.responses) same_report ∙ quiet.1);
+      prints = prints;
+    }
+
     pub init_runs : (taken : Result D Failed) (admin base : List ℕ) (limit clock : ℕ) → ReadsOnce clock before after → SparesDoors before after
         → IsTakenFrom d before after file taken → InitDoes d taken limit (founding_entry admin base clock) done
-        → InitRuns d file admin base limit before after o
+        → InitRuns d file admin base limit before after ended
     init_runs taken admin base limit clock reads doors from does =
         let left = init_left taken admin base limit clock from does in (
           clock,
           done.ending,
-          record {
-            reads = reads;
-            takes = takes;
-            doors = doors;
-            silent = (ap (λ (r : Report). r.talks) same_report ∙ left.1.0, ap (λ (r : Report). r.responses) same_report ∙ left.1.1);
-            prints = prints;
-          },
-          subst (λ (x : Option D). InitLeaves d file admin base limit clock before after x o.report.length done.ending) (sym same_disk)
+          one_step clock reads doors left.1,
+          subst (λ (x : Option D). InitLeaves d file admin base limit clock before after x ended.report.length done.ending) (sym same_disk)
               (subst (λ (r : Report). InitLeaves d file admin base limit clock before after done.disk r.length done.ending) (sym same_report) left.0),
         )
 
     pub intake_runs : (taken : Result D Failed) (clock : ℕ) (draw : Draw) → ReadsOnce clock before after → SparesDoors before after
-        → IsTakenFrom d before after file taken
-        → IntakeDoes d taken clock draw before.left after.left before.input_faults after.input_faults done
-        → IntakeRuns d file draw before after o
+        → IsTakenFrom d before after file taken → IntakeDoes d i taken clock draw input input_now done
+        → IntakeRuns d file draw before after ended
     intake_runs taken clock draw reads doors from does =
         let left = intake_left taken clock draw from does in (
           clock,
           done.ending,
-          record {
-            reads = reads;
-            takes = takes;
-            doors = doors;
-            silent = (ap (λ (r : Report). r.talks) same_report ∙ left.1.0, ap (λ (r : Report). r.responses) same_report ∙ left.1.1);
-            prints = prints;
-          },
-          subst (λ (x : Option D). IntakeLeaves d file clock draw before after x o.report.length done.ending) (sym same_disk)
+          one_step clock reads doors left.1,
+          subst (λ (x : Option D). IntakeLeaves d file clock draw before after x ended.report.length done.ending) (sym same_disk)
               (subst (λ (r : Report). IntakeLeaves d file clock draw before after done.disk r.length done.ending) (sym same_report) left.0),
         )
 
     pub serve_runs : (taken : Result D Failed) (address : List ℕ) (connections : ℕ) (seed : List ℕ) → after.readings ≡ before.readings
-        → IsTakenFrom d before after file taken → ServeDoes d taken address connections seed before.lobby after.lobby done
-        → ServeRuns d file address connections seed before after o
+        → IsTakenFrom d before after file taken → ServeDoes d b taken address connections seed lobby lobby_now done
+        → ServeRuns d file address connections seed before after ended
     serve_runs taken address connections seed readings from does =
         let left = serve_left taken address connections seed from does in (
           done.ending,
           readings,
           takes,
           subst (λ (r : Report). r.responses ≡ responses_of r.talks) (sym same_report) left.1,
-          subst (λ (x : Option D). ServeLeaves d file address connections seed before after x o.report.talks o.report.length done.ending) (sym same_disk)
+          subst (λ (x : Option D). ServeLeaves d file address connections seed before after x ended.report.talks ended.report.length done.ending) (sym same_disk)
               (subst (λ (r : Report). ServeLeaves d file address connections seed before after done.disk r.talks r.length done.ending) (sym same_report) left.0),
           prints,
         )

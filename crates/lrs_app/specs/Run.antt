@@ -8,6 +8,7 @@ use Rattle.lrs_disk.specs.declared.disk.Disk as disks
 use Rattle.lrs_disk.specs.declared.lobby.Lobby as lobbies
 use Rattle.lrs_disk.specs.declared.shelf.Shelf as shelves
 use Rattle.lrs_disk.specs.declared.streams.Sink as sinks
+use Rattle.lrs_disk.specs.declared.streams.Source as sources
 use Rattle.lrs_names.specs.declared.draw.Draw.{Draw}
 use Rattle.lrs_journal.specs.Create.{IsStore, IsForeign, IsMade, IsOpenTo, need_of_first}
 use Rattle.lrs_record.specs.Entries.{written_entry}
@@ -50,11 +51,10 @@ pub record Outside : Type 0 where
   pub taken : Option (List ℕ)
   pub output_faults : ℕ
 
--- what a shelf, a lobby and an output tell at one moment, beside an input of which this is left, with its count of
--- faults
-abbrev pub outside : {S D B E L O : Type 0} → shelves.Ghosts S D → lobbies.Ghosts B E L → sinks.Ghosts O → S → B → O
-    → Option (List ℕ) → ℕ → Outside
-outside s b o shelf lobby out left count = record {
+-- what the shelf, the lobby, the input and the output tell at one moment
+abbrev pub outside : {S D B E L I O : Type 0} → shelves.Ghosts S D → lobbies.Ghosts B E L → sources.Ghosts I
+    → sinks.Ghosts O → S → B → I → O → Outside
+outside s b i o shelf lobby input out = record {
   holds = s.holds shelf;
   begins = s.begins shelf;
   starts = s.starts shelf;
@@ -62,8 +62,8 @@ outside s b o shelf lobby out left count = record {
   shelf_faults = s.fault_count shelf;
   readings = b.readings lobby;
   lobby = doors b lobby;
-  left = left;
-  input_faults = count;
+  left = i.left input;
+  input_faults = i.fault_count input;
   taken = o.taken out;
   output_faults = o.fault_count out;
 }
@@ -78,13 +78,14 @@ abbrev pub IsSilent : {D : Type 0} → program.Ended D → Type 0
 IsSilent o = (o.report.talks ≡ []) × (o.report.responses ≡ 0)
 
 -- the ending's line is printed and its status given, as far as the output doesn't fail
-abbrev pub PrintsLine : Ending → Option (List ℕ) → Option (List ℕ) → ℕ → ℕ → ℕ → Type 0
-PrintsLine end taken_old taken_new before now status =
-    Prints (ending_status end) (ending_line end) taken_old taken_new before now status
-
 abbrev pub PrintsEnding : Ending → Outside → Outside → ℕ → Type 0
-PrintsEnding end before after status =
-    PrintsLine end before.taken after.taken before.output_faults after.output_faults status
+PrintsEnding end before after status = Prints (ending_status end) (ending_line end) before.taken after.taken
+    before.output_faults after.output_faults status
+
+-- the same of the output alone
+abbrev pub PrintsLine : {O : Type 0} → sinks.Ghosts O → Ending → O → O → ℕ → Type 0
+PrintsLine o end before after status = Prints (ending_status end) (ending_line end) (o.taken before) (o.taken after)
+    (o.fault_count before) (o.fault_count after) status
 
 -- the clock was read once
 abbrev pub ReadsOnce : ℕ → Outside → Outside → Type 0

@@ -5,7 +5,6 @@ ghost use Rattle.lrs_journal.specs.Store.{IsLimit};
 ghost use Rattle.lrs_parts.specs.Founding.{IsToken, IsBase};
 ghost use Rattle.lrs_app.specs.Doing.{InitDoes, IntakeDoes, IsUndone, ServeDoes};
 ghost use Rattle.lrs_app.specs.Run.{PrintsLine, Runs, outside};
-ghost use Rattle.lrs_app.specs.Service.{doors};
 
 use crate::init::init_disk;
 use crate::intake::intake_disk;
@@ -73,8 +72,7 @@ fn undone<D>(alloc: Global, ending: Ending) -> Done<D>
 
 // Ends a run by its line.
 fn end_run<D, O: Sink>(out: &mut O, done: Done<D>) -> Ended<D>
-    ensures printed { PrintsLine done.ending (O.taken out.old) (O.taken out.new) (O.fault_count out.old)
-        (O.fault_count out.new) result.status }
+    ensures printed { PrintsLine O.Sink done.ending out.old out.new result.status }
     ensures disk { result.disk ≡ done.disk }
     ensures report { result.report ≡ done.report }
 {
@@ -99,8 +97,7 @@ fn intake<D: Disk, I: Source>(
     draw: &Draw,
 ) -> Done<D>
     requires { IfOk taken (λ disk. IsSynced D.told D.image disk) }
-    ensures { IntakeDoes D.Disk taken clock draw.now (I.left input.old) (I.left input.new) (I.fault_count input.old)
-        (I.fault_count input.new) result }
+    ensures { IntakeDoes D.Disk I.Source taken clock draw.now input.old input.new result }
 {
     match taken {
         Ok(disk) => {
@@ -153,8 +150,7 @@ fn serve<D: Disk, B: Lobby>(
     seed: [u8; 32],
 ) -> Done<D>
     requires { IfOk taken (λ disk. IsSynced D.told D.image disk) }
-    ensures serves { ServeDoes D.Disk taken address.now connections seed (doors B.Lobby lobby.old)
-        (doors B.Lobby lobby.new) result }
+    ensures serves { ServeDoes D.Disk B.Lobby taken address.now connections seed lobby.old lobby.new result }
     ensures readings { B.readings lobby.new ≡ B.readings lobby.old }
 {
     match taken {
@@ -194,10 +190,8 @@ pub fn run<S: Shelf, B: Lobby, I: Source, O: Sink>(
     out: &mut O,
     seed: [u8; 32],
 ) -> Ended<S::Disk>
-    ensures { Runs S.Disk.Disk words.now seed
-        (outside S.Shelf B.Lobby O.Sink shelf.old lobby.old out.old (I.left input.old) (I.fault_count input.old))
-        (outside S.Shelf B.Lobby O.Sink shelf.new lobby.new out.new (I.left input.new) (I.fault_count input.new))
-        result }
+    ensures { let seen = outside S.Shelf B.Lobby I.Source O.Sink in Runs S.Disk.Disk words.now seed
+        (seen shelf.old lobby.old input.old out.old) (seen shelf.new lobby.new input.new out.new) result }
 {
     let command = match read_words(alloc, words) {
         Ok(Some(command)) => command,

@@ -5,14 +5,7 @@ use std::test::Fail;
 
 // The sample session: the address, the launched statement, the data, and the token, which its key gives once.
 const SAMPLE: &str = r##"
-draw 0 0
-admin POST /desk/courses {"id":"http://c/1","title":{"en":"C"},"children":[{"kind":"block","id":"http://c/b","title":{"en":"B"},"children":[{"kind":"unit","id":"http://c/u","title":{"en":"U"},"url":"https://au.example/u","moveOn":"CompletedAndPassed","masteryScore":0.8}]}]} => 200 {"course":"http://c/1"} kept
-draw 16 0
-admin POST /desk/registrations {"course":"http://c/1","actor":ACTOR} => 200 {"registration":"ID10"} kept
-draw 32 1
-admin POST /desk/registrations/ID10/launches {"unit":"http://c/u"} => 200 {"session":"ID20","launchMethod":"AnyWindow","url":"https://au.example/u?endpoint=http%3A%2F%2F127.0.0.1%3A8080%2Fxapi%2F&fetch=http%3A%2F%2F127.0.0.1%3A8080%2Ffetch%2FKEY&actor=%7B%22objectType%22%3A%22Agent%22%2C%22account%22%3A%7B%22homePage%22%3A%22https%3A%2F%2Fp.example%22%2C%22name%22%3A%22k1%22%7D%7D&registration=ID10&activityId=http%3A%2F%2F127.0.0.1%3A8080%2Factivities%2F0%2F2"} kept
-draw 0 2
-nobody POST /fetch/KEY => 200 {"auth-token":"TOKEN"} kept
+sample
 nobody POST /fetch/KEY => 200 {"error-code":"1","error-text":"The fetch key was used."}
 TOKEN POST /fetch/KEY?a=b { => 200 {"error-code":"1","error-text":"The fetch key was used."}
 nobody POST /fetch/00000000000000000000000000000001-4 => 404 {"error":"404"}
@@ -45,14 +38,7 @@ fn the_sample_session_is_launched(rt: HostRuntime) -> Result<(), Fail> {
 // What a launch is asked with, and what isn't there. A launch over another makes a session of its own; its data takes the
 // place of the other's.
 const ASKED: &str = r#"
-draw 0 0
-admin POST /desk/courses {"id":"http://c/1","title":{"en":"C"},"children":[{"kind":"block","id":"http://c/b","title":{"en":"B"},"children":[{"kind":"unit","id":"http://c/u","title":{"en":"U"},"url":"https://au.example/u","moveOn":"CompletedAndPassed","masteryScore":0.8}]}]} => 200 {"course":"http://c/1"} kept
-draw 16 0
-admin POST /desk/registrations {"course":"http://c/1","actor":ACTOR} => 200 {"registration":"ID10"} kept
-draw 32 1
-admin POST /desk/registrations/ID10/launches {"unit":"http://c/u"} => 200 {"session":"ID20","launchMethod":"AnyWindow","url":"https://au.example/u?endpoint=http%3A%2F%2F127.0.0.1%3A8080%2Fxapi%2F&fetch=http%3A%2F%2F127.0.0.1%3A8080%2Ffetch%2FKEY&actor=%7B%22objectType%22%3A%22Agent%22%2C%22account%22%3A%7B%22homePage%22%3A%22https%3A%2F%2Fp.example%22%2C%22name%22%3A%22k1%22%7D%7D&registration=ID10&activityId=http%3A%2F%2F127.0.0.1%3A8080%2Factivities%2F0%2F2"} kept
-draw 0 2
-nobody POST /fetch/KEY => 200 {"auth-token":"TOKEN"} kept
+sample
 admin POST /desk/registrations/ID10/launches {} => 400 {"error":"B1"}
 admin POST /desk/registrations/ID10/launches {"unit":"http://c/u","name":"n"} => 400 {"error":"B1"}
 admin POST /desk/registrations/ID10/launches {"unit":"no"} => 400 {"error":"B8"}

@@ -17,4 +17,6 @@ mod rows;
 #[cfg(test)]
 mod sessions;
 #[cfg(test)]
+mod speaking;
+#[cfg(test)]
 mod units;

@@ -2,6 +2,7 @@
 //
 //   WHO METHOD TARGET BODY => STATUS BODY      a request, and its reply; `kept` behind it if an entry is kept
 //   draw NAME SECRET                           what is drawn for the requests from here on
+//   sample                                     the rows that launch the sample unit and fetch its session's token
 //
 // WHO is `admin`, `nobody`, or a token. The body and the spaces in it go to the end. A line after `//` is none.
 // `kept` stands behind a reply if there is one more entry, with their number if there are several. A document's own media
@@ -10,7 +11,8 @@
 // In rows `ID` and two digits stand for the id that ends with them, `ACTOR` for the sample learner's Agent, `LEARNER` for
 // its text in launch addresses, `AGENT` and `OTHER` for it and another one as parameters, `BASE` for the store's address,
 // `STATE` for the documents of the sample unit, `KEY` and `TOKEN` for the fetch key and the token of the sample session,
-// `CMI5` for cmi5's category, `VERB/` for what its verbs begin with.
+// `CMI5` for cmi5's category, `VERB/` for what its verbs begin with. `FIRST` stands for the actor, the object and the
+// context of what the sample session says, `SECOND` for those of session 30 in its registration.
 use lrs_http::{Method, Request};
 use lrs_in_memory::MemDisk;
 use lrs_json::{Items, Text};
@@ -24,8 +26,25 @@ const ADMIN: &str = "adminadmin";
 
 const NOW: u64 = 1_700_000_000_000;
 
+const SAMPLE: &str = r#"
+draw 0 0
+admin POST /desk/courses {"id":"http://c/1","title":{"en":"C"},"children":[{"kind":"block","id":"http://c/b","title":{"en":"B"},"children":[{"kind":"unit","id":"http://c/u","title":{"en":"U"},"url":"https://au.example/u","moveOn":"CompletedAndPassed","masteryScore":0.8}]}]} => 200 {"course":"http://c/1"} kept
+draw 16 0
+admin POST /desk/registrations {"course":"http://c/1","actor":ACTOR} => 200 {"registration":"ID10"} kept
+draw 32 1
+admin POST /desk/registrations/ID10/launches {"unit":"http://c/u"} => 200 {"session":"ID20","launchMethod":"AnyWindow","url":"https://au.example/u?endpoint=http%3A%2F%2F127.0.0.1%3A8080%2Fxapi%2F&fetch=http%3A%2F%2F127.0.0.1%3A8080%2Ffetch%2FKEY&actor=%7B%22objectType%22%3A%22Agent%22%2C%22account%22%3A%7B%22homePage%22%3A%22https%3A%2F%2Fp.example%22%2C%22name%22%3A%22k1%22%7D%7D&registration=ID10&activityId=http%3A%2F%2F127.0.0.1%3A8080%2Factivities%2F0%2F2"} kept
+draw 0 2
+nobody POST /fetch/KEY => 200 {"auth-token":"TOKEN"} kept
+"#;
+
 // What stands for what, in this order.
-const SHORT: [(&str, &str); 11] = [
+const SHORT: [(&str, &str); 14] = [
+    ("FIRST", r#"SAYING"ID20"}}"#),
+    ("SECOND", r#"SAYING"ID30"}}"#),
+    (
+        "SAYING",
+        r#""actor":LEARNER,"object":{"id":"BASEactivities/0/2"},"context":{"registration":"ID10","contextActivities":{"grouping":[{"id":"http://c/u"}],"category":[{"id":"CMI5"},{"id":"https://w3id.org/xapi/cmi5/context/categories/moveon"}]},"extensions":{"https://w3id.org/xapi/cmi5/context/extensions/sessionid":"#,
+    ),
     (
         "ACTOR",
         r#"{"account":{"homePage":"https://p.example","name":"k1"}}"#,
@@ -140,8 +159,9 @@ fn verdict(wrong: Result<String, Fail>) -> Result<(), Fail> {
 
 // The first row that this desk answers otherwise, and its answer, or no text.
 fn wrong_rows(alloc: Global, desk: &mut Desk<MemDisk>, rows: &str) -> Result<String, Fail> {
+    let rows = rows.replace(alloc, "\nsample\n", SAMPLE)?;
     let routes = Routes::new(alloc)?;
-    let wrong = first_wrong(alloc, &routes, desk, rows);
+    let wrong = first_wrong(alloc, &routes, desk, rows.as_str());
     drop(routes);
     wrong
 }
@@ -208,8 +228,8 @@ fn wrong_row(
 // The text with all that is short in full.
 fn written_out(alloc: Global, text: &str) -> Result<String, Fail> {
     let mut whole = String::from_str(alloc, text)?;
-    for (short, long) in SHORT {
-        whole = whole.as_str().replace(alloc, short, long)?;
+    for (short, long) in SHORT.iter() {
+        whole = whole.as_str().replace(alloc, *short, *long)?;
     }
     Ok(whole)
 }

@@ -5,22 +5,15 @@ use std::test::Fail;
 
 // A session keeps statements that cmi5 defines, which no other caller may, and sees those of its registration.
 const STATEMENTS: &str = r#"
-draw 0 0
-admin POST /desk/courses {"id":"http://c/1","title":{"en":"C"},"children":[{"kind":"block","id":"http://c/b","title":{"en":"B"},"children":[{"kind":"unit","id":"http://c/u","title":{"en":"U"},"url":"https://au.example/u","moveOn":"CompletedAndPassed","masteryScore":0.8}]}]} => 200 {"course":"http://c/1"} kept
-draw 16 0
-admin POST /desk/registrations {"course":"http://c/1","actor":ACTOR} => 200 {"registration":"ID10"} kept
-draw 32 1
-admin POST /desk/registrations/ID10/launches {"unit":"http://c/u"} => 200 {"session":"ID20","launchMethod":"AnyWindow","url":"https://au.example/u?endpoint=http%3A%2F%2F127.0.0.1%3A8080%2Fxapi%2F&fetch=http%3A%2F%2F127.0.0.1%3A8080%2Ffetch%2FKEY&actor=%7B%22objectType%22%3A%22Agent%22%2C%22account%22%3A%7B%22homePage%22%3A%22https%3A%2F%2Fp.example%22%2C%22name%22%3A%22k1%22%7D%7D&registration=ID10&activityId=http%3A%2F%2F127.0.0.1%3A8080%2Factivities%2F0%2F2"} kept
-draw 0 2
-nobody POST /fetch/KEY => 200 {"auth-token":"TOKEN"} kept
+sample
 draw 64 3
-TOKEN POST /xapi/statements {"actor":LEARNER,"verb":{"id":"VERB/initialized"},"object":{"id":"BASEactivities/0/2"},"context":{"registration":"ID10","contextActivities":{"category":[{"id":"CMI5"}]}}} => 200 ["ID40"] kept
-admin POST /xapi/statements {"actor":LEARNER,"verb":{"id":"VERB/initialized"},"object":{"id":"BASEactivities/0/2"},"context":{"registration":"ID10","contextActivities":{"category":[{"id":"CMI5"}]}}} => 403 {"error":"C1"}
+TOKEN POST /xapi/statements {"verb":{"id":"VERB/initialized"},FIRST} => 200 ["ID40"] kept
+admin POST /xapi/statements {"verb":{"id":"VERB/initialized"},FIRST} => 403 {"error":"C1"}
 admin POST /desk/callers {"name":"p"} => 200 {"caller":0,"token":"00000000000000000000000000000003-6"} kept
-00000000000000000000000000000003-6 POST /xapi/statements {"actor":LEARNER,"verb":{"id":"VERB/initialized"},"object":{"id":"BASEactivities/0/2"},"context":{"registration":"ID10","contextActivities":{"category":[{"id":"CMI5"}]}}} => 403 {"error":"C1"}
-00000000000000000000000000000003-6 PUT /xapi/statements?statementId=ID50 {"actor":LEARNER,"verb":{"id":"VERB/initialized"},"object":{"id":"BASEactivities/0/2"},"context":{"registration":"ID10","contextActivities":{"category":[{"id":"CMI5"}]}}} => 403 {"error":"C1"}
+00000000000000000000000000000003-6 POST /xapi/statements {"verb":{"id":"VERB/initialized"},FIRST} => 403 {"error":"C1"}
+00000000000000000000000000000003-6 PUT /xapi/statements?statementId=ID50 {"verb":{"id":"VERB/initialized"},FIRST} => 403 {"error":"C1"}
 // the same statement of another caller under the id that is held
-00000000000000000000000000000003-6 PUT /xapi/statements?statementId=ID40 {"actor":LEARNER,"verb":{"id":"VERB/initialized"},"object":{"id":"BASEactivities/0/2"},"context":{"registration":"ID10","contextActivities":{"category":[{"id":"CMI5"}]}}} => 204
+00000000000000000000000000000003-6 PUT /xapi/statements?statementId=ID40 {"verb":{"id":"VERB/initialized"},FIRST} => 204
 // another statement under it; a batch with a statement that isn't kept
 admin PUT /xapi/statements?statementId=ID40 {"actor":LEARNER,"verb":{"id":"VERB/passed"},"object":{"id":"BASEactivities/0/2"},"context":{"contextActivities":{"category":{"id":"CMI5"}}}} => 409 {"error":"409","id":"ID40"}
 admin POST /xapi/statements [{"id":"ID60","actor":LEARNER,"verb":{"id":"http://v/1"},"object":{"id":"http://a/1"}},{"actor":LEARNER,"verb":{"id":"http://v/1"},"object":{"id":"http://a/1"},"context":{"contextActivities":{"category":{"id":"CMI5"}}}}] => 403 {"error":"C1"}
@@ -32,9 +25,9 @@ TOKEN POST /xapi/statements {"actor":LEARNER,"verb":{"id":"VERB/voided"},"object
 admin PUT /xapi/statements?statementId=ID51 {"actor":LEARNER,"verb":{"id":"http://v/1"},"object":{"id":"http://a/1"},"context":{"contextActivities":{"category":[{"id":"CMI5/x"}],"other":{"id":"CMI5"}}}} => 204 kept
 // by id and in lists: the registration's
 TOKEN GET /xapi/statements?statementId=ID51 => 404 {"error":"404"}
-TOKEN GET /xapi/statements?statementId=ID40&format=ids => 200 {"actor":LEARNER,"verb":{"id":"VERB/initialized"},"object":{"id":"BASEactivities/0/2"},"context":{"registration":"ID10","contextActivities":{"category":[{"id":"CMI5"}]}},"id":"ID40","timestamp":"2023-11-14T22:13:20.000Z","stored":"2023-11-14T22:13:20.000Z","authority":{"objectType":"Agent","account":{"homePage":"https://lrs.invalid/callers","name":"session:ID20"}},"version":"1.0.0"}
+TOKEN GET /xapi/statements?statementId=ID40&format=ids => 200 {"verb":{"id":"VERB/initialized"},FIRST,"id":"ID40","timestamp":"2023-11-14T22:13:20.000Z","stored":"2023-11-14T22:13:20.000Z","authority":{"objectType":"Agent","account":{"homePage":"https://lrs.invalid/callers","name":"session:ID20"}},"version":"1.0.0"}
 TOKEN GET /xapi/statements?verb=http://v/1 => 200 {"statements":[],"more":""}
-TOKEN GET /xapi/statements?verb=VERB/initialized&format=ids => 200 {"statements":[{"actor":LEARNER,"verb":{"id":"VERB/initialized"},"object":{"id":"BASEactivities/0/2"},"context":{"registration":"ID10","contextActivities":{"category":[{"id":"CMI5"}]}},"id":"ID40","timestamp":"2023-11-14T22:13:20.000Z","stored":"2023-11-14T22:13:20.000Z","authority":{"objectType":"Agent","account":{"homePage":"https://lrs.invalid/callers","name":"session:ID20"}},"version":"1.0.0"}],"more":""}
+TOKEN GET /xapi/statements?verb=VERB/initialized&format=ids => 200 {"statements":[{"verb":{"id":"VERB/initialized"},FIRST,"id":"ID40","timestamp":"2023-11-14T22:13:20.000Z","stored":"2023-11-14T22:13:20.000Z","authority":{"objectType":"Agent","account":{"homePage":"https://lrs.invalid/callers","name":"session:ID20"}},"version":"1.0.0"}],"more":""}
 00000000000000000000000000000003-6 GET /xapi/statements => 200 {"statements":[],"more":""}
 "#;
 
@@ -47,14 +40,7 @@ fn a_session_keeps_and_sees_the_statements_of_its_registration(
 
 // Documents of its own learner, of its registration or of none; not what its launch wrote, and one by one.
 const DOCUMENTS: &str = r#"
-draw 0 0
-admin POST /desk/courses {"id":"http://c/1","title":{"en":"C"},"children":[{"kind":"block","id":"http://c/b","title":{"en":"B"},"children":[{"kind":"unit","id":"http://c/u","title":{"en":"U"},"url":"https://au.example/u","moveOn":"CompletedAndPassed","masteryScore":0.8}]}]} => 200 {"course":"http://c/1"} kept
-draw 16 0
-admin POST /desk/registrations {"course":"http://c/1","actor":ACTOR} => 200 {"registration":"ID10"} kept
-draw 32 1
-admin POST /desk/registrations/ID10/launches {"unit":"http://c/u"} => 200 {"session":"ID20","launchMethod":"AnyWindow","url":"https://au.example/u?endpoint=http%3A%2F%2F127.0.0.1%3A8080%2Fxapi%2F&fetch=http%3A%2F%2F127.0.0.1%3A8080%2Ffetch%2FKEY&actor=%7B%22objectType%22%3A%22Agent%22%2C%22account%22%3A%7B%22homePage%22%3A%22https%3A%2F%2Fp.example%22%2C%22name%22%3A%22k1%22%7D%7D&registration=ID10&activityId=http%3A%2F%2F127.0.0.1%3A8080%2Factivities%2F0%2F2"} kept
-draw 0 2
-nobody POST /fetch/KEY => 200 {"auth-token":"TOKEN"} kept
+sample
 TOKEN PUT STATE&agent=AGENT&registration=ID10&stateId=b {"page":1} => 204 kept
 TOKEN POST STATE&agent=AGENT&registration=ID10&stateId=b {"page":2} => 204 kept
 TOKEN GET STATE&agent=AGENT&registration=ID10&stateId=b => 200 application/json {"page":2}
@@ -100,14 +86,7 @@ fn a_session_keeps_documents_of_its_learner(rt: HostRuntime) -> Result<(), Fail>
 // Two learners' sessions: neither sees the other's statements or documents. A key that was never fetched opens nothing,
 // and a key is no token.
 const APART: &str = r#"
-draw 0 0
-admin POST /desk/courses {"id":"http://c/1","title":{"en":"C"},"children":[{"kind":"block","id":"http://c/b","title":{"en":"B"},"children":[{"kind":"unit","id":"http://c/u","title":{"en":"U"},"url":"https://au.example/u","moveOn":"CompletedAndPassed","masteryScore":0.8}]}]} => 200 {"course":"http://c/1"} kept
-draw 16 0
-admin POST /desk/registrations {"course":"http://c/1","actor":ACTOR} => 200 {"registration":"ID10"} kept
-draw 32 1
-admin POST /desk/registrations/ID10/launches {"unit":"http://c/u"} => 200 {"session":"ID20","launchMethod":"AnyWindow","url":"https://au.example/u?endpoint=http%3A%2F%2F127.0.0.1%3A8080%2Fxapi%2F&fetch=http%3A%2F%2F127.0.0.1%3A8080%2Ffetch%2FKEY&actor=%7B%22objectType%22%3A%22Agent%22%2C%22account%22%3A%7B%22homePage%22%3A%22https%3A%2F%2Fp.example%22%2C%22name%22%3A%22k1%22%7D%7D&registration=ID10&activityId=http%3A%2F%2F127.0.0.1%3A8080%2Factivities%2F0%2F2"} kept
-draw 0 2
-nobody POST /fetch/KEY => 200 {"auth-token":"TOKEN"} kept
+sample
 draw 48 0
 admin POST /desk/registrations {"course":"http://c/1","actor":{"name":"K \"2\"","account":{"homePage":"https://p.example","name":"k2"}}} => 200 {"registration":"ID30"} kept
 draw 80 8
@@ -133,17 +112,10 @@ fn sessions_are_apart(rt: HostRuntime) -> Result<(), Fail> {
 
 // A session that has ended: its token is for good, and its key was used.
 const ENDED: &str = r#"
-draw 0 0
-admin POST /desk/courses {"id":"http://c/1","title":{"en":"C"},"children":[{"kind":"block","id":"http://c/b","title":{"en":"B"},"children":[{"kind":"unit","id":"http://c/u","title":{"en":"U"},"url":"https://au.example/u","moveOn":"CompletedAndPassed","masteryScore":0.8}]}]} => 200 {"course":"http://c/1"} kept
-draw 16 0
-admin POST /desk/registrations {"course":"http://c/1","actor":ACTOR} => 200 {"registration":"ID10"} kept
-draw 32 1
-admin POST /desk/registrations/ID10/launches {"unit":"http://c/u"} => 200 {"session":"ID20","launchMethod":"AnyWindow","url":"https://au.example/u?endpoint=http%3A%2F%2F127.0.0.1%3A8080%2Fxapi%2F&fetch=http%3A%2F%2F127.0.0.1%3A8080%2Ffetch%2FKEY&actor=%7B%22objectType%22%3A%22Agent%22%2C%22account%22%3A%7B%22homePage%22%3A%22https%3A%2F%2Fp.example%22%2C%22name%22%3A%22k1%22%7D%7D&registration=ID10&activityId=http%3A%2F%2F127.0.0.1%3A8080%2Factivities%2F0%2F2"} kept
-draw 0 2
-nobody POST /fetch/KEY => 200 {"auth-token":"TOKEN"} kept
+sample
 draw 64 0
-TOKEN POST /xapi/statements {"actor":LEARNER,"verb":{"id":"VERB/initialized"},"object":{"id":"BASEactivities/0/2"},"context":{"registration":"ID10","contextActivities":{"category":[{"id":"CMI5"}]}}} => 200 ["ID40"] kept
-TOKEN POST /xapi/statements {"actor":LEARNER,"verb":{"id":"VERB/terminated"},"object":{"id":"BASEactivities/0/2"},"context":{"registration":"ID10","contextActivities":{"category":[{"id":"CMI5"}]}}} => 200 ["ID41"] kept
+TOKEN POST /xapi/statements {"verb":{"id":"VERB/initialized"},FIRST} => 200 ["ID40"] kept
+TOKEN POST /xapi/statements {"verb":{"id":"VERB/terminated"},"result":{"duration":"PT1S"},FIRST} => 200 ["ID41"] kept
 nobody POST /fetch/KEY => 200 {"error-code":"1","error-text":"The fetch key was used."}
 TOKEN GET STATE&agent=AGENT&registration=ID10 => 200 ["LMS.LaunchData"]
 TOKEN PUT STATE&agent=AGENT&registration=ID10&stateId=b 1 => 204 kept
@@ -156,14 +128,7 @@ fn a_token_is_for_good(rt: HostRuntime) -> Result<(), Fail> {
 
 // A learner who is enrolled twice, with a session of each.
 const TWICE: &str = r#"
-draw 0 0
-admin POST /desk/courses {"id":"http://c/1","title":{"en":"C"},"children":[{"kind":"block","id":"http://c/b","title":{"en":"B"},"children":[{"kind":"unit","id":"http://c/u","title":{"en":"U"},"url":"https://au.example/u","moveOn":"CompletedAndPassed","masteryScore":0.8}]}]} => 200 {"course":"http://c/1"} kept
-draw 16 0
-admin POST /desk/registrations {"course":"http://c/1","actor":ACTOR} => 200 {"registration":"ID10"} kept
-draw 32 1
-admin POST /desk/registrations/ID10/launches {"unit":"http://c/u"} => 200 {"session":"ID20","launchMethod":"AnyWindow","url":"https://au.example/u?endpoint=http%3A%2F%2F127.0.0.1%3A8080%2Fxapi%2F&fetch=http%3A%2F%2F127.0.0.1%3A8080%2Ffetch%2FKEY&actor=%7B%22objectType%22%3A%22Agent%22%2C%22account%22%3A%7B%22homePage%22%3A%22https%3A%2F%2Fp.example%22%2C%22name%22%3A%22k1%22%7D%7D&registration=ID10&activityId=http%3A%2F%2F127.0.0.1%3A8080%2Factivities%2F0%2F2"} kept
-draw 0 2
-nobody POST /fetch/KEY => 200 {"auth-token":"TOKEN"} kept
+sample
 draw 48 0
 admin POST /desk/registrations {"course":"http://c/1","actor":ACTOR} => 200 {"registration":"ID30"} kept
 draw 80 8

@@ -1,6 +1,5 @@
 use Rattle.std.proofs.Common.{ap, inl, refl, ◌∙◌}
 use Rattle.lrs_hall.specs.Draws.{draw_at}
-use Rattle.lrs_app.specs.Run.{Outside, outside}
 use Rattle.lrs_app.proofs.Running.{does_init, does_intake, does_serve, found_one, init_runs, intake_runs, is_taken, meant_base, same_doors, serve_runs, takes_file}
 use Rattle.lrs_app.proofs.program.run.Goals as goal
 
@@ -9,18 +8,17 @@ returns-in-Init g c =
     let line = found_one _ _ c.in-Ok-Some.field-0 c.in-Ok-Some.command c.in-Ok-Some.field-0-is c.in-Ok-Some.ensures in
     let taken = c.take-taken in
     let o = c.end_run-in-Init in
-    let before : Outside = outside g.S.Shelf g.B.Lobby g.O.Sink c.args.shelf.now c.args.lobby.now c.args.out.now (g.I.Source.left c.args.input.now) (g.I.Source.fault_count c.args.input.now) in
-    let after : Outside = outside g.S.Shelf g.B.Lobby g.O.Sink taken.new.self c.now-clock.new.self o.new.out (g.I.Source.left c.args.input.now) (g.I.Source.fault_count c.args.input.now) in
     inl (
       line.0,
       line.1,
-      does_init g.S.Disk.Disk line.0 c.in-Ok-Some.command c.in-Init.file c.in-Init.admin c.in-Init.base c.in-Init.limit c.args.seed before after o.result
+      does_init g.S.Disk.Disk line.0 c.in-Ok-Some.command c.in-Init.file c.in-Init.admin c.in-Init.base c.in-Init.limit c.args.seed _ _ o.result
           c.in-Init.is line.2 (record { left = refl; faults = refl })
-          (init_runs g.S.Disk.Disk before after c.in-Init.file c.init.result o.result o.ensures.disk o.ensures.report
+          (init_runs g.S.Disk.Disk g.S.Shelf g.B.Lobby g.I.Source g.O.Sink c.args.shelf.now taken.new.self c.args.lobby.now c.now-clock.new.self c.args.input.now c.args.input.now c.args.out.now o.new.out
+          c.in-Init.file c.init.result o.result o.ensures.disk o.ensures.report
           (takes_file (g.S.Shelf.taken c.args.shelf.now) (g.S.Shelf.taken taken.new.self) c.as_str.ensures.lent taken.ensures.taken) o.ensures.printed
           taken.result c.in-Init.admin c.in-Init.base c.in-Init.limit c.now-clock.result c.now-clock.ensures.read
           (same_doors c.now-clock.ensures.asked_kept c.now-clock.ensures.returned_kept c.now-clock.ensures.same)
-          (is_taken g.S.Disk.Disk before after taken.result c.as_str.ensures.lent taken.ensures.told taken.ensures.begins taken.ensures.starts taken.ensures.cause)
+          (is_taken g.S.Disk.Disk _ _ taken.result c.as_str.ensures.lent taken.ensures.told taken.ensures.begins taken.ensures.starts taken.ensures.cause)
           c.init.ensures),
     )
 
@@ -30,18 +28,17 @@ returns-in-Intake g c =
     let taken = c.take-taken-in-Intake in
     let now = c.now-clock-in-Intake in
     let o = c.end_run-in-Intake in
-    let before : Outside = outside g.S.Shelf g.B.Lobby g.O.Sink c.args.shelf.now c.args.lobby.now c.args.out.now (g.I.Source.left c.args.input.now) (g.I.Source.fault_count c.args.input.now) in
-    let after : Outside = outside g.S.Shelf g.B.Lobby g.O.Sink taken.new.self now.new.self o.new.out (g.I.Source.left c.intake.new.input) (g.I.Source.fault_count c.intake.new.input) in
     inl (
       line.0,
       line.1,
-      does_intake g.S.Disk.Disk line.0 c.in-Ok-Some.command c.in-Intake.file c.args.seed c.next-draw.result before after o.result
+      does_intake g.S.Disk.Disk line.0 c.in-Ok-Some.command c.in-Intake.file c.args.seed c.next-draw.result _ _ o.result
           c.in-Intake.is (c.next-draw.ensures.drawn ∙ ap draw_at c.new.ensures) line.2
-          (intake_runs g.S.Disk.Disk before after c.in-Intake.file c.intake.result o.result o.ensures.disk o.ensures.report
+          (intake_runs g.S.Disk.Disk g.S.Shelf g.B.Lobby g.I.Source g.O.Sink c.args.shelf.now taken.new.self c.args.lobby.now now.new.self c.args.input.now c.intake.new.input c.args.out.now o.new.out
+          c.in-Intake.file c.intake.result o.result o.ensures.disk o.ensures.report
           (takes_file (g.S.Shelf.taken c.args.shelf.now) (g.S.Shelf.taken taken.new.self) c.as_str-in-Intake.ensures.lent taken.ensures.taken) o.ensures.printed
           taken.result now.result c.next-draw.result now.ensures.read
           (same_doors now.ensures.asked_kept now.ensures.returned_kept now.ensures.same)
-          (is_taken g.S.Disk.Disk before after taken.result c.as_str-in-Intake.ensures.lent taken.ensures.told taken.ensures.begins taken.ensures.starts taken.ensures.cause)
+          (is_taken g.S.Disk.Disk _ _ taken.result c.as_str-in-Intake.ensures.lent taken.ensures.told taken.ensures.begins taken.ensures.starts taken.ensures.cause)
           c.intake.ensures),
     )
 
@@ -50,17 +47,16 @@ returns-in-Serve g c =
     let line = found_one _ _ c.in-Ok-Some.field-0 c.in-Ok-Some.command c.in-Ok-Some.field-0-is c.in-Ok-Some.ensures in
     let taken = c.take-taken-in-Serve in
     let o = c.end_run-in-Serve in
-    let before : Outside = outside g.S.Shelf g.B.Lobby g.O.Sink c.args.shelf.now c.args.lobby.now c.args.out.now (g.I.Source.left c.args.input.now) (g.I.Source.fault_count c.args.input.now) in
-    let after : Outside = outside g.S.Shelf g.B.Lobby g.O.Sink taken.new.self c.serve.new.lobby o.new.out (g.I.Source.left c.args.input.now) (g.I.Source.fault_count c.args.input.now) in
     inl (
       line.0,
       line.1,
-      does_serve g.S.Disk.Disk line.0 c.in-Ok-Some.command c.in-Serve.file c.in-Serve.address c.in-Serve.connections c.args.seed before after o.result
+      does_serve g.S.Disk.Disk line.0 c.in-Ok-Some.command c.in-Serve.file c.in-Serve.address c.in-Serve.connections c.args.seed _ _ o.result
           c.in-Serve.is line.2 (record { left = refl; faults = refl })
-          (serve_runs g.S.Disk.Disk before after c.in-Serve.file c.serve.result o.result o.ensures.disk o.ensures.report
+          (serve_runs g.S.Disk.Disk g.S.Shelf g.B.Lobby g.I.Source g.O.Sink c.args.shelf.now taken.new.self c.args.lobby.now c.serve.new.lobby c.args.input.now c.args.input.now c.args.out.now o.new.out
+          c.in-Serve.file c.serve.result o.result o.ensures.disk o.ensures.report
           (takes_file (g.S.Shelf.taken c.args.shelf.now) (g.S.Shelf.taken taken.new.self) c.as_str-in-Serve.ensures.lent taken.ensures.taken) o.ensures.printed
           taken.result c.in-Serve.address c.in-Serve.connections c.args.seed c.serve.ensures.readings
-          (is_taken g.S.Disk.Disk before after taken.result c.as_str-in-Serve.ensures.lent taken.ensures.told taken.ensures.begins taken.ensures.starts taken.ensures.cause)
+          (is_taken g.S.Disk.Disk _ _ taken.result c.as_str-in-Serve.ensures.lent taken.ensures.told taken.ensures.begins taken.ensures.starts taken.ensures.cause)
           c.serve.ensures.serves),
     )
 

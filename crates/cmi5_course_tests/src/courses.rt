@@ -1,0 +1,266 @@
+// What is read of a course, which courses are the same, and the words of modes.
+use cmi5_course::{Course, CourseRefused, Kind, Method, Mode, MoveOn, Node, Unit};
+use lrs_json::Text;
+use lrs_json_reader::read;
+use lrs_names::Iri;
+use std::alloc::Global;
+use std::test::Fail;
+
+const SAMPLE: &str =
+    "{\"id\":\"http://c/1\",\"title\":{\"en\":\"C\"},\"children\":[{\"kind\":\"block\",\"id\":\"http://c/b\",\"title\":{\"en\":\"B\"},\"children\":[{\"kind\":\"unit\",\"id\":\"http://c/u\",\"title\":{\"en\":\"U\"},\"url\":\"https://au.example/u\",\"moveOn\":\"CompletedAndPassed\",\"masteryScore\":0.8}]}]}";
+
+// Blocks within and beside one another.
+const NESTED: &str =
+    "{\"id\":\"http://c/1\",\"title\":{\"en\":\"C\"},\"children\":[{\"kind\":\"block\",\"id\":\"http://c/b1\",\"title\":{\"en\":\"B\"},\"children\":[{\"kind\":\"unit\",\"id\":\"http://c/2\",\"title\":{\"en\":\"U\"},\"url\":\"http://a/u\"},{\"kind\":\"unit\",\"id\":\"http://c/3\",\"title\":{\"en\":\"U\"},\"url\":\"http://a/u\"}]},{\"kind\":\"unit\",\"id\":\"http://c/4\",\"title\":{\"en\":\"U\"},\"url\":\"http://a/u\"},{\"kind\":\"block\",\"id\":\"http://c/b5\",\"title\":{\"en\":\"B\"},\"children\":[{\"kind\":\"block\",\"id\":\"http://c/b6\",\"title\":{\"en\":\"B\"},\"children\":[{\"kind\":\"unit\",\"id\":\"http://c/7\",\"title\":{\"en\":\"U\"},\"url\":\"http://a/u\"}]}]},{\"kind\":\"unit\",\"id\":\"http://c/8\",\"title\":{\"en\":\"U\"},\"url\":\"http://a/u\"}]}";
+
+fn course_of(alloc: Global, text: &str) -> Result<Course, Fail> {
+    let tree = read(alloc, text.as_bytes())?;
+    let course = Course::read(alloc, &tree);
+    drop(tree);
+    match course {
+        Ok(course) => Ok(course),
+        Err(CourseRefused::Broken { rule: _ }) => Err(Fail::from("a rule is broken")),
+        Err(CourseRefused::Memory) => Err(Fail::from("out of memory")),
+    }
+}
+
+fn kind_text(kind: Kind) -> &'static str {
+    match kind {
+        Kind::Course => "course",
+        Kind::Block => "block",
+        Kind::Unit => "unit",
+    }
+}
+
+// The id, the kind and the number of the holder.
+fn shown(alloc: Global, node: &Node) -> Result<String, Fail> {
+    let id = node.id.text().as_str();
+    let kind = kind_text(node.kind);
+    match node.parent {
+        Some(parent) => Ok(format!(in alloc; "{id} {kind} {parent}\n")?),
+        None => Ok(format!(in alloc; "{id} {kind}\n")?),
+    }
+}
+
+fn nodes_shown(alloc: Global, course: &Course) -> Result<String, Fail> {
+    let mut text = String::new(alloc);
+    for node in course.nodes() {
+        let node = shown(alloc, node)?;
+        text.push_str(node.as_str())?;
+    }
+    Ok(text)
+}
+
+fn nodes_of(alloc: Global, text: &str) -> Result<String, Fail> {
+    let course = course_of(alloc, text)?;
+    let nodes = nodes_shown(alloc, &course);
+    drop(course);
+    nodes
+}
+
+#[test]
+fn the_sample_course_has_three_nodes(rt: HostRuntime) -> Result<(), Fail> {
+    let nodes = nodes_of(rt.alloc(), SAMPLE)?;
+    assert_eq!(rt;
+        nodes.as_str(),
+        "http://c/1 course\nhttp://c/b block 0\nhttp://c/u unit 1\n"
+    );
+    Ok(())
+}
+
+const NESTED_NODES: &str = "http://c/1 course
+http://c/b1 block 0
+http://c/2 unit 1
+http://c/3 unit 1
+http://c/4 unit 0
+http://c/b5 block 0
+http://c/b6 block 5
+http://c/7 unit 6
+http://c/8 unit 0
+";
+
+#[test]
+fn nodes_are_numbered_in_the_order_of_the_text(rt: HostRuntime) -> Result<(), Fail> {
+    let nodes = nodes_of(rt.alloc(), NESTED)?;
+    assert_eq!(rt; nodes.as_str(), NESTED_NODES);
+    Ok(())
+}
+
+fn is_text(text: &Option<Text>, wanted: &str) -> bool {
+    match text {
+        Some(text) => text.as_str() == wanted,
+        None => false,
+    }
+}
+
+fn is_sample_unit(unit: &Unit) -> bool {
+    unit.url.as_str() == "https://au.example/u"
+        && unit.move_on == MoveOn::CompletedAndPassed
+        && unit.method == Method::AnyWindow
+        && is_text(&unit.mastery_text, "0.8")
+        && unit.parameters.is_none()
+        && unit.entitlement.is_none()
+}
+
+fn iri(alloc: Global, text: &str) -> Result<Iri, Fail> {
+    match Iri::read(Text::of(alloc, text)?) {
+        Ok(iri) => Ok(iri),
+        Err(_) => Err(Fail::from("no IRI")),
+    }
+}
+
+fn unit_place(alloc: Global, course: &Course, id: &str) -> Result<Option<u32>, Fail> {
+    let id = iri(alloc, id)?;
+    Ok(course.unit(&id))
+}
+
+fn is_sample(alloc: Global, course: &Course) -> Result<bool, Fail> {
+    Ok(
+        course.id().text().as_str() == "http://c/1"
+            && unit_place(alloc, course, "http://c/u")? == Some(2)
+            && unit_place(alloc, course, "http://c/b")?.is_none()
+            && course.unit_at(2).is_some_and(is_sample_unit)
+            && course.unit_at(1).is_none()
+            && course.unit_at(3).is_none()
+            && course.node_at(3).is_none(),
+    )
+}
+
+fn reads_sample(alloc: Global) -> Result<bool, Fail> {
+    let course = course_of(alloc, SAMPLE)?;
+    let result = is_sample(alloc, &course);
+    drop(course);
+    result
+}
+
+#[test]
+fn the_unit_of_the_sample_course_is_read(rt: HostRuntime) -> Result<(), Fail> {
+    assert!(rt; reads_sample(rt.alloc())?);
+    Ok(())
+}
+
+const FULL: &str =
+    "{\"id\":\"http://c/1\",\"title\":{\"en\":\"C\"},\"children\":[{\"kind\":\"unit\",\"id\":\"http://c/u\",\"title\":{\"en\":\"U\"},\"url\":\"http://a/u\",\"launchMethod\":\"OwnWindow\",\"masteryScore\":10e-1,\"launchParameters\":\"p\",\"entitlementKey\":\"k\",\"activityType\":\"http://t/1\"}]}";
+
+fn is_full_unit(unit: &Unit) -> bool {
+    unit.move_on == MoveOn::NotApplicable
+        && unit.method == Method::OwnWindow
+        && is_text(&unit.mastery_text, "10e-1")
+        && is_text(&unit.parameters, "p")
+        && is_text(&unit.entitlement, "k")
+}
+
+fn reads_full(alloc: Global) -> Result<bool, Fail> {
+    let course = course_of(alloc, FULL)?;
+    let result = course.unit_at(1).is_some_and(is_full_unit);
+    drop(course);
+    Ok(result)
+}
+
+#[test]
+fn all_members_of_a_unit_are_read(rt: HostRuntime) -> Result<(), Fail> {
+    assert!(rt; reads_full(rt.alloc())?);
+    Ok(())
+}
+
+// Two courses, and whether they are one.
+const SAME: [(&str, &str, bool); 8] = [
+    (
+        "{\"id\":\"http://c/1\",\"title\":{\"en\":\"C\"},\"children\":[{\"kind\":\"block\",\"id\":\"http://c/b\",\"title\":{\"en\":\"B\"},\"children\":[{\"kind\":\"unit\",\"id\":\"http://c/u\",\"title\":{\"en\":\"U\"},\"url\":\"https://au.example/u\",\"moveOn\":\"CompletedAndPassed\",\"masteryScore\":0.8}]}]}",
+        "{\"id\":\"http://c/1\",\"title\":{\"en\":\"C\"},\"children\":[{\"kind\":\"block\",\"id\":\"http://c/b\",\"title\":{\"en\":\"B\"},\"children\":[{\"kind\":\"unit\",\"id\":\"http://c/u\",\"title\":{\"en\":\"U\"},\"url\":\"https://au.example/u\",\"moveOn\":\"CompletedAndPassed\",\"masteryScore\":0.80}]}]}",
+        true,
+    ),
+    (
+        "{\"id\":\"http://c/1\",\"title\":{\"en\":\"C\"},\"children\":[{\"kind\":\"block\",\"id\":\"http://c/b\",\"title\":{\"en\":\"B\"},\"children\":[{\"kind\":\"unit\",\"id\":\"http://c/u\",\"title\":{\"en\":\"U\"},\"url\":\"https://au.example/u\",\"moveOn\":\"CompletedAndPassed\",\"masteryScore\":0.8}]}]}",
+        "{\"id\":\"http://c/1\",\"title\":{\"en\":\"C\"},\"children\":[{\"kind\":\"block\",\"id\":\"http://c/b\",\"title\":{\"en\":\"B\"},\"children\":[{\"kind\":\"unit\",\"id\":\"http://c/u\",\"title\":{\"en\":\"U\"},\"url\":\"https://au.example/u\",\"moveOn\":\"CompletedAndPassed\",\"masteryScore\":8e-1}]}]}",
+        true,
+    ),
+    (
+        "{\"id\":\"http://c/1\",\"title\":{\"en\":\"C\"},\"children\":[{\"kind\":\"block\",\"id\":\"http://c/b\",\"title\":{\"en\":\"B\"},\"children\":[{\"kind\":\"unit\",\"id\":\"http://c/u\",\"title\":{\"en\":\"U\"},\"url\":\"https://au.example/u\",\"moveOn\":\"CompletedAndPassed\",\"masteryScore\":0.8}]}]}",
+        "{\"id\":\"http://c/1\",\"title\":{\"en\":\"C\"},\"children\":[{\"kind\":\"block\",\"id\":\"http://c/b\",\"title\":{\"en\":\"B\"},\"children\":[{\"kind\":\"unit\",\"id\":\"http://c/u\",\"title\":{\"en\":\"U\"},\"url\":\"https://au.example/u\",\"moveOn\":\"CompletedAndPassed\",\"masteryScore\":0.81}]}]}",
+        false,
+    ),
+    (
+        "{\"id\":\"http://c/1\",\"title\":{\"en\":\"C\"},\"children\":[{\"kind\":\"unit\",\"id\":\"http://c/u\",\"title\":{\"en\":\"U\"},\"url\":\"http://a/u\"}]}",
+        "{\"children\":[{\"url\":\"http://a/u\",\"title\":{\"en\":\"U\"},\"id\":\"http://c/u\",\"kind\":\"unit\"}],\"title\":{\"en\":\"C\"},\"id\":\"http://c/1\"}",
+        true,
+    ),
+    (
+        "{\"id\":\"http://c/1\",\"title\":{\"en\":\"C\"},\"children\":[{\"kind\":\"unit\",\"id\":\"http://c/u\",\"title\":{\"en\":\"U\"},\"url\":\"http://a/u\"}]}",
+        "{\"id\":\"http://c/1\",\"title\":{\"en\":\"C\"},\"children\":[{\"kind\":\"unit\",\"id\":\"http://c/u\",\"title\":{\"en\":\"U\"},\"url\":\"http://a/u\",\"moveOn\":\"NotApplicable\"}]}",
+        false,
+    ),
+    (
+        "{\"id\":\"http://c/1\",\"title\":{\"en\":\"C\"},\"children\":[{\"kind\":\"unit\",\"id\":\"http://c/u\",\"title\":{\"en\":\"U\"},\"url\":\"http://a/u\"},{\"kind\":\"unit\",\"id\":\"http://c/v\",\"title\":{\"en\":\"U\"},\"url\":\"http://a/u\"}]}",
+        "{\"id\":\"http://c/1\",\"title\":{\"en\":\"C\"},\"children\":[{\"kind\":\"unit\",\"id\":\"http://c/v\",\"title\":{\"en\":\"U\"},\"url\":\"http://a/u\"},{\"kind\":\"unit\",\"id\":\"http://c/u\",\"title\":{\"en\":\"U\"},\"url\":\"http://a/u\"}]}",
+        false,
+    ),
+    (
+        "{\"id\":\"http://c/1\",\"title\":{\"en\":\"C\"},\"children\":[{\"kind\":\"unit\",\"id\":\"http://c/u\",\"title\":{\"en\":\"U\"},\"url\":\"http://a/u\"}]}",
+        "{\"id\":\"http://c/1\",\"title\":{\"en\":\"C\"},\"children\":[{\"kind\":\"unit\",\"id\":\"http://c/u\",\"title\":{\"en\":\"U\"},\"url\":\"http://a/u#\"}]}",
+        false,
+    ),
+    (
+        "{\"id\":\"http://c/1\",\"title\":{\"en\":\"C\"},\"children\":[{\"kind\":\"unit\",\"id\":\"http://c/u\",\"title\":{\"en\":\"U\"},\"url\":\"http://a/u\"}]}",
+        "{\"id\":\"http://c/1\",\"title\":{\"en\":\"D\"},\"children\":[{\"kind\":\"unit\",\"id\":\"http://c/u\",\"title\":{\"en\":\"U\"},\"url\":\"http://a/u\"}]}",
+        false,
+    ),
+];
+
+// Whether both comparisons of the first course with the second answer what is wanted.
+fn are_compared_as(alloc: Global, first: &str, second: &str, wanted: bool) -> Result<bool, Fail> {
+    let course = course_of(alloc, first)?;
+    let right = is_compared_as(alloc, &course, second, wanted);
+    drop(course);
+    right
+}
+
+fn is_compared_as(alloc: Global, course: &Course, text: &str, wanted: bool) -> Result<bool, Fail> {
+    let other = course_of(alloc, text)?;
+    let same = course.same_course(&other);
+    let spelled = course.is_spelled(other.tree());
+    drop(other);
+    Ok(same == wanted && spelled == wanted)
+}
+
+fn first_wrong_pair(alloc: Global) -> Result<Option<usize>, Fail> {
+    for (i, (first, second, wanted)) in SAME.iter().enumerate() {
+        if !are_compared_as(alloc, first, second, *wanted)?
+            || !are_compared_as(alloc, second, first, *wanted)?
+        {
+            return Ok(Some(i));
+        }
+    }
+    Ok(None)
+}
+
+#[test]
+fn courses_are_the_same_in_any_order_and_spelling(rt: HostRuntime) -> Result<(), Fail> {
+    assert_eq!(rt; first_wrong_pair(rt.alloc())?, None);
+    Ok(())
+}
+
+// ---- words
+
+const MODES: [(&str, Option<Mode>); 6] = [
+    ("Normal", Some(Mode::Normal)),
+    ("Browse", Some(Mode::Browse)),
+    ("Review", Some(Mode::Review)),
+    ("normal", None),
+    ("", None),
+    ("Normal ", None),
+];
+
+fn first_wrong_mode() -> Option<usize> {
+    for (i, (text, wanted)) in MODES.iter().enumerate() {
+        if Mode::of(text) != *wanted {
+            return Some(i);
+        }
+    }
+    None
+}
+
+#[test]
+fn modes_have_their_words(rt: HostRuntime) {
+    assert_eq!(rt; first_wrong_mode(), None);
+}
