@@ -1,0 +1,118 @@
+#!/usr/bin/env python3
+"""Launches a unit for N learners, lets each session say four statements in one batch, and prints how long such a batch
+takes as the store grows, and how long the store takes to open afterwards.
+
+  bench/sessions.py PROGRAM FILE N      PROGRAM is the built program; FILE is made anew; N sessions (10000 at most)
+"""
+import http.client
+import json
+import os
+import socket
+import subprocess
+import sys
+import time
+import urllib.parse
+
+PORT = 24567
+PER_CONNECTION = 1000
+VERBS = "http://adlnet.gov/expapi/verbs/"
+CATEGORIES = "https://w3id.org/xapi/cmi5/context/categories/"
+SESSION_ID = "https://w3id.org/xapi/cmi5/context/extensions/sessionid"
+COURSE, UNIT = "http://course.example/c", "http://course.example/u"
+
+
+def serve(program, store):
+    """The server, once it listens, and the seconds until then."""
+    words = [program, "serve", store, f"127.0.0.1:{PORT}", "--workers", "1", "--connections", "10000"]
+    start = time.time()
+    server = subprocess.Popen(words, stdin=subprocess.DEVNULL, stdout=subprocess.DEVNULL, stderr=subprocess.DEVNULL)
+    while True:
+        try:
+            socket.create_connection(("127.0.0.1", PORT)).close()
+            return server, time.time() - start
+        except OSError:
+            time.sleep(0.01)
+
+
+class Client:
+    """Requests over kept-alive connections."""
+
+    def __init__(self):
+        self.connection, self.sent = None, PER_CONNECTION
+
+    def post(self, path, body, token="adminadmin"):
+        if self.sent == PER_CONNECTION:
+            self.connection, self.sent = http.client.HTTPConnection("127.0.0.1", PORT), 0
+        self.sent += 1
+        headers = {
+            "X-Experience-API-Version": "1.0.3",
+            "Authorization": "Basic " + token,
+            "Content-Type": "application/json",
+        }
+        self.connection.request("POST", path, body=json.dumps(body) if body is not None else "", headers=headers)
+        response = self.connection.getresponse()
+        text = response.read()
+        if response.status != 200:
+            sys.exit(f"{path}: {response.status} {text}")
+        return json.loads(text)
+
+
+def launch(client, actor):
+    """The token of a new session of the actor, and the statements that it says."""
+    registration = client.post("/desk/registrations", {"course": COURSE, "actor": actor})["registration"]
+    launched = client.post(f"/desk/registrations/{registration}/launches", {"unit": UNIT})
+    address = dict(urllib.parse.parse_qsl(launched["url"].split("?", 1)[1]))
+    token = client.post("/fetch/" + address["fetch"].split("/fetch/")[1], None)["auth-token"]
+
+    def statement(verb, categories, result=None):
+        said = {
+            "actor": actor,
+            "verb": {"id": VERBS + verb},
+            "object": {"id": address["activityId"]},
+            "context": {
+                "registration": registration,
+                "contextActivities": {
+                    "grouping": [{"id": UNIT}],
+                    "category": [{"id": CATEGORIES + name} for name in categories],
+                },
+                "extensions": {SESSION_ID: launched["session"]},
+            },
+        }
+        return {**said, "result": result} if result else said
+
+    return token, [
+        statement("initialized", ["cmi5"]),
+        statement("completed", ["cmi5", "moveon"], {"completion": True}),
+        statement("passed", ["cmi5", "moveon"], {"success": True, "score": {"scaled": 0.9}}),
+        statement("terminated", ["cmi5"], {"duration": "PT1M"}),
+    ]
+
+
+def main():
+    program, store, sessions = sys.argv[1], sys.argv[2], int(sys.argv[3])
+    if os.path.exists(store):
+        os.remove(store)
+    made = [program, "init", store, "--admin", "adminadmin", "--limit", "1000000000"]
+    subprocess.run(made, check=True, stdout=subprocess.DEVNULL)
+    server, _ = serve(program, store)
+    client = Client()
+    unit = {"kind": "unit", "id": UNIT, "title": {"en": "A unit"}, "url": "https://au.example/u", "masteryScore": 0.8}
+    client.post("/desk/courses", {"id": COURSE, "title": {"en": "A course"}, "children": [unit]})
+    seconds, batches = 0.0, 0
+    for learner in range(1, sessions + 1):
+        actor = {"account": {"homePage": "https://p.example", "name": f"k{learner}"}}
+        token, statements = launch(client, actor)
+        start = time.time()
+        client.post("/xapi/statements", statements, token)
+        seconds, batches = seconds + time.time() - start, batches + 1
+        if learner % 500 == 0:
+            print(f"  over {5 * learner} statements a session's batch of four takes {1000 * seconds / batches:.1f} ms")
+            seconds, batches = 0.0, 0
+    server.kill()
+    server.wait()
+    server, opening = serve(program, store)
+    server.kill()
+    print(f"  the store ({os.path.getsize(store) / 1e6:.1f} MB) opens in {opening:.1f} s")
+
+
+main()
