@@ -6,3 +6,4 @@ pub mod Comparing
 pub mod Exact
 pub mod Orders
 pub mod NumeralLemmas
+pub mod Tests

@@ -1,6 +1,8 @@
 -- The numbers that are in range, and those that are whole.
-use Rattle.std.specs.Prelude.{ℕ, ◌+◌, ◌-◌, ◌==◌, ◌&&◌, ◌||◌, nat_le, List, length, reverse, Bool}
+use Rattle.std.specs.Prelude.{ℕ, ◌+◌, ◌-◌, ◌==◌, ◌&&◌, ◌||◌, nat_le, List, [], ◌∷◌, length, reverse, Bool, true, false}
+use Rattle.std.specs.Prelude.{Option, Some, None}
 use Rattle.std.specs.List.{prefix_len}
+use Rattle.lrs_decimal.specs.Numbers.{number_end}
 use Rattle.lrs_decimal.specs.Parts.{all_digits, exponent_digits, point_right, point_left}
 
 abbrev pub is_zero_digit : ℕ → Bool
@@ -43,3 +45,13 @@ has_no_fraction spelling = is_zero (all_digits spelling)
 unfoldable pub is_whole : List ℕ → Bool
 is_whole spelling = nat_le (length spelling) 64 && nat_le (length (exponent_digits spelling)) 4
     && has_no_fraction spelling
+
+-- nothing is left after the number
+abbrev pub is_end : Option (List ℕ) → Bool
+is_end None = false
+is_end (Some []) = true
+is_end (Some (b ∷ bs)) = false
+
+-- the spelling of a number in range
+unfoldable pub is_decimal : List ℕ → Bool
+is_decimal spelling = is_end (number_end spelling) && is_in_range spelling

@@ -1,9 +1,9 @@
-ghost use Rattle.std.specs.Prelude.{◌≡◌, ◌+◌, ◌*◌, ◌^◌, ◌<◌, ◌≤◌, ◌↔◌, ℕ, List, take, IsTrue, IsSome, IfSome};
+ghost use Rattle.std.specs.Prelude.{◌≡◌, ◌+◌, ◌*◌, ◌^◌, ◌<◌, ◌≤◌, ◌↔◌, ℕ, List, take, IsTrue, IsSome, IfSome, is_some};
 ghost use Rattle.std.specs.List.{filter};
 ghost use Rattle.std.specs.Ordering.{nat_cmp};
 ghost use Rattle.lrs_decimal.specs.Numbers.{IsNumber, is_digit};
 ghost use Rattle.lrs_decimal.specs.Parts.{is_negative, digits_value};
-ghost use Rattle.lrs_decimal.specs.Range.{is_in_range};
+ghost use Rattle.lrs_decimal.specs.Range.{is_decimal, is_in_range};
 
 use crate::numbers::number_len;
 use crate::parts::{
@@ -29,6 +29,14 @@ impl Decimal {
 
     /// The value of the spelling, or `None` if the bytes are no number in range.
     pub fn of(spelling: &[u8]) -> Option<Decimal>
+        ensures exact { IsSome result ↔ (IsNumber spelling.now × IsTrue (is_in_range spelling.now)) }
+        ensures test { is_some result ≡ is_decimal spelling.now }
+        ensures value { IfSome result (λ d. HasValue d spelling.now) }
+    {
+        Decimal::in_range(spelling)
+    }
+
+    fn in_range(spelling: &[u8]) -> Option<Decimal>
         ensures exact { IsSome result ↔ (IsNumber spelling.now × IsTrue (is_in_range spelling.now)) }
         ensures value { IfSome result (λ d. HasValue d spelling.now) }
     {

@@ -61,6 +61,19 @@ faults_of_member name faults j = option_map_or faults (find name j) []
 abbrev pub text_under : List ℕ → Json → Option (List ℕ)
 text_under name j = option_and_then text_of (find name j)
 
+-- how a number is spelled
+abbrev pub spelling_of : Json → Option (List ℕ)
+spelling_of null = None
+spelling_of (boolean b) = None
+spelling_of (number s) = Some s
+spelling_of (string s) = None
+spelling_of (array js) = None
+spelling_of (object ms) = None
+
+-- the spelling of the member, if it is a number
+abbrev pub spelling_under : List ℕ → Json → Option (List ℕ)
+spelling_under name j = option_and_then spelling_of (find name j)
+
 abbrev pub is_one_of : List (List ℕ) → List ℕ → Bool
 is_one_of names text = list_any (λ name. bytes_eq name text) names
 

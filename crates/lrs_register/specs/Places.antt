@@ -55,7 +55,7 @@ abbrev pub KeepsOthers : {K : Type 0} → (K → K → Ordering) → (K → Bool
     → List (K × Option ℕ) → Type 0
 KeepsOthers {K} cmp passes old new = (key : K) → passes key ≡ false → HasPlace cmp old key → HasPlace cmp new key
 
--- Empty places were made, for keys that pass alone.
+-- Nothing but empty places was added, and only for keys that pass.
 pub record MakesPlaces {K : Type 0} (cmp : K → K → Ordering) (passes : K → Bool)
     (old new : List (K × Option ℕ)) : Type 0 where
   pub same : SamePlaces cmp old new

@@ -8,7 +8,7 @@ use Rattle.std.proofs.lemmas.Slice.Eq.{bytes_eq-Decides}
 use Rattle.lrs_decimal.specs.Values.{order}
 use Rattle.lrs_decimal.proofs.Orders.{order-sym, order-trans}
 use Rattle.lrs_time.proofs.DurationLemmas.{same_span_equivalence}
-use Rattle.xapi_values.specs.Numbers.{is_decimal}
+use Rattle.lrs_decimal.specs.Range.{is_decimal}
 use Rattle.xapi_values.specs.declared.kinds.Kind.{Kind}
 use Rattle.xapi_alike.specs.Normal.{Words, letters, uuid, instant, lasting}
 use Rattle.xapi_values.specs.Kinds.{same_kind}

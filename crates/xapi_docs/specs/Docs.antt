@@ -44,7 +44,7 @@ is_written (Dropped keys) key = false
 abbrev pub AddsNoPlace : Places → Places → Type 0
 AddsNoPlace old new = (key : StateKey) → HasPlaceFor new key → HasPlaceFor old key
 
--- Empty places were made, for keys that pass alone.
+-- Nothing but empty places was added, and only for keys that pass.
 pub record MakesPlaces (passes : StateKey → Bool) (old new : Places) : Type 0 where
   pub held : documents_in new ≡ documents_in old
   pub only : (key : StateKey) → HasPlaceFor new key → HasPlaceFor old key ⊎ (passes key ≡ true)

@@ -5,9 +5,8 @@ use Rattle.lrs_json.specs.Json.{Json, null, boolean, number, string, array, obje
 use Rattle.lrs_json.specs.Find.{find}
 use Rattle.lrs_json.specs.Written.{written}
 use Rattle.lrs_names.specs.Ids.{id_of}
-use Rattle.lrs_names.specs.Members.{is_word, has_member, has_member_that, text_of, text_under}
+use Rattle.lrs_names.specs.Members.{is_word, has_member, has_member_that, spelling_under, text_of, text_under}
 use Rattle.xapi_values.specs.Nested.{is_nested}
-use Rattle.xapi_values.specs.Numbers.{member_number}
 use Rattle.xapi_rules.specs.Rules.{broken_rule, is_about_activity, is_about_reference}
 use Rattle.xapi_statement.specs.declared.refused.StatementRefused.{StatementRefused}
 use Rattle.xapi_statement.specs.declared.refused.StatementRefused.TheVariants.{TooLong, Broken}
@@ -129,7 +128,7 @@ result_boolean name j = option_and_then (member_boolean name) (find (codes "resu
 -- the spelling of the scaled score
 unfoldable pub scaled_of : Json → Option (List ℕ)
 scaled_of j =
-    option_and_then (member_number (codes "scaled")) (option_and_then (find (codes "score")) (find (codes "result") j))
+    option_and_then (spelling_under (codes "scaled")) (option_and_then (find (codes "score")) (find (codes "result") j))
 
 unfoldable pub has_duration : Json → Bool
 has_duration j = has_member_that (codes "result") (has_member (codes "duration")) j

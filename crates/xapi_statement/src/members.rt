@@ -3,14 +3,14 @@ ghost use Rattle.std.specs.Prelude.{◌≡◌, option_map, MatchOption, IsSomeAn
 ghost use Rattle.lrs_decimal.specs.Values.{HasValue};
 ghost use Rattle.lrs_json.specs.View.{view};
 ghost use Rattle.lrs_names.specs.Members.{has_member};
-ghost use Rattle.xapi_values.specs.Numbers.{is_decimal};
+ghost use Rattle.lrs_decimal.specs.Range.{is_decimal};
 ghost use Rattle.xapi_statement.specs.Statement.{id_in, own_id, verb_of, registration_in, registration_of, reference_in, target_of, activity_in, activity_of, extension_of, boolean_in, member_boolean, result_boolean, scaled_of, has_duration};
 
 use lrs_decimal::Decimal;
 use lrs_json::{Text, Tree};
 use lrs_names::{Id, has_member, text_under};
 use xapi_values::Kind;
-use xapi_values::numbers::{decimal_of, member_number};
+use xapi_values::numbers::spelling_under;
 
 fn id_in(tree: &Tree) -> Option<Id>
     ensures { result ≡ id_in (view tree.now) }
@@ -160,7 +160,7 @@ pub fn scaled_spelling(statement: &Tree) -> Option<&[u8]>
     let Some(score) = outcome.get("score") else {
         return None;
     };
-    member_number(score, "scaled")
+    spelling_under(score, "scaled")
 }
 
 pub fn scaled_of(statement: &Tree) -> Option<Decimal>
@@ -168,7 +168,7 @@ pub fn scaled_of(statement: &Tree) -> Option<Decimal>
         (λ d. IsSomeAnd (scaled_of (view statement.now)) (λ s. HasValue d s)) }
 {
     match scaled_spelling(statement) {
-        Some(spelling) => decimal_of(spelling),
+        Some(spelling) => Decimal::of(spelling),
         None => None,
     }
 }

@@ -1,7 +1,7 @@
 ghost use Rattle.std.specs.Prelude.{◌≡◌, ◌⊎◌, ◌↔◌, None, Some, Err, IsTrue, MatchResult, option_map, MatchOption, IsSomeAnd, ℕ, List, codes, false};
 ghost use Rattle.lrs_decimal.specs.Values.{HasValue};
 ghost use Rattle.lrs_json.specs.View.{view};
-ghost use Rattle.xapi_values.specs.Numbers.{is_decimal};
+ghost use Rattle.lrs_decimal.specs.Range.{is_decimal};
 ghost use Rattle.xapi_rules.specs.Rules.{is_voiding};
 ghost use Rattle.xapi_statement.specs.Parties.{has_agent, actor_of};
 ghost use Rattle.xapi_statement.specs.Statement.{is_too_long, refusal, is_statement, own_id, verb_of, registration_of, target_of, activity_of, has_context_activity, has_activity, extension_of, result_boolean, scaled_of, has_duration};

@@ -1,33 +1,14 @@
 -- Numbers as the rules on scores and attachments ask of them, by their exact values.
 use Rattle.std.specs.Prelude.{◌≡◌, IsTrue, ℕ, List, [], ◌∷◌, Bool, true, false, ◌&&◌, Option, Some, None}
-use Rattle.std.specs.Prelude.{option_and_then, codes, if◌then◌else◌}
+use Rattle.std.specs.Prelude.{codes, if◌then◌else◌}
 use Rattle.std.specs.Option.{option_map_or}
 use Rattle.std.specs.Ordering.{is_eq, is_lt, is_le}
 use Rattle.std.specs.declared.cmp.Ordering.{Ordering}
-use Rattle.lrs_decimal.specs.Numbers.{IsNumber, number_end}
-use Rattle.lrs_decimal.specs.Range.{is_in_range, is_whole}
+use Rattle.lrs_decimal.specs.Numbers.{IsNumber}
+use Rattle.lrs_decimal.specs.Range.{is_decimal, is_in_range, is_whole}
 use Rattle.lrs_decimal.specs.Values.{order}
-use Rattle.lrs_json.specs.Json.{Json, null, boolean, number, string, array, object}
-use Rattle.lrs_json.specs.Find.{find}
-use Rattle.lrs_names.specs.Members.{has_only, if_member}
-
--- nothing is left after the number
-abbrev pub is_whole_text : Option (List ℕ) → Bool
-is_whole_text None = false
-is_whole_text (Some []) = true
-is_whole_text (Some (b ∷ bs)) = false
-
--- the spelling of a number in range
-unfoldable pub is_decimal : List ℕ → Bool
-is_decimal spelling = is_whole_text (number_end spelling) && is_in_range spelling
-
-abbrev pub spelling_of : Json → Option (List ℕ)
-spelling_of null = None
-spelling_of (boolean b) = None
-spelling_of (number s) = Some s
-spelling_of (string s) = None
-spelling_of (array js) = None
-spelling_of (object ms) = None
+use Rattle.lrs_json.specs.Json.{Json, number}
+use Rattle.lrs_names.specs.Members.{has_only, if_member, spelling_of, spelling_under}
 
 -- a number in range, as it is written
 abbrev pub IsNumberInRange : Json → Type 0
@@ -36,10 +17,6 @@ IsNumberInRange j = (spelling : List ℕ) × (j ≡ number spelling) × IsNumber
 -- The same as a test: the clause `written` of the function `is_number` proves that they agree.
 abbrev pub is_number : Json → Bool
 is_number j = option_map_or is_decimal (spelling_of j) false
-
--- the spelling of the member, if it is a number
-abbrev pub member_number : List ℕ → Json → Option (List ℕ)
-member_number name j = option_and_then spelling_of (find name j)
 
 -- both are numbers in range, of one value
 abbrev pub are_equal : List ℕ → List ℕ → Bool
@@ -76,11 +53,11 @@ are_numbers j =
 -- `scaled` is from -1 to 1, `min` is less than `max`, and `raw` isn't outside of them
 unfoldable pub are_in_order : Json → Bool
 are_in_order j =
-    is_not_above (Some (codes "-1")) (member_number (codes "scaled") j)
-    && is_not_above (member_number (codes "scaled") j) (Some (codes "1"))
-    && is_below (member_number (codes "min") j) (member_number (codes "max") j)
-    && is_not_above (member_number (codes "min") j) (member_number (codes "raw") j)
-    && is_not_above (member_number (codes "raw") j) (member_number (codes "max") j)
+    is_not_above (Some (codes "-1")) (spelling_under (codes "scaled") j)
+    && is_not_above (spelling_under (codes "scaled") j) (Some (codes "1"))
+    && is_below (spelling_under (codes "min") j) (spelling_under (codes "max") j)
+    && is_not_above (spelling_under (codes "min") j) (spelling_under (codes "raw") j)
+    && is_not_above (spelling_under (codes "raw") j) (spelling_under (codes "max") j)
 
 -- Rule 26 (section 2.4.5.1): only `scaled`, `raw`, `min` and `max`, all numbers, and in their order.
 unfoldable pub is_score : Json → Bool

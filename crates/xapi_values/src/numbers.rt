@@ -1,9 +1,9 @@
 // Numbers, by their exact values.
-ghost use Rattle.std.specs.Prelude.{◌≡◌, ◌↔◌, IsTrue, option_map, is_some, IfSome};
-ghost use Rattle.lrs_decimal.specs.Values.{HasValue};
+ghost use Rattle.std.specs.Prelude.{◌≡◌, ◌↔◌, IsTrue, option_map};
+ghost use Rattle.lrs_decimal.specs.Range.{is_decimal};
 ghost use Rattle.lrs_json.specs.View.{view};
-ghost use Rattle.xapi_values.specs.Numbers.{IsNumberInRange, are_equal, is_decimal, is_number, spelling_of, member_number, compared, is_below, is_not_above, is_natural, is_count, are_numbers, are_in_order, is_score};
-ghost use Rattle.lrs_names.specs.Members.{if_member};
+ghost use Rattle.xapi_values.specs.Numbers.{IsNumberInRange, are_equal, is_number, compared, is_below, is_not_above, is_natural, is_count, are_numbers, are_in_order, is_score};
+ghost use Rattle.lrs_names.specs.Members.{if_member, spelling_of, spelling_under};
 
 use lrs_decimal::{Decimal, is_whole};
 use lrs_json::{Text, Tree};
@@ -21,8 +21,8 @@ pub fn spelling_of(tree: &Tree) -> Option<&[u8]>
 }
 
 /// The spelling of the member of that name, if it is a number.
-pub fn member_number<'a>(tree: &'a Tree, name: &str) -> Option<&'a [u8]>
-    ensures { option_map (λ s. s.now) result ≡ member_number name.now (view tree.now) }
+pub fn spelling_under<'a>(tree: &'a Tree, name: &str) -> Option<&'a [u8]>
+    ensures { option_map (λ s. s.now) result ≡ spelling_under name.now (view tree.now) }
 {
     match tree.get(name) {
         Some(value) => spelling_of(value),
@@ -30,18 +30,10 @@ pub fn member_number<'a>(tree: &'a Tree, name: &str) -> Option<&'a [u8]>
     }
 }
 
-/// The value of a spelling, if it is a number in range.
-pub fn decimal_of(spelling: &[u8]) -> Option<Decimal>
-    ensures some { is_some result ≡ is_decimal spelling.now }
-    ensures value { IfSome result (λ d. HasValue d spelling.now) }
-{
-    Decimal::of(spelling)
-}
-
 fn is_decimal(spelling: &[u8]) -> bool
     ensures { result ≡ is_decimal spelling.now }
 {
-    decimal_of(spelling).is_some()
+    Decimal::of(spelling).is_some()
 }
 
 /// A number in range.
@@ -59,10 +51,10 @@ pub fn is_number(tree: &Tree) -> bool
 pub fn are_equal(a: &[u8], b: &[u8]) -> bool
     ensures { result ≡ are_equal a.now b.now }
 {
-    let Some(first) = decimal_of(a) else {
+    let Some(first) = Decimal::of(a) else {
         return false;
     };
-    let Some(second) = decimal_of(b) else {
+    let Some(second) = Decimal::of(b) else {
         return false;
     };
     first.cmp(&second).is_eq()
@@ -72,10 +64,10 @@ pub fn are_equal(a: &[u8], b: &[u8]) -> bool
 fn compared(a: &[u8], b: &[u8]) -> Option<Ordering>
     ensures { result ≡ compared a.now b.now }
 {
-    let Some(first) = decimal_of(a) else {
+    let Some(first) = Decimal::of(a) else {
         return None;
     };
-    let Some(second) = decimal_of(b) else {
+    let Some(second) = Decimal::of(b) else {
         return None;
     };
     Some(first.cmp(&second))
@@ -134,10 +126,10 @@ fn are_numbers(tree: &Tree) -> bool
 fn are_in_order(tree: &Tree) -> bool
     ensures { result ≡ are_in_order (view tree.now) }
 {
-    let scaled = member_number(tree, "scaled");
-    let raw = member_number(tree, "raw");
-    let least = member_number(tree, "min");
-    let greatest = member_number(tree, "max");
+    let scaled = spelling_under(tree, "scaled");
+    let raw = spelling_under(tree, "raw");
+    let least = spelling_under(tree, "min");
+    let greatest = spelling_under(tree, "max");
     is_not_above(Some(b"-1"), scaled)
         && is_not_above(scaled, Some(b"1"))
         && is_below(least, greatest)
