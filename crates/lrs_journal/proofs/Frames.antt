@@ -1,5 +1,5 @@
 -- What a replay reads.
-use Rattle.std.proofs.Common.{◌≡◌, ◌⊎◌, ⊎_elim, Bool, ℕ, ◌+◌, ◌≤◌, ◌<◌, ◌^◌, min, List, [], ◌∷◌, ◌++◌, length, take, drop, refl, sym, ◌∙◌, ap, arith, subst, Option, Some, None, option_map, true, false, IfSome, length-append, length-drop, take-append-drop}
+use Rattle.std.proofs.Common.{◌≡◌, ◌≢◌, ◌⊎◌, ⊎_elim, Bool, ℕ, ◌+◌, ◌≤◌, ◌<◌, ◌^◌, min, List, [], ◌∷◌, ◌++◌, length, take, drop, get_or, refl, sym, ◌∙◌, ap, arith, subst, Option, Some, None, option_map, true, false, IfSome, length-append, length-drop, take-append-drop}
 use Rattle.std.proofs.lemmas.List.{take_all, take_min, take-take}
 use Rattle.std.proofs.lemmas.Nat.{from_be_bytes-to_be_bytes_4}
 use Rattle.std.specs.Int.{w32, to_be_bytes, from_be_bytes}
@@ -64,6 +64,18 @@ read_more bytes limit place number ps head into word n m len h same five head_is
       behind = placed.behind;
       counts = omega (arith, h.counts, length-append ps (into ∷ []));
     }
+
+-- no open gate
+pub shut_ahead : (tail word : List ℕ) (gate n : ℕ) → n ≡ min 5 (length tail) → take n (gate ∷ word) ≡ take n tail → (n < 2) ⊎ (gate ≢ 1) → IsEnd tail
+shut_ahead [] word gate n is same shut = tt
+shut_ahead (a ∷ []) word gate n is same shut = tt
+shut_ahead (a ∷ b ∷ rest) word gate n is same shut = λ one. ⊎_elim (λ few. omega (arith, is, few)) (λ other. other (first ∙ one)) shut
+  where
+    some : 1 ≤ n
+    some = omega (arith, is)
+
+    first : gate ≡ a
+    first = ap (λ (l : List ℕ). get_or l 0 0) (sym (take-take 1 n (gate ∷ word) some) ∙ ap (λ (l : List ℕ). take 1 l) same ∙ take-take 1 n (a ∷ b ∷ rest) some)
 
 -- the gate and the length of a whole frame
 pub whole_ahead : (tail head word : List ℕ) (n len : ℕ) → take n head ≡ take n tail → n ≡ 5 → head ≡ 1 ∷ word → length word ≡ 4 → to_be_bytes w32 len ≡ word → 5 + len ≤ length tail → IsWholeFrame tail len

@@ -5,5 +5,7 @@ mod Doubt
 pub mod Reading
 mod Kept
 mod Frames
+mod Passing
+mod Untouched
 mod Creating
 pub mod Unique

@@ -1,10 +1,13 @@
 -- What callers see of a replay, and what it has read.
-use Rattle.std.specs.Prelude.{◌≡◌, ◌≢◌, ◌<◌, ◌≤◌, ◌+◌, ℕ, List, ◌∷◌, ◌++◌, length, drop, Bool}
+use Rattle.std.specs.Prelude.{◌≡◌, ◌≢◌, ◌<◌, ◌≤◌, ◌+◌, ◌^◌, ℕ, List, ◌∷◌, ◌++◌, length, take, drop, Bool, true, false}
+use Rattle.std.specs.Prelude.{Result, Ok, Err}
 use Rattle.std.specs.Int.{w32, to_be_bytes}
 use Rattle.std.specs.List.{AllByRecursion}
 use Rattle.lrs_journal.specs.Store.{store, body, IsPayload, IsEnd}
 use Rattle.lrs_journal.specs.declared.replay.Ahead.{Ahead}
 use Rattle.lrs_journal.specs.declared.replay.Ahead.TheVariants as ahead
+use Rattle.lrs_journal.specs.declared.replay.ReplayRefused.{ReplayRefused}
+use Rattle.lrs_journal.specs.declared.replay.ReplayRefused.TheVariants as refused
 use Rattle.lrs_journal.specs.declared.sizes.TheConstants.{FRAME_HEAD, LEAST_BYTES, MOST_BYTES}
 
 -- A replay over a disk.
@@ -54,3 +57,25 @@ abbrev pub IsAhead : List ℕ → Ahead → Type 0
 IsAhead bytes ahead.End = IsEnd bytes
 IsAhead bytes ahead.Torn = IsTorn bytes
 IsAhead bytes (ahead.Frame size) = IsWholeFrame bytes size
+
+-- what these bytes have at a place, and the payload if that is a whole frame
+abbrev pub IsFetched : List ℕ → ℕ → Ahead → List ℕ → Type 0
+IsFetched bytes place found payload = IsAhead (drop place bytes) found
+    × ((size : ℕ) → found ≡ ahead.Frame size → payload ≡ take size (drop (place + FRAME_HEAD) bytes))
+
+-- A frame of this length at a place of a disk of so many bytes, and its payload.
+pub record IsFrameWithin (place total size : ℕ) (payload : List ℕ) : Type 0 where
+  pub small : size < 2 ^ 32
+  pub fits : place + FRAME_HEAD + size ≤ total
+  pub long : length payload ≡ size
+
+-- What becomes of the place, the number of frames and the end by what was fetched, and what is answered.
+abbrev pub IsPassed : Result Ahead ReplayRefused → ℕ → ℕ → Bool → ℕ → ℕ → Bool → Result Bool ReplayRefused → Type 0
+IsPassed (Ok ahead.End) place number ended p n e said =
+    (p ≡ place) × (n ≡ number) × (e ≡ true) × (said ≡ Ok false)
+IsPassed (Ok ahead.Torn) place number ended p n e said =
+    (p ≡ place) × (n ≡ number) × (e ≡ ended) × (said ≡ Err (refused.Damaged number))
+IsPassed (Ok (ahead.Frame size)) place number ended p n e said =
+    (p ≡ place + (FRAME_HEAD + size)) × (n ≡ number + 1) × (e ≡ false) × (said ≡ Ok true)
+IsPassed (Err failure) place number ended p n e said =
+    (p ≡ place) × (n ≡ number) × (e ≡ ended) × (said ≡ Err failure)

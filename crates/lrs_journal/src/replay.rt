@@ -1,13 +1,14 @@
 // Reads the frames of a disk one by one, and makes its end a closed gate.
-ghost use Rattle.std.specs.Prelude.{◌≡◌, ◌≢◌, ◌⊎◌, ◌<◌, ◌≤◌, ◌+◌, ◌-◌, ◌++◌, [], ◌∷◌, List, ℕ, length, IfOk, IfErr, IfSome, Err, take, drop, IsNone, IsOk, IsErr, IsErrOf, true, false, not};
+ghost use Rattle.std.specs.Prelude.{◌≡◌, ◌≢◌, ◌⊎◌, ◌<◌, ◌≤◌, ◌+◌, ◌-◌, ◌^◌, ◌++◌, [], ◌∷◌, List, ℕ, length, min, IfOk, IfErr, IfSome, Ok, Err, OnOk, take, drop, IsNone, IsOk, IsErr, IsErrOf, true, false, not};
 ghost use Rattle.std.specs.Int.{w32, w64, to_be_bytes};
 ghost use Rattle.std.specs.Option.{ForSome};
 ghost use Rattle.lrs_disk.specs.Disk.{LeavesOnly};
 ghost use Rattle.lrs_disk.specs.Faults.{HasCause, Rises};
+ghost use Rattle.lrs_journal.specs.Create.{IsUntouched};
 ghost use Rattle.lrs_journal.specs.Store.{header, HasHeader, Stands, IsDamaged};
 ghost use Rattle.lrs_journal.specs.Journal.{frames_of, IsJournal, IsSynced, Stores, TellsAlike, HasCount};
 ghost use Rattle.lrs_journal.specs.Steps.{Reads};
-ghost use Rattle.lrs_journal.specs.Replay.{HasRead, IsAhead, IsNextPlace, IsSamePlace};
+ghost use Rattle.lrs_journal.specs.Replay.{HasRead, IsAhead, IsFetched, IsFrameWithin, IsNextPlace, IsPassed, IsSamePlace};
 ghost use Rattle.lrs_journal.specs.declared.replay.RecoverRefused.TheVariants as RecoverRefused;
 ghost use Rattle.lrs_journal.specs.declared.replay.Ahead.TheVariants as Ahead;
 ghost use Rattle.lrs_journal.specs.declared.replay.ReplayRefused.TheVariants as ReplayRefused;
@@ -104,6 +105,7 @@ fn limit_of(head: &[u8]) -> Option<u64>
 }
 
 // What stands where a gate is looked for.
+#[derive(Clone, Copy)]
 enum Ahead {
     // No open gate: the list ends.
     End,
@@ -113,52 +115,86 @@ enum Ahead {
     Frame { size: u32 },
 }
 
+// What stands ahead, by its gate and its length. So many of these five bytes are there, and so many bytes in all.
+fn ahead_of(gate: u8, size: u32, number: usize, left: u64) -> Ahead
+    ensures found { (bytes : List ℕ) → number ≡ min 5 (length bytes)
+        → take number (gate ∷ to_be_bytes w32 size) ≡ take number bytes → left ≡ length bytes → IsAhead bytes result }
+    ensures fits { (n : ℕ) → result ≡ Ahead.Frame n → (n < 2 ^ 32) × (FRAME_HEAD + n ≤ left) }
+{
+    // No byte, or a gate that is the last byte.
+    if number < 2 || gate != 1 {
+        return Ahead::End;
+    }
+    if number < 5 || left < FRAME_HEAD + u64::from(size) {
+        return Ahead::Torn;
+    }
+    Ahead::Frame { size }
+}
+
 // Looks at the gate and the length that stand at a place of a disk of so many bytes.
 fn look<D: Disk>(disk: &mut D, place: u64, total: u64) -> Result<Ahead, Failed>
     requires { (b : List ℕ) → Reads D.told disk.old b → total ≡ length b }
     ensures found { IfOk result (λ ahead. ForSome (D.told disk.old) (λ bytes. IsAhead (drop place bytes) ahead)) }
-    ensures fits { IfOk result (λ ahead. (size : ℕ) → ahead ≡ Ahead.Frame size → place + FRAME_HEAD + size ≤ total) }
-    ensures still { D.told disk.new ≡ D.told disk.old }
-    ensures any_moment { LeavesOnly D.time D.image_since disk.old disk.new (D.image disk.old) }
+    ensures fits { IfOk result (λ ahead. (size : ℕ) → ahead ≡ Ahead.Frame size → (size < 2 ^ 32)
+        × (place + FRAME_HEAD + size ≤ total)) }
+    ensures untouched { IsUntouched D.told D.image D.time D.image_since disk.old disk.new }
     ensures cause { HasCause (D.fault_count disk.old) (D.fault_count disk.new) result }
 {
     let mut head = [0; 5];
     let number = disk.read_at(place, &mut head)?;
     let [gate, a, b, c, d] = head;
-    // No byte, or a gate that is the last byte.
-    if number < 2 || gate != 1 {
-        return Ok(Ahead::End);
-    }
     let size = word_of([a, b, c, d]);
     let left = total.saturating_sub(place);
-    if number < 5 || left < FRAME_HEAD + u64::from(size) {
-        return Ok(Ahead::Torn);
-    }
-    Ok(Ahead::Frame { size })
+    Ok(ahead_of(gate, size, number, left))
 }
 
-// Reads so many bytes from a place on, and answers whether they were all there.
+// Makes a vector so long. What it holds then is of no use.
+fn size_to(into: &mut Vec<u8>, size: u32) -> Result<(), AllocError>
+    ensures { OnOk result (length into.new.items ≡ size) }
+{
+    into.clear();
+    into.resize(size as usize, 0)?;
+    Ok(())
+}
+
+// Fills a vector from a place on, and answers whether there were bytes enough.
+fn fill<D: Disk>(disk: &mut D, place: u64, into: &mut Vec<u8>) -> Result<bool, Failed>
+    ensures all { IfOk result (λ all. all ≡ true → ForSome (D.told disk.old)
+        (λ bytes. into.new.items ≡ take (length into.old.items) (drop place bytes))) }
+    ensures short { IfOk result (λ all. all ≡ false → ForSome (D.told disk.old)
+        (λ bytes. length bytes < place + length into.old.items)) }
+    ensures length { length into.new.items ≡ length into.old.items }
+    ensures untouched { IsUntouched D.told D.image D.time D.image_since disk.old disk.new }
+    ensures cause { HasCause (D.fault_count disk.old) (D.fault_count disk.new) result }
+{
+    let wanted = into.len();
+    let number = disk.read_at(place, into)?;
+    Ok(number == wanted)
+}
+
+// Reads the payload of a frame whose length is within the disk.
 fn load<D: Disk>(
     disk: &mut D,
     place: u64,
     size: u32,
     into: &mut Vec<u8>,
-) -> Result<bool, ReplayRefused>
-    ensures all { IfOk result (λ all. all ≡ true → ForSome (D.told disk.old)
-        (λ bytes. into.new.items ≡ take size (drop place bytes))) }
-    ensures length { IfOk result (λ _. length into.new.items ≡ size) }
-    ensures short { IfOk result (λ all. all ≡ false → ForSome (D.told disk.old)
-        (λ bytes. length bytes < place + size)) }
+) -> Result<Ahead, ReplayRefused>
+    requires there { (b : List ℕ) → Reads D.told disk.old b → place + size ≤ length b }
+    ensures whole { IfOk result (λ ahead. ForSome (D.told disk.old) (λ bytes. (ahead ≡ Ahead.Frame size)
+        × (into.new.items ≡ take size (drop place bytes)))) }
+    ensures length { IfOk result (λ ahead. (n : ℕ) → ahead ≡ Ahead.Frame n → (n ≡ size)
+        × (length into.new.items ≡ n)) }
     ensures damaged { (k : ℕ) → result ≢ Err (ReplayRefused.Damaged k) }
-    ensures still { D.told disk.new ≡ D.told disk.old }
-    ensures any_moment { LeavesOnly D.time D.image_since disk.old disk.new (D.image disk.old) }
+    ensures untouched { IsUntouched D.told D.image D.time D.image_since disk.old disk.new }
     ensures cause { HasCount (D.fault_count disk.old) (D.fault_count disk.new) (IsErrOf result ReplayRefused.Failed)
         (IsOk result) }
 {
-    into.clear();
-    into.resize(size as usize, 0)?;
-    let number = disk.read_at(place, into)?;
-    Ok(number == size as usize)
+    size_to(into, size)?;
+    let all = fill(disk, place, into)?;
+    if all {
+        return Ok(Ahead::Frame { size });
+    }
+    Ok(Ahead::Torn)
 }
 
 // Reads the frame that stands at a place of a disk of so many bytes into a vector, if it is whole.
@@ -169,25 +205,46 @@ fn fetch<D: Disk>(
     into: &mut Vec<u8>,
 ) -> Result<Ahead, ReplayRefused>
     requires { (b : List ℕ) → Reads D.told disk.old b → total ≡ length b }
-    ensures found { IfOk result (λ ahead. ForSome (D.told disk.old) (λ bytes. IsAhead (drop place bytes) ahead)) }
-    ensures fits { IfOk result (λ ahead. (size : ℕ) → ahead ≡ Ahead.Frame size → place + FRAME_HEAD + size ≤ total) }
-    ensures length { IfOk result (λ ahead. (size : ℕ) → ahead ≡ Ahead.Frame size → length into.new.items ≡ size) }
-    ensures payload { IfOk result (λ ahead. (size : ℕ) → ahead ≡ Ahead.Frame size → ForSome (D.told disk.old)
-        (λ bytes. into.new.items ≡ take size (drop (place + FRAME_HEAD) bytes))) }
+    ensures found { IfOk result (λ ahead. ForSome (D.told disk.old)
+        (λ bytes. IsFetched bytes place ahead into.new.items)) }
+    ensures fits { IfOk result (λ ahead. (size : ℕ) → ahead ≡ Ahead.Frame size
+        → IsFrameWithin place total size into.new.items) }
     ensures damaged { (k : ℕ) → result ≢ Err (ReplayRefused.Damaged k) }
-    ensures still { D.told disk.new ≡ D.told disk.old }
-    ensures any_moment { LeavesOnly D.time D.image_since disk.old disk.new (D.image disk.old) }
+    ensures untouched { IsUntouched D.told D.image D.time D.image_since disk.old disk.new }
     ensures cause { HasCount (D.fault_count disk.old) (D.fault_count disk.new) (IsErrOf result ReplayRefused.Failed)
         (IsOk result) }
 {
     match look(disk, place, total)? {
-        Ahead::Frame { size } => {
-            if !load(disk, place + FRAME_HEAD, size, into)? {
-                return Ok(Ahead::Torn);
-            }
-            Ok(Ahead::Frame { size })
+        Ahead::End => Ok(Ahead::End),
+        Ahead::Torn => Ok(Ahead::Torn),
+        Ahead::Frame { size } => load(disk, place + FRAME_HEAD, size, into),
+    }
+}
+
+// Goes past what was fetched, if it is a frame, and answers whether there was one.
+fn pass(
+    place: &mut u64,
+    number: &mut u64,
+    ended: &mut bool,
+    fetched: Result<Ahead, ReplayRefused>,
+) -> Result<bool, ReplayRefused>
+    requires room { (size : ℕ) → fetched ≡ Ok (Ahead.Frame size) → place.old + FRAME_HEAD + size < 2 ^ 64 }
+    requires few { number.old ≤ place.old }
+    ensures { IsPassed fetched place.old number.old ended.old place.new number.new ended.new result }
+{
+    match fetched {
+        Ok(Ahead::End) => {
+            *ended = true;
+            Ok(false)
         }
-        ahead => Ok(ahead),
+        Ok(Ahead::Torn) => Err(ReplayRefused::Damaged { k: *number }),
+        Ok(Ahead::Frame { size }) => {
+            *place += FRAME_HEAD + u64::from(size);
+            *number += 1;
+            *ended = false;
+            Ok(true)
+        }
+        Err(refused) => Err(refused),
     }
 }
 
@@ -315,19 +372,8 @@ impl<D: Disk> Replay<D> {
         ensures cause { HasCount (D.fault_count self.old.disk) (D.fault_count self.new.disk)
             (IsErrOf result ReplayRefused.Failed) (IsOk result) }
     {
-        match fetch(&mut self.disk, self.place, self.size, into)? {
-            Ahead::End => {
-                self.ended = true;
-                Ok(false)
-            }
-            Ahead::Torn => Err(ReplayRefused::Damaged { k: self.number }),
-            Ahead::Frame { size } => {
-                self.place += FRAME_HEAD + u64::from(size);
-                self.number += 1;
-                self.ended = false;
-                Ok(true)
-            }
-        }
+        let fetched = fetch(&mut self.disk, self.place, self.size, into);
+        pass(&mut self.place, &mut self.number, &mut self.ended, fetched)
     }
 
     /// The journal that was read, with a closed gate at its end. `next` has answered false before.

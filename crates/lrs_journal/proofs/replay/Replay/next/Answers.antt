@@ -1,53 +1,90 @@
-use Rattle.std.proofs.Common.{◌≡◌, ◌∙◌, ◌+◌, List, ℕ, [], ◌∷◌, ◌++◌, take, drop, Some, ap, subst, sym, arith}
-use Rattle.lrs_disk.proofs.Moments.{now_has}
-use Rattle.lrs_journal.specs.Store.{Stands, IsDamaged}
-use Rattle.lrs_journal.specs.Replay.{Replay, HasRead, HasReadTo, IsAhead, IsWholeFrame}
-use Rattle.lrs_journal.proofs.Frames.{damaged_behind, ended_stands, read_whole, replay_kept, replay_more}
+use Rattle.std.proofs.Common.{◌≡◌, ◌∙◌, List, ℕ, Some, ap, sym, arith}
+use Rattle.lrs_disk.proofs.Moments.{now_has, weaker_run}
+use Rattle.lrs_journal.specs.Replay.{Replay}
+use Rattle.lrs_journal.proofs.Frames.{replay_kept}
+use Rattle.lrs_journal.proofs.Passing.{count_passed, damaged_passed, end_passed, ended_passed, frame_passed, frame_within, moved_passed, refused_passed, replay_passed}
 use Rattle.lrs_journal.proofs.replay.Replay.next.Goals as goal
 
-pub invariant_of-self-in-Frame : goal.invariant_of-self-in-Frame
-invariant_of-self-in-Frame g c =
+pub pass-requires-clause-room : goal.pass-requires-clause-room
+pass-requires-clause-room g c size is =
+    let i = c.self.inside in
+    let f = c.fetch-fetched in
+    let frame = frame_within f.result i.place i.size size f.new.into.items f.ensures.fits is in omega (arith, frame.fits)
+
+pub invariant_of-self : goal.invariant_of-self
+invariant_of-self g c =
     let I = g.D.Disk.image in
     let told = g.D.Disk.told in
-    let now = now_has g.D.Disk.time g.D.Disk.image_since I g.met.D.Disk.counts_now g.met.D.Disk.only_now in
     let i = c.self.inside in
-    let d2 = c.fetch.new.disk in
-    let same : told d2 ≡ told i.disk = c.fetch.ensures.still in
-    let kept = replay_kept (told i.disk) (told d2) (I i.disk) (I d2) i.limit i.size i.place i.number i.ended c.self.invariant same
-    (λ f left. now i.disk d2 (I i.disk) c.fetch.ensures.any_moment f left) in
-    replay_more (told d2) (I d2) i.limit i.size i.place i.number i.ended c.fetch.new.into.items c.from.result kept (omega (arith, c.from.ensures)) (c.in_ok-fetch.ensures.length c.in-Frame.size c.in-Frame.is ∙ sym c.from.ensures)
-    (λ x told_x. subst (IsWholeFrame (drop i.place x)) (sym c.from.ensures) (subst (IsAhead (drop i.place x)) c.in-Frame.is (c.in_ok-fetch.ensures.found x (sym same ∙ told_x))))
-    (λ x told_x. subst (λ (n : ℕ). c.fetch.new.into.items ≡ take n (drop (i.place + 5) x)) (sym c.from.ensures) (c.in_ok-fetch.ensures.payload c.in-Frame.size c.in-Frame.is x (sym same ∙ told_x)))
+    let f = c.fetch-fetched in
+    let d1 = f.new.disk in
+    let now = now_has g.D.Disk.time g.D.Disk.image_since I g.met.D.Disk.counts_now g.met.D.Disk.only_now i.disk d1 (I i.disk) f.ensures.untouched.1 in
+    let passed = replay_passed (told i.disk) i.limit i.size i.place i.number i.ended f.new.into.items c.pass.new.place c.pass.new.number c.pass.new.ended c.pass.result (I i.disk) f.result c.pass.ensures
+    f.ensures.found f.ensures.fits c.self.invariant in
+    replay_kept (told i.disk) (told d1) (I i.disk) (I d1) i.limit i.size c.pass.new.place c.pass.new.number c.pass.new.ended passed f.ensures.untouched.0 now
 
-pub returns-in-Frame-clause-synced : goal.returns-in-Frame-clause-synced
-returns-in-Frame-clause-synced g c = (invariant_of-self-in-Frame g c).synced
+pub returns-clause-synced : goal.returns-clause-synced
+returns-clause-synced g c = (invariant_of-self g c).synced
 
-pub returns-in-Frame-clause-frame : goal.returns-in-Frame-clause-frame
-returns-in-Frame-clause-frame g c _ =
-    let told = g.D.Disk.told in
+pub returns-clause-frame : goal.returns-clause-frame
+returns-clause-frame g c =
     let i = c.self.inside in
-    subst (λ (r : Replay _). (x : List ℕ) → told r.disk ≡ Some x → (payloads : List (List ℕ)) → HasRead x r payloads
-    → HasReadTo x i.limit (i.place + (5 + c.from.result)) (i.number + 1) (payloads ++ c.fetch.new.into.items ∷ [])) c.self.view_is
-    (λ x told_x payloads h. read_whole x i.limit i.place i.number payloads c.fetch.new.into.items c.from.result h (omega (arith, c.from.ensures))
-    (subst (IsWholeFrame (drop i.place x)) (sym c.from.ensures) (subst (IsAhead (drop i.place x)) c.in-Frame.is (c.in_ok-fetch.ensures.found x told_x)))
-    (c.in_ok-fetch.ensures.length c.in-Frame.size c.in-Frame.is ∙ sym c.from.ensures)
-    (subst (λ (n : ℕ). c.fetch.new.into.items ≡ take n (drop (i.place + 5) x)) (sym c.from.ensures) (c.in_ok-fetch.ensures.payload c.in-Frame.size c.in-Frame.is x told_x)))
+    let f = c.fetch-fetched in
+    rw (sym c.self.view_is)
+    (frame_passed (g.D.Disk.told i.disk) i.limit i.size i.place i.number i.ended f.new.into.items c.pass.new.place c.pass.new.number c.pass.new.ended c.pass.result f.result c.pass.ensures f.ensures.found f.ensures.fits)
 
-pub returns-in-End-clause-end : goal.returns-in-End-clause-end
-returns-in-End-clause-end g c _ =
-    let told = g.D.Disk.told in
-    let i = c.self.inside in (
-      (ap (λ (r : Replay _). r.place) c.self.view_is, ap (λ (r : Replay _). r.number) c.self.view_is),
-      subst (λ (r : Replay _). (x : List ℕ) → told r.disk ≡ Some x → (payloads : List (List ℕ)) → HasRead x r payloads
-          → HasReadTo x i.limit i.place i.number payloads × Stands x r.limit payloads) c.self.view_is
-          (λ x told_x payloads h. (h, ended_stands x i.limit i.place i.number payloads h (subst (IsAhead (drop i.place x)) c.in-End.is (c.in_ok-fetch.ensures.found x told_x)))),
-    )
+pub returns-clause-end : goal.returns-clause-end
+returns-clause-end g c =
+    let i = c.self.inside in
+    let f = c.fetch-fetched in
+    rw (sym c.self.view_is)
+    (end_passed (g.D.Disk.told i.disk) i.limit i.size i.place i.number i.ended f.new.into.items c.pass.new.place c.pass.new.number c.pass.new.ended c.pass.result f.result c.pass.ensures f.ensures.found)
 
-pub returns-in-Torn-clause-damaged : goal.returns-in-Torn-clause-damaged
-returns-in-Torn-clause-damaged g c k is =
-    let told = g.D.Disk.told in
-    let i = c.self.inside in (
-      cc (is, ap (λ (r : Replay _). r.number) c.self.view_is),
-      subst (λ (r : Replay _). (x : List ℕ) → told r.disk ≡ Some x → (payloads : List (List ℕ)) → HasRead x r payloads → IsDamaged x r.limit payloads) c.self.view_is
-          (λ x told_x payloads h. damaged_behind x i.limit i.place i.number payloads h (subst (IsAhead (drop i.place x)) c.in-Torn.is (c.in_ok-fetch.ensures.found x told_x))),
-    )
+pub returns-clause-moved : goal.returns-clause-moved
+returns-clause-moved g c =
+    let i = c.self.inside in
+    let f = c.fetch-fetched in
+    rw (sym c.self.view_is)
+    (moved_passed (g.D.Disk.told i.disk) i.limit i.size i.place i.number i.ended f.new.into.items c.pass.new.place c.pass.new.number c.pass.new.ended c.pass.result f.result c.pass.ensures f.ensures.fits)
+
+pub returns-clause-ended : goal.returns-clause-ended
+returns-clause-ended g c =
+    let i = c.self.inside in
+    let f = c.fetch-fetched in
+    ended_passed (g.D.Disk.told i.disk) i.limit i.size i.place i.number i.ended f.new.into.items c.pass.new.place c.pass.new.number c.pass.new.ended c.pass.result f.result c.pass.ensures
+
+pub returns-clause-damaged : goal.returns-clause-damaged
+returns-clause-damaged g c =
+    let i = c.self.inside in
+    let f = c.fetch-fetched in
+    rw (sym c.self.view_is)
+    (damaged_passed (g.D.Disk.told i.disk) i.limit i.size i.place i.number i.ended f.new.into.items c.pass.new.place c.pass.new.number c.pass.new.ended c.pass.result f.result c.pass.ensures f.ensures.found
+    f.ensures.damaged)
+
+pub returns-clause-refused : goal.returns-clause-refused
+returns-clause-refused g c =
+    let i = c.self.inside in
+    let f = c.fetch-fetched in
+    rw (sym c.self.view_is)
+    (refused_passed (g.D.Disk.told i.disk) i.limit i.size i.place i.number i.ended f.new.into.items c.pass.new.place c.pass.new.number c.pass.new.ended c.pass.result f.result c.pass.ensures)
+
+pub returns-clause-limit : goal.returns-clause-limit
+returns-clause-limit g c = ap (λ (r : Replay _). r.limit) c.self.view_is
+
+pub returns-clause-still : goal.returns-clause-still
+returns-clause-still g c = c.fetch-fetched.ensures.untouched.0 ∙ ap (λ (r : Replay _). g.D.Disk.told r.disk) c.self.view_is
+
+pub returns-clause-any_moment : goal.returns-clause-any_moment
+returns-clause-any_moment g c =
+    let i = c.self.inside in
+    rw (sym c.self.view_is)
+    (weaker_run g.D.Disk.time g.D.Disk.image_since g.D.Disk.image g.met.D.Disk.counts_now g.met.D.Disk.only_now i.disk c.fetch-fetched.new.disk (g.D.Disk.image i.disk) (λ (x : List ℕ). g.D.Disk.told i.disk ≡ Some x)
+    c.fetch-fetched.ensures.untouched.1 c.self.invariant.synced)
+
+pub returns-clause-cause : goal.returns-clause-cause
+returns-clause-cause g c =
+    let i = c.self.inside in
+    let f = c.fetch-fetched in
+    rw (sym c.self.view_is)
+    (count_passed (g.D.Disk.told i.disk) i.limit i.size i.place i.number i.ended f.new.into.items c.pass.new.place c.pass.new.number c.pass.new.ended c.pass.result (g.D.Disk.fault_count i.disk) (g.D.Disk.fault_count f.new.disk)
+    f.result c.pass.ensures f.ensures.cause)

@@ -1,0 +1,36 @@
+use Rattle.std.proofs.Common.{drop, refl, sym, subst, ◌∙◌, arith}
+use Rattle.lrs_journal.specs.Replay.{IsAhead}
+use Rattle.lrs_journal.proofs.Passing.{fetched_frame, fetched_within}
+use Rattle.lrs_journal.proofs.Untouched.{untouched_then}
+use Rattle.lrs_journal.proofs.replay.fetch.Goals as goal
+
+pub load-requires : goal.load-requires
+load-requires g c = record {
+  there = λ b told_b.
+      let fits = c.in_ok-look.ensures.fits c.in-Frame.size c.in-Frame.is in
+      let total = c.requires b (sym c.look.ensures.untouched.0 ∙ told_b) in omega (arith, fits.1, total);
+}
+
+pub returns-in-End-clause-found : goal.returns-in-End-clause-found
+returns-in-End-clause-found g c x told_x = (subst (IsAhead (drop c.args.place x)) c.in-End.is (c.in_ok-look.ensures.found x told_x), λ size is. absurd (cc is))
+
+pub returns-in-Torn-clause-found : goal.returns-in-Torn-clause-found
+returns-in-Torn-clause-found g c x told_x = (subst (IsAhead (drop c.args.place x)) c.in-Torn.is (c.in_ok-look.ensures.found x told_x), λ size is. absurd (cc is))
+
+pub returns-in-Frame-clause-found : goal.returns-in-Frame-clause-found
+returns-in-Frame-clause-found g c =
+    fetched_frame c.load.result (g.D.Disk.told c.args.disk.now) (g.D.Disk.told c.look.new.disk) c.args.place c.in-Frame.size c.load.new.into.items c.look.ensures.untouched.0
+    (λ x told_x. subst (IsAhead (drop c.args.place x)) c.in-Frame.is (c.in_ok-look.ensures.found x told_x)) c.load.ensures.whole
+
+pub returns-in-Frame-clause-fits : goal.returns-in-Frame-clause-fits
+returns-in-Frame-clause-fits g c =
+    let fits = c.in_ok-look.ensures.fits c.in-Frame.size c.in-Frame.is in
+    fetched_within c.load.result c.args.place c.args.total c.in-Frame.size c.load.new.into.items fits.0 fits.1 c.load.ensures.length
+
+pub returns-in-Frame-clause-untouched : goal.returns-in-Frame-clause-untouched
+returns-in-Frame-clause-untouched g c =
+    untouched_then g.D.Disk.told g.D.Disk.image g.D.Disk.time g.D.Disk.image_since g.met.D.Disk.counts_now g.met.D.Disk.only_now c.args.disk.now c.look.new.disk c.load.new.disk
+    c.look.ensures.untouched c.load.ensures.untouched
+
+pub returns-in-Frame-clause-cause : goal.returns-in-Frame-clause-cause
+returns-in-Frame-clause-cause g c = rw (c.in_ok-look.ensures.cause.kept refl) at c.load.ensures.cause
