@@ -1,5 +1,4 @@
 pub mod Lists
 pub mod Ids
-pub mod Decimals
 pub mod Unbroken
 pub mod UnitLaws

@@ -15,7 +15,9 @@ use Rattle.lrs_names.specs.Members.{is_string_that, text_of, has_only, has_membe
 use Rattle.lrs_names.specs.Members.{text_under}
 use Rattle.lrs_names.specs.Rules.{unless, least}
 use Rattle.cmi5_course.specs.Places.{Placed, placed, nodes_in, nodes_under}
-use Rattle.cmi5_course.specs.Units.{is_decimal, is_at_most, is_score, spelling_of, number_under}
+use Rattle.cmi5_course.specs.Units.{is_at_most, is_score}
+use Rattle.lrs_decimal.specs.Range.{is_decimal}
+use Rattle.lrs_names.specs.Members.{spelling_of, spelling_under}
 use Rattle.cmi5_course.specs.Rules.{is_course, is_block, is_unit, is_node, is_of_kind, has_title, unit_members}
 use Rattle.cmi5_course.specs.Rules.{id_faults, move_on_faults, mastery_faults, method_faults, form_faults}
 use Rattle.cmi5_course.specs.Rules.{shared_faults, title_faults, launch_faults, content_faults, node_faults}

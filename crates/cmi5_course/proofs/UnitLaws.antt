@@ -21,7 +21,9 @@ use Rattle.lrs_names.specs.Members.{is_string_that, is_word, has_only, has_membe
 use Rattle.lrs_names.specs.Rules.{unless, least}
 use Rattle.cmi5_course.specs.Places.{Placed, nodes_in}
 use Rattle.cmi5_course.specs.Urls.{is_launchable_if_read, is_unit_url}
-use Rattle.cmi5_course.specs.Units.{AssignableUnit, is_decimal, number_under, unit_of}
+use Rattle.cmi5_course.specs.Units.{AssignableUnit, unit_of}
+use Rattle.lrs_decimal.specs.Range.{is_decimal}
+use Rattle.lrs_names.specs.Members.{spelling_under}
 use Rattle.cmi5_course.specs.Rules.{is_course, is_block, is_unit, is_node, is_of_kind, is_unit_node, has_title}
 use Rattle.cmi5_course.specs.Rules.{unit_members, move_on_faults, mastery_faults, method_faults, url_faults}
 use Rattle.cmi5_course.specs.Rules.{launch_faults, node_faults, broken_rule}
@@ -115,7 +117,7 @@ address_known j stands none =
     let read = read_url (parse_url None text.0) text.2 in
     (read.0, ap (λ (o : Option (List ℕ)). parse_url None (unwrap_or o [])) text.1 ∙ read.1)
 
-score_known : (o : Option (List ℕ)) (j : Json) → o ≡ number_under (codes "masteryScore") j
+score_known : (o : Option (List ℕ)) (j : Json) → o ≡ spelling_under (codes "masteryScore") j
     → least (launch_faults j) ≡ None → IfSome o (λ s. is_decimal s ≡ true)
 score_known None j e none = tt
 score_known (Some s) j e none = found_score (find (codes "masteryScore") j) s (mastery_unbroken j none) (sym e)
@@ -124,7 +126,7 @@ unit_sound : (j : Json) → is_unit j ≡ true → least (launch_faults j) ≡ N
 unfolding unit_of
 unit_sound j is none = record {
   address = address_known j (has_url j is) none;
-  decimal = score_known (number_under (codes "masteryScore") j) j refl none;
+  decimal = score_known (spelling_under (codes "masteryScore") j) j refl none;
 }
 
 -- ---- one node among all

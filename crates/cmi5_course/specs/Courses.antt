@@ -12,7 +12,8 @@ use Rattle.lrs_json.specs.Fits.{Fits}
 use Rattle.lrs_json.specs.View.{view}
 use Rattle.lrs_json.specs.declared.tree.Tree.{Tree}
 use Rattle.lrs_names.specs.Members.{text_under}
-use Rattle.cmi5_course.specs.Units.{AssignableUnit, is_decimal, unit_of}
+use Rattle.cmi5_course.specs.Units.{AssignableUnit, unit_of}
+use Rattle.lrs_decimal.specs.Range.{is_decimal}
 use Rattle.cmi5_course.specs.Places.{Placed, nodes_in}
 use Rattle.cmi5_course.specs.Rules.{is_unit_node, broken_rule}
 use Rattle.cmi5_course.specs.declared.refused.CourseRefused.{CourseRefused}

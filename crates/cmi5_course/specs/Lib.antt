@@ -5,3 +5,4 @@ pub mod Places
 pub mod Rules
 pub mod Courses
 pub mod Launches
+pub mod Reasons

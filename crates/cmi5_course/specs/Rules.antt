@@ -1,5 +1,6 @@
--- The twelve rules on a course (cmi5 Quartz, section 13), by their numbers: those that it breaks, and the least. A rule
--- on a member is met if that is missing or if its holder is no object.
+-- The twelve rules on a course, by their numbers: those that it breaks, and the least. What they ask is of cmi5 Quartz,
+-- section 13; the JSON form is the store's own. A rule on a member is met if that is missing or if its holder is no
+-- object.
 use Rattle.std.specs.Prelude.{ℕ, nat_le, List, [], ◌∷◌, ◌++◌, Bool, true, false, not, ◌&&◌, ◌||◌, Option, codes}
 use Rattle.std.specs.Prelude.{count_by, flat_map, is_some, is_none, if◌then◌else◌}
 use Rattle.std.specs.List.{list_all}
@@ -13,7 +14,8 @@ use Rattle.lrs_names.specs.Members.{is_string, is_string_that, is_word, has_only
 use Rattle.lrs_names.specs.Members.{faults_of_member, text_under}
 use Rattle.lrs_names.specs.Rules.{unless, least}
 use Rattle.cmi5_course.specs.Words.{move_on_of, method_of}
-use Rattle.cmi5_course.specs.Units.{is_score, spelling_of}
+use Rattle.cmi5_course.specs.Units.{is_score}
+use Rattle.lrs_names.specs.Members.{spelling_of}
 use Rattle.cmi5_course.specs.Urls.{is_unit_url}
 use Rattle.cmi5_course.specs.Places.{Placed, nodes_in}
 use Rattle.cmi5_course.specs.declared.rules.TheConstants.{MOST_UNITS, DEEPEST}

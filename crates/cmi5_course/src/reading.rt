@@ -5,7 +5,8 @@ ghost use Rattle.lrs_names.specs.Iris.{is_iri};
 ghost use Rattle.lrs_names.specs.Members.{text_under, has_member_that, is_string_that};
 ghost use Rattle.lrs_names.specs.Rules.{least};
 ghost use Rattle.cmi5_course.specs.Places.{seen};
-ghost use Rattle.cmi5_course.specs.Units.{number_under, move_on_in, method_in, unit_of};
+ghost use Rattle.cmi5_course.specs.Units.{move_on_in, method_in, unit_of};
+ghost use Rattle.lrs_names.specs.Members.{spelling_under};
 ghost use Rattle.cmi5_course.specs.Rules.{node_faults};
 ghost use Rattle.cmi5_course.specs.Courses.{kind_of, unit_if, node_of};
 
@@ -55,7 +56,7 @@ fn method_in(tree: &Tree) -> Method
 }
 
 fn mastery_text(tree: &Tree) -> Option<&Text>
-    ensures { option_map (λ text. text.now) result ≡ number_under (codes "masteryScore") (view tree.now) }
+    ensures { option_map (λ text. text.now) result ≡ spelling_under (codes "masteryScore") (view tree.now) }
 {
     match tree.get("masteryScore") {
         Some(Tree::Number(spelling)) => Some(spelling),
@@ -64,7 +65,7 @@ fn mastery_text(tree: &Tree) -> Option<&Text>
 }
 
 fn copy_mastery(tree: &Tree) -> Result<Option<Text>, Memory>
-    ensures { IfOk result (λ copy. copy ≡ number_under (codes "masteryScore") (view tree.now)) }
+    ensures { IfOk result (λ copy. copy ≡ spelling_under (codes "masteryScore") (view tree.now)) }
 {
     match mastery_text(tree) {
         Some(spelling) => Ok(Some(spelling.clone()?)),

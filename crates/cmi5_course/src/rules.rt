@@ -6,7 +6,8 @@ ghost use Rattle.lrs_json.specs.View.{view};
 ghost use Rattle.lrs_names.specs.Members.{has_member_that, is_string_that, is_word, faults_of_member};
 ghost use Rattle.lrs_names.specs.Rules.{least, IsLeast};
 ghost use Rattle.cmi5_course.specs.Places.{seen, nodes_in};
-ghost use Rattle.cmi5_course.specs.Units.{is_decimal, is_at_most, is_score};
+ghost use Rattle.cmi5_course.specs.Units.{is_at_most, is_score};
+ghost use Rattle.lrs_decimal.specs.Range.{is_decimal};
 ghost use Rattle.cmi5_course.specs.Rules.{has_title, is_course, is_of_kind, is_block, is_unit, is_node, has_some_member, is_title, has_some_item, id_faults, title_faults, children_faults, move_on_faults, mastery_faults, method_faults, url_faults, text_faults, type_faults, form_faults, shared_faults, launch_faults, content_faults, node_faults, have_distinct_ids, is_unit_node, is_within_limits, nodes_faults, course_faults, broken_rule};
 
 use crate::places::{Placed, nodes_in};
@@ -168,22 +169,15 @@ fn broken_move_on(tree: &Tree) -> Option<u8>
     }
 }
 
-fn decimal_of(spelling: &[u8]) -> Option<Decimal>
-    ensures some { is_some result ≡ is_decimal spelling.now }
-    ensures value { IfSome result (λ d. HasValue d spelling.now) }
-{
-    Decimal::of(spelling)
-}
-
 // Whether both are numbers in range, and the first isn't greater.
 #[tactic(auto, unfolding(crate::specs::Units::is_at_most))]
 fn is_at_most(a: &[u8], b: &[u8]) -> bool
     ensures { result ≡ is_at_most a.now b.now }
 {
-    let Some(first) = decimal_of(a) else {
+    let Some(first) = Decimal::of(a) else {
         return false;
     };
-    let Some(second) = decimal_of(b) else {
+    let Some(second) = Decimal::of(b) else {
         return false;
     };
     first.cmp(&second).is_le()

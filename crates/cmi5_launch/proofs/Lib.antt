@@ -1,3 +1,4 @@
+pub mod Durations
 pub mod Escapes
 pub mod LongerIris
 pub mod Places

@@ -1,4 +1,5 @@
--- The names that cmi5 gives to verbs, categories, extensions and a document (cmi5 Quartz, sections 9.3, 9.6 and 10.2).
+-- The names that cmi5 gives to verbs, categories, extensions, types of activities and a document (cmi5 Quartz, sections
+-- 9.3 to 9.6 and 10.2).
 use Rattle.std.specs.Prelude.{ℕ, List, codes}
 
 -- ---- verbs (section 9.3)
@@ -57,6 +58,19 @@ move_on = codes "https://w3id.org/xapi/cmi5/context/extensions/moveon"
 
 abbrev pub launch_parameters : List ℕ
 launch_parameters = codes "https://w3id.org/xapi/cmi5/context/extensions/launchparameters"
+
+-- ---- extensions of the result (section 9.5.5)
+
+abbrev pub reason : List ℕ
+reason = codes "https://w3id.org/xapi/cmi5/result/extensions/reason"
+
+-- ---- types of activities (section 9.4)
+
+abbrev pub block_type : List ℕ
+block_type = codes "https://w3id.org/xapi/cmi5/activitytype/block"
+
+abbrev pub course_type : List ℕ
+course_type = codes "https://w3id.org/xapi/cmi5/activitytype/course"
 
 -- ---- documents (section 10.2)
 

@@ -1,8 +1,9 @@
-ghost use Rattle.std.specs.Prelude.{◌≡◌, IfOk, IsTrue};
+ghost use Rattle.std.specs.Prelude.{◌≡◌, ◌∷◌, [], IfOk, IsTrue};
 ghost use Rattle.lrs_json.specs.View.{view};
 ghost use Rattle.lrs_names.specs.Iris.{is_iri};
 ghost use Rattle.cmi5_launch.specs.Activities.{activity_json, activity_text};
 ghost use Rattle.cmi5_launch.specs.Data.{only_activity};
+ghost use Rattle.cmi5_launch.specs.Made.{categories_json};
 
 use lrs_agent_texts::building::{push_words, whole};
 use lrs_json::{Items, Memory, Text, Tree};
@@ -39,5 +40,15 @@ pub fn only_activity(alloc: Global, id: &str) -> Result<Tree, Memory>
 {
     let mut items = Items::new(alloc);
     items.push(activity(alloc, id)?)?;
+    Ok(Tree::List(items))
+}
+
+/// An array of the Activities of these ids.
+pub fn two_activities(alloc: Global, first: &str, second: &str) -> Result<Tree, Memory>
+    ensures { IfOk result (λ tree. view tree ≡ categories_json (first.now ∷ second.now ∷ [])) }
+{
+    let mut items = Items::new(alloc);
+    items.push(activity(alloc, first)?)?;
+    items.push(activity(alloc, second)?)?;
     Ok(Tree::List(items))
 }

@@ -139,7 +139,8 @@ fn grouping(alloc: Global, publisher: &Iri) -> Result<Tree, Memory>
     Ok(whole(built))
 }
 
-fn session_alone(alloc: Global, session: &Id) -> Result<Tree, Memory>
+/// The context's extensions of a statement that tells its session and nothing else.
+pub fn session_alone(alloc: Global, session: &Id) -> Result<Tree, Memory>
     ensures { IfOk result (λ tree. view tree ≡ template_extensions session.now) }
 {
     let mut built = Items::new(alloc);

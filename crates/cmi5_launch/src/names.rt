@@ -1,4 +1,5 @@
-//! The names that cmi5 gives to verbs, categories, extensions and a document (cmi5 Quartz, sections 9.3, 9.6 and 10.2).
+//! The names that cmi5 gives to verbs, categories, extensions, types of activities and a document (cmi5 Quartz,
+//! sections 9.3 to 9.6 and 10.2).
 
 /// A unit was launched (section 9.3.1).
 pub const LAUNCHED: &str = "http://adlnet.gov/expapi/verbs/launched";
@@ -37,6 +38,14 @@ pub const MOVE_ON: &str = "https://w3id.org/xapi/cmi5/context/extensions/moveon"
 /// What is handed to the unit's content (section 9.6.3.6).
 pub const LAUNCH_PARAMETERS: &str =
     "https://w3id.org/xapi/cmi5/context/extensions/launchparameters";
+
+/// Why a unit was waived (section 9.5.5.2).
+pub const REASON: &str = "https://w3id.org/xapi/cmi5/result/extensions/reason";
+
+/// The activity is a block of a course (section 9.4).
+pub const BLOCK_TYPE: &str = "https://w3id.org/xapi/cmi5/activitytype/block";
+/// The activity is a course (section 9.4).
+pub const COURSE_TYPE: &str = "https://w3id.org/xapi/cmi5/activitytype/course";
 
 /// The state id of a unit's launch data (section 10.2).
 pub const LAUNCH_DATA: &str = "LMS.LaunchData";

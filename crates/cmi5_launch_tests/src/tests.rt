@@ -1,7 +1,7 @@
 ghost use Rattle.std.specs.Prelude.{◌≡◌, IfOk};
 ghost use Rattle.cmi5_launch.specs.Addresses.{IsAddress};
 
-use cmi5_course::{Method, Mode, MoveOn, Unit};
+use cmi5_course::{Kind, Method, Mode, MoveOn, Reason, Unit};
 use cmi5_launch::{Made, activity_id, launch_address, launch_data, made_statement};
 use lrs_agents::{Agent, Ifi};
 use lrs_json::{Text, write};
@@ -78,7 +78,7 @@ fn id(text: &[u8]) -> Result<Id, Fail> {
     Ok(Id::read(text).ok_or("no id")?)
 }
 
-// The id of the second node of the first course.
+// The id of node 2 of course 0.
 fn activity(alloc: Global) -> Result<Iri, Fail> {
     named(alloc, 0, 2)
 }
@@ -350,16 +350,28 @@ const LAUNCHED: &str =
 const LAUNCHED_FULLY: &str =
     r#"{"actor":{"objectType":"Agent","name":"Zoë \"A&B\" 50%\\","account":{"homePage":"https://p.example","name":"k=1+2"}},"verb":{"id":"http://adlnet.gov/expapi/verbs/launched","display":{"en":"launched"}},"object":{"objectType":"Activity","id":"http://127.0.0.1:8080/activities/0/2"},"context":{"registration":"00000000-0000-4000-8000-000000000010","contextActivities":{"grouping":[{"objectType":"Activity","id":"http://c/u"}],"category":[{"objectType":"Activity","id":"https://w3id.org/xapi/cmi5/context/categories/cmi5"}]},"extensions":{"https://w3id.org/xapi/cmi5/context/extensions/sessionid":"00000000-0000-4000-8000-000000000020","https://w3id.org/xapi/cmi5/context/extensions/launchmode":"Review","https://w3id.org/xapi/cmi5/context/extensions/launchurl":"HTTPS://AU.Example/U#f","https://w3id.org/xapi/cmi5/context/extensions/moveon":"CompletedAndPassed","https://w3id.org/xapi/cmi5/context/extensions/masteryscore":8e-1,"https://w3id.org/xapi/cmi5/context/extensions/launchparameters":"a \"b\""}}}"#;
 
+const ABANDONED: &str =
+    r#"{"actor":{"objectType":"Agent","account":{"homePage":"https://p.example","name":"k1"}},"verb":{"id":"https://w3id.org/xapi/adl/verbs/abandoned","display":{"en":"abandoned"}},"object":{"objectType":"Activity","id":"http://127.0.0.1:8080/activities/0/2"},"context":{"registration":"00000000-0000-4000-8000-000000000010","contextActivities":{"grouping":[{"objectType":"Activity","id":"http://c/u"}],"category":[{"objectType":"Activity","id":"https://w3id.org/xapi/cmi5/context/categories/cmi5"}]},"extensions":{"https://w3id.org/xapi/cmi5/context/extensions/sessionid":"00000000-0000-4000-8000-000000000020"}},"result":{"duration":"PT12.34S"}}"#;
+
+const WAIVED: &str =
+    r#"{"actor":{"objectType":"Agent","account":{"homePage":"https://p.example","name":"k1"}},"verb":{"id":"https://w3id.org/xapi/adl/verbs/waived","display":{"en":"waived"}},"object":{"objectType":"Activity","id":"http://127.0.0.1:8080/activities/0/2"},"context":{"registration":"00000000-0000-4000-8000-000000000010","contextActivities":{"grouping":[{"objectType":"Activity","id":"http://c/u"}],"category":[{"objectType":"Activity","id":"https://w3id.org/xapi/cmi5/context/categories/cmi5"},{"objectType":"Activity","id":"https://w3id.org/xapi/cmi5/context/categories/moveon"}]},"extensions":{"https://w3id.org/xapi/cmi5/context/extensions/sessionid":"00000000-0000-4000-8000-000000000020"}},"result":{"success":true,"completion":true,"extensions":{"https://w3id.org/xapi/cmi5/result/extensions/reason":"Tested Out"}}}"#;
+
+const SATISFIED: &str =
+    r#"{"actor":{"objectType":"Agent","account":{"homePage":"https://p.example","name":"k1"}},"verb":{"id":"https://w3id.org/xapi/adl/verbs/satisfied","display":{"en":"satisfied"}},"object":{"objectType":"Activity","id":"http://127.0.0.1:8080/activities/0/2","definition":{"type":"https://w3id.org/xapi/cmi5/activitytype/block"}},"context":{"registration":"00000000-0000-4000-8000-000000000010","contextActivities":{"grouping":[{"objectType":"Activity","id":"http://c/u"}],"category":[{"objectType":"Activity","id":"https://w3id.org/xapi/cmi5/context/categories/cmi5"}]},"extensions":{"https://w3id.org/xapi/cmi5/context/extensions/sessionid":"00000000-0000-4000-8000-000000000020"}}}"#;
+
 fn launched(alloc: Global, unit: &Unit, mode: Mode, actor: &Agent) -> Result<Vec<u8>, Fail> {
+    written(alloc, &Made::Launched { mode, unit }, actor)
+}
+
+fn written(alloc: Global, made: &Made<'_>, actor: &Agent) -> Result<Vec<u8>, Fail> {
     if !actor.ifi.is_identifier() {
         return Err(Fail::from("no identifier"));
     }
     let activity = activity(alloc)?;
     let publisher = iri(alloc, "http://c/u")?;
-    let made = Made::Launched { mode, unit };
     let statement = made_statement(
         alloc,
-        &made,
+        made,
         actor,
         &activity,
         &publisher,
@@ -400,5 +412,161 @@ fn a_launched_statement_tells_what_is_given(rt: HostRuntime) -> Result<(), Fail>
     drop(unit);
     drop(actor);
     assert_eq!(rt; statement?.as_slice(), LAUNCHED_FULLY.as_bytes());
+    Ok(())
+}
+
+// The whole statements of the three other kinds.
+fn wrong_kind(alloc: Global, unit: &Unit, actor: &Agent) -> Result<Option<usize>, Fail> {
+    let rows = [
+        (Made::Abandoned { ms: 12_340, unit }, ABANDONED),
+        (
+            Made::Waived {
+                reason: Reason::TestedOut,
+                unit,
+            },
+            WAIVED,
+        ),
+        (Made::Satisfied { kind: Kind::Block }, SATISFIED),
+    ];
+    for (i, (made, text)) in rows.iter().enumerate() {
+        if written(alloc, made, actor)?.as_slice() != text.as_bytes() {
+            return Ok(Some(i));
+        }
+    }
+    Ok(None)
+}
+
+#[test]
+fn a_statement_of_each_kind_is_made(rt: HostRuntime) -> Result<(), Fail> {
+    let actor = agent(rt.alloc(), None, "k1")?;
+    let unit = unit(rt.alloc(), "https://au.example/u", &NOTHING)?;
+    let wrong = wrong_kind(rt.alloc(), &unit, &actor);
+    drop(unit);
+    drop(actor);
+    assert_eq!(rt; wrong?, None);
+    Ok(())
+}
+
+// A span, and its duration: less than a hundredth of a second is cut off, and a longer span is told
+// as the longest.
+const DURATIONS: [(u64, &str); 9] = [
+    (0, "PT0S"),
+    (9, "PT0S"),
+    (10, "PT0.01S"),
+    (12_340, "PT12.34S"),
+    (59_999, "PT59.99S"),
+    (60_000, "PT60S"),
+    (999_999_999_999, "PT999999999.99S"),
+    (1_000_000_000_000, "PT999999999.99S"),
+    (18_446_744_073_709_551_615, "PT999999999.99S"),
+];
+
+fn wrong_duration(alloc: Global, unit: &Unit, actor: &Agent) -> Result<Option<usize>, Fail> {
+    for (i, (ms, duration)) in DURATIONS.iter().enumerate() {
+        let statement = written(alloc, &Made::Abandoned { ms: *ms, unit }, actor)?;
+        let end = format!(in alloc; "\"result\":{{\"duration\":\"{duration}\"}}}}")?;
+        if !statement.as_slice().ends_with(end.as_bytes()) {
+            return Ok(Some(i));
+        }
+    }
+    Ok(None)
+}
+
+#[test]
+fn an_abandoned_statement_tells_how_long_it_took(rt: HostRuntime) -> Result<(), Fail> {
+    let actor = agent(rt.alloc(), None, "k1")?;
+    let unit = unit(rt.alloc(), "https://au.example/u", &NOTHING)?;
+    let wrong = wrong_duration(rt.alloc(), &unit, &actor);
+    drop(unit);
+    drop(actor);
+    assert_eq!(rt; wrong?, None);
+    Ok(())
+}
+
+const REASONS: [(Reason, &str); 4] = [
+    (Reason::TestedOut, "Tested Out"),
+    (Reason::EquivalentAu, "Equivalent AU"),
+    (
+        Reason::EquivalentOutsideActivity,
+        "Equivalent Outside Activity",
+    ),
+    (Reason::Administrative, "Administrative"),
+];
+
+// Texts that are no reason: another case, a space more or less, and none.
+const NO_REASONS: [&str; 6] = [
+    "tested out",
+    "Tested out",
+    "TestedOut",
+    " Tested Out",
+    "Equivalent AU ",
+    "",
+];
+
+fn wrong_reason(alloc: Global, unit: &Unit, actor: &Agent) -> Result<Option<usize>, Fail> {
+    for (i, (reason, text)) in REASONS.iter().enumerate() {
+        let statement = written(
+            alloc,
+            &Made::Waived {
+                reason: *reason,
+                unit,
+            },
+            actor,
+        )?;
+        let end = format!(in alloc; "reason\":\"{text}\"}}}}}}")?;
+        if !statement.as_slice().ends_with(end.as_bytes()) || Reason::of(*text) != Some(*reason) {
+            return Ok(Some(i));
+        }
+    }
+    Ok(None)
+}
+
+#[test]
+fn a_waived_statement_tells_why(rt: HostRuntime) -> Result<(), Fail> {
+    let actor = agent(rt.alloc(), None, "k1")?;
+    let unit = unit(rt.alloc(), "https://au.example/u", &NOTHING)?;
+    let wrong = wrong_reason(rt.alloc(), &unit, &actor);
+    drop(unit);
+    drop(actor);
+    assert_eq!(rt; wrong?, None);
+    for text in &NO_REASONS {
+        assert_eq!(rt; Reason::of(*text), None);
+    }
+    Ok(())
+}
+
+// What is told of the Activity behind its id: of a unit nothing.
+const TYPES: [(Kind, &str); 3] = [
+    (
+        Kind::Course,
+        r#","definition":{"type":"https://w3id.org/xapi/cmi5/activitytype/course"}"#,
+    ),
+    (
+        Kind::Block,
+        r#","definition":{"type":"https://w3id.org/xapi/cmi5/activitytype/block"}"#,
+    ),
+    (Kind::Unit, ""),
+];
+
+const BEFORE_TYPE: &str =
+    r#"{"actor":{"objectType":"Agent","account":{"homePage":"https://p.example","name":"k1"}},"verb":{"id":"https://w3id.org/xapi/adl/verbs/satisfied","display":{"en":"satisfied"}},"object":{"objectType":"Activity","id":"http://127.0.0.1:8080/activities/0/2""#;
+
+fn wrong_type(alloc: Global, actor: &Agent) -> Result<Option<usize>, Fail> {
+    for (i, (kind, told)) in TYPES.iter().enumerate() {
+        let statement = written(alloc, &Made::Satisfied { kind: *kind }, actor)?;
+        let beginning = format!(in alloc; "{BEFORE_TYPE}{told}}},\"context\":")?;
+        if !statement.as_slice().starts_with(beginning.as_bytes()) {
+            return Ok(Some(i));
+        }
+    }
+    Ok(None)
+}
+
+#[test]
+fn a_satisfied_statement_tells_a_block_from_a_course(rt: HostRuntime) -> Result<(), Fail> {
+    let actor = agent(rt.alloc(), None, "k1")?;
+    let wrong = wrong_type(rt.alloc(), &actor);
+    drop(actor);
+    assert_eq!(rt; wrong?, None);
     Ok(())
 }

@@ -1,7 +1,6 @@
 -- The value is that of a made statement, which breaks no rule.
-use Rattle.std.proofs.Common.{◌≡◌, rules, sym, ap, ◌∙◌}
+use Rattle.std.proofs.Common.{◌≡◌, rules, ap, ◌∙◌}
 use Rattle.lrs_json.specs.View.{view}
-use Rattle.xapi_rules.specs.Contexts.{context_faults}
 use Rattle.xapi_rules.specs.Rules.{broken_rule}
 use Rattle.cmi5_launch.specs.Made.{made_json}
 use Rattle.cmi5_launch.proofs.Unbroken.{made_unbroken}
@@ -10,6 +9,5 @@ use Rattle.cmi5_launch.proofs.made.made_tree.Goals as goal
 pub returns-clause-unbroken : goal.returns-clause-unbroken
 returns-clause-unbroken c =
     let same : view c.whole.result ≡ made_json c.args.made.now c.args.actor.now c.args.activity.now c.args.publisher.now c.args.registration.now c.args.session.now = search rules in
-    let context = sym (ap context_faults c.in_ok-context.ensures.value) ∙ c.in_ok-context.ensures.unbroken in
     ap broken_rule same
-    ∙ made_unbroken c.args.made.now c.args.actor.now c.args.activity.now c.args.publisher.now c.args.registration.now c.args.session.now c.requires c.text.ensures.iri context
+    ∙ made_unbroken c.args.made.now c.args.actor.now c.args.activity.now c.args.publisher.now c.args.registration.now c.args.session.now c.requires c.text-activity.ensures.iri c.text-publisher.ensures.iri c.in_ok-context.ensures.id
