@@ -26,7 +26,8 @@ use Rattle.xapi_rules.specs.Rules.{is_voiding}
 use Rattle.xapi_statement.specs.Parties.{actor_of}
 use Rattle.xapi_statement.specs.Statement.{activity_of, extension_of, has_context_activity, has_duration}
 use Rattle.xapi_statement.specs.Statement.{registration_of, result_boolean, scaled_of, verb_of}
-use Rattle.xapi_values.specs.Numbers.{are_equal, is_below, is_not_above, spelling_of}
+use Rattle.xapi_values.specs.Numbers.{are_equal, is_below, is_not_above}
+use Rattle.lrs_names.specs.Members.{spelling_of}
 
 -- ---- the verbs of a session (section 9.3)
 

@@ -18,7 +18,7 @@ pub fn is_cmi5_defined(statement: &Tree) -> bool
 }
 
 /// Whether it is such a statement of that verb.
-pub(crate) fn says(verb: &str, statement: &Tree) -> bool
+pub fn says(verb: &str, statement: &Tree) -> bool
     ensures { result ≡ says verb.now (view statement.now) }
 {
     verb_of(statement) == verb && is_cmi5_defined(statement)

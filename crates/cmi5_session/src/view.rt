@@ -85,7 +85,7 @@ fn counts_by_now(before: bool, launch: &Launch, verb: &str, statement: &Tree, vo
 }
 
 /// Whether it is that id.
-pub(crate) fn is_that_id(id: &Id, other: Option<Id>) -> bool
+pub fn is_that_id(id: &Id, other: Option<Id>) -> bool
     ensures { result ≡ is_that_id id.now other }
 {
     match other {

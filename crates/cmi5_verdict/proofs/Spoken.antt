@@ -1,0 +1,145 @@
+-- What statements say of nodes, one statement after another.
+use Rattle.std.proofs.Common.{◌≡◌, ◌∙◌, ◌&&◌, ◌||◌, ◌==◌, ◌+◌, ◌^◌, ◌<◌, ◌≤◌, ℕ, Bool, true, false, not, List, [], ◌∷◌, ◌++◌, length, map, drop, Option, Some, None, inl, inr, refl, sym, ap, subst, arith, ⊎_elim}
+use Rattle.std.specs.Prelude.{if◌then◌else◌, replicate, slice_get, slice_set}
+use Rattle.std.specs.List.{range_with_len}
+use Rattle.std.specs.Option.{option_map_or}
+use Rattle.std.specs.Str.{bytes_eq}
+use Rattle.std.proofs.lemmas.Bool.{cases_eq, eq-eqb, ne_eqb}
+use Rattle.std.proofs.lemmas.List.{drop_all, get_or-replicate, get_or-set_other, get_or-set_same, length-replicate}
+use Rattle.std.proofs.lemmas.List.Folds.{list_any-append}
+use Rattle.std.proofs.lemmas.List.FromFn.{fill_by_all}
+use Rattle.std.proofs.lemmas.Option.{get_or_from_slice_get, slice_get_cases, slice_get_within}
+use Rattle.cmi5_launch.specs.Names.{completed, passed, satisfied, waived}
+use Rattle.cmi5_session.specs.Own.{is_cmi5_defined}
+use Rattle.cmi5_verdict.specs.Nodes.{SeenEnrolment, activity_at}
+use Rattle.cmi5_verdict.specs.Said.{counts_for, either, said_among, said_by, said_in, said_of, said_with, unsaid}
+use Rattle.cmi5_verdict.specs.declared.said.Said.{Said}
+use Rattle.cmi5_verdict.proofs.Tests.{and_true, or_assoc, or_false}
+use Rattle.lrs_ids.proofs.Turns.{turn}
+use Rattle.lrs_json.specs.View.{view}
+use Rattle.xapi_index.specs.Statements.{is_that_id, is_voided}
+use Rattle.xapi_statement.specs.Statement.{activity_of, registration_of, verb_of}
+use Rattle.xapi_statement.specs.Stored.{StoredStatement}
+
+-- ---- what one of two says
+
+abbrev made : Bool → Bool → Bool → Bool → Said
+made w c p s = record { waived = w; completed = c; passed = p; satisfied = s }
+
+pub same_said : (w c p s w2 c2 p2 s2 : Bool) → w ≡ w2 → c ≡ c2 → p ≡ p2 → s ≡ s2 → made w c p s ≡ made w2 c2 p2 s2
+same_said w c p s w2 c2 p2 s2 e f g h =
+    ap (λ b. made b c p s) e ∙ (ap (λ b. made w2 b p s) f ∙ (ap (λ b. made w2 c2 b s) g ∙ ap (λ b. made w2 c2 p2 b) h))
+
+pub either_unsaid : (a : Said) → either a unsaid ≡ a
+unfolding either
+either_unsaid a =
+    same_said (a.waived || false) (a.completed || false) (a.passed || false) (a.satisfied || false) a.waived a.completed a.passed a.satisfied
+    (or_false a.waived) (or_false a.completed) (or_false a.passed) (or_false a.satisfied)
+
+unsaid_either : (a : Said) → either unsaid a ≡ a
+unfolding either
+unsaid_either a = same_said a.waived a.completed a.passed a.satisfied a.waived a.completed a.passed a.satisfied refl refl refl refl
+
+pub either_assoc : (a b c : Said) → either (either a b) c ≡ either a (either b c)
+unfolding either
+either_assoc a b c =
+    same_said _ _ _ _ _ _ _ _ (or_assoc a.waived b.waived c.waived) (or_assoc a.completed b.completed c.completed) (or_assoc a.passed b.passed c.passed)
+    (or_assoc a.satisfied b.satisfied c.satisfied)
+
+-- ---- what some of all say of a node
+
+module _ (e : SeenEnrolment) (all : List StoredStatement) (place : ℕ) where
+  among_none : said_among e all place [] ≡ unsaid
+  unfolding said_among
+  among_none = refl
+
+  among_more : (x : StoredStatement) (xs : List StoredStatement) → said_among e all place (x ∷ xs) ≡ either (said_by e all place x) (said_among e all place xs)
+  unfolding either said_among said_by
+  among_more x xs = refl
+
+  pub among_both : (xs ys : List StoredStatement) → said_among e all place (xs ++ ys) ≡ either (said_among e all place xs) (said_among e all place ys)
+  unfolding either said_among
+  among_both xs ys =
+      same_said _ _ _ _ _ _ _ _ (list_any-append (counts_for e all false waived place) xs ys) (list_any-append (counts_for e all false completed place) xs ys)
+      (list_any-append (counts_for e all false passed place) xs ys) (list_any-append (counts_for e all true satisfied place) xs ys)
+
+  -- what is noted so far, and what the rest of the list says
+  pub said_next : (xs : List StoredStatement) (i : ℕ) (x : StoredStatement) (before now whole : Said) → drop i xs ≡ x ∷ drop (i + 1) xs → now ≡ either before (said_by e all place x)
+      → either before (said_among e all place (drop i xs)) ≡ whole → either now (said_among e all place (drop (i + 1) xs)) ≡ whole
+  said_next xs i x before now whole next is so_far =
+      ap (λ s. either s (said_among e all place (drop (i + 1) xs))) is ∙ (either_assoc before (said_by e all place x) (said_among e all place (drop (i + 1) xs))
+      ∙ (ap (λ s. either before s) (sym (ap (λ ys. said_among e all place ys) next ∙ among_more x (drop (i + 1) xs))) ∙ so_far))
+
+  pub said_at : (xs : List StoredStatement) (i : ℕ) (before now whole : Said) → i < length xs → now ≡ either before (option_map_or (said_by e all place) (slice_get xs i) unsaid)
+      → either before (said_among e all place (drop i xs)) ≡ whole → either now (said_among e all place (drop (i + 1) xs)) ≡ whole
+  said_at xs i before now whole less is so_far = by_place (slice_get xs i) refl is
+    where
+      no : slice_get xs i ≡ None → ⊥
+      no at = elim (slice_get_cases xs i).1 [ inl w ↦ cc (w.2, at) | inr w ↦ omega (arith, w.0, less) ]
+
+      by_place : (o : Option StoredStatement) → slice_get xs i ≡ o → now ≡ either before (option_map_or (said_by e all place) o unsaid) → either now (said_among e all place (drop (i + 1) xs)) ≡ whole
+      by_place (Some x) at told = said_next xs i x before now whole (turn xs i x (slice_get_within xs i x at) (sym (get_or_from_slice_get xs i x x at))) told so_far
+      by_place None at told = absurd (no at)
+
+  pub said_end : (xs : List StoredStatement) (i : ℕ) (now whole : Said) → length xs ≤ i → either now (said_among e all place (drop i xs)) ≡ whole → now ≡ whole
+  said_end xs i now whole end so_far =
+      sym (ap (λ ys. either now (said_among e all place ys)) (drop_all i xs end) ∙ (ap (λ s. either now s) among_none ∙ either_unsaid now)) ∙ so_far
+
+-- ---- what is said of one node more
+
+pub added : (said : List Said) (here place : ℕ) (more : Said) → place < length said → said_of (slice_set said here (either (said_of said here) more)) place ≡ either (said_of said place) (if here == place then more else unsaid)
+added said here place more lt = ⊎_elim there elsewhere (cases_eq here place)
+  where
+    there : here ≡ place → said_of (slice_set said here (either (said_of said here) more)) place ≡ either (said_of said place) (if here == place then more else unsaid)
+    there e =
+        ap (λ k. said_of (slice_set said k (either (said_of said k) more)) place) e ∙ (get_or-set_same said place (either (said_of said place) more) unsaid lt
+        ∙ sym (ap (λ b. either (said_of said place) (if b then more else unsaid)) (eq-eqb here place e)))
+
+    elsewhere : (here ≡ place → ⊥) → said_of (slice_set said here (either (said_of said here) more)) place ≡ either (said_of said place) (if here == place then more else unsaid)
+    elsewhere never =
+        get_or-set_other said here place (either (said_of said here) more) unsaid (λ e. never (sym e))
+        ∙ sym (ap (λ b. either (said_of said place) (if b then more else unsaid)) (ne_eqb here place never) ∙ either_unsaid (said_of said place))
+
+-- ---- what one statement says
+
+-- by its verb and whether it stands, and whether it is in the registration, is defined and is about the node
+flag : (v w r d a : Bool) → (if (r && d) && a then v && w else false) ≡ ((v && d) && r) && a && w
+flag true w true true true = refl
+flag true w true true false = refl
+flag true w true false a = refl
+flag true w false true a = refl
+flag true w false false a = refl
+flag false w true true true = refl
+flag false w true true false = refl
+flag false w true false a = refl
+flag false w false d a = refl
+
+parts : (here : Bool) (verb : List ℕ) (voided : Bool) → (if here then said_with verb voided else unsaid)
+    ≡ made (if here then bytes_eq verb waived && not voided else false) (if here then bytes_eq verb completed && not voided else false) (if here then bytes_eq verb passed && not voided else false) (if here then bytes_eq verb satisfied else false)
+unfolding said_with
+parts true verb voided = refl
+parts false verb voided = refl
+
+pub spoken : (e : SeenEnrolment) (all : List StoredStatement) (place : ℕ) (s : StoredStatement) (here : Bool)
+    → here ≡ is_that_id e.registration (registration_of (view s.received)) && is_cmi5_defined (view s.received) && is_that_id (activity_at e place) (activity_of (view s.received))
+    → (if here then said_with (verb_of (view s.received)) (is_voided all s) else unsaid) ≡ said_by e all place s
+unfolding said_by
+spoken e all place s here is =
+    let verb : List ℕ = verb_of (view s.received) in
+    let kept : Bool = not (is_voided all s) in
+    let r : Bool = is_that_id e.registration (registration_of (view s.received)) in
+    let d : Bool = is_cmi5_defined (view s.received) in
+    let a : Bool = is_that_id (activity_at e place) (activity_of (view s.received)) in
+    ap (λ b. if b then said_with verb (is_voided all s) else unsaid) is ∙ (parts ((r && d) && a) verb (is_voided all s)
+    ∙ same_said _ _ _ _ _ _ _ _ (flag (bytes_eq verb waived) kept r d a) (flag (bytes_eq verb completed) kept r d a) (flag (bytes_eq verb passed) kept r d a)
+    (ap (λ b. if (r && d) && a then b else false) (sym (and_true (bytes_eq verb satisfied))) ∙ flag (bytes_eq verb satisfied) true r d a))
+
+-- ---- what all say of each node
+
+pub said_from_none : (e : SeenEnrolment) (all : List StoredStatement) (n : ℕ) (old new : List Said) → n ≤ 2 ^ 64 → old ≡ replicate n unsaid → length new ≡ length old
+    → ((p : ℕ) → p < length old → p < 2 ^ 64 → said_of new p ≡ either (said_of old p) (said_in e all p)) → new ≡ map (said_in e all) (range_with_len 0 n)
+said_from_none e all n old new few full same noted =
+    let long : length old ≡ n = ap length full ∙ length-replicate n unsaid in
+    fill_by_all (said_in e all) new n unsaid (same ∙ long)
+    (λ p lt. let none : said_of old p ≡ unsaid = ap (λ ss. said_of ss p) full ∙ get_or-replicate n p unsaid unsaid lt in
+    noted p (subst (λ k. p < k) (sym long) lt) (omega arith) ∙ (ap (λ s. either s (said_in e all p)) none ∙ unsaid_either (said_in e all p)))

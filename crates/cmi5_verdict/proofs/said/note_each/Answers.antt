@@ -1,0 +1,25 @@
+use Rattle.std.proofs.Common.{◌<◌, ◌∙◌, sym, subst, arith}
+use Rattle.lrs_ids.proofs.Turns.{turn}
+use Rattle.cmi5_verdict.specs.Nodes.{seen}
+use Rattle.cmi5_verdict.specs.Said.{said_of}
+use Rattle.cmi5_verdict.specs.Statements.{all_of}
+use Rattle.cmi5_verdict.proofs.Spoken.{said_end, said_next}
+use Rattle.cmi5_verdict.proofs.said.note_each.Goals as goal
+
+pub loop-statement-preserved : goal.loop-statement-preserved
+loop-statement-preserved c =
+    let at = c.loop-statement in
+    let those = c.args.those.now in
+    let x = c.statement-item.result in
+    let next = turn those at.statement-index x (omega arith) c.statement-item.is in
+    record {
+      long = c.note.ensures.long ∙ at.invariant.long;
+      noted = λ place lt small.
+          said_next (seen c.args.enrolment.now) (all_of c.args.statements.now) place those at.statement-index x (said_of at.said place) (said_of c.note.new.said place) _ next
+          (c.note.ensures.noted place (subst (λ n. place < n) (sym at.invariant.long) lt) small) (at.invariant.noted place lt small);
+    }
+
+pub returns-clause-noted : goal.returns-clause-noted
+returns-clause-noted c = λ place lt small.
+    let at = c.loop-statement in
+    said_end (seen c.args.enrolment.now) (all_of c.args.statements.now) place c.args.those.now at.statement-index (said_of at.said place) _ (omega arith) (at.invariant.noted place lt small)

@@ -1,0 +1,21 @@
+use Rattle.std.proofs.Common.{◌<◌, ◌∙◌, sym, subst, arith}
+use Rattle.cmi5_verdict.specs.Nodes.{seen}
+use Rattle.cmi5_verdict.specs.Said.{said_of}
+use Rattle.cmi5_verdict.specs.Statements.{all_of}
+use Rattle.cmi5_verdict.proofs.Spoken.{said_at, said_end}
+use Rattle.cmi5_verdict.proofs.said.note_held.Goals as goal
+
+pub loop-at-preserved : goal.loop-at-preserved
+loop-at-preserved c =
+    let at = c.loop-at in
+    record {
+      long = c.note_at.ensures.long ∙ at.invariant.long;
+      noted = λ place lt small.
+          said_at (seen c.args.enrolment.now) (all_of c.args.statements.now) place c.args.statements.now.held.now.held at.at (said_of at.said place) (said_of c.note_at.new.said place) _ (omega arith)
+          (c.note_at.ensures.noted place (subst (λ n. place < n) (sym at.invariant.long) lt) small) (at.invariant.noted place lt small);
+    }
+
+pub returns-clause-noted : goal.returns-clause-noted
+returns-clause-noted c = λ place lt small.
+    let at = c.loop-at in
+    said_end (seen c.args.enrolment.now) (all_of c.args.statements.now) place c.args.statements.now.held.now.held at.at (said_of at.said place) _ (omega arith) (at.invariant.noted place lt small)

@@ -1,0 +1,14 @@
+use Rattle.std.proofs.Common.{◌≡◌, ◌<◌, ◌^◌, ℕ, length, drop}
+use Rattle.cmi5_verdict.specs.Nodes.{seen}
+use Rattle.cmi5_verdict.specs.Said.{either, said_among, said_of}
+use Rattle.cmi5_verdict.specs.Statements.{all_of}
+use Rattle.cmi5_verdict.proofs.said.note_held.Given as goal
+
+-- what is noted so far, and what the statements say that are left
+abbrev pub invariant-loop-at : goal.invariant-loop-at
+invariant-loop-at l = record {
+  long : length l.said ≡ length l.fn.said;
+  noted : (place : ℕ) → place < length l.fn.said → place < 2 ^ 64
+      → either (said_of l.said place) (said_among (seen l.enrolment) (all_of l.statements) place (drop l.at l.statements.held.now.held))
+      ≡ either (said_of l.fn.said place) (said_among (seen l.enrolment) (all_of l.statements) place l.statements.held.now.held);
+}

@@ -1,0 +1,6 @@
+use Rattle.std.proofs.Common.{◌≡◌, drop}
+use Rattle.xapi_index.specs.Statements.{is_target}
+use Rattle.cmi5_verdict.proofs.statements.is_target_of.Given as goal
+
+abbrev pub invariant-loop-statement : goal.invariant-loop-statement
+invariant-loop-statement l = is_target l.id (drop l.statement-index l.statements) ≡ is_target l.id l.statements

@@ -1,0 +1,117 @@
+// Of which nodes it is still to be said that they are satisfied.
+ghost use Rattle.std.specs.Prelude.{◌≡◌, ◌≤◌, ◌++◌, ◌∷◌, [], if◌then◌else◌, ℕ, nat_le, true, IfOk, OnOk, filter, length};
+ghost use Rattle.std.specs.List.{list_all};
+ghost use Rattle.cmi5_verdict.specs.Marks.{is_due};
+ghost use Rattle.cmi5_verdict.specs.Nodes.{at_depth, deeper_first, depth_of, owed, places, seen};
+ghost use Rattle.cmi5_verdict.specs.Statements.{all_of};
+
+use crate::marking::{is_marked, satisfied_each};
+use crate::nodes::{depth_of, unit_in};
+use crate::said::{Said, said_of, said_of_each};
+use crate::{Enrolment, Statements};
+use cmi5_course::Node;
+use lrs_json::Memory;
+use std::alloc::Global;
+
+/// The numbers of the blocks that are satisfied in a registration, and of the course where it is, of which this was
+/// never said. Deeper ones come first, and those of one depth in the order of the text. Goes through the
+/// statements once.
+pub fn owed(
+    alloc: Global,
+    statements: &Statements<'_>,
+    enrolment: &Enrolment<'_>,
+) -> Result<Vec<u32>, Memory>
+    ensures { IfOk result (λ places. places.items ≡ owed (seen enrolment.now) (all_of statements.now)) }
+{
+    let said = said_of_each(alloc, statements, enrolment)?;
+    let satisfied = satisfied_each(alloc, enrolment.nodes, said.as_slice())?;
+    let due = due(
+        alloc,
+        enrolment.nodes,
+        satisfied.as_slice(),
+        said.as_slice(),
+    )?;
+    deeper_first(alloc, enrolment.nodes, due.as_slice())
+}
+
+// Those that are satisfied, in the order of the text. A course has no more nodes than 32 bits number.
+fn due(alloc: Global, nodes: &[Node], satisfied: &[bool], said: &[Said]) -> Result<Vec<u32>, Memory>
+    ensures { IfOk result (λ due. due.items ≡ filter (is_due nodes.now satisfied.now said.now)
+        (places nodes.now)) }
+{
+    let Ok(count) = u32::try_from(nodes.len()) else {
+        return Err(Memory);
+    };
+    let mut due = Vec::new(alloc);
+    for place in 0..count {
+        push_if(
+            &mut due,
+            place,
+            is_due(nodes, satisfied, said, place as usize),
+        )?;
+    }
+    Ok(due)
+}
+
+fn is_due(nodes: &[Node], satisfied: &[bool], said: &[Said], place: usize) -> bool
+    ensures { result ≡ is_due nodes.now satisfied.now said.now place }
+{
+    unit_in(nodes, place).is_none()
+        && is_marked(satisfied, place)
+        && !said_of(said, place).satisfied
+}
+
+fn deeper_first(alloc: Global, nodes: &[Node], places: &[u32]) -> Result<Vec<u32>, Memory>
+    ensures { IfOk result (λ ordered. ordered.items ≡ deeper_first nodes.now places.now) }
+{
+    let deepest = deepest(nodes, places);
+    let mut ordered = Vec::with_capacity(alloc, places.len())?;
+    for less in 0..deepest {
+        push_at(nodes, places, deepest - less, &mut ordered)?;
+    }
+    Ok(ordered)
+}
+
+// None of these stands deeper.
+fn deepest(nodes: &[Node], places: &[u32]) -> usize
+    ensures within { result ≤ length nodes.now }
+    ensures deepest { list_all (λ place. nat_le (depth_of nodes.now place) result) places.now ≡ true }
+{
+    let mut deepest = 0;
+    for place in places {
+        deepest = larger(deepest, depth_of(nodes, *place as usize));
+    }
+    deepest
+}
+
+fn larger(a: usize, b: usize) -> usize
+    ensures first { a ≤ result }
+    ensures second { b ≤ result }
+    ensures least { (most : ℕ) → a ≤ most → b ≤ most → result ≤ most }
+{
+    a.max(b)
+}
+
+// Those of a depth, in their order.
+fn push_at(
+    nodes: &[Node],
+    places: &[u32],
+    depth: usize,
+    ordered: &mut Vec<u32>,
+) -> Result<(), Memory>
+    ensures { OnOk result (ordered.new.items ≡ ordered.old.items ++ at_depth nodes.now places.now depth) }
+{
+    for place in places {
+        push_if(ordered, *place, depth_of(nodes, *place as usize) == depth)?;
+    }
+    Ok(())
+}
+
+fn push_if(list: &mut Vec<u32>, place: u32, passes: bool) -> Result<(), Memory>
+    ensures { OnOk result (list.new.items ≡ list.old.items ++ (if passes then place ∷ [] else [])) }
+{
+    if passes {
+        list.push(place)?;
+    }
+    Ok(())
+}

@@ -1,0 +1,5 @@
+//! The tests of cmi5_verdict.
+#![tactic(auto)]
+
+#[cfg(test)]
+mod tests;
