@@ -1,15 +1,19 @@
 -- The fields of the writes of courses make them again, and their names are apart.
 use Rattle.std.proofs.Common.{◌≡◌, ℕ, List, [], true, Option, Some, None, refl}
+use Rattle.cmi5_course.specs.Reasons.{reason_of, reason_text}
 use Rattle.cmi5_course.specs.Words.{mode_of, mode_text}
 use Rattle.cmi5_course.specs.declared.launch.Mode.{Mode}
 use Rattle.cmi5_course.specs.declared.launch.Mode.TheVariants.{Normal, Browse, Review}
+use Rattle.cmi5_course.specs.declared.reason.Reason.{Reason}
+use Rattle.cmi5_course.specs.declared.reason.Reason.TheVariants.{TestedOut, EquivalentAu, EquivalentOutsideActivity, Administrative}
 use Rattle.lrs_agents.specs.declared.agents.Agent.{Agent}
 use Rattle.lrs_record.specs.Entries.{HoldsWrite, IsLawfulWrite}
-use Rattle.lrs_record.specs.Writes.{enrol_in, launch_in, members_for, write_fields}
-use Rattle.lrs_record.specs.declared.entry.Write.TheVariants.{Enrol, Launch}
-use Rattle.lrs_record.proofs.Actors.{read_actor}
-use Rattle.lrs_record.proofs.Apart.{are_apart}
-use Rattle.lrs_record.proofs.Values.{read_id, read_iri}
+use Rattle.lrs_fields.specs.Values.{members_for}
+use Rattle.lrs_record.specs.Writes.{enrol_in, launch_in, waive_in, write_fields}
+use Rattle.lrs_record.specs.declared.entry.Write.TheVariants.{Enrol, Launch, Waive}
+use Rattle.lrs_fields.proofs.Actors.{read_actor}
+use Rattle.lrs_fields.proofs.Apart.{are_apart}
+use Rattle.lrs_fields.proofs.Values.{read_id, read_iri}
 
 pub enrol_again : (course : List ℕ) (actor : Agent) → HoldsWrite (Enrol course actor) → enrol_in (members_for (write_fields (Enrol course actor))) ≡ Some (Enrol course actor)
 enrol_again course actor holds = rw (read_iri course holds.0.1, read_actor actor) refl
@@ -34,3 +38,13 @@ lawful_launch registration unit mode (Some address) = (tt, (tt, (tt, (tt, tt))))
 pub apart_launch : (registration unit : List ℕ) (mode : Mode) (return_url : Option (List ℕ)) → are_apart [] (write_fields (Launch registration unit mode return_url)) ≡ true
 apart_launch registration unit mode None = refl
 apart_launch registration unit mode (Some address) = refl
+
+read_reason : (reason : Reason) → reason_of (reason_text reason) ≡ Some reason
+unfolding reason_of
+read_reason TestedOut = refl
+read_reason EquivalentAu = refl
+read_reason EquivalentOutsideActivity = refl
+read_reason Administrative = refl
+
+pub waive_again : (registration unit : List ℕ) (reason : Reason) → HoldsWrite (Waive registration unit reason) → waive_in (members_for (write_fields (Waive registration unit reason))) ≡ Some (Waive registration unit reason)
+waive_again registration unit reason holds = rw (read_id registration holds.0, read_iri unit holds.1.0.1, read_reason reason) refl

@@ -1,36 +1,19 @@
 -- The fields of what is written and dropped among the documents make it again, and their names are apart.
-use Rattle.std.proofs.Common.{◌≡◌, ℕ, List, [], ◌∷◌, ◌++◌, true, Option, Some, None, codes, refl, ap}
+use Rattle.std.proofs.Common.{◌≡◌, ℕ, List, [], ◌∷◌, ◌++◌, true, Option, Some, None, codes, refl}
 use Rattle.std.specs.List.{AllByRecursion}
-use Rattle.std.specs.Result.{result_ok}
-use Rattle.hex.specs.Hex.{IsBytes, encode_lower}
-use Rattle.hex.proofs.HexLemmas.{decode_of-encode_lower}
-use Rattle.lrs_agents.specs.Identifiers.{identifier_json, identifier_of}
 use Rattle.lrs_agents.specs.declared.identifiers.Ifi.{Ifi}
-use Rattle.lrs_agents.specs.declared.identifiers.Ifi.TheVariants.{Mbox, MboxSha1, OpenId, Account}
-use Rattle.lrs_json.specs.Json.{string}
-use Rattle.lrs_record.specs.Entries.{HoldsValue, IsLawfulWrite}
-use Rattle.lrs_record.specs.Writes.{Value, text_value, id_value, iri_value, agent_value, bytes_value, bytes_in, chosen_in, content_in, drop_in, how_of, how_text, members_for, optional_field, state_in}
+use Rattle.lrs_fields.specs.Values.{HoldsValue, Value, text_value, id_value, iri_value, agent_value, bytes_value, members_for, optional_field}
+use Rattle.lrs_fields.proofs.Apart.{are_apart}
+use Rattle.lrs_fields.proofs.Values.{read_agent, read_bytes, read_id, read_iri}
+use Rattle.lrs_record.specs.Entries.{IsLawfulWrite}
+use Rattle.lrs_record.specs.Writes.{chosen_in, content_in, drop_in, how_of, how_text, state_in}
 use Rattle.lrs_record.specs.declared.entry.How.{How}
 use Rattle.lrs_record.specs.declared.entry.How.TheVariants as how
 use Rattle.lrs_record.specs.declared.entry.Write.TheVariants.{State, Drop}
-use Rattle.lrs_record.proofs.Apart.{are_apart}
-use Rattle.lrs_record.proofs.Values.{read_id, read_iri}
-
--- ---- what is read of one field
 
 read_how : (h : How) → how_of (how_text h) ≡ Some h
 read_how how.Put = refl
 read_how how.Post = refl
-
-read_agent : (agent : Ifi) → identifier_of (identifier_json agent) ≡ Some agent
-unfolding identifier_of
-read_agent (Mbox text) = refl
-read_agent (MboxSha1 text) = refl
-read_agent (OpenId text) = refl
-read_agent (Account home name) = refl
-
-read_bytes : (bytes : List ℕ) → IsBytes bytes → bytes_in (string (encode_lower bytes)) ≡ Some bytes
-read_bytes bytes are = ap result_ok (decode_of-encode_lower bytes are)
 
 -- ---- a document that is written
 

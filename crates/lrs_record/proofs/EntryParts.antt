@@ -3,10 +3,11 @@ use Rattle.std.proofs.Common.{◌≡◌, ℕ, List, [], ◌∷◌, Some, codes, 
 use Rattle.std.specs.Fmt.{decimal}
 use Rattle.lrs_json.specs.Json.{Json, number, object, string}
 use Rattle.lrs_json.specs.View.{members_of}
-use Rattle.lrs_record.specs.Entries.{caller_text, write_json, draw_text, entry_json}
+use Rattle.lrs_fields.specs.Digits.{draw_text}
+use Rattle.lrs_record.specs.Entries.{caller_text, write_json, entry_json}
 use Rattle.lrs_record.specs.declared.entry.Entry.{Entry}
-use Rattle.lrs_record.specs.Widths.{width}
-use Rattle.lrs_record.proofs.SameParts.{four_parts}
+use Rattle.lrs_fields.specs.Widths.{width}
+use Rattle.lrs_fields.proofs.SameParts.{four_parts}
 
 pub record MemberTexts (a b c d : List ℕ × Json) (entry : Entry) : Type 0 where
   pub caller : a ≡ (codes "caller", string (caller_text entry.caller))

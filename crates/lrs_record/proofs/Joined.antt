@@ -7,14 +7,6 @@ pub four_members : (o s t u v w z a b c d : List ℕ) → s ≡ o ++ 123 ∷ [] 
 four_members o s t u v w z a b c d one two three four five six =
     rw (six, five, four, three, two, one, append_assoc, append_assoc, append_assoc, append_assoc, append_assoc) refl
 
--- a value behind its name; `n` is the name behind what goes before it
-pub value_behind : (o s t n w : List ℕ) → s ≡ o ++ (n ++ 58 ∷ []) → t ≡ s ++ w → t ≡ o ++ (n ++ 58 ∷ w)
-value_behind o s t n w one two = rw (two, one) (simp append_assoc refl)
-
--- two members, in braces
-pub two_members : (o s t u z a b : List ℕ) → s ≡ o ++ 123 ∷ [] → t ≡ s ++ a → u ≡ t ++ b → z ≡ u ++ 125 ∷ [] → z ≡ o ++ (123 ∷ (a ++ (b ++ 125 ∷ [])))
-two_members o s t u z a b one two three four = rw (four, three, two, one) (simp append_assoc refl)
-
 -- a member whose value is an object of one member, whose value is an object; `m` is what stands in that object, with its brace
 pub member_of_member : (o s t u v w z n k m : List ℕ) → s ≡ o ++ (n ++ 58 ∷ []) → t ≡ s ++ 123 ∷ [] → u ≡ t ++ (k ++ 58 ∷ []) → v ≡ u ++ 123 ∷ []
     → w ≡ v ++ m → z ≡ w ++ 125 ∷ [] → z ≡ o ++ (n ++ 58 ∷ (123 ∷ (k ++ 58 ∷ (123 ∷ m) ++ 125 ∷ [])))

@@ -1,16 +1,15 @@
 -- The text of a lawful entry tells the entry.
-use Rattle.std.proofs.Common.{◌≡◌, ◌<◌, ◌^◌, ℕ, List, Result, Ok, Some, codes, arith, refl, sym, ap, ◌∙◌}
+use Rattle.std.proofs.Common.{◌≡◌, List, ℕ, Some, codes, arith, refl, sym, ap, ◌∙◌}
 use Rattle.std.specs.Fmt.{decimal}
-use Rattle.std.specs.Int.{to_be_bytes, w128}
 use Rattle.std.proofs.lemmas.Fmt.{decimal_injective}
-use Rattle.hex.specs.Hex.{decode_of}
-use Rattle.hex.specs.declared.error.FromHexError.{FromHexError}
-use Rattle.hex.proofs.HexLemmas.{decode_of-encode_lower}
+use Rattle.lrs_fields.specs.Digits.{draw_text}
+use Rattle.lrs_fields.specs.Values.{members_for}
+use Rattle.lrs_fields.proofs.SameParts.{all_parts, one_part}
+use Rattle.lrs_fields.proofs.SameWritten.{told_by_written}
+use Rattle.lrs_fields.proofs.Words.{told_draw}
 use Rattle.lrs_json.specs.Json.{number, string}
-use Rattle.lrs_names.specs.declared.draw.Draw.{Draw}
-use Rattle.lrs_names.proofs.WordBytes.{same_word, small_word_bytes}
-use Rattle.lrs_record.specs.Entries.{HoldsWrite, HoldsDraw, IsLawful, IsLawfulCaller, IsLawfulWrite, caller_text, write_json, draw_text, entry_json, fields, word_text, written_entry}
-use Rattle.lrs_record.specs.Writes.{members_for, write_fields, write_in, write_name}
+use Rattle.lrs_record.specs.Entries.{HoldsWrite, IsLawful, IsLawfulCaller, IsLawfulWrite, caller_text, write_json, entry_json, fields, written_entry}
+use Rattle.lrs_record.specs.Writes.{write_fields, write_in, write_name}
 use Rattle.lrs_record.specs.declared.entry.Caller.{Caller}
 use Rattle.lrs_record.specs.declared.entry.Caller.TheVariants.{Nobody, Operator, Token}
 use Rattle.lrs_record.specs.declared.entry.Write.{Write}
@@ -18,9 +17,6 @@ use Rattle.lrs_record.specs.declared.entry.Entry.{Entry}
 use Rattle.lrs_record.proofs.Writes.{made_again}
 use Rattle.lrs_record.proofs.EntryParts.{member_texts}
 use Rattle.lrs_record.proofs.Readable.{readable}
-use Rattle.lrs_record.proofs.SameParts.{all_parts, one_part}
-use Rattle.lrs_record.proofs.SameWritten.{told_by_written}
-use Rattle.lrs_record.proofs.Words.{first_half, second_half}
 
 same_caller : (a b : Caller) → IsLawfulCaller a → IsLawfulCaller b → caller_text a ≡ caller_text b → a ≡ b
 same_caller Nobody Nobody x y e = refl
@@ -32,19 +28,6 @@ same_caller Operator (Token token) x y e = absurd (y.1 (sym e))
 same_caller (Token token) Nobody x y e = absurd (x.0 e)
 same_caller (Token token) Operator x y e = absurd (x.1 e)
 same_caller (Token token) (Token other) x y e = ap Token e
-
-told_word : (a b : ℕ) → a < 2 ^ 128 → b < 2 ^ 128 → word_text a ≡ word_text b → a ≡ b
-unfolding word_text
-told_word a b x y e =
-    let bytes : ◌≡◌ {A = Result (List ℕ) FromHexError} (Ok (to_be_bytes w128 a)) (Ok (to_be_bytes w128 b)) =
-    sym (decode_of-encode_lower (to_be_bytes w128 a) (small_word_bytes a)) ∙ ap decode_of e ∙ decode_of-encode_lower (to_be_bytes w128 b) (small_word_bytes b) in
-    same_word a b x y (cc bytes)
-
-told_draw : (a b : Draw) → HoldsDraw a → HoldsDraw b → draw_text a ≡ draw_text b → a ≡ b
-told_draw a b x y e =
-    let name : a.name ≡ b.name = told_word _ _ x.0 y.0 (sym (first_half a (draw_text a) refl) ∙ first_half b (draw_text a) e) in
-    let secret : a.secret ≡ b.secret = told_word _ _ x.1 y.1 (sym (second_half a (draw_text a) refl) ∙ second_half b (draw_text a) e) in
-    rw (name, secret) refl
 
 same_parts : (a b : Write) → write_json a ≡ write_json b → (write_name a ≡ write_name b) × (fields (members_for (write_fields a)) ≡ fields (members_for (write_fields b)))
 same_parts a b e =

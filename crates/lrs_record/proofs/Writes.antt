@@ -1,16 +1,18 @@
 -- The names and the values of a write's fields tell the write. A write more is a line of `made_again` and of `well_named`.
 use Rattle.std.proofs.Common.{◌≡◌, [], Some, true, ◌&&◌, refl}
 use Rattle.lrs_record.specs.Entries.{HoldsWrite, IsLawfulWrite}
-use Rattle.lrs_record.specs.Writes.{members_for, write_fields, write_in, write_name}
+use Rattle.lrs_fields.specs.Values.{members_for}
+use Rattle.lrs_record.specs.Writes.{write_fields, write_in, write_name}
 use Rattle.lrs_record.specs.declared.entry.Write.{Write}
 use Rattle.lrs_record.specs.declared.entry.Write.TheVariants.{Found, Provider, Put, Post, State, Drop}
-use Rattle.lrs_record.specs.declared.entry.Write.TheVariants.{Course, Enrol, Launch, Fetch}
-use Rattle.lrs_record.proofs.Apart.{are_apart}
-use Rattle.lrs_record.proofs.DeskWrites.{apart_launch, enrol_again, launch_again}
+use Rattle.lrs_record.specs.declared.entry.Write.TheVariants.{Course, Enrol, Launch, Fetch, Waive, Abandon, Sweep}
+use Rattle.lrs_fields.proofs.Apart.{are_apart}
+use Rattle.lrs_record.proofs.DeskWrites.{apart_launch, enrol_again, launch_again, waive_again}
 use Rattle.lrs_record.proofs.DocumentWrites.{apart_drop, apart_state, drop_again, state_again}
-use Rattle.lrs_record.proofs.ManyTrees.{shallow_trees}
-use Rattle.lrs_record.proofs.Values.{read_id, read_tree, read_trees}
-use Rattle.lrs_record.proofs.Words.{are_small}
+use Rattle.lrs_fields.proofs.ManyTrees.{shallow_trees}
+use Rattle.lrs_fields.proofs.Numbers.{read_number}
+use Rattle.lrs_fields.proofs.Values.{read_id, read_tree, read_trees}
+use Rattle.lrs_fields.proofs.Words.{are_small}
 
 pub made_again : (w : Write) → IsLawfulWrite w → HoldsWrite w → write_in (write_name w) (members_for (write_fields w)) ≡ Some w
 made_again (Found admin base) lawful holds = refl
@@ -23,6 +25,9 @@ made_again (Course tree) lawful holds = rw (read_tree tree lawful.0.1) refl
 made_again (Enrol course actor) lawful holds = enrol_again course actor holds
 made_again (Launch registration unit mode return_url) lawful holds = launch_again registration unit mode return_url holds
 made_again (Fetch key) lawful holds = refl
+made_again (Waive registration unit reason) lawful holds = waive_again registration unit reason holds
+made_again (Abandon session) lawful holds = rw (read_id session holds.0) refl
+made_again (Sweep idle) lawful holds = rw (read_number idle holds.0) refl
 
 pub well_named : (w : Write) → (are_small (write_name w) && are_apart [] (write_fields w)) ≡ true
 well_named (Found admin base) = refl
@@ -35,3 +40,6 @@ well_named (Course tree) = refl
 well_named (Enrol course actor) = refl
 well_named (Launch registration unit mode return_url) = apart_launch registration unit mode return_url
 well_named (Fetch key) = refl
+well_named (Waive registration unit reason) = refl
+well_named (Abandon session) = refl
+well_named (Sweep idle) = refl

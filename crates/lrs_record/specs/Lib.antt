@@ -1,4 +1,3 @@
 pub mod Writes
 pub mod Entries
-pub mod Widths
 pub mod Refusals

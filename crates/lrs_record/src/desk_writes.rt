@@ -1,20 +1,20 @@
-// The writes of courses: how their fields are lent, and read back.
-ghost use Rattle.std.specs.Prelude.{◌≡◌, ◌++◌, drop, false, IfOk, IfSome, OnOk, codes};
+// The writes of the desk: how their fields are lent, and read back.
+ghost use Rattle.std.specs.Prelude.{◌≡◌, ◌++◌, drop, false, IfOk, IfSome, OnOk};
 ghost use Rattle.std.specs.List.{AllByRecursion};
+ghost use Rattle.lrs_fields.specs.Reading.{members_left, read_first, values_left};
+ghost use Rattle.lrs_fields.specs.Values.{members_for};
 ghost use Rattle.lrs_json.specs.Fits.{Fits};
-ghost use Rattle.lrs_json.specs.View.{members_of, view};
+ghost use Rattle.lrs_json.specs.View.{members_of};
 ghost use Rattle.lrs_json.specs.Written.{Extends, members_text};
-ghost use Rattle.lrs_names.specs.Members.{text_under};
 ghost use Rattle.lrs_record.specs.Entries.{HoldsWrite, IsLawfulWrite};
-ghost use Rattle.lrs_record.specs.Writes.{actor_in, enrol_in, iri_in, launch_in, members_for, members_left, mode_in, optional_in, read_first, values_left, write_fields};
+ghost use Rattle.lrs_record.specs.Writes.{abandon_in, course_in, enrol_in, fetch_in, found_in, launch_in, mode_in, provider_in, reason_in, sweep_in, waive_in, write_fields};
 ghost use Rattle.lrs_record.specs.declared.entry.Write.TheVariants as write;
 
 use crate::Write;
-use crate::fields::{Fields, Lent, put_fields};
-use cmi5_course::Mode;
-use lrs_agents::{Agent, Ifi};
-use lrs_json::{Memory, Text, Tree};
-use lrs_names::{Id, Iri, text_under};
+use cmi5_course::{Mode, Reason};
+use lrs_fields::{Fields, Lent, put_fields};
+use lrs_json::Memory;
+use lrs_names::{Id, Iri};
 use std::alloc::Global;
 
 /// Appends the fields of a launch, and the closing brace.
@@ -42,99 +42,158 @@ pub fn put_launch(
     }
 }
 
-impl Fields {
-    /// A learner who is enrolled.
-    pub fn enrol(&mut self, alloc: Global) -> Result<Option<Write>, Memory>
-        requires { AllByRecursion Fits (values_left self.old) }
-        ensures is { IfOk result (λ found. found ≡ enrol_in (members_left self.old)) }
-        ensures lawful { IfOk result (λ found. IfSome found IsLawfulWrite) }
-    {
-        let Some(course) = self.iri() else {
-            return Ok(None);
-        };
-        match self.actor(alloc) {
-            Ok(Some(actor)) => Ok(Some(Write::Enrol { course, actor })),
-            Ok(None) => {
-                drop(course);
-                Ok(None)
-            }
-            Err(refused) => {
-                drop(course);
-                Err(refused)
-            }
+/// Appends the fields of a waiver, and the closing brace.
+pub fn put_waive(
+    registration: &Id,
+    unit: &Iri,
+    reason: Reason,
+    into: &mut Vec<u8>,
+) -> Result<(), Memory>
+    ensures ok { OnOk result (into.new.items ≡ into.old.items ++ members_text false
+        (members_of (members_for (write_fields (write.Waive registration.now unit.now reason))))) }
+    ensures kept { Extends into.old.items into.new.items }
+    ensures holds { OnOk result (HoldsWrite (write.Waive registration.now unit.now reason)) }
+{
+    put_fields(
+        &[
+            ("registration", Lent::Id(registration)),
+            ("unit", Lent::Iri(unit)),
+            ("reason", Lent::Word(reason.text())),
+        ],
+        into,
+    )
+}
+
+/// A store that is founded.
+pub fn found_in(fields: &mut Fields) -> Option<Write>
+    requires { AllByRecursion Fits (values_left fields.old) }
+    ensures is { result ≡ found_in (members_left fields.old) }
+    ensures lawful { IfSome result IsLawfulWrite }
+{
+    let admin = fields.text()?;
+    let base = fields.text()?;
+    Some(Write::Found { admin, base })
+}
+
+/// A provider that is made.
+pub fn provider_in(fields: &mut Fields) -> Option<Write>
+    requires { AllByRecursion Fits (values_left fields.old) }
+    ensures is { result ≡ provider_in (members_left fields.old) }
+    ensures lawful { IfSome result IsLawfulWrite }
+{
+    let name = fields.text()?;
+    Some(Write::Provider { name })
+}
+
+/// A course that is taken up.
+pub fn course_in(fields: &mut Fields) -> Option<Write>
+    requires { AllByRecursion Fits (values_left fields.old) }
+    ensures is { result ≡ course_in (members_left fields.old) }
+    ensures lawful { IfSome result IsLawfulWrite }
+{
+    let tree = fields.tree()?;
+    Some(Write::Course { tree })
+}
+
+/// A learner who is enrolled.
+pub fn enrol_in(alloc: Global, fields: &mut Fields) -> Result<Option<Write>, Memory>
+    requires { AllByRecursion Fits (values_left fields.old) }
+    ensures is { IfOk result (λ found. found ≡ enrol_in (members_left fields.old)) }
+    ensures lawful { IfOk result (λ found. IfSome found IsLawfulWrite) }
+{
+    let Some(course) = fields.iri() else {
+        return Ok(None);
+    };
+    match fields.actor(alloc) {
+        Ok(Some(actor)) => Ok(Some(Write::Enrol { course, actor })),
+        Ok(None) => {
+            drop(course);
+            Ok(None)
         }
-    }
-
-    // The identifier and the name of an agent, whatever else stands there.
-    fn actor(&mut self, alloc: Global) -> Result<Option<Agent>, Memory>
-        requires { AllByRecursion Fits (values_left self.old) }
-        ensures { IfOk result (λ actor. actor ≡ read_first actor_in (values_left self.old)) }
-    {
-        match self.next() {
-            Some(tree) => {
-                let actor = actor_of(alloc, &tree);
-                drop(tree);
-                actor
-            }
-            None => Ok(None),
+        Err(refused) => {
+            drop(course);
+            Err(refused)
         }
-    }
-
-    /// A unit that is launched.
-    #[tactic(auto, using(crate::proofs::DeskWrites::lawful_launch))]
-    pub fn launch(&mut self) -> Option<Write>
-        requires { AllByRecursion Fits (values_left self.old) }
-        ensures is { result ≡ launch_in (members_left self.old) }
-        ensures lawful { IfSome result IsLawfulWrite }
-    {
-        let registration = self.id()?;
-        let unit = self.iri()?;
-        let mode = self.mode()?;
-        let return_url = self.optional_iri("returnURL")?;
-        Some(Write::Launch {
-            registration,
-            unit,
-            mode,
-            return_url,
-        })
-    }
-
-    fn mode(&mut self) -> Option<Mode>
-        requires { AllByRecursion Fits (values_left self.old) }
-        ensures is { result ≡ read_first mode_in (values_left self.old) }
-        ensures rest { members_left self.new ≡ drop 1 (members_left self.old) }
-        ensures fit { AllByRecursion Fits (values_left self.new) }
-    {
-        Mode::of(self.text()?.as_str())
-    }
-
-    // The IRI under a name that may be missing; None where it is no IRI.
-    fn optional_iri(&mut self, name: &str) -> Option<Option<Iri>>
-        requires { AllByRecursion Fits (values_left self.old) }
-        ensures { result ≡ optional_in name.now iri_in (members_left self.old) }
-    {
-        if !self.is_next(name) {
-            return Some(None);
-        }
-        Some(Some(self.iri()?))
     }
 }
 
-fn actor_of(alloc: Global, tree: &Tree) -> Result<Option<Agent>, Memory>
-    ensures { IfOk result (λ actor. actor ≡ actor_in (view tree.now)) }
+/// A unit that is launched.
+#[tactic(auto, using(crate::proofs::DeskWrites::lawful_launch))]
+pub fn launch_in(fields: &mut Fields) -> Option<Write>
+    requires { AllByRecursion Fits (values_left fields.old) }
+    ensures is { result ≡ launch_in (members_left fields.old) }
+    ensures lawful { IfSome result IsLawfulWrite }
 {
-    let name = name_of(alloc, tree)?;
-    match Ifi::of(alloc, tree)? {
-        Some(ifi) => Ok(Some(Agent { ifi, name })),
-        None => Ok(None),
-    }
+    let registration = fields.id()?;
+    let unit = fields.iri()?;
+    let mode = mode(fields)?;
+    let return_url = fields.optional_iri("returnURL")?;
+    Some(Write::Launch {
+        registration,
+        unit,
+        mode,
+        return_url,
+    })
 }
 
-fn name_of(alloc: Global, tree: &Tree) -> Result<Option<Text>, Memory>
-    ensures { IfOk result (λ name. name ≡ text_under (codes "name") (view tree.now)) }
+fn mode(fields: &mut Fields) -> Option<Mode>
+    requires { AllByRecursion Fits (values_left fields.old) }
+    ensures is { result ≡ read_first mode_in (values_left fields.old) }
+    ensures rest { members_left fields.new ≡ drop 1 (members_left fields.old) }
+    ensures fit { AllByRecursion Fits (values_left fields.new) }
 {
-    match text_under(tree, "name") {
-        Some(name) => Ok(Some(Text::of(alloc, name.as_str())?)),
-        None => Ok(None),
-    }
+    Mode::of(fields.text()?.as_str())
+}
+
+/// A token that is given away.
+pub fn fetch_in(fields: &mut Fields) -> Option<Write>
+    requires { AllByRecursion Fits (values_left fields.old) }
+    ensures is { result ≡ fetch_in (members_left fields.old) }
+    ensures lawful { IfSome result IsLawfulWrite }
+{
+    let key = fields.text()?;
+    Some(Write::Fetch { key })
+}
+
+/// A unit that is waived.
+pub fn waive_in(fields: &mut Fields) -> Option<Write>
+    requires { AllByRecursion Fits (values_left fields.old) }
+    ensures is { result ≡ waive_in (members_left fields.old) }
+    ensures lawful { IfSome result IsLawfulWrite }
+{
+    let registration = fields.id()?;
+    let unit = fields.iri()?;
+    let reason = reason(fields)?;
+    Some(Write::Waive {
+        registration,
+        unit,
+        reason,
+    })
+}
+
+fn reason(fields: &mut Fields) -> Option<Reason>
+    requires { AllByRecursion Fits (values_left fields.old) }
+    ensures { result ≡ read_first reason_in (values_left fields.old) }
+{
+    Reason::of(fields.text()?.as_str())
+}
+
+/// A session that is abandoned.
+pub fn abandon_in(fields: &mut Fields) -> Option<Write>
+    requires { AllByRecursion Fits (values_left fields.old) }
+    ensures is { result ≡ abandon_in (members_left fields.old) }
+    ensures lawful { IfSome result IsLawfulWrite }
+{
+    let session = fields.id()?;
+    Some(Write::Abandon { session })
+}
+
+/// Idle sessions that are abandoned.
+pub fn sweep_in(fields: &mut Fields) -> Option<Write>
+    requires { AllByRecursion Fits (values_left fields.old) }
+    ensures is { result ≡ sweep_in (members_left fields.old) }
+    ensures lawful { IfSome result IsLawfulWrite }
+{
+    let idle = fields.number()?;
+    Some(Write::Sweep { idle })
 }

@@ -1,17 +1,22 @@
 ghost use Rattle.std.specs.Prelude.{◌≡◌, ◌++◌, false, IfOk, IfSome, OnOk};
 ghost use Rattle.std.specs.List.{AllByRecursion};
+ghost use Rattle.lrs_fields.specs.Reading.{members_left, values_left};
+ghost use Rattle.lrs_fields.specs.Values.{members_for};
 ghost use Rattle.lrs_json.specs.Fits.{Fits};
 ghost use Rattle.lrs_json.specs.View.{members_of};
 ghost use Rattle.lrs_json.specs.Written.{Extends, members_text};
 ghost use Rattle.lrs_record.specs.Entries.{HoldsCaller, HoldsWrite, IsLawfulWrite, caller_text};
-ghost use Rattle.lrs_record.specs.Writes.{how_text, members_for, members_left, values_left, write_area, write_fields, write_in, write_name, write_of};
-ghost use Rattle.lrs_record.specs.declared.entry.Write.TheVariants as write;
+ghost use Rattle.lrs_record.specs.Writes.{how_of, how_text, write_area, write_fields, write_in, write_name, write_of};
 
 use crate::Moment;
-use crate::desk_writes::put_launch;
-use crate::fields::{Fields, Lent, put_fields};
-use cmi5_course::Mode;
+use crate::desk_writes::{
+    abandon_in, course_in, enrol_in, fetch_in, found_in, launch_in, provider_in, put_launch,
+    put_waive, sweep_in, waive_in,
+};
+use crate::store_writes::{drop_in, post_in, put_drop, put_in, put_state, state_in};
+use cmi5_course::{Mode, Reason};
 use lrs_agents::{Agent, Ifi};
+use lrs_fields::{Fields, Lent, put_fields};
 use lrs_json::{Items, Memory, Text, Tree};
 use lrs_names::{Draw, Id, Iri};
 use std::alloc::Global;
@@ -85,6 +90,20 @@ pub enum Write {
     Fetch {
         key: Text,
     },
+    /// Waives a unit, by its publisher's id, of a registration's course.
+    Waive {
+        registration: Id,
+        unit: Iri,
+        reason: Reason,
+    },
+    /// Abandons a session.
+    Abandon {
+        session: Id,
+    },
+    /// Abandons the sessions that have been idle for so many seconds.
+    Sweep {
+        idle: u32,
+    },
 }
 
 /// What becomes of a document that is held under the key of one that is written.
@@ -104,6 +123,17 @@ impl How {
         match self {
             How::Put => "put",
             How::Post => "post",
+        }
+    }
+
+    /// The one of that word.
+    pub fn of(text: &str) -> Option<How>
+        ensures { result ≡ how_of text.now }
+    {
+        match text {
+            "put" => Some(How::Put),
+            "post" => Some(How::Post),
+            _ => None,
         }
     }
 }
@@ -145,6 +175,9 @@ impl Write {
             Write::Enrol { .. } => "enrol",
             Write::Launch { .. } => "launch",
             Write::Fetch { .. } => "fetch",
+            Write::Waive { .. } => "waive",
+            Write::Abandon { .. } => "abandon",
+            Write::Sweep { .. } => "sweep",
         }
     }
 
@@ -159,7 +192,10 @@ impl Write {
             | Write::Provider { .. }
             | Write::Course { .. }
             | Write::Enrol { .. }
-            | Write::Launch { .. } => Area::Desk,
+            | Write::Launch { .. }
+            | Write::Waive { .. }
+            | Write::Abandon { .. }
+            | Write::Sweep { .. } => Area::Desk,
             Write::Fetch { .. } => Area::Free,
         }
     }
@@ -215,6 +251,13 @@ impl Write {
                 return_url,
             } => put_launch(registration, unit, *mode, return_url, into),
             Write::Fetch { key } => put_fields(&[("key", Lent::Text(key))], into),
+            Write::Waive {
+                registration,
+                unit,
+                reason,
+            } => put_waive(registration, unit, *reason, into),
+            Write::Abandon { session } => put_fields(&[("session", Lent::Id(session))], into),
+            Write::Sweep { idle } => put_fields(&[("idle", Lent::Number(*idle))], into),
         }
     }
 
@@ -229,41 +272,30 @@ impl Write {
         ensures lawful { IfOk result (λ found. IfSome found IsLawfulWrite) }
     {
         match name {
-            "state" => fields.state(alloc),
-            "drop" => fields.drop_of(alloc),
-            "enrol" => fields.enrol(alloc),
-            "launch" => Ok(fields.launch()),
+            "state" => state_in(alloc, fields),
+            "drop" => drop_in(alloc, fields),
+            "enrol" => enrol_in(alloc, fields),
+            "launch" => Ok(launch_in(fields)),
             _ => Ok(Write::of_values(name, fields)),
         }
     }
 
-    // The write of that name and of the values of these fields, of those whose fields are all there.
+    // The write of that name and of these fields, of those whose fields are all there and are no agents and no bytes.
     fn of_values(name: &str, fields: &mut Fields) -> Option<Write>
         requires { AllByRecursion Fits (values_left fields.old) }
-        ensures is { result ≡ write_of name.now (values_left fields.old) }
+        ensures is { result ≡ write_of name.now (members_left fields.old) }
         ensures lawful { IfSome result IsLawfulWrite }
     {
         match name {
-            "found" => Some(Write::Found {
-                admin: fields.text()?,
-                base: fields.text()?,
-            }),
-            "provider" => Some(Write::Provider {
-                name: fields.text()?,
-            }),
-            "put" => Some(Write::Put {
-                id: fields.id()?,
-                statement: fields.tree()?,
-            }),
-            "post" => Some(Write::Post {
-                statements: fields.trees()?,
-            }),
-            "course" => Some(Write::Course {
-                tree: fields.tree()?,
-            }),
-            "fetch" => Some(Write::Fetch {
-                key: fields.text()?,
-            }),
+            "found" => found_in(fields),
+            "provider" => provider_in(fields),
+            "put" => put_in(fields),
+            "post" => post_in(fields),
+            "course" => course_in(fields),
+            "fetch" => fetch_in(fields),
+            "waive" => waive_in(fields),
+            "abandon" => abandon_in(fields),
+            "sweep" => sweep_in(fields),
             _ => None,
         }
     }
@@ -280,76 +312,5 @@ impl Caller {
             Caller::Operator => "*",
             Caller::Token(token) => token.as_str(),
         }
-    }
-}
-
-// The fields of a document that is written.
-fn put_state(
-    how: How,
-    key: &StateKey,
-    media: &Text,
-    bytes: &Items<u8>,
-    into: &mut Vec<u8>,
-) -> Result<(), Memory>
-    ensures ok { OnOk result (into.new.items ≡ into.old.items ++ members_text false
-        (members_of (members_for (write_fields (write.State how key.now media.now bytes.now))))) }
-    ensures kept { Extends into.old.items into.new.items }
-    ensures holds { OnOk result (HoldsWrite (write.State how key.now media.now bytes.now)) }
-{
-    match &key.registration {
-        Some(registration) => put_fields(
-            &[
-                ("how", Lent::Word(how.text())),
-                ("activity", Lent::Iri(&key.activity)),
-                ("agent", Lent::Agent(&key.agent)),
-                ("registration", Lent::Id(registration)),
-                ("state", Lent::Text(&key.state)),
-                ("type", Lent::Text(media)),
-                ("bytes", Lent::Bytes(bytes)),
-            ],
-            into,
-        ),
-        None => put_fields(
-            &[
-                ("how", Lent::Word(how.text())),
-                ("activity", Lent::Iri(&key.activity)),
-                ("agent", Lent::Agent(&key.agent)),
-                ("state", Lent::Text(&key.state)),
-                ("type", Lent::Text(media)),
-                ("bytes", Lent::Bytes(bytes)),
-            ],
-            into,
-        ),
-    }
-}
-
-// The fields of documents that are dropped.
-fn put_drop(
-    activity: &Iri,
-    agent: &Ifi,
-    registration: &Option<Id>,
-    state: &Option<Text>,
-    into: &mut Vec<u8>,
-) -> Result<(), Memory>
-    ensures ok { OnOk result (into.new.items ≡ into.old.items ++ members_text false
-        (members_of (members_for (write_fields (write.Drop activity.now agent.now registration.now state.now))))) }
-    ensures kept { Extends into.old.items into.new.items }
-    ensures holds { OnOk result (HoldsWrite (write.Drop activity.now agent.now registration.now state.now)) }
-{
-    let first = ("activity", Lent::Iri(activity));
-    let second = ("agent", Lent::Agent(agent));
-    match (registration, state) {
-        (None, None) => put_fields(&[first, second], into),
-        (Some(id), None) => put_fields(&[first, second, ("registration", Lent::Id(id))], into),
-        (None, Some(text)) => put_fields(&[first, second, ("state", Lent::Text(text))], into),
-        (Some(id), Some(text)) => put_fields(
-            &[
-                first,
-                second,
-                ("registration", Lent::Id(id)),
-                ("state", Lent::Text(text)),
-            ],
-            into,
-        ),
     }
 }

@@ -3,20 +3,16 @@
 //! written form of JSON.
 #![tactic(auto)]
 
-mod agents;
-mod depth;
 mod desk_writes;
-mod digits;
 mod entry;
-mod fields;
-mod members;
 mod pieces;
 mod reading;
 mod refused;
+mod store_writes;
 mod writing;
 
-pub use digits::put_word;
 pub use entry::{Area, Caller, Entry, How, Write};
+pub use lrs_fields::put_word;
 pub use lrs_time::Moment;
 pub use reading::read_entry;
 pub use refused::EntryRefused;

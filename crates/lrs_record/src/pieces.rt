@@ -1,20 +1,22 @@
 ghost use Rattle.std.specs.Prelude.{◌≡◌, ◌≤◌, ℕ, Some, IfOk, IfSome, MatchOption, codes};
 ghost use Rattle.std.specs.Fmt.{decimal};
 ghost use Rattle.std.specs.List.{AllByRecursion};
+ghost use Rattle.lrs_fields.specs.Digits.{draw_text};
+ghost use Rattle.lrs_fields.specs.Reading.{members_left, values_left};
+ghost use Rattle.lrs_fields.specs.Values.{members_for};
 ghost use Rattle.lrs_json.specs.Fits.{Fits};
 ghost use Rattle.lrs_json.specs.Json.{number, string};
 ghost use Rattle.lrs_json.specs.View.{member_view, view};
-ghost use Rattle.lrs_record.specs.Entries.{HoldsWrite, IsLawful, IsLawfulCaller, IsLawfulWrite, caller_text, draw_text, entry_json, write_json};
-ghost use Rattle.lrs_record.specs.Writes.{members_for, members_left, values_left, write_fields, write_name};
+ghost use Rattle.lrs_record.specs.Entries.{HoldsWrite, IsLawful, IsLawfulCaller, IsLawfulWrite, caller_text, entry_json, write_json};
+ghost use Rattle.lrs_record.specs.Writes.{write_fields, write_name};
 ghost use Rattle.lrs_time.specs.declared.moments.TheConstants.{LATEST};
 ghost use Rattle.lrs_record.specs.declared.entry.Caller.{Caller as SpecCaller};
 ghost use Rattle.lrs_record.specs.declared.entry.Write.{Write as SpecWrite};
 ghost use Rattle.lrs_record.specs.declared.entry.Entry.{Entry as SpecEntry};
 
-use crate::digits::draw_of;
-use crate::fields::Fields;
-use crate::members::{four, named, one, text};
 use crate::{Caller, Entry, Moment, Write};
+use lrs_fields::members::{four, named, one, text};
+use lrs_fields::{Fields, draw_of};
 use lrs_json::{Member, Memory, Text, Tree};
 use lrs_names::Draw;
 use std::alloc::Global;

@@ -7,9 +7,9 @@ ghost use Rattle.lrs_record.specs.Entries.{HasValues, HoldsWrite, IsLawful, IsLa
 ghost use Rattle.lrs_time.specs.declared.moments.TheConstants.{LATEST};
 ghost use Rattle.lrs_record.specs.declared.entry.Entry.{Entry as SpecEntry};
 
-use crate::digits::draw_digits;
 use crate::{Entry, Moment, Write};
 use itoa::Buffer;
+use lrs_fields::draw_digits;
 use lrs_json::appending::{put, put_name, put_text};
 use lrs_json::{Memory, utf8_text};
 

@@ -2,7 +2,7 @@
 ghost use Rattle.std.specs.Prelude.{IfOk};
 ghost use Rattle.lrs_record.specs.Entries.{IsLawfulCaller, IsLawfulWrite};
 
-use cmi5_course::Mode;
+use cmi5_course::{Mode, Reason};
 use lrs_agents::{Agent, Ifi};
 use lrs_json::Text;
 use lrs_names::{Draw, Id, Iri};
@@ -66,6 +66,11 @@ fn say_count(into: &mut String, count: usize) -> Result<(), Fail> {
     Ok(())
 }
 
+fn say_number(into: &mut String, number: u32) -> Result<(), Fail> {
+    write!(into, " {number}")?;
+    Ok(())
+}
+
 fn say_quoted(into: &mut String, text: &Text) -> Result<(), Fail> {
     write!(into, " {:?}", text.as_str())?;
     Ok(())
@@ -94,6 +99,13 @@ fn show_write(into: &mut String, write: &Write) -> Result<(), Fail> {
             return_url,
         } => show_launch(into, registration, unit, *mode, return_url),
         Write::Fetch { key } => say(into, key.as_str()),
+        Write::Waive {
+            registration,
+            unit,
+            reason,
+        } => show_waiver(into, registration, unit, *reason),
+        Write::Abandon { session } => say_id(into, session),
+        Write::Sweep { idle } => say_number(into, *idle),
     }
 }
 
@@ -146,6 +158,17 @@ fn show_launch(
         Some(address) => say(into, address.text().as_str()),
         None => Ok(()),
     }
+}
+
+fn show_waiver(
+    into: &mut String,
+    registration: &Id,
+    unit: &Iri,
+    reason: Reason,
+) -> Result<(), Fail> {
+    say_id(into, registration)?;
+    say(into, unit.text().as_str())?;
+    say(into, reason.text())
 }
 
 // What the entry says, in a line.
@@ -565,5 +588,121 @@ const NO_COURSES: [(usize, &str, &str); 24] = [
 #[test]
 fn refuses_other_courses(rt: HostRuntime) -> Result<(), Fail> {
     assert_eq!(rt; first_kept(rt.alloc(), &COURSES, &NO_COURSES)?, None);
+    Ok(())
+}
+
+// The commands that waive a unit, abandon a session and sweep idle ones.
+const ENDINGS: [(&str, &str); 8] = [
+    (
+        "{\"waive\":{\"registration\":\"00000000-0000-4000-8000-000000000010\",\"unit\":\"http://c/u\",\"reason\":\"Tested Out\"}}",
+        "waive 00000000-0000-4000-8000-000000000010 http://c/u Tested Out",
+    ),
+    (
+        "{\"waive\":{\"registration\":\"00000000-0000-4000-8000-000000000010\",\"unit\":\"http://c/u\",\"reason\":\"Equivalent AU\"}}",
+        "waive 00000000-0000-4000-8000-000000000010 http://c/u Equivalent AU",
+    ),
+    (
+        "{\"waive\":{\"registration\":\"00000000-0000-4000-8000-000000000010\",\"unit\":\"http://c/u\",\"reason\":\"Equivalent Outside Activity\"}}",
+        "waive 00000000-0000-4000-8000-000000000010 http://c/u Equivalent Outside Activity",
+    ),
+    (
+        "{\"waive\":{\"registration\":\"00000000-0000-4000-8000-000000000010\",\"unit\":\"http://c/u\",\"reason\":\"Administrative\"}}",
+        "waive 00000000-0000-4000-8000-000000000010 http://c/u Administrative",
+    ),
+    (
+        "{\"abandon\":{\"session\":\"00000000-0000-4000-8000-00000000001a\"}}",
+        "abandon 00000000-0000-4000-8000-00000000001a",
+    ),
+    ("{\"sweep\":{\"idle\":0}}", "sweep 0"),
+    ("{\"sweep\":{\"idle\":3600}}", "sweep 3600"),
+    ("{\"sweep\":{\"idle\":4294967295}}", "sweep 4294967295"),
+];
+
+#[test]
+fn reads_waivers_and_sweeps_back(rt: HostRuntime) -> Result<(), Fail> {
+    assert_eq!(rt; first_wrong_command(rt.alloc(), &ENDINGS)?, None);
+    Ok(())
+}
+
+// Which of the commands, and what is changed in it, so that it is none.
+const NO_ENDINGS: [(usize, &str, &str); 45] = [
+    (
+        0,
+        "\"registration\":\"00000000-0000-4000-8000-000000000010\",",
+        "",
+    ),
+    (0, ",\"unit\":\"http://c/u\"", ""),
+    (0, ",\"reason\":\"Tested Out\"", ""),
+    (
+        0,
+        "\"unit\"",
+        "\"registration\":\"00000000-0000-4000-8000-000000000010\",\"unit\"",
+    ),
+    (0, "\"reason\"", "\"unit\":\"http://c/u\",\"reason\""),
+    (
+        0,
+        "\"Tested Out\"",
+        "\"Tested Out\",\"reason\":\"Tested Out\"",
+    ),
+    (0, "\"00000000-0000-4000-8000-000000000010\"", "16"),
+    (0, "\"http://c/u\"", "null"),
+    (0, "\"Tested Out\"", "0"),
+    (0, "\"Tested Out\"", "[\"Tested Out\"]"),
+    (0, "-000000000010", "-00000000001"),
+    (0, "\"http://c/u\"", "\"c/u\""),
+    (0, "\"Tested Out\"", "\"tested out\""),
+    (0, "\"Tested Out\"", "\"TestedOut\""),
+    (0, "\"Tested Out\"", "\"\""),
+    (1, "\"Equivalent AU\"", "\"Equivalent Au\""),
+    (1, "\"Equivalent AU\"", "\"Equivalent\""),
+    (
+        0,
+        "\"registration\":\"00000000-0000-4000-8000-000000000010\",\"unit\":\"http://c/u\"",
+        "\"unit\":\"http://c/u\",\"registration\":\"00000000-0000-4000-8000-000000000010\"",
+    ),
+    (
+        0,
+        "\"unit\":\"http://c/u\",\"reason\":\"Tested Out\"",
+        "\"reason\":\"Tested Out\",\"unit\":\"http://c/u\"",
+    ),
+    (0, "\"Tested Out\"", "\"Tested Out\",\"more\":1"),
+    (0, "\"reason\"", "\"mode\""),
+    (
+        4,
+        "\"session\":\"00000000-0000-4000-8000-00000000001a\"",
+        "",
+    ),
+    (
+        4,
+        "\"00000000-0000-4000-8000-00000000001a\"",
+        "\"00000000-0000-4000-8000-00000000001a\",\"session\":\"00000000-0000-4000-8000-00000000001a\"",
+    ),
+    (4, "\"00000000-0000-4000-8000-00000000001a\"", "26"),
+    (4, "1a", "1A"),
+    (4, "\"session\"", "\"registration\""),
+    (5, "\"idle\":0", ""),
+    (5, "0", "0,\"idle\":0"),
+    (5, "\"idle\"", "\"seconds\""),
+    (5, "0", "-1"),
+    (5, "0", "-0"),
+    (5, "0", "0.0"),
+    (5, "0", "1.0"),
+    (5, "0", "1e2"),
+    (5, "0", "01"),
+    (5, "0", "00"),
+    (5, "0", "+1"),
+    (5, "0", "\"0\""),
+    (5, "0", "\"\""),
+    (5, "0", "null"),
+    (5, "0", "[0]"),
+    (6, "3600", "36e2"),
+    (6, "3600", " 3600"),
+    (7, "4294967295", "4294967296"),
+    (7, "4294967295", "18446744073709551616"),
+];
+
+#[test]
+fn refuses_other_waivers_and_sweeps(rt: HostRuntime) -> Result<(), Fail> {
+    assert_eq!(rt; first_kept(rt.alloc(), &ENDINGS, &NO_ENDINGS)?, None);
     Ok(())
 }

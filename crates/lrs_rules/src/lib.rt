@@ -1,8 +1,11 @@
-//! The rules that a request can break, by name, and the rule that a refusal of JSON means.
+//! The rules that a request can break, by name, the rule that a refusal of JSON means, and the limit that more than one
+//! crate asks for.
 #![tactic(auto)]
 
 mod json;
+mod limits;
 mod rule;
 
 pub use json::json_rule;
+pub use limits::LONGEST_IDLE;
 pub use rule::Rule;

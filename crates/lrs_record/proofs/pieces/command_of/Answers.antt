@@ -4,8 +4,9 @@ use Rattle.lrs_json.specs.Json.{object}
 use Rattle.lrs_json.specs.View.{member_view, members_of, view}
 use Rattle.lrs_json.specs.declared.tree.Tree.{the_lemmas}
 use Rattle.lrs_record.specs.Entries.{fields, write_json}
-use Rattle.lrs_record.specs.Writes.{members_for, write_fields, write_name}
-use Rattle.lrs_record.proofs.SameParts.{one_part, value_of_member}
+use Rattle.lrs_fields.specs.Values.{members_for}
+use Rattle.lrs_record.specs.Writes.{write_fields, write_name}
+use Rattle.lrs_fields.proofs.SameParts.{one_part, value_of_member}
 use Rattle.lrs_record.proofs.pieces.command_of.Goals as goal
 
 pub returns-in_err-named-clause-all : goal.returns-in_err-named-clause-all

@@ -1,5 +1,6 @@
 use Rattle.std.proofs.Common.{◌≡◌, ◌∙◌}
-use Rattle.lrs_record.specs.Entries.{caller_text, draw_text}
+use Rattle.lrs_fields.specs.Digits.{draw_text}
+use Rattle.lrs_record.specs.Entries.{caller_text}
 use Rattle.lrs_record.proofs.pieces.heading_of.Goals as goal
 
 pub returns-in_err-moment-clause-all : goal.returns-in_err-moment-clause-all

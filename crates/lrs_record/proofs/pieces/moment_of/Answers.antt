@@ -2,7 +2,7 @@ use Rattle.std.proofs.Common.{◌≡◌, ◌<◌, ◌^◌, Ok, arith, min, refl,
 use Rattle.std.proofs.lemmas.Bool.{false≢true}
 use Rattle.std.proofs.lemmas.Fmt.{parse-decimal}
 use Rattle.lrs_time.specs.declared.moments.TheConstants.{LATEST}
-use Rattle.lrs_record.proofs.SameParts.{spelling_of_member}
+use Rattle.lrs_fields.proofs.SameParts.{spelling_of_member}
 use Rattle.lrs_record.proofs.pieces.moment_of.Goals as goal
 
 pub returns-in_err-spelling : goal.returns-in_err-spelling

@@ -1,5 +1,6 @@
 use Rattle.std.proofs.Common.{◌≡◌, Option, IfOk, ap, ◌∙◌, subst}
-use Rattle.lrs_record.specs.Writes.{members_left, write_in, write_name}
+use Rattle.lrs_fields.specs.Reading.{members_left}
+use Rattle.lrs_record.specs.Writes.{write_in, write_name}
 use Rattle.lrs_record.specs.declared.entry.Write.{Write}
 use Rattle.lrs_record.proofs.Writes.{made_again}
 use Rattle.lrs_record.proofs.pieces.write_of.Goals as goal

@@ -2,10 +2,11 @@ use Rattle.std.proofs.Common.{ap, codes, true, false, ◌++◌, ◌∙◌}
 use Rattle.std.proofs.lemmas.Result.{on_ok_weaker}
 use Rattle.lrs_json.specs.View.{members_of}
 use Rattle.lrs_json.specs.Written.{comma_if, members_text, quoted}
-use Rattle.lrs_record.specs.Writes.{members_for, write_fields, write_name}
+use Rattle.lrs_fields.specs.Values.{members_for}
+use Rattle.lrs_record.specs.Writes.{write_fields, write_name}
 use Rattle.lrs_json.specs.Texts.{name_text}
 use Rattle.lrs_record.proofs.Joined.{member_of_member}
-use Rattle.lrs_record.proofs.Kept.{over_two, over_three, over_four, over_five, over_six}
+use Rattle.lrs_fields.proofs.Kept.{over_two, over_three, over_four, over_five, over_six}
 use Rattle.lrs_record.proofs.writing.put_command.Goals as goal
 
 pub returns-in_err-put-clause-kept : goal.returns-in_err-put-clause-kept

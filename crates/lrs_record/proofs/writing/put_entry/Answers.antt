@@ -4,8 +4,8 @@ use Rattle.lrs_json.specs.Json.{string}
 use Rattle.lrs_record.specs.Entries.{entry_json, written_entry}
 use Rattle.lrs_json.specs.Texts.{member_text}
 use Rattle.lrs_record.proofs.Joined.{four_members}
-use Rattle.lrs_record.proofs.Words.{IsUtf8-draw_text}
-use Rattle.lrs_record.proofs.Kept.{over_two, over_three, over_four, over_five, over_six}
+use Rattle.lrs_fields.proofs.Words.{IsUtf8-draw_text}
+use Rattle.lrs_fields.proofs.Kept.{over_two, over_three, over_four, over_five, over_six}
 use Rattle.lrs_record.proofs.writing.put_entry.Goals as goal
 
 pub returns-in_err-put_text-clause-kept : goal.returns-in_err-put_text-clause-kept

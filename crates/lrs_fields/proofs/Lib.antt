@@ -1,0 +1,14 @@
+pub mod Kept
+pub mod Joined
+pub mod Words
+pub mod Counts
+pub mod SameParts
+pub mod Decimals
+pub mod Numbers
+pub mod ManyTrees
+pub mod Values
+pub mod Apart
+pub mod Actors
+pub mod Fitting
+pub mod ValueKinds
+pub mod SameWritten
