@@ -1,4 +1,4 @@
--- The bodies of enrolments and launches: each has one value, and a launch that breaks no rule passes each test.
+-- The bodies of the desk: each has one value, and a launch that breaks no rule passes each test.
 use Rattle.std.proofs.Common.{◌≡◌, ℕ, Bool, true, false, List, ◌++◌, Option, Some, None, MatchOption, codes, refl, sym, ◌∙◌}
 use Rattle.lrs_agents.specs.Readings.{IsAgentOf}
 use Rattle.lrs_agents.specs.declared.agents.Agent.{Agent}
@@ -8,11 +8,11 @@ use Rattle.lrs_names.specs.Iris.{is_iri}
 use Rattle.lrs_names.specs.Members.{if_member, is_string_that}
 use Rattle.lrs_names.specs.Rules.{least, lesser, unless}
 use Rattle.lrs_names.proofs.RuleLemmas.{least-append}
-use Rattle.lrs_bodies.specs.DeskBodies.{IsEnrolmentIn, IsLaunchIn, has_iri, is_launch, is_mode, launch_body_faults}
+use Rattle.lrs_bodies.specs.DeskBodies.{IsEnrolmentIn, IsLaunchIn, IsWaiverIn, IsSweepIn, has_iri, is_launch, is_mode, launch_body_faults}
 use Rattle.lrs_bodies.specs.declared.body_value.BodyValue.{BodyValue}
 use Rattle.lrs_bodies.specs.declared.body_value.BodyValue.TheVariants as body
 
--- ---- a value gives one enrolment, and one launch
+-- ---- a value gives one enrolment, one launch, one waiver and one sweep
 
 some_same : {A : Type 0} (a b : A) → Some a ≡ Some b → a ≡ b
 some_same a b e = cc e
@@ -39,6 +39,17 @@ one_launch j a b h k =
     let mode : h.1 ≡ k.1 = some_same h.1 k.1 (sym h.3.mode_is ∙ k.3.mode_is) in
     let url : h.2 ≡ k.2 = sym h.3.return_url_is ∙ k.3.return_url_is in
     h.4 ∙ (λ i. body.Launch (unit i) (mode i) (url i)) ∙ sym k.4
+
+pub one_waiver : (j : Json) (a b : BodyValue) → IsWaiverIn j a → IsWaiverIn j b → a ≡ b
+one_waiver j a b h k =
+    let unit : h.0 ≡ k.0 = some_same h.0 k.0 (sym h.2.unit_is ∙ k.2.unit_is) in
+    let reason : h.1 ≡ k.1 = some_same h.1 k.1 (sym h.2.reason_is ∙ k.2.reason_is) in
+    h.3 ∙ (λ i. body.Waiver (unit i) (reason i)) ∙ sym k.3
+
+pub one_sweep : (j : Json) (a b : BodyValue) → IsSweepIn j a → IsSweepIn j b → a ≡ b
+one_sweep j a b h k =
+    let idle : h.0 ≡ k.0 = some_same h.0 k.0 (sym h.1 ∙ k.1) in
+    h.2 ∙ (λ i. body.Sweep (idle i)) ∙ sym k.2
 
 -- ---- a launch that breaks no rule
 

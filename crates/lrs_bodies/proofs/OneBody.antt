@@ -18,14 +18,14 @@ use Rattle.lrs_names.specs.Rules.{least}
 use Rattle.lrs_rules.specs.Rules.{BreaksJson}
 use Rattle.lrs_rules.specs.declared.rule.Rule.{Rule}
 use Rattle.lrs_rules.specs.declared.rule.Rule.TheVariants as rule
-use Rattle.lrs_bodies.specs.Bodies.{AreStrings, BodyBreaks, BodyForm, any_body, statement_body, statements_body, document_body, strings_body, course_body, enrolment_body, launch_body, IsBodyValue, IsLeastOf, StatementBody, batch_of, first_unlike, has_just, names_of}
-use Rattle.lrs_bodies.specs.DeskBodies.{IsEnrolmentIn, IsLaunchIn, enrolment_body_faults, launch_body_faults}
+use Rattle.lrs_bodies.specs.Bodies.{AreStrings, BodyBreaks, BodyForm, any_body, statement_body, statements_body, document_body, strings_body, course_body, enrolment_body, launch_body, waiver_body, empty_body, sweep_body, IsBodyValue, IsLeastOf, StatementBody, batch_of, first_unlike, has_just, names_of}
+use Rattle.lrs_bodies.specs.DeskBodies.{IsEnrolmentIn, IsLaunchIn, IsWaiverIn, IsSweepIn, enrolment_body_faults, launch_body_faults, waiver_body_faults, empty_body_faults, sweep_body_faults}
 use Rattle.lrs_bodies.specs.Looks.{Spelled, Tested}
 use Rattle.lrs_bodies.specs.Media.{allows_json}
 use Rattle.lrs_bodies.specs.declared.body_value.BodyValue.{BodyValue}
 use Rattle.lrs_bodies.specs.declared.body_value.BodyValue.TheVariants as body
 use Rattle.lrs_bodies.proofs.Batches.{same_trees}
-use Rattle.lrs_bodies.proofs.DeskBodies.{one_enrolment, one_launch}
+use Rattle.lrs_bodies.proofs.DeskBodies.{one_enrolment, one_launch, one_waiver, one_sweep}
 
 -- a JSON text spells one value, each of its parts at one place
 abbrev pub OneJson : Type 0
@@ -152,6 +152,9 @@ body_once one (strings_body members) request a b h k =
 body_once one course_body request a b h k = spelled_once one request.body (λ _ x. x ≡ None) a b (λ _. both a b None) h k
 body_once one enrolment_body request a b h k = least_once one enrolment_body_faults request.body a b h k
 body_once one launch_body request a b h k = least_once one launch_body_faults request.body a b h k
+body_once one waiver_body request a b h k = least_once one waiver_body_faults request.body a b h k
+body_once one empty_body request a b h k = least_once one empty_body_faults request.body a b h k
+body_once one sweep_body request a b h k = least_once one sweep_body_faults request.body a b h k
 
 some_texts : (ts us : List (List ℕ)) → map Some ts ≡ map Some us → ts ≡ us
 some_texts [] [] e = refl
@@ -184,3 +187,8 @@ body_value_once one enrolment_body request a b h k =
     one_enrolment k.0 a b (subst (λ (j : Json). IsEnrolmentIn j a) (one_value one request.body h.0 k.0 h.1 k.1) h.2) k.2
 body_value_once one launch_body request a b h k =
     one_launch k.0 a b (subst (λ (j : Json). IsLaunchIn j a) (one_value one request.body h.0 k.0 h.1 k.1) h.2) k.2
+body_value_once one waiver_body request a b h k =
+    one_waiver k.0 a b (subst (λ (j : Json). IsWaiverIn j a) (one_value one request.body h.0 k.0 h.1 k.1) h.2) k.2
+body_value_once one empty_body request a b h k = h ∙ sym k
+body_value_once one sweep_body request a b h k =
+    one_sweep k.0 a b (subst (λ (j : Json). IsSweepIn j a) (one_value one request.body h.0 k.0 h.1 k.1) h.2) k.2

@@ -14,7 +14,8 @@ use Rattle.lrs_names.specs.Members.{has_member, has_member_that, has_only, is_st
 use Rattle.lrs_names.specs.Rules.{least}
 use Rattle.lrs_rules.specs.declared.rule.Rule.{Rule}
 use Rattle.lrs_rules.specs.declared.rule.Rule.TheVariants as rule
-use Rattle.lrs_bodies.specs.DeskBodies.{IsEnrolmentIn, IsLaunchIn, enrolment_body_faults, launch_body_faults}
+use Rattle.lrs_bodies.specs.DeskBodies.{IsEnrolmentIn, IsLaunchIn, IsWaiverIn, IsSweepIn, enrolment_body_faults}
+use Rattle.lrs_bodies.specs.DeskBodies.{launch_body_faults, waiver_body_faults, empty_body_faults, sweep_body_faults}
 use Rattle.lrs_bodies.specs.Looks.{Spelled, Tested}
 use Rattle.lrs_bodies.specs.Media.{allows_json, media_of}
 use Rattle.lrs_bodies.specs.declared.body_value.BodyValue.{BodyValue}
@@ -22,7 +23,7 @@ use Rattle.lrs_bodies.specs.declared.body_value.BodyValue.TheVariants as body
 
 -- What the body is to be: any, as it isn't looked at; a statement; statements; any bytes, which are a document; an
 -- object of just these members, each a string, and each with the number of the rule that it breaks where it is none; a
--- course, which may be any JSON; an enrolment; or a launch.
+-- course, which may be any JSON; an enrolment; a launch; a waiver; an object without members; or a sweep.
 pub data BodyForm : Type 0 where
   any_body : BodyForm
   statement_body : BodyForm
@@ -32,6 +33,9 @@ pub data BodyForm : Type 0 where
   course_body : BodyForm
   enrolment_body : BodyForm
   launch_body : BodyForm
+  waiver_body : BodyForm
+  empty_body : BodyForm
+  sweep_body : BodyForm
 
 -- ---- the first rule that is broken
 
@@ -73,6 +77,9 @@ BodyBreaks (strings_body members) request broken = Spelled request.body broken (
 BodyBreaks course_body request broken = Spelled request.body broken (λ course. broken ≡ None)
 BodyBreaks enrolment_body request broken = Spelled request.body broken (λ j. IsLeastOf (enrolment_body_faults j) broken)
 BodyBreaks launch_body request broken = Spelled request.body broken (λ j. IsLeastOf (launch_body_faults j) broken)
+BodyBreaks waiver_body request broken = Spelled request.body broken (λ j. IsLeastOf (waiver_body_faults j) broken)
+BodyBreaks empty_body request broken = Spelled request.body broken (λ j. IsLeastOf (empty_body_faults j) broken)
+BodyBreaks sweep_body request broken = Spelled request.body broken (λ j. IsLeastOf (sweep_body_faults j) broken)
 
 -- ---- what the body gives
 
@@ -111,6 +118,9 @@ IsBodyValue course_body request value = (tree : Tree) × Spells DEPTH request.bo
     × (value ≡ body.Course tree)
 IsBodyValue enrolment_body request value = (j : Json) × Spells DEPTH request.body j × IsEnrolmentIn j value
 IsBodyValue launch_body request value = (j : Json) × Spells DEPTH request.body j × IsLaunchIn j value
+IsBodyValue waiver_body request value = (j : Json) × Spells DEPTH request.body j × IsWaiverIn j value
+IsBodyValue empty_body request value = value ≡ body.Empty
+IsBodyValue sweep_body request value = (j : Json) × Spells DEPTH request.body j × IsSweepIn j value
 
 -- trees such as reading gives
 abbrev pub AreReadable : List Tree → Type 0
@@ -126,6 +136,9 @@ OfBody (strings_body members) (body.Strings texts) = length texts ≡ length mem
 OfBody course_body (body.Course tree) = IsReadable DEPTH (view tree)
 OfBody enrolment_body (body.Enrolment course actor) = Unit {0}
 OfBody launch_body (body.Launch unit mode return_url) = Unit {0}
+OfBody waiver_body (body.Waiver unit reason) = Unit {0}
+OfBody empty_body body.Empty = Unit {0}
+OfBody sweep_body (body.Sweep idle) = Unit {0}
 OfBody form value = ⊥
 
 -- what the body gives, and such as its form gives

@@ -1,19 +1,27 @@
--- Two bodies of the desk: who is enrolled in which course, and which unit is launched.
+-- Bodies of the desk: who is enrolled in which course, which unit is launched or waived, and which sessions are
+-- abandoned.
 use Rattle.std.specs.Prelude.{◌≡◌, ℕ, List, [], ◌∷◌, ◌++◌, Bool, ◌&&◌, Option, Some, None, MatchOption, codes, is_none}
-use Rattle.std.specs.Prelude.{is_some}
+use Rattle.std.specs.Prelude.{is_some, if◌then◌else◌, length, nat_le, nat_lt, option_and_then}
+use Rattle.std.specs.Char.{is_ascii_digit}
+use Rattle.std.specs.List.{list_all}
+use Rattle.std.specs.Str.Parse.{digits_value}
+use Rattle.cmi5_course.specs.Reasons.{reason_of}
 use Rattle.cmi5_course.specs.Words.{mode_of}
 use Rattle.cmi5_course.specs.declared.launch.Mode.{Mode}
 use Rattle.cmi5_course.specs.declared.launch.Mode.TheVariants.{Normal}
+use Rattle.cmi5_course.specs.declared.reason.Reason.{Reason}
 use Rattle.lrs_agents.specs.Agents.{agent_faults}
 use Rattle.lrs_agents.specs.Readings.{IsAgentOf}
 use Rattle.lrs_agents.specs.declared.agents.Agent.{Agent}
 use Rattle.lrs_json.specs.Find.{find}
 use Rattle.lrs_json.specs.Json.{Json}
 use Rattle.lrs_names.specs.Iris.{is_iri}
-use Rattle.lrs_names.specs.Members.{has_member, has_member_that, has_only, if_member, is_string_that, text_under}
+use Rattle.lrs_names.specs.Members.{has_member, has_member_that, has_only, if_member, is_string_that, spelling_of}
+use Rattle.lrs_names.specs.Members.{text_under}
 use Rattle.lrs_names.specs.Rules.{least, unless}
 use Rattle.lrs_bodies.specs.declared.body_value.BodyValue.{BodyValue}
 use Rattle.lrs_bodies.specs.declared.body_value.BodyValue.TheVariants as body
+use Rattle.lrs_rules.specs.declared.limits.TheConstants.{LONGEST_IDLE}
 
 -- a member that stands, and is a string that is an IRI
 abbrev pub has_iri : List ℕ → Json → Bool
@@ -75,3 +83,58 @@ abbrev pub IsLaunchIn : Json → BodyValue → Type 0
 IsLaunchIn j value =
     (unit : List ℕ) × (mode : Mode) × (return_url : Option (List ℕ)) × IsLaunch j unit mode return_url
     × (value ≡ body.Launch unit mode return_url)
+
+-- ---- a waiver: `{"unit":IRI,"reason":TEXT}`
+
+-- an object of just these members
+abbrev pub is_waiver : Json → Bool
+is_waiver j =
+    has_only (codes "unit" ∷ codes "reason" ∷ []) j && has_member (codes "unit") j && has_member (codes "reason") j
+
+-- the reason of that text, letter by letter
+abbrev pub reason_under : Json → Option Reason
+reason_under j = option_and_then reason_of (text_under (codes "reason") j)
+
+-- the numbers of the rules B that it breaks
+abbrev pub waiver_body_faults : Json → List ℕ
+waiver_body_faults j =
+    unless (is_waiver j) 1 ++ unless (is_some (reason_under j)) 5 ++ unless (has_iri (codes "unit") j) 8
+
+-- what a waiver that breaks no rule says
+pub record IsWaiver (j : Json) (unit : List ℕ) (reason : Reason) : Type 0 where
+  pub unit_is : text_under (codes "unit") j ≡ Some unit
+  pub reason_is : reason_under j ≡ Some reason
+
+abbrev pub IsWaiverIn : Json → BodyValue → Type 0
+IsWaiverIn j value =
+    (unit : List ℕ) × (reason : Reason) × IsWaiver j unit reason × (value ≡ body.Waiver unit reason)
+
+-- ---- a session that is abandoned: `{}`
+
+abbrev pub empty_body_faults : Json → List ℕ
+empty_body_faults j = unless (has_only [] j) 1
+
+-- ---- a sweep: `{"idle":SECONDS}`
+
+-- an object of just this member
+abbrev pub is_sweep : Json → Bool
+is_sweep j = has_only (codes "idle" ∷ []) j && has_member (codes "idle") j
+
+-- the number that digits spell, without a sign, a point or an exponent, if it isn't too large
+abbrev pub idle_of : List ℕ → Option ℕ
+idle_of spelling =
+    if list_all is_ascii_digit spelling && nat_lt 0 (length spelling) && nat_le (digits_value 10 spelling) LONGEST_IDLE
+    then Some (digits_value 10 spelling) else None
+
+abbrev pub idle_in : Json → Option ℕ
+idle_in j = option_and_then idle_of (spelling_of j)
+
+abbrev pub idle_under : Json → Option ℕ
+idle_under j = option_and_then idle_in (find (codes "idle") j)
+
+-- the numbers of the rules B that it breaks
+abbrev pub sweep_body_faults : Json → List ℕ
+sweep_body_faults j = unless (is_sweep j) 1 ++ unless (is_some (idle_under j)) 6
+
+abbrev pub IsSweepIn : Json → BodyValue → Type 0
+IsSweepIn j value = (idle : ℕ) × (idle_under j ≡ Some idle) × (value ≡ body.Sweep idle)

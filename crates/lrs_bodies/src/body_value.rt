@@ -1,4 +1,4 @@
-use cmi5_course::Mode;
+use cmi5_course::{Mode, Reason};
 use lrs_agents::Agent;
 use lrs_json::{Items, Text, Tree};
 use lrs_names::Iri;
@@ -31,5 +31,16 @@ pub enum BodyValue {
         unit: Iri,
         mode: Mode,
         return_url: Option<Iri>,
+    },
+    /// The id of a unit that is waived, and why.
+    Waiver {
+        unit: Iri,
+        reason: Reason,
+    },
+    /// An object without members.
+    Empty,
+    /// For how many seconds the sessions that a sweep abandons have been idle.
+    Sweep {
+        idle: u32,
     },
 }

@@ -90,7 +90,7 @@ fn is_learner(tree: &Tree) -> bool
     Agent::broken(tree).is_none() && has_member(tree, "account")
 }
 
-fn has_iri(tree: &Tree, name: &str) -> bool
+pub(crate) fn has_iri(tree: &Tree, name: &str) -> bool
     ensures { result ≡ has_iri name.now (view tree.now) }
 {
     match tree.get(name) {
@@ -130,7 +130,7 @@ fn agent_of(alloc: Global, tree: &Tree) -> Result<Agent, Memory>
     }
 }
 
-fn iri_under(alloc: Global, tree: &Tree, name: &str) -> Result<Iri, Memory>
+pub(crate) fn iri_under(alloc: Global, tree: &Tree, name: &str) -> Result<Iri, Memory>
     requires { has_iri name.now (view tree.now) ≡ true }
     ensures { IfOk result (λ iri. text_under name.now (view tree.now) ≡ Some iri) }
 {

@@ -1,6 +1,7 @@
 ghost use Rattle.std.specs.Prelude.{◌≡◌};
 ghost use Rattle.lrs_command.specs.Areas.{read_area};
 
+use lrs_names::Id;
 use lrs_record::{Area, Write};
 use lrs_rules::Rule;
 use xapi_keys::WantedDocuments;
@@ -30,6 +31,8 @@ pub enum Read {
     Profile,
     /// Asks for the versions of xAPI that are spoken.
     About,
+    /// Asks how far the learner of a registration has come in its course.
+    Registration(Id),
 }
 
 impl Read {
@@ -40,6 +43,7 @@ impl Read {
         match self {
             Read::Statements(_) | Read::More(_) | Read::Documents(_) | Read::Profile => Area::Store,
             Read::About => Area::Free,
+            Read::Registration(_) => Area::Desk,
         }
     }
 }

@@ -1,2 +1,3 @@
 pub mod Texts
+pub mod Standings
 pub mod Replies

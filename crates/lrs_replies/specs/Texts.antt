@@ -44,6 +44,10 @@ course_body id = codes "{\"course\":" ++ written (string id) ++ codes "}"
 abbrev pub registration_body : List ℕ → List ℕ
 registration_body id = codes "{\"registration\":\"" ++ id_text id ++ codes "\"}"
 
+-- {"abandoned":["S","S"]}: the sessions that a sweep abandoned
+abbrev pub swept_body : List (List ℕ) → List ℕ
+swept_body sessions = codes "{\"abandoned\":" ++ ids_body sessions ++ codes "}"
+
 -- how a unit wants to be shown
 abbrev pub opened_in : Method → List ℕ
 opened_in method = codes "\",\"launchMethod\":\"" ++ method_text method

@@ -4,7 +4,7 @@ ghost use Rattle.lrs_json.specs.Written.{comma_if};
 ghost use Rattle.lrs_names.specs.Ids.{id_text};
 ghost use Rattle.lrs_record.specs.Entries.{word_text};
 ghost use Rattle.lrs_replies.specs.Texts.{token_text, provider_body, ids_body, states_body, versions_body};
-ghost use Rattle.lrs_replies.specs.Texts.{course_body, key_used_body, launch_body, opened_at, opened_in, opening_text, registration_body, session_closed_body, session_token_body};
+ghost use Rattle.lrs_replies.specs.Texts.{course_body, key_used_body, launch_body, opened_at, opened_in, opening_text, registration_body, session_closed_body, session_token_body, swept_body};
 
 use cmi5_course::Method;
 use lrs_json::appending::{put_comma, put_quoted};
@@ -57,14 +57,22 @@ pub fn versions_text(alloc: Global) -> Result<Vec<u8>, Memory>
 pub fn ids_text(alloc: Global, ids: &[Id]) -> Result<Vec<u8>, Memory>
     ensures { IfOk result (λ body. body.items ≡ ids_body ids.now) }
 {
-    let mut body = b"[".to_vec(alloc)?;
+    let mut body = Vec::new(alloc);
+    put_ids(ids, &mut body)?;
+    Ok(body)
+}
+
+fn put_ids(ids: &[Id], body: &mut Vec<u8>) -> Result<(), Memory>
+    ensures { OnOk result (body.new.items ≡ body.old.items ++ ids_body ids.now) }
+{
+    body.push(b'[')?;
     let mut later = false;
     for id in ids {
-        put_id(&mut body, later, id)?;
+        put_id(body, later, id)?;
         later = true;
     }
     body.push(b']')?;
-    Ok(body)
+    Ok(())
 }
 
 // Puts an id after the text so far, as a string.
@@ -109,6 +117,16 @@ pub fn registration_text(alloc: Global, id: &Id) -> Result<Vec<u8>, Memory>
     let mut body = b"{\"registration\":\"".to_vec(alloc)?;
     body.extend_from_slice(&id.text())?;
     body.extend_from_slice(b"\"}")?;
+    Ok(body)
+}
+
+/// The body that tells the sessions that a sweep abandoned.
+pub fn swept_text(alloc: Global, sessions: &[Id]) -> Result<Vec<u8>, Memory>
+    ensures { IfOk result (λ body. body.items ≡ swept_body sessions.now) }
+{
+    let mut body = b"{\"abandoned\":".to_vec(alloc)?;
+    put_ids(sessions, &mut body)?;
+    body.push(b'}')?;
     Ok(body)
 }
 

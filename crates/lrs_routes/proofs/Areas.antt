@@ -44,6 +44,10 @@ area_at operation.MakeProvider = Desk
 area_at operation.TakeCourse = Desk
 area_at operation.EnrolLearner = Desk
 area_at operation.LaunchUnit = Desk
+area_at operation.GetRegistration = Desk
+area_at operation.WaiveUnit = Desk
+area_at operation.AbandonSession = Desk
+area_at operation.SweepSessions = Desk
 area_at other = Store
 
 same_area : (x o : Operation) → Some x ≡ Some o → area_at o ≡ area_at x
@@ -56,8 +60,16 @@ route_area route.Courses Post o e = same_area operation.TakeCourse o e
 route_area route.Courses m o e = absurd (none_some o e)
 route_area route.Launches Post o e = same_area operation.LaunchUnit o e
 route_area route.Launches m o e = absurd (none_some o e)
+route_area route.Waive Post o e = same_area operation.WaiveUnit o e
+route_area route.Waive m o e = absurd (none_some o e)
+route_area route.Registration Get o e = same_area operation.GetRegistration o e
+route_area route.Registration m o e = absurd (none_some o e)
 route_area route.Registrations Post o e = same_area operation.EnrolLearner o e
 route_area route.Registrations m o e = absurd (none_some o e)
+route_area route.Abandon Post o e = same_area operation.AbandonSession o e
+route_area route.Abandon m o e = absurd (none_some o e)
+route_area route.Sweep Post o e = same_area operation.SweepSessions o e
+route_area route.Sweep m o e = absurd (none_some o e)
 route_area route.Fetch Post o e = same_area operation.FetchToken o e
 route_area route.Fetch m o e = absurd (none_some o e)
 route_area route.About Get o e = same_area operation.TellVersions o e
@@ -110,6 +122,14 @@ command_at operation.LaunchUnit q (part.Id id) (body.Launch unit mode url) c e =
 command_at operation.LaunchUnit q p b c e = absurd (none_some c e)
 command_at operation.FetchToken q (part.Text key) b c e = found (command.Write (write.Fetch key)) c e
 command_at operation.FetchToken q p b c e = absurd (none_some c e)
+command_at operation.GetRegistration q (part.Id id) b c e = found (command.Read (read.Registration id)) c e
+command_at operation.GetRegistration q p b c e = absurd (none_some c e)
+command_at operation.WaiveUnit q (part.Id id) (body.Waiver unit reason) c e = found (command.Write (write.Waive id unit reason)) c e
+command_at operation.WaiveUnit q p b c e = absurd (none_some c e)
+command_at operation.AbandonSession q (part.Id id) b c e = found (command.Write (write.Abandon id)) c e
+command_at operation.AbandonSession q p b c e = absurd (none_some c e)
+command_at operation.SweepSessions q p (body.Sweep idle) c e = found (command.Write (write.Sweep idle)) c e
+command_at operation.SweepSessions q p b c e = absurd (none_some c e)
 
 by_part : (area : Area) (o : Operation) (request : Request) (c : Command) (p : Option PartValue) → area_at o ≡ area
     → MatchOption p (c ≡ nowhere area) (λ there. Means o request there c) → command_area c ≡ area

@@ -13,7 +13,7 @@ use Rattle.lrs_routes.proofs.Sound.{skip_is, step_has, suffix_has, behind}
 
 -- ---- slashes
 
-slash_parts : (b : ℕ) (xs : List ℕ) → has_slash (b ∷ xs) ≡ false → ((b == 47) ≡ false) × (has_slash xs ≡ false)
+pub slash_parts : (b : ℕ) (xs : List ℕ) → has_slash (b ∷ xs) ≡ false → ((b == 47) ≡ false) × (has_slash xs ≡ false)
 slash_parts b xs e = elim (cases_Bool (b == 47)) [
   | inl is ↦ let bad : true ≡ false = rw is at e in absurd (false≢true (sym bad))
   | inr not ↦ (not, rw not at e)

@@ -1,20 +1,20 @@
 -- The route that the router finds is the one that the path fits.
-use Rattle.std.proofs.Common.{◌≡◌, ◌⊎◌, ℕ, Bool, true, false, List, [], ◌∷◌, length, map, Option, Some, None, refl, sym, ap, ◌∙◌, subst, inl, inr, arith}
+use Rattle.std.proofs.Common.{◌≡◌, ◌⊎◌, ℕ, Bool, true, false, List, [], ◌∷◌, ◌++◌, length, map, Option, Some, None, refl, sym, ap, ◌∙◌, subst, inl, inr, arith}
 use Rattle.std.specs.Prelude.{◌==◌, ltb, ◌&&◌, ◌||◌, not, slice_index, drop, if◌then◌else◌}
 use Rattle.std.specs.Str.{bytes_eq}
-use Rattle.std.proofs.lemmas.Bool.{false≢true, and_parts}
+use Rattle.std.proofs.lemmas.Bool.{cases_Bool, false≢true, and_parts}
 use Rattle.std.proofs.lemmas.Bool.Decides.{nat_tests}
 use Rattle.std.proofs.lemmas.Slice.Eq.{bytes_eq-Decides}
-use Rattle.matchit.specs.Rows.{RowsOf}
+use Rattle.matchit.specs.Rows.{RowsOf, param_token}
 use Rattle.matchit.specs.Router.{RouteOf}
-use Rattle.matchit.specs.Seek.{first}
-use Rattle.lrs_routes.specs.Paths.{Fits}
+use Rattle.matchit.specs.Seek.{first, has_slash}
+use Rattle.lrs_routes.specs.Paths.{Fits, IsPart}
 use Rattle.lrs_routes.specs.Table.{patterns, row_of, routes}
 use Rattle.lrs_routes.specs.declared.table.Route.{Route}
 use Rattle.lrs_routes.specs.declared.table.Route.TheVariants as route
 use Rattle.lrs_routes.proofs.Neat.{Has, Neat}
 use Rattle.lrs_routes.proofs.Sound.{sound}
-use Rattle.lrs_routes.proofs.Complete.{AllNeat, complete}
+use Rattle.lrs_routes.proofs.Complete.{AllNeat, complete, slash_parts}
 
 -- ---- rows with a value each
 
@@ -67,7 +67,11 @@ in_table : (k : Route) → Has patterns (row_of k).pattern k
 in_table route.Providers = has_found routes (row_of route.Providers).pattern route.Providers refl
 in_table route.Courses = has_found routes (row_of route.Courses).pattern route.Courses refl
 in_table route.Launches = has_found routes (row_of route.Launches).pattern route.Launches refl
+in_table route.Waive = has_found routes (row_of route.Waive).pattern route.Waive refl
+in_table route.Registration = has_found routes (row_of route.Registration).pattern route.Registration refl
 in_table route.Registrations = has_found routes (row_of route.Registrations).pattern route.Registrations refl
+in_table route.Abandon = has_found routes (row_of route.Abandon).pattern route.Abandon refl
+in_table route.Sweep = has_found routes (row_of route.Sweep).pattern route.Sweep refl
 in_table route.Fetch = has_found routes (row_of route.Fetch).pattern route.Fetch refl
 in_table route.About = has_found routes (row_of route.About).pattern route.About refl
 in_table route.ActivityProfiles = has_found routes (row_of route.ActivityProfiles).pattern route.ActivityProfiles refl
@@ -99,7 +103,11 @@ neat_route : (k : Route) → Neat (row_of k).pattern
 neat_route route.Providers = neat_from (row_of route.Providers).pattern refl
 neat_route route.Courses = neat_from (row_of route.Courses).pattern refl
 neat_route route.Launches = neat_from (row_of route.Launches).pattern refl
+neat_route route.Waive = neat_from (row_of route.Waive).pattern refl
+neat_route route.Registration = neat_from (row_of route.Registration).pattern refl
 neat_route route.Registrations = neat_from (row_of route.Registrations).pattern refl
+neat_route route.Abandon = neat_from (row_of route.Abandon).pattern refl
+neat_route route.Sweep = neat_from (row_of route.Sweep).pattern refl
 neat_route route.Fetch = neat_from (row_of route.Fetch).pattern refl
 neat_route route.About = neat_from (row_of route.About).pattern refl
 neat_route route.ActivityProfiles = neat_from (row_of route.ActivityProfiles).pattern refl
@@ -132,12 +140,14 @@ missing_fits rs path whole none k fits =
 abbrev is_byte : ℕ → Bool
 is_byte x = ltb x 256
 
--- patterns that differ, with bytes alone before the place where they do
+-- patterns that differ in a byte, behind bytes and parameters alone
 abbrev apart : List ℕ → List ℕ → Bool
 apart [] [] = false
 apart [] (y ∷ q) = is_byte y
 apart (x ∷ p) [] = is_byte x
-apart (x ∷ p) (y ∷ q) = is_byte x && (is_byte y && (not (x == y) || apart p q))
+apart (x ∷ p) (y ∷ q) =
+    if is_byte x then (is_byte y && (not (x == y) || apart p q))
+    else (x == 256 && (y == 256 && (ends_part p && (ends_part q && apart p q))))
 
 byte_first : (x : ℕ) (p path : List ℕ) → is_byte x ≡ true → Fits (x ∷ p) path → (rest : List ℕ) × (path ≡ x ∷ rest) × Fits p rest
 byte_first x p path byte f = elim f [
@@ -151,19 +161,74 @@ byte_first x p path byte f = elim f [
 not_empty : (x : ℕ) (rest : List ℕ) → [] ≡ x ∷ rest → ⊥
 not_empty x rest e = let bad : 0 ≡ length (x ∷ rest) = ap (λ (xs : List ℕ). length xs) e in omega arith
 
+-- what a parameter takes
+param_first : (x : ℕ) (p path : List ℕ) → x ≡ param_token → Fits (x ∷ p) path → (part : List ℕ) × (rest : List ℕ) × (path ≡ part ++ rest) × IsPart part × Fits p rest
+param_first x p path is f = elim f [
+  | inl byte ↦
+      let clean : (x == 47) ≡ false = grind (arith, nat_tests, is) in
+      (x ∷ [], byte.0, byte.1, (omega arith, rw clean refl), byte.2)
+  | inr other ↦ elim other [
+    | inl param ↦ param.1
+    | inr all ↦ let end = all.0 in absurd (omega (arith, is, end))
+  ]
+]
+
+-- what follows a part: nothing, or a slash first
+abbrev IsRest : List ℕ → Type 0
+IsRest rest = (rest ≡ []) ⊎ ((r : List ℕ) × (rest ≡ 47 ∷ r))
+
+rest_is : (p rest : List ℕ) → ends_part p ≡ true → Fits p rest → IsRest rest
+rest_is [] rest e f = inl f
+rest_is (x ∷ p) rest e f =
+    let slash : x ≡ 47 = grind (arith, nat_tests, e) in
+    let byte : is_byte x ≡ true = grind (arith, nat_tests, slash) in
+    let h = byte_first x p rest byte f in
+    inr (h.0, h.1 ∙ ap (λ (y : ℕ). y ∷ h.0) slash)
+
+no_slash_first : (y : ℕ) (part rest r : List ℕ) → has_slash (y ∷ part) ≡ false → IsRest r → r ≡ y ∷ rest → ⊥
+no_slash_first y part rest r clean f e = elim f [
+  | inl none ↦ not_empty y rest (sym none ∙ e)
+  | inr slash ↦
+      let other : (y == 47) ≡ false = (slash_parts y part clean).0 in
+      let same : y ≡ 47 = ap (λ (xs : List ℕ). slice_index xs 0) (sym e ∙ slash.1) in
+      absurd (grind (arith, nat_tests, other, same))
+]
+
+-- a path's part ends at the first slash
+one_rest : (a b r s : List ℕ) → has_slash a ≡ false → has_slash b ≡ false → IsRest r → IsRest s → a ++ r ≡ b ++ s → r ≡ s
+one_rest [] [] r s c d f g e = e
+one_rest [] (y ∷ b) r s c d f g e = absurd (no_slash_first y b (b ++ s) r d f e)
+one_rest (x ∷ a) [] r s c d f g e = absurd (no_slash_first x a (a ++ r) s c g (sym e))
+one_rest (x ∷ a) (y ∷ b) r s c d f g e =
+    one_rest a b r s (slash_parts x a c).1 (slash_parts y b d).1 f g (ap (λ (xs : List ℕ). drop 1 xs) e)
+
 none_fits : (p q path : List ℕ) → apart p q ≡ true → Fits p path → Fits q path → ⊥
 none_fits [] [] path e f g = false≢true e
 none_fits [] (y ∷ q) path e f g = let h = byte_first y q path e g in not_empty y h.0 (sym f ∙ h.1)
 none_fits (x ∷ p) [] path e f g = let h = byte_first x p path e f in not_empty x h.0 (sym g ∙ h.1)
-none_fits (x ∷ p) (y ∷ q) path e f g =
-    let one = and_parts (is_byte x) (is_byte y && (not (x == y) || apart p q)) e in
-    let two = and_parts (is_byte y) (not (x == y) || apart p q) one.1 in
-    let h = byte_first x p path one.0 f in
-    let i = byte_first y q path two.0 g in
-    let heads : x ≡ y = ap (λ (xs : List ℕ). slice_index xs 0) (sym h.1 ∙ i.1) in
-    let tails : h.0 ≡ i.0 = ap (λ (xs : List ℕ). drop 1 xs) (sym h.1 ∙ i.1) in
-    let more : apart p q ≡ true = grind (arith, nat_tests, two.1, heads) in
-    none_fits p q i.0 more (subst (λ (xs : List ℕ). Fits p xs) tails h.2) i.2
+none_fits (x ∷ p) (y ∷ q) path e f g = elim (cases_Bool (is_byte x)) [
+  | inl byte ↦
+      let known : (is_byte y && (not (x == y) || apart p q)) ≡ true = rw byte at e in
+      let two = and_parts (is_byte y) (not (x == y) || apart p q) known in
+      let h = byte_first x p path byte f in
+      let i = byte_first y q path two.0 g in
+      let heads : x ≡ y = ap (λ (xs : List ℕ). slice_index xs 0) (sym h.1 ∙ i.1) in
+      let tails : h.0 ≡ i.0 = ap (λ (xs : List ℕ). drop 1 xs) (sym h.1 ∙ i.1) in
+      let more : apart p q ≡ true = grind (arith, nat_tests, two.1, heads) in
+      none_fits p q i.0 more (subst (λ (xs : List ℕ). Fits p xs) tails h.2) i.2
+  | inr other ↦
+      let known : (x == 256 && (y == 256 && (ends_part p && (ends_part q && apart p q)))) ≡ true = rw other at e in
+      let one = and_parts (x == 256) (y == 256 && (ends_part p && (ends_part q && apart p q))) known in
+      let two = and_parts (y == 256) (ends_part p && (ends_part q && apart p q)) one.1 in
+      let three = and_parts (ends_part p) (ends_part q && apart p q) two.1 in
+      let four = and_parts (ends_part q) (apart p q) three.1 in
+      let front : x ≡ param_token = grind (arith, nat_tests, one.0) in
+      let behind : y ≡ param_token = grind (arith, nat_tests, two.0) in
+      let h = param_first x p path front f in
+      let i = param_first y q path behind g in
+      let tails : h.1 ≡ i.1 = one_rest h.0 i.0 h.1 i.1 h.3.1 i.3.1 (rest_is p h.1 three.0 h.4) (rest_is q i.1 four.0 i.4) (sym h.2 ∙ i.2) in
+      none_fits p q i.1 four.1 (subst (λ (xs : List ℕ). Fits p xs) tails h.4) i.4
+]
 
 -- rows of which no two have a path that fits both
 abbrev apart_from : List ℕ → List (List ℕ × Route) → Bool

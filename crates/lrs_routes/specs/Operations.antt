@@ -2,13 +2,13 @@
 -- command of what the three give.
 use Rattle.std.specs.Prelude.{◌≡◌, ℕ, List, [], ◌∷◌, Option, Some, None, codes}
 use Rattle.lrs_bodies.specs.Bodies.{BodyForm, any_body, statement_body, statements_body, document_body, strings_body}
-use Rattle.lrs_bodies.specs.Bodies.{course_body, enrolment_body, launch_body}
+use Rattle.lrs_bodies.specs.Bodies.{course_body, enrolment_body, launch_body, waiver_body, empty_body, sweep_body}
 use Rattle.lrs_bodies.specs.declared.body_value.BodyValue.{BodyValue}
 use Rattle.lrs_bodies.specs.declared.body_value.BodyValue.TheVariants as body
 use Rattle.lrs_record.specs.declared.entry.How.{How}
 use Rattle.lrs_record.specs.declared.entry.How.TheVariants as how
 use Rattle.lrs_record.specs.declared.entry.Write.TheVariants.{Provider, Put, Post, State, Drop}
-use Rattle.lrs_record.specs.declared.entry.Write.TheVariants.{Course, Enrol, Launch, Fetch}
+use Rattle.lrs_record.specs.declared.entry.Write.TheVariants.{Course, Enrol, Launch, Fetch, Waive, Abandon, Sweep}
 use Rattle.lrs_command.specs.declared.command.Command.{Command}
 use Rattle.lrs_command.specs.declared.command.Command.TheVariants.{Write, Read}
 use Rattle.lrs_command.specs.declared.command.Read.TheVariants as read
@@ -52,6 +52,10 @@ pub record Form : Type 0 where
 abbrev form : ParameterForm → BodyForm → Form
 form parameters body = record { parameters = parameters; part = no_part; body = body }
 
+-- of an operation that asks for an id behind that beginning of the path, and knows no parameters
+abbrev form_at : List ℕ → BodyForm → Form
+form_at beginning body = record { parameters = no_parameters; part = id_part beginning; body = body }
+
 abbrev pub form_of : Operation → Form
 form_of operation.TellVersions = form any_parameters any_body
 form_of operation.GetStatements = form parameters_of_get any_body
@@ -66,10 +70,13 @@ form_of operation.GetProfile = form any_parameters any_body
 form_of operation.MakeProvider = form no_parameters (strings_body ((codes "name", 2) ∷ []))
 form_of operation.TakeCourse = form no_parameters course_body
 form_of operation.EnrolLearner = form no_parameters enrolment_body
-form_of operation.LaunchUnit =
-    record { parameters = no_parameters; part = id_part (codes "/desk/registrations/"); body = launch_body }
+form_of operation.LaunchUnit = form_at (codes "/desk/registrations/") launch_body
 form_of operation.FetchToken =
     record { parameters = any_parameters; part = text_part (codes "/fetch/"); body = any_body }
+form_of operation.GetRegistration = form_at (codes "/desk/registrations/") any_body
+form_of operation.WaiveUnit = form_at (codes "/desk/registrations/") waiver_body
+form_of operation.AbandonSession = form_at (codes "/desk/sessions/") empty_body
+form_of operation.SweepSessions = form no_parameters sweep_body
 
 -- the write of a document
 abbrev pub written : How → ParameterValue → BodyValue → Option Command
@@ -97,6 +104,11 @@ command_of operation.EnrolLearner q p (body.Enrolment course actor) = Some (Writ
 command_of operation.LaunchUnit q (part.Id registration) (body.Launch unit mode return_url) =
     Some (Write (Launch registration unit mode return_url))
 command_of operation.FetchToken q (part.Text key) b = Some (Write (Fetch key))
+command_of operation.GetRegistration q (part.Id registration) b = Some (Read (read.Registration registration))
+command_of operation.WaiveUnit q (part.Id registration) (body.Waiver unit reason) =
+    Some (Write (Waive registration unit reason))
+command_of operation.AbandonSession q (part.Id session) b = Some (Write (Abandon session))
+command_of operation.SweepSessions q p (body.Sweep idle) = Some (Write (Sweep idle))
 command_of other q p b = None
 
 -- ---- what the parameters give

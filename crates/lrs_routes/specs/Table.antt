@@ -31,8 +31,17 @@ row_of route.Courses = row (codes "/desk/courses") area.Desk false ((Post, opera
 row_of route.Launches =
     row (codes "/desk/registrations/" ++ param_token ∷ codes "/launches") area.Desk false
     ((Post, operation.LaunchUnit) ∷ [])
+row_of route.Waive =
+    row (codes "/desk/registrations/" ++ param_token ∷ codes "/waive") area.Desk false
+    ((Post, operation.WaiveUnit) ∷ [])
+row_of route.Registration =
+    row (codes "/desk/registrations/" ++ param_token ∷ []) area.Desk false ((Get, operation.GetRegistration) ∷ [])
 row_of route.Registrations =
     row (codes "/desk/registrations") area.Desk false ((Post, operation.EnrolLearner) ∷ [])
+row_of route.Abandon =
+    row (codes "/desk/sessions/" ++ param_token ∷ codes "/abandon") area.Desk false
+    ((Post, operation.AbandonSession) ∷ [])
+row_of route.Sweep = row (codes "/desk/sweep") area.Desk false ((Post, operation.SweepSessions) ∷ [])
 row_of route.Fetch = row (codes "/fetch/" ++ param_token ∷ []) area.Free false ((Post, operation.FetchToken) ∷ [])
 row_of route.About = row (codes "/xapi/about") area.Free false ((Get, operation.TellVersions) ∷ [])
 row_of route.ActivityProfiles =
@@ -49,9 +58,9 @@ row_of route.Statements = row (codes "/xapi/statements") area.Store true
 -- each route, in the order in which the router has their paths: a longer one before its beginning
 abbrev pub routes : List Route
 routes =
-    route.Providers ∷ route.Courses ∷ route.Launches ∷ route.Registrations ∷ route.Fetch ∷ route.About
-    ∷ route.ActivityProfiles ∷ route.States ∷ route.AgentProfiles ∷ route.MoreStatements ∷ route.Statements
-    ∷ []
+    route.Providers ∷ route.Courses ∷ route.Launches ∷ route.Waive ∷ route.Registration ∷ route.Registrations
+    ∷ route.Abandon ∷ route.Sweep ∷ route.Fetch ∷ route.About ∷ route.ActivityProfiles ∷ route.States
+    ∷ route.AgentProfiles ∷ route.MoreStatements ∷ route.Statements ∷ []
 
 -- the routes' patterns, as the router has them
 abbrev pub patterns : List (List ℕ × Route)

@@ -1,5 +1,5 @@
 ghost use Rattle.std.specs.Prelude.{◌≡◌, Some, IfOk};
-ghost use Rattle.lrs_bodies.specs.Bodies.{BodyBreaks, IsInBody, OfBody, document_body, launch_body};
+ghost use Rattle.lrs_bodies.specs.Bodies.{BodyBreaks, IsInBody, OfBody, document_body, launch_body, waiver_body};
 ghost use Rattle.lrs_bodies.specs.Looks.{Finds};
 ghost use Rattle.lrs_routes.specs.Forms.{looks_at, parameters_of};
 ghost use Rattle.lrs_routes.specs.Looks.{IsInParameters, IsNoRefusal, OnlyParameters, Reads};
@@ -16,8 +16,8 @@ use crate::parameters::{
 use crate::parts;
 use crate::values::{ParameterValue, PartValue, first};
 use lrs_bodies::{
-    BodyValue, FormRefused, read_course, read_document, read_enrolment, read_launch,
-    read_statement, read_statements, read_strings,
+    BodyValue, FormRefused, read_course, read_document, read_empty, read_enrolment, read_launch,
+    read_statement, read_statements, read_strings, read_sweep, read_waiver,
 };
 use lrs_command::{Command, Read};
 use lrs_http::Request;
@@ -60,6 +60,14 @@ pub(crate) enum Operation {
     LaunchUnit,
     /// Gives the token of a session away.
     FetchToken,
+    /// Tells how far the learner of a registration has come.
+    GetRegistration,
+    /// Waives a unit for a registration.
+    WaiveUnit,
+    /// Abandons a session.
+    AbandonSession,
+    /// Abandons the sessions that are idle.
+    SweepSessions,
 }
 
 impl Operation {
@@ -110,7 +118,11 @@ impl Operation {
             | Operation::MakeProvider
             | Operation::TakeCourse
             | Operation::EnrolLearner
-            | Operation::LaunchUnit => nothing_in(pairs),
+            | Operation::LaunchUnit
+            | Operation::GetRegistration
+            | Operation::WaiveUnit
+            | Operation::AbandonSession
+            | Operation::SweepSessions => nothing_in(pairs),
         }
     }
 
@@ -120,7 +132,10 @@ impl Operation {
     {
         match self {
             Operation::FetchToken => parts::text_in(alloc, path, "/fetch/"),
-            Operation::LaunchUnit => Ok(parts::id_in(path, "/desk/registrations/")),
+            Operation::LaunchUnit | Operation::WaiveUnit | Operation::GetRegistration => Ok(
+                parts::id_in(path, "/desk/registrations/"),
+            ),
+            Operation::AbandonSession => Ok(parts::id_in(path, "/desk/sessions/")),
             _ => Ok(Some(PartValue::Nothing)),
         }
     }
@@ -141,7 +156,8 @@ impl Operation {
             | Operation::GetDocuments
             | Operation::DropDocuments
             | Operation::GetProfile
-            | Operation::FetchToken => Ok(BodyValue::Nothing),
+            | Operation::FetchToken
+            | Operation::GetRegistration => Ok(BodyValue::Nothing),
             Operation::PutDocument | Operation::PostDocument => read_document(alloc, request),
             Operation::PostStatements => read_statements(alloc, request),
             Operation::PutStatement => read_statement(alloc, request),
@@ -149,6 +165,9 @@ impl Operation {
             Operation::TakeCourse => read_course(alloc, request),
             Operation::EnrolLearner => read_enrolment(alloc, request),
             Operation::LaunchUnit => read_launch(alloc, request),
+            Operation::WaiveUnit => read_waiver(alloc, request),
+            Operation::AbandonSession => read_empty(alloc, request),
+            Operation::SweepSessions => read_sweep(alloc, request),
         }
     }
 
@@ -170,13 +189,30 @@ impl Operation {
                     _ => unreachable!(),
                 }
             }
-            PartValue::Id(id) => {
-                drop(query);
-                match self {
-                    Operation::LaunchUnit => launched(id, body),
-                    _ => unreachable!(),
-                }
+            PartValue::Id(id) => self.command_at(query, id, body),
+        }
+    }
+
+    // The command of an operation that asks for an id in the path.
+    fn command_at(self, query: ParameterValue, id: Id, body: BodyValue) -> Command
+        requires part { OfPart (form_of self).part (part.Id id) }
+        requires body { OfBody (form_of self).body body }
+        ensures is { command_of self query (part.Id id) body ≡ Some result }
+        ensures plain { IsNoRefusal result }
+    {
+        drop(query);
+        match self {
+            Operation::LaunchUnit => launched(id, body),
+            Operation::WaiveUnit => waived(id, body),
+            Operation::AbandonSession => {
+                drop(body);
+                Command::Write(Write::Abandon { session: id })
             }
+            Operation::GetRegistration => {
+                drop(body);
+                Command::Read(Read::Registration(id))
+            }
+            _ => unreachable!(),
         }
     }
 
@@ -271,7 +307,18 @@ impl Operation {
                     _ => unreachable!(),
                 }
             }
-            Operation::LaunchUnit | Operation::FetchToken => unreachable!(),
+            Operation::SweepSessions => {
+                drop(query);
+                match body {
+                    BodyValue::Sweep { idle } => Command::Write(Write::Sweep { idle }),
+                    _ => unreachable!(),
+                }
+            }
+            Operation::LaunchUnit
+            | Operation::FetchToken
+            | Operation::GetRegistration
+            | Operation::WaiveUnit
+            | Operation::AbandonSession => unreachable!(),
         }
     }
 }
@@ -328,6 +375,21 @@ fn launched(registration: Id, body: BodyValue) -> Command
             unit,
             mode,
             return_url,
+        }),
+        _ => unreachable!(),
+    }
+}
+
+fn waived(registration: Id, body: BodyValue) -> Command
+    requires { OfBody waiver_body body }
+    ensures is { command_of operation.WaiveUnit parameter.Nothing (part.Id registration) body ≡ Some result }
+    ensures plain { IsNoRefusal result }
+{
+    match body {
+        BodyValue::Waiver { unit, reason } => Command::Write(Write::Waive {
+            registration,
+            unit,
+            reason,
         }),
         _ => unreachable!(),
     }

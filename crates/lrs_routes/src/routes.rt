@@ -162,7 +162,11 @@ fn fill(router: &mut Router<Route>) -> Result<(), InsertError>
     router.insert("/desk/callers", Route::Providers)?;
     router.insert("/desk/courses", Route::Courses)?;
     router.insert("/desk/registrations", Route::Registrations)?;
+    router.insert("/desk/registrations/{r}", Route::Registration)?;
     router.insert("/desk/registrations/{r}/launches", Route::Launches)?;
+    router.insert("/desk/registrations/{r}/waive", Route::Waive)?;
+    router.insert("/desk/sessions/{s}/abandon", Route::Abandon)?;
+    router.insert("/desk/sweep", Route::Sweep)?;
     router.insert("/fetch/{key}", Route::Fetch)?;
     router.insert("/xapi/about", Route::About)?;
     router.insert("/xapi/activities/profile", Route::ActivityProfiles)?;

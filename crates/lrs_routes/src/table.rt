@@ -11,7 +11,11 @@ pub(crate) enum Route {
     Providers,
     Courses,
     Launches,
+    Waive,
+    Registration,
     Registrations,
+    Abandon,
+    Sweep,
     Fetch,
     About,
     ActivityProfiles,
@@ -36,10 +40,16 @@ impl Allow {
             Route::Providers
             | Route::Courses
             | Route::Launches
+            | Route::Waive
             | Route::Registrations
+            | Route::Abandon
+            | Route::Sweep
             | Route::Fetch => "POST",
-            Route::About | Route::ActivityProfiles | Route::AgentProfiles | Route::MoreStatements =>
-                "GET",
+            Route::Registration
+            | Route::About
+            | Route::ActivityProfiles
+            | Route::AgentProfiles
+            | Route::MoreStatements => "GET",
             Route::States => "DELETE, GET, POST, PUT",
             Route::Statements => "GET, POST, PUT",
         }
@@ -52,8 +62,14 @@ impl Route {
         ensures { result ≡ (row_of self).area }
     {
         match self {
-            Route::Providers | Route::Courses | Route::Launches | Route::Registrations =>
-                Area::Desk,
+            Route::Providers
+            | Route::Courses
+            | Route::Launches
+            | Route::Waive
+            | Route::Registration
+            | Route::Registrations
+            | Route::Abandon
+            | Route::Sweep => Area::Desk,
             Route::Fetch | Route::About => Area::Free,
             Route::ActivityProfiles
             | Route::States
@@ -76,7 +92,11 @@ impl Route {
             Route::Providers
             | Route::Courses
             | Route::Launches
+            | Route::Waive
+            | Route::Registration
             | Route::Registrations
+            | Route::Abandon
+            | Route::Sweep
             | Route::Fetch
             | Route::About => false,
         }
@@ -91,7 +111,11 @@ impl Route {
             (Route::Providers, Method::Post) => Ok(Operation::MakeProvider),
             (Route::Courses, Method::Post) => Ok(Operation::TakeCourse),
             (Route::Launches, Method::Post) => Ok(Operation::LaunchUnit),
+            (Route::Waive, Method::Post) => Ok(Operation::WaiveUnit),
+            (Route::Registration, Method::Get) => Ok(Operation::GetRegistration),
             (Route::Registrations, Method::Post) => Ok(Operation::EnrolLearner),
+            (Route::Abandon, Method::Post) => Ok(Operation::AbandonSession),
+            (Route::Sweep, Method::Post) => Ok(Operation::SweepSessions),
             (Route::Fetch, Method::Post) => Ok(Operation::FetchToken),
             (Route::About, Method::Get) => Ok(Operation::TellVersions),
             (Route::ActivityProfiles, Method::Get) => Ok(Operation::GetProfile),

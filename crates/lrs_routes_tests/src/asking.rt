@@ -1,5 +1,6 @@
 // What requests ask, in one word. A command is dropped by the function that owns it, and no other looks at it but by
 // reference.
+use cmi5_course::Reason;
 use lrs_agents::{Agent, Ifi};
 use lrs_command::{Command, Read};
 use lrs_http::Request;
@@ -47,6 +48,13 @@ fn show_write(write: &Write, into: &mut String) -> Result<(), Fail> {
             show_return(registration, return_url, into)
         }
         Write::Fetch { key } => show_named("fetch", key, into),
+        Write::Waive {
+            registration,
+            unit,
+            reason,
+        } => show_waiver(registration, unit, *reason, into),
+        Write::Abandon { session } => show_id("abandon", session, into),
+        Write::Sweep { idle } => show_sweep(*idle, into),
     }
 }
 
@@ -110,6 +118,21 @@ fn show_return(registration: &Id, address: &Option<Iri>, into: &mut String) -> R
     Ok(())
 }
 
+fn show_waiver(
+    registration: &Id,
+    unit: &Iri,
+    reason: Reason,
+    into: &mut String,
+) -> Result<(), Fail> {
+    write!(into, "waive {} ({}) ", unit.text().as_str(), reason.text())?;
+    text_of_id(registration, into)
+}
+
+fn show_sweep(idle: u32, into: &mut String) -> Result<(), Fail> {
+    write!(into, "sweep {idle}")?;
+    Ok(())
+}
+
 fn show_dropped(activity: &Iri, state: &Option<Text>, into: &mut String) -> Result<(), Fail> {
     match state {
         Some(state) => write!(into, "drop {}", state.as_str())?,
@@ -132,6 +155,7 @@ fn show_read(read: &Read, into: &mut String) -> Result<(), Fail> {
             into,
         ),
         Read::Profile => show_word("profile", into),
+        Read::Registration(id) => show_id("registration", id, into),
     }
 }
 

@@ -15,18 +15,43 @@ POST /desk/registrations => token-1: Desk 400 J2
 GET /desk/registrations => only POST
 DELETE /desk/registrations => only POST
 POST /desk/registrations/ => NoRoute
-GET /desk/registrations/00000000-0000-4000-8000-000000000010 => NoRoute
-POST /desk/registrations/00000000-0000-4000-8000-000000000010 => NoRoute
+GET /desk/registrations/00000000-0000-4000-8000-000000000010 => token-1: registration 00000000-0000-4000-8000-000000000010
+POST /desk/registrations/00000000-0000-4000-8000-000000000010 => only GET
+PUT /desk/registrations/00000000-0000-4000-8000-000000000010 => only GET
+DELETE /desk/registrations/00000000-0000-4000-8000-000000000010 => only GET
+GET /desk/registrations/00000000-0000-4000-8000-000000000010/ => NoRoute
 POST /desk/registrations/00000000-0000-4000-8000-000000000010/launches => token-1: Desk 400 J2
 GET /desk/registrations/00000000-0000-4000-8000-000000000010/launches => only POST
 PUT /desk/registrations/00000000-0000-4000-8000-000000000010/launches => only POST
 POST /desk/registrations/00000000-0000-4000-8000-000000000010/launches/ => NoRoute
 POST /desk/registrations/00000000-0000-4000-8000-000000000010/launch => NoRoute
 POST /desk/registrations//launches => NoRoute
-POST /desk/registrations/launches => NoRoute
+POST /desk/registrations/launches => only GET
 POST /desk/registrations/00000000-0000-4000-8000-000000000010/a/launches => NoRoute
 GET /desk/registrations/a/launches => only POST
 POST /desk/registrations/a/launches => token-1: Desk 400 J2
+POST /desk/registrations/00000000-0000-4000-8000-000000000010/waive => token-1: Desk 400 J2
+GET /desk/registrations/00000000-0000-4000-8000-000000000010/waive => only POST
+DELETE /desk/registrations/00000000-0000-4000-8000-000000000010/waive => only POST
+POST /desk/registrations/00000000-0000-4000-8000-000000000010/waive/ => NoRoute
+POST /desk/registrations/00000000-0000-4000-8000-000000000010/waiver => NoRoute
+POST /desk/registrations//waive => NoRoute
+POST /desk/registrations/waive => only GET
+POST /desk/registrations/a/waive => token-1: Desk 400 J2
+POST /desk/sessions/00000000-0000-4000-8000-000000000020/abandon => token-1: Desk 400 J2
+GET /desk/sessions/00000000-0000-4000-8000-000000000020/abandon => only POST
+PUT /desk/sessions/00000000-0000-4000-8000-000000000020/abandon => only POST
+POST /desk/sessions/00000000-0000-4000-8000-000000000020/abandon/ => NoRoute
+GET /desk/sessions/00000000-0000-4000-8000-000000000020 => NoRoute
+POST /desk/sessions//abandon => NoRoute
+POST /desk/sessions/abandon => NoRoute
+GET /desk/sessions => NoRoute
+POST /desk/sessions/00000000-0000-4000-8000-000000000020/a/abandon => NoRoute
+POST /desk/sweep => token-1: Desk 400 J2
+GET /desk/sweep => only POST
+OTHER /desk/sweep => only POST
+POST /desk/sweep/ => NoRoute
+POST /desk/sweep/a => NoRoute
 POST /fetch/a => : fetch a
 POST /fetch/00000000000000000000000000000001-3 => : fetch 00000000000000000000000000000001-3
 POST /fetch/%61%2F => : fetch %61%2F
@@ -205,6 +230,133 @@ POST /desk/registrations/a/launches {"unit":"u"} => token-1: Desk 400 B8
 #[test]
 fn reads_the_registration_of_a_path(rt: HostRuntime) -> Result<(), Fail> {
     check_rows(rt.alloc(), REGISTRATIONS)
+}
+
+// A waiver has the id of a unit and one of four reasons, letter by letter.
+const WAIVERS: &str = r#"
+at /desk/registrations/00000000-0000-4000-8000-000000000010
+version -
+media text/plain
+POST /waive {"unit":"http://c/u","reason":"Tested Out"} => token-1: waive http://c/u (Tested Out) 00000000-0000-4000-8000-000000000010
+POST /waive? {"reason":"Equivalent AU","unit":"http://c/u"} => token-1: waive http://c/u (Equivalent AU) 00000000-0000-4000-8000-000000000010
+POST /waive {"unit":"c:1","reason":"Equivalent Outside Activity"} => token-1: waive c:1 (Equivalent Outside Activity) 00000000-0000-4000-8000-000000000010
+POST /waive {"unit":"http://c/u","reason":"Administrative"} => token-1: waive http://c/u (Administrative) 00000000-0000-4000-8000-000000000010
+POST /waive {"unit":"http://c/u","reason":"Tested\u0020Out"} => token-1: waive http://c/u (Tested Out) 00000000-0000-4000-8000-000000000010
+POST /waive?a=1 { => token-1: Desk 400 P2
+POST /waive?a=%FF { => token-1: Desk 400 P1
+POST /waive { => token-1: Desk 400 J2
+POST /waive {"unit":"http://c/u","reason":"Administrative","unit":"http://c/u"} => token-1: Desk 400 J3
+POST /waive [] => token-1: Desk 400 B1
+POST /waive "http://c/u" => token-1: Desk 400 B1
+POST /waive {} => token-1: Desk 400 B1
+POST /waive {"unit":"http://c/u"} => token-1: Desk 400 B1
+POST /waive {"reason":"Administrative"} => token-1: Desk 400 B1
+POST /waive {"unit":"http://c/u","reason":"Administrative","more":1} => token-1: Desk 400 B1
+POST /waive {"unit":"http://c/u","Reason":"Administrative"} => token-1: Desk 400 B1
+POST /waive {"more":1,"unit":5,"reason":5} => token-1: Desk 400 B1
+POST /waive {"unit":"http://c/u","reason":"tested out"} => token-1: Desk 400 B5
+POST /waive {"unit":"http://c/u","reason":"Tested out"} => token-1: Desk 400 B5
+POST /waive {"unit":"http://c/u","reason":"EQUIVALENT AU"} => token-1: Desk 400 B5
+POST /waive {"unit":"http://c/u","reason":"Equivalent Au"} => token-1: Desk 400 B5
+POST /waive {"unit":"http://c/u","reason":"Equivalent outside activity"} => token-1: Desk 400 B5
+POST /waive {"unit":"http://c/u","reason":"administrative"} => token-1: Desk 400 B5
+POST /waive {"unit":"http://c/u","reason":"Administrative "} => token-1: Desk 400 B5
+POST /waive {"unit":"http://c/u","reason":"TestedOut"} => token-1: Desk 400 B5
+POST /waive {"unit":"http://c/u","reason":""} => token-1: Desk 400 B5
+POST /waive {"unit":"http://c/u","reason":null} => token-1: Desk 400 B5
+POST /waive {"unit":"http://c/u","reason":["Administrative"]} => token-1: Desk 400 B5
+POST /waive {"unit":"u","reason":"Administrative"} => token-1: Desk 400 B8
+POST /waive {"unit":5,"reason":"Administrative"} => token-1: Desk 400 B8
+POST /waive {"unit":"u","reason":"none"} => token-1: Desk 400 B5
+"#;
+
+#[test]
+fn reads_waivers(rt: HostRuntime) -> Result<(), Fail> {
+    check_rows(rt.alloc(), WAIVERS)
+}
+
+// The body that abandons a session has nothing to say.
+const ABANDONED: &str = r#"
+at /desk/sessions/00000000-0000-4000-8000-000000000020
+version -
+media text/plain
+POST /abandon {} => token-1: abandon 00000000-0000-4000-8000-000000000020
+POST /abandon?  { }  => token-1: abandon 00000000-0000-4000-8000-000000000020
+POST /abandon?a=1 {} => token-1: Desk 400 P2
+POST /abandon { => token-1: Desk 400 J2
+POST /abandon {"a":1} => token-1: Desk 400 B1
+POST /abandon [] => token-1: Desk 400 B1
+POST /abandon null => token-1: Desk 400 B1
+POST /abandon "" => token-1: Desk 400 B1
+"#;
+
+#[test]
+fn reads_what_abandons_a_session(rt: HostRuntime) -> Result<(), Fail> {
+    check_rows(rt.alloc(), ABANDONED)
+}
+
+// A sweep has a number of seconds that digits alone spell, at most a year of 365 days.
+const SWEEPS: &str = r#"
+at /desk/sweep
+version -
+media text/plain
+POST  {"idle":0} => token-1: sweep 0
+POST ?  { "idle" : 3600 }  => token-1: sweep 3600
+POST  {"idle":31536000} => token-1: sweep 31536000
+POST  {"idle":31536001} => token-1: Desk 400 B6
+POST  {"idle":99999999} => token-1: Desk 400 B6
+POST  {"idle":4294967296} => token-1: Desk 400 B6
+POST  {"idle":18446744073709551676} => token-1: Desk 400 B6
+POST  {"idle":-1} => token-1: Desk 400 B6
+POST  {"idle":-0} => token-1: Desk 400 B6
+POST  {"idle":1.0} => token-1: Desk 400 B6
+POST  {"idle":1e1} => token-1: Desk 400 B6
+POST  {"idle":1E+1} => token-1: Desk 400 B6
+POST  {"idle":"60"} => token-1: Desk 400 B6
+POST  {"idle":null} => token-1: Desk 400 B6
+POST  {"idle":[60]} => token-1: Desk 400 B6
+POST  {"idle":060} => token-1: Desk 400 J2
+POST  {"idle":+60} => token-1: Desk 400 J2
+POST  {"idle":60,"idle":60} => token-1: Desk 400 J3
+POST  {} => token-1: Desk 400 B1
+POST  {"idle":60,"more":1} => token-1: Desk 400 B1
+POST  {"more":1,"idle":"60"} => token-1: Desk 400 B1
+POST  {"Idle":60} => token-1: Desk 400 B1
+POST  [60] => token-1: Desk 400 B1
+POST  60 => token-1: Desk 400 B1
+POST ?idle=60 {"idle":60} => token-1: Desk 400 P2
+"#;
+
+#[test]
+fn reads_sweeps(rt: HostRuntime) -> Result<(), Fail> {
+    check_rows(rt.alloc(), SWEEPS)
+}
+
+// The ids of the other paths are read so, too. The body of a GET isn't looked at.
+const PATH_IDS: &str = r#"
+version -
+media text/plain
+GET /desk/registrations/ABCDEF00-0000-4000-8000-00000000001F { => token-1: registration abcdef00-0000-4000-8000-00000000001f
+GET /desk/registrations/00000000-0000-4000-8000-000000000010? => token-1: registration 00000000-0000-4000-8000-000000000010
+GET /desk/registrations/00000000-0000-4000-8000-000000000010?a=1 => token-1: Desk 400 P2
+GET /desk/registrations/00000000-0000-4000-8000-000000000010?a=%FF => token-1: Desk 400 P1
+GET /desk/registrations/a => token-1: Desk 404
+GET /desk/registrations/launches => token-1: Desk 404
+GET /desk/registrations/%300000000-0000-4000-8000-000000000010 => token-1: Desk 404
+GET /desk/registrations/a?a=1 => token-1: Desk 400 P2
+POST /desk/registrations/ABCDEF00-0000-4000-8000-00000000001F/waive {"unit":"http://c/u","reason":"Administrative"} => token-1: waive http://c/u (Administrative) abcdef00-0000-4000-8000-00000000001f
+POST /desk/registrations/a/waive {"unit":"http://c/u","reason":"Administrative"} => token-1: Desk 404
+POST /desk/registrations/a/waive {"unit":"http://c/u","reason":"administrative"} => token-1: Desk 400 B5
+POST /desk/sessions/ABCDEF00-0000-4000-8000-00000000001F/abandon {} => token-1: abandon abcdef00-0000-4000-8000-00000000001f
+POST /desk/sessions/a/abandon {} => token-1: Desk 404
+POST /desk/sessions/00000000-0000-4000-8000-0000000000200/abandon {} => token-1: Desk 404
+POST /desk/sessions/a/abandon {"a":1} => token-1: Desk 400 B1
+POST /desk/sessions/a/abandon => token-1: Desk 400 J2
+"#;
+
+#[test]
+fn reads_the_ids_of_other_paths(rt: HostRuntime) -> Result<(), Fail> {
+    check_rows(rt.alloc(), PATH_IDS)
 }
 
 // Who fetches a token is nobody, whatever is presented. Neither the parameters nor the body are looked at.
