@@ -5,7 +5,8 @@ use Rattle.std.specs.Option.{option_or}
 use Rattle.lrs_command.specs.declared.command.Command.{Command}
 use Rattle.lrs_command.specs.declared.command.Command.TheVariants as command
 use Rattle.lrs_history.specs.Answers.{read_said, write_said}
-use Rattle.lrs_history.specs.Effects.{effect, occasion}
+use Rattle.lrs_history.specs.Effects.{effect}
+use Rattle.lrs_history.specs.Occasions.{occasion}
 use Rattle.lrs_history.specs.History.{answer, answer_of, end_place, next_entry, only, outcome_by, refused, refused_or, state, Said}
 use Rattle.lrs_history.specs.Refusals.{bad_form, bad_role, barred, conflict, missing, refused_inside, refused_with, unmergeable}
 use Rattle.lrs_command.specs.Areas.{command_area}

@@ -2,7 +2,10 @@
 use Rattle.std.specs.Prelude.{ℕ, ◌&&◌, Bool, true, false, not, length, take, Option, Some, None, if◌then◌else◌}
 use Rattle.lrs_command.specs.declared.command.Read.{Read}
 use Rattle.lrs_command.specs.declared.command.Read.TheVariants.{Statements, More, Documents, Profile, About}
+use Rattle.lrs_command.specs.declared.command.Read.TheVariants.{Registration}
 use Rattle.lrs_command.specs.declared.who.Who.{Who}
+use Rattle.cmi5_course.specs.Courses.{course_key}
+use Rattle.lrs_history.specs.Enrolments.{Enrolled, enrolled, verdicts_of}
 use Rattle.lrs_history.specs.Whose.{sight_of}
 use Rattle.lrs_parts.specs.State.{State, changes_nothing}
 use Rattle.lrs_parts.specs.declared.acceptance.Acceptance.{Acceptance}
@@ -11,6 +14,8 @@ use Rattle.lrs_parts.specs.declared.acceptance.Acceptance.TheVariants.{Plain, Pr
 use Rattle.lrs_parts.specs.declared.effect.Effect.{Effect}
 use Rattle.lrs_replies.specs.Texts.{provider_body, ids_body, states_body, versions_body, course_body, launch_body}
 use Rattle.lrs_replies.specs.Texts.{registration_body, session_token_body, key_used_body, session_closed_body}
+use Rattle.lrs_replies.specs.Texts.{swept_body}
+use Rattle.lrs_replies.specs.Standings.{nodes_of, standing_body}
 use Rattle.lrs_replies.specs.declared.answered.Answered.{Answered}
 use Rattle.lrs_replies.specs.declared.answered.Answered.TheVariants.{Kept, Same, Shown}
 use Rattle.lrs_replies.specs.declared.answered.Answered.TheVariants as answered
@@ -43,6 +48,7 @@ acceptance_said (acceptance.Launch session method url) said = Shown (launch_body
 acceptance_said (acceptance.Token token) said = Shown (session_token_body token) None
 acceptance_said acceptance.KeyUsed said = Shown key_used_body None
 acceptance_said acceptance.SessionClosed said = Shown session_closed_body None
+acceptance_said (acceptance.Swept sessions) said = Shown (swept_body sessions) None
 
 -- What is said of a write that isn't refused, whether it makes an entry or changes nothing.
 abbrev pub write_said : Effect → Answered
@@ -83,10 +89,17 @@ documents_said st (One key) = document_said (document_under key st.documents)
 documents_said st (Ids activity agent registration since) =
     Shown (states_body (ids_in activity agent registration since st.documents)) None
 
+-- how far the learner of a registration has come
+abbrev pub standing_said : State → Option Enrolled → Answered
+standing_said st None = answered.Refused NotFound
+standing_said st (Some e) = Shown
+    (standing_body e.registration.id (course_key e.course) (nodes_of e.course.nodes (verdicts_of st e))) None
+
 -- What is said to a question that isn't refused. Of what isn't there this is said.
 abbrev pub read_said : State → Who → Read → Answered
 read_said st by (Statements wanted) = wanted_said st by wanted
 read_said st by (More link) = page_said st by link.query link.asof (Some link.after)
 read_said st by (Documents wanted) = documents_said st wanted
 read_said st by Profile = answered.Refused NotFound
+read_said st by (Registration id) = standing_said st (enrolled st id)
 read_said st by About = Shown versions_body None

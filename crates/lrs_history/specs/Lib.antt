@@ -1,6 +1,11 @@
 pub mod Whose
 pub mod Sessions
 pub mod Launches
+pub mod Enrolments
+pub mod Made
+pub mod Endings
+pub mod Occasions
+pub mod DeskEffects
 pub mod Effects
 pub mod Refusals
 pub mod Answers

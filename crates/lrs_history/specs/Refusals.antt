@@ -1,10 +1,10 @@
--- Why a command is refused: the first reason in a fixed order. It is: the caller (A1, A2), the form (of a document its
--- agent (P6), its media type (F4) and its length; of statements their lengths, then the rules S and B, then P15 and B9;
--- of a course the rules K; of an enrolment its actor (B3); of `found` 404), an earlier list that there is not (P14),
--- what a session may not do with documents (A3 to A5), what a write speaks of that isn't there (404), what can't be
--- merged into the document that is held (T1, T2), another course under its id (409), then for each statement in its
--- order another one under its id (409) or what a new one may not be (C1 to C20). What a read asks for that isn't there
--- is told in its answer.
+-- Why a command is refused: the first reason in a fixed order. It is: the caller (A1, A2), the form (of a provider its
+-- name (B2); of a document its agent (P6), its media type (F4) and its length; of statements their number and lengths,
+-- then the rules S, then P15 or B9; of a course the rules K; of an enrolment its actor (B3); of a sweep its seconds (B6);
+-- of `found` 404), an earlier list that there is not (P14), what a session may not do with documents (A3 to A5), what a
+-- write speaks of that isn't there (404), what can't be merged into the document that is held (T1, T2), another course
+-- under its id (409), then for each statement in its order another one under its id (409) or what a new one may not be
+-- (C1 to C20). What a read asks for that isn't there is told in its answer.
 use Rattle.std.specs.Prelude.{ℕ, ◌==◌, ◌&&◌, ◌||◌, nat_lt, Bool, true, false, not, List, [], ◌∷◌, length, Option, Some}
 use Rattle.std.specs.Prelude.{None, ◌++◌, is_none, option_and_then, option_map, slice_get, if◌then◌else◌}
 use Rattle.std.specs.List.{list_any}
@@ -26,20 +26,22 @@ use Rattle.lrs_agents.specs.Identifiers.{is_identifier}
 use Rattle.lrs_agents.specs.declared.agents.Agent.{Agent}
 use Rattle.lrs_agents.specs.declared.identifiers.Ifi.{Ifi}
 use Rattle.lrs_media.specs.Media.{is_json}
+use Rattle.lrs_rules.specs.declared.limits.TheConstants.{LONGEST_IDLE}
 use Rattle.lrs_rules.specs.declared.rule.Rule.{Rule}
 use Rattle.lrs_rules.specs.declared.rule.Rule.TheVariants as rule
 use Rattle.lrs_command.specs.declared.who.Who.{Who}
 use Rattle.lrs_command.specs.declared.who.Who.TheVariants as who
-use Rattle.lrs_history.specs.Effects.{Occasion, new_by, occasion, with_ids_in}
+use Rattle.lrs_history.specs.Effects.{new_by, with_ids_in}
+use Rattle.lrs_history.specs.Occasions.{Occasion, occasion}
 use Rattle.lrs_history.specs.Launches.{target}
-use Rattle.lrs_history.specs.Sessions.{outside, overstepped}
+use Rattle.lrs_history.specs.Sessions.{is_abandoned, outside, overstepped}
 use Rattle.lrs_history.specs.Whose.{launch_of}
 use Rattle.lrs_history.specs.declared.admitting.TheConstants.{LONGEST_DOCUMENT, LONGEST_MEDIA, MOST_OF_BATCH}
 use Rattle.lrs_json.specs.Json.{Json}
 use Rattle.lrs_json.specs.View.{view}
 use Rattle.lrs_json.specs.declared.tree.Tree.{Tree}
 use Rattle.lrs_parts.specs.Courses.{course_under, place_of_course}
-use Rattle.lrs_parts.specs.Launches.{key_under}
+use Rattle.lrs_parts.specs.Launches.{key_under, place_of_session}
 use Rattle.lrs_parts.specs.Learners.{is_learner}
 use Rattle.lrs_parts.specs.Providers.{is_name}
 use Rattle.lrs_parts.specs.State.{State}
@@ -47,6 +49,7 @@ use Rattle.lrs_record.specs.declared.entry.Entry.{Entry}
 use Rattle.lrs_record.specs.declared.entry.Write.{Write}
 use Rattle.lrs_record.specs.declared.entry.How.TheVariants as how
 use Rattle.lrs_record.specs.declared.entry.Write.TheVariants.{Found, Provider, Put, Post, Drop, Enrol, Fetch}
+use Rattle.lrs_record.specs.declared.entry.Write.TheVariants.{Waive, Abandon, Sweep}
 use Rattle.lrs_record.specs.declared.entry.Write.TheVariants as write
 use Rattle.lrs_replies.specs.declared.answered.Refusal.{Refusal}
 use Rattle.lrs_replies.specs.declared.answered.Refusal.TheVariants.{Conflict, CourseConflict, Broken, TooLong}
@@ -136,6 +139,10 @@ refused_course j = option_map (λ n. Broken (rule.K n)) (course.broken_rule j)
 abbrev pub refused_actor : Agent → Option Refusal
 refused_actor actor = when (not (is_learner actor)) (Broken (rule.B 3))
 
+-- more idle seconds than a sweep may ask for: B6
+abbrev pub refused_idle : ℕ → Option Refusal
+refused_idle idle = when (nat_lt LONGEST_IDLE idle) (Broken (rule.B 6))
+
 -- A `found` command is no command of a founded store.
 abbrev pub bad_form : Write → Option Refusal
 bad_form (Found admin base) = Some NotFound
@@ -148,6 +155,9 @@ bad_form (write.Course tree) = refused_course (view tree)
 bad_form (Enrol course actor) = refused_actor actor
 bad_form (write.Launch registration unit mode return_url) = None
 bad_form (Fetch key) = None
+bad_form (Waive registration unit reason) = None
+bad_form (Abandon session) = None
+bad_form (Sweep idle) = refused_idle idle
 
 -- ---- what a session may do with documents
 
@@ -165,12 +175,14 @@ abbrev pub unless_there : {A : Type 0} → Option A → Option Refusal
 unless_there None = Some NotFound
 unless_there (Some a) = None
 
--- What a write speaks of isn't there: the course of an enrolment, the registration or the unit of a launch, the key of
--- a fetch.
+-- What a write speaks of isn't there: the course of an enrolment, the registration or the unit of a launch or a waiver,
+-- the key of a fetch, the session that is abandoned.
 abbrev pub missing : State → Write → Option Refusal
 missing st (Enrol course actor) = unless_there (place_of_course course st.courses)
 missing st (write.Launch registration unit mode return_url) = unless_there (target st registration unit)
 missing st (Fetch key) = unless_there (key_under key st.keys)
+missing st (Waive registration unit reason) = unless_there (target st registration unit)
+missing st (Abandon session) = unless_there (place_of_session session st.launches)
 missing st other = None
 
 -- ---- what a document meets in the store
@@ -201,13 +213,13 @@ course_conflict st course = refused_beside course (course_under (course_key cour
 -- ---- what statements meet in the store
 
 -- The least of the rules on sessions that a new statement of a caller breaks, after those before it: one of C1 and C2,
--- or of C2 to C20 if the caller is a session. A session that speaks has fetched its token, and none is abandoned.
+-- or of C2 to C20 if the caller is a session. A session that speaks has fetched its token.
 abbrev pub broken_by : State → Who → List StoredStatement → Json → Option ℕ
 broken_by st who.Unknown before j = broken_outside false j
 broken_by st who.Admin before j = broken_outside true j
 broken_by st (who.Provider k) before j = broken_outside false j
 broken_by st (who.Session k) before j =
-    option_and_then (λ l. session.broken_rule (view_of l true false before) j) (slice_get st.launches k)
+    option_and_then (λ l. session.broken_rule (view_of l true (is_abandoned st k) before) j) (slice_get st.launches k)
 
 abbrev pub told_forbidden : Option ℕ → Option Refusal
 told_forbidden number = option_map (λ n. Forbidden (rule.C n)) number

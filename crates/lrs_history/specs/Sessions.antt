@@ -1,5 +1,5 @@
 -- Sessions: whether one is closed, and what it may do with documents.
-use Rattle.std.specs.Prelude.{ℕ, ◌&&◌, Bool, true, false, not, List, [], ◌∷◌, Option, Some, None, slice_get}
+use Rattle.std.specs.Prelude.{ℕ, ◌&&◌, ◌||◌, Bool, true, false, not, List, [], ◌∷◌, Option, Some, None, slice_get}
 use Rattle.std.specs.Option.{option_map_or}
 use Rattle.std.specs.Str.{bytes_eq}
 use Rattle.cmi5_course.specs.declared.launch.Launch.{Launch}
@@ -8,6 +8,7 @@ use Rattle.cmi5_session.specs.Own.{has_own}
 use Rattle.lrs_agents.specs.Identifiers.{same_ifi}
 use Rattle.lrs_agents.specs.declared.identifiers.Ifi.{Ifi}
 use Rattle.lrs_ids.specs.Choices.{first_some, when}
+use Rattle.lrs_parts.specs.Sessions.{is_abandoned_in}
 use Rattle.lrs_parts.specs.State.{State}
 use Rattle.lrs_replies.specs.declared.answered.Refusal.{Refusal}
 use Rattle.lrs_replies.specs.declared.answered.Refusal.TheVariants.{Forbidden}
@@ -15,10 +16,18 @@ use Rattle.lrs_rules.specs.declared.rule.Rule.TheVariants as rule
 
 -- ---- whether a session is closed
 
--- The session of the launch of that place is closed: it said that it ended, voided or not.
-abbrev pub is_closed : State → ℕ → Bool
-is_closed st k =
+-- the session of the launch of that place was abandoned
+abbrev pub is_abandoned : State → ℕ → Bool
+is_abandoned st k = is_abandoned_in st.sessions k
+
+-- it said that it ended, voided or not
+abbrev pub is_terminated : State → ℕ → Bool
+is_terminated st k =
     option_map_or (λ (l : Launch). has_own l.session terminated st.statements) (slice_get st.launches k) false
+
+-- It is closed: it was abandoned, or said that it ended.
+abbrev pub is_closed : State → ℕ → Bool
+is_closed st k = is_abandoned st k || is_terminated st k
 
 -- ---- what a session may do with documents
 

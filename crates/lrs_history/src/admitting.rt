@@ -2,7 +2,7 @@
 ghost use Rattle.std.specs.Prelude.{◌≡◌, true};
 ghost use Rattle.std.specs.Option.{option_copied, option_map_or};
 ghost use Rattle.std.specs.Str.{bytes_eq};
-ghost use Rattle.lrs_history.specs.Refusals.{barred, refused_actor, refused_agent, refused_document, refused_name, refused_with};
+ghost use Rattle.lrs_history.specs.Refusals.{barred, refused_actor, refused_agent, refused_document, refused_idle, refused_name, refused_with};
 ghost use Rattle.lrs_history.specs.Sessions.{is_its_own, outside, over_state, overstepped};
 
 use cmi5_course::Launch;
@@ -13,7 +13,7 @@ use lrs_json::Text;
 use lrs_names::Id;
 use lrs_parts::{is_learner, is_name};
 use lrs_replies::Refusal;
-use lrs_rules::Rule;
+use lrs_rules::{LONGEST_IDLE, Rule};
 
 /// How many statements may come together.
 pub const MOST_OF_BATCH: usize = 500;
@@ -99,6 +99,16 @@ pub fn refused_actor(actor: &Agent) -> Option<Refusal>
         return None;
     }
     Some(Refusal::Broken(Rule::B(3)))
+}
+
+/// Why nothing is swept that is idle for so many seconds (B6).
+pub fn refused_idle(idle: u32) -> Option<Refusal>
+    ensures { result ≡ refused_idle idle }
+{
+    if idle > LONGEST_IDLE {
+        return Some(Refusal::Broken(Rule::B(6)));
+    }
+    None
 }
 
 /// Why a caller doesn't look at documents, if it is the session of that launch: they are another's (A3).

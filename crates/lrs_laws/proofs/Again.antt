@@ -6,7 +6,8 @@ use Rattle.std.specs.Option.{option_or}
 use Rattle.lrs_record.specs.declared.entry.Area.TheVariants.{Store}
 use Rattle.lrs_command.specs.declared.command.Command.TheVariants as command
 use Rattle.lrs_history.specs.Answers.{write_said}
-use Rattle.lrs_history.specs.Effects.{Occasion, effect}
+use Rattle.lrs_history.specs.Effects.{effect, with_owed}
+use Rattle.lrs_history.specs.Occasions.{Occasion, occasion}
 use Rattle.lrs_history.specs.History.{answer, answer_of, end_place, next_entry, only, refused, said_at_once, state, outcome_by}
 use Rattle.lrs_history.specs.Refusals.{barred, before_next, conflict, forbidden, refused_batch, refused_form, refused_in, refused_over, refused_under, refusal}
 use Rattle.lrs_history.specs.Whose.{authority_of}
@@ -26,7 +27,7 @@ use Rattle.lrs_replies.specs.declared.answered.Refusal.{Refusal}
 use Rattle.lrs_replies.specs.declared.answered.Refusal.TheVariants.{Conflict}
 use Rattle.xapi_alike.specs.Same.{same}
 use Rattle.xapi_format.specs.declared.authority.Authority.{Authority}
-use Rattle.xapi_index.specs.Batches.{WithId, given_ids, held_of, id_for, kept_by, with_ids, ids_under, supply_behind, with_given}
+use Rattle.xapi_index.specs.Batches.{WithId, given_ids, held_of, id_for, kept_by, with_ids, ids_under, supply_after, supply_behind, with_given}
 use Rattle.lrs_ids.specs.Choices.{first_some, when}
 use Rattle.lrs_ids.specs.Ids.{Supply}
 use Rattle.xapi_index.specs.Statements.{is_held, new_ones}
@@ -78,7 +79,9 @@ put_unchanged : (h : List Entry) (caller : Caller) (id : List ℕ) (t : Tree) (s
     → changes_nothing (effect (state h) (put_entry h caller id t clock draw)) ≡ true
 put_unchanged h caller id t s clock draw meets =
     let e = put_entry h caller id t clock draw in
-    ap (λ xs. changes_nothing (record (no_change e.moment) { statements = xs })) (old_one e.moment (authority_of (state h) (who_in h caller)) (state h).statements (record { id = id; tree = t }) (ap (λ o. is_some o) meets.held))
+    let at = occasion (state h) e in
+    ap (λ xs. changes_nothing (record (no_change e.moment) { statements = with_owed (state h) at at.supply xs }))
+    (old_one e.moment (authority_of (state h) (who_in h caller)) (state h).statements (record { id = id; tree = t }) (ap (λ o. is_some o) meets.held))
 
 pub repeats_are_taken : RepeatsAreTaken
 repeats_are_taken limit h caller id t s clock draw meets is =
@@ -137,7 +140,8 @@ repeated_batches_are_taken limit h caller trees clock draw together each =
     let at = occasion_of h caller trees clock draw in
     at_once limit h caller (Post trees) clock draw (Shown (ids_body (given_ids trees)) None)
     (said_unchanged (state h) e (post_met h caller trees clock draw None together (none_refused (state h) at (state h).statements at.supply trees each))
-    (ap (λ xs. changes_nothing (record (no_change at.moment) { statements = xs })) (none_new at.moment (authority_of (state h) at.by) (state h).statements at.supply trees each))
+    (ap (λ xs. changes_nothing (record (no_change at.moment) { statements = with_owed (state h) at (supply_after at.supply trees) xs }))
+    (none_new at.moment (authority_of (state h) at.by) (state h).statements at.supply trees each))
     ∙ ap (λ ids. Some (Shown (ids_body ids) None)) (own_names (state h).statements at.supply trees each))
 
 contradicted : (st : State) (new : Option Refusal) (t : Tree) (id : List ℕ) → Contradicts st.statements t id → refused_under st new (own_id (view t)) (view t) ≡ Some (Conflict id)

@@ -1,42 +1,35 @@
 -- That a unit was completed, and that it was passed, counts once in a registration.
 use Rattle.std.proofs.Common.{◌≡◌, ℕ, List, [], ◌∷◌, ◌++◌, Bool, true, false, not, ◌&&◌, ◌||◌, Option, Some, None, refl, sym, ap, subst, ◌∙◌, append_assoc, append-nil}
-use Rattle.std.specs.Prelude.{codes, option_map, slice_get, if◌then◌else◌}
-use Rattle.std.specs.List.{AllByRecursion, list_any}
+use Rattle.std.specs.Prelude.{codes, if◌then◌else◌}
+use Rattle.std.specs.List.{list_any}
 use Rattle.std.specs.Option.{option_map_or}
 use Rattle.std.specs.Str.{bytes_eq}
 use Rattle.std.specs.Cmp.Lexicographic.{same_text}
 use Rattle.std.proofs.lemmas.List.Folds.{list_any-append}
 use Rattle.cmi5_course.specs.declared.launch.Launch.{Launch}
-use Rattle.cmi5_course.specs.declared.launch.Mode.{Mode}
-use Rattle.cmi5_course.specs.declared.unit.Unit as units
-use Rattle.cmi5_launch.specs.Made.{launched_json}
-use Rattle.cmi5_launch.specs.Names.{completed, launched, move_on_category, passed}
+use Rattle.cmi5_launch.specs.Names.{completed, move_on_category, passed}
 use Rattle.cmi5_session.specs.Own.{is_cmi5_defined}
-use Rattle.cmi5_session.specs.Rules.{begins_again, broken_by_values, broken_defined, broken_outside, broken_rule, is_normal, tells_result, verb_named}
+use Rattle.cmi5_session.specs.Rules.{begins_again, broken_by_values, broken_defined, broken_rule, is_normal, tells_result, verb_named}
 use Rattle.cmi5_session.specs.Views.{SeenSession, counts, counts_still, has_counting, view_of}
-use Rattle.lrs_agents.specs.declared.agents.Agent.{Agent}
-use Rattle.lrs_command.specs.declared.who.Who.{Who}
-use Rattle.lrs_command.specs.declared.who.Who.TheVariants as who
-use Rattle.lrs_history.specs.Effects.{Occasion, new_by}
-use Rattle.lrs_history.specs.Launches.{activity_at, launched_at}
-use Rattle.lrs_history.specs.Refusals.{broken_by}
-use Rattle.lrs_history.specs.Whose.{authority_of}
+use Rattle.lrs_history.specs.Effects.{new_by}
+use Rattle.lrs_history.specs.Occasions.{Occasion}
+use Rattle.lrs_history.specs.Refusals.{forbidden}
 use Rattle.lrs_ids.specs.Choices.{first_some, when}
 use Rattle.lrs_json.specs.Json.{Json}
-use Rattle.lrs_json.specs.Trees.{tree_of}
 use Rattle.lrs_json.specs.View.{view}
-use Rattle.lrs_laws.proofs.Again.{first_none, no_reason}
-use Rattle.lrs_laws.proofs.Keepers.{left_false, or_false, right_false}
+use Rattle.lrs_laws.proofs.Again.{no_reason}
+use Rattle.lrs_laws.proofs.DeskStatements.{IsOfDesk, other_verb, own_verbs}
+use Rattle.lrs_laws.proofs.Keepers.{add_each-append, left_false, or_false, right_false}
+use Rattle.lrs_laws.proofs.Lists.{each_weaker}
 use Rattle.lrs_laws.proofs.NewIds.{and_left, and_right, both_true}
 use Rattle.lrs_laws.proofs.Permitted.{broken_as, permitted, spoken, when_none}
-use Rattle.lrs_laws.proofs.SeenTrees.{seen_tree}
-use Rattle.lrs_laws.proofs.Walking.{KeptByLaunches, KeptByWrites, SpeaksIn, Steps, its_new, its_rule, none_told, over_legal}
+use Rattle.lrs_laws.proofs.Walking.{KeptByDesk, KeptByWrites, NonePass, SpeaksIn, Steps, by_speaker, its_new, its_rule, none_pass, over_legal, undefined_outside}
 use Rattle.lrs_laws.specs.Speaking.{ResultsCountOnce, count_once, counts_again}
+use Rattle.lrs_names.specs.Members.{is_one_of}
 use Rattle.lrs_parts.specs.State.{State}
-use Rattle.xapi_format.specs.declared.authority.Authority.{Authority}
 use Rattle.xapi_format.specs.declared.authority.Authority.TheVariants.{Session}
-use Rattle.xapi_index.specs.Batches.{WithId, held_of, kept_by}
-use Rattle.xapi_index.specs.Statements.{add, add_each, is_held, is_target, is_that_id, new_ones, voids}
+use Rattle.xapi_index.specs.Batches.{held_of}
+use Rattle.xapi_index.specs.Statements.{add, add_each, is_held, is_target, is_that_id, voids}
 use Rattle.xapi_rules.specs.Rules.{is_voiding}
 use Rattle.xapi_statement.specs.Statement.{activity_of, has_context_activity, registration_of, target_of, verb_of}
 use Rattle.xapi_statement.specs.Stored.{StoredStatement}
@@ -58,7 +51,7 @@ once_push launch verb before (x ∷ ss) s once new =
 
 -- none of these counts
 abbrev NoneCounts : Launch → List ℕ → List StoredStatement → Type 0
-NoneCounts launch verb statements = AllByRecursion (λ (s : StoredStatement). counts launch verb (view s.received) ≡ false) statements
+NoneCounts launch verb statements = NonePass (counts launch verb) statements
 
 once_each : (launch : Launch) (verb : List ℕ) (held xs : List StoredStatement) → NoneCounts launch verb xs → CountsOnce launch verb held → CountsOnce launch verb (add_each held xs)
 once_each launch verb held [] others once = once
@@ -106,10 +99,6 @@ none_still launch verb old new fewer none =
     (λ x. ap (λ b. counts launch verb (view x.received) && not (not (is_voiding (view x.received)) && b)) (fewer.targets x.id)) new
     ∙ fewer.none (counts_still launch verb old) none
 
-add_each-push : (held more : List StoredStatement) (x : StoredStatement) → add_each held (more ++ x ∷ []) ≡ add (add_each held more) x
-add_each-push held [] x = refl
-add_each-push held (y ∷ more) x = add_each-push (add held y) more x
-
 -- ---- what the rules permit
 
 -- Behind the mode, the category and what the result tells comes the rule that it counts once.
@@ -142,7 +131,7 @@ values_as v verb j = option_map_or (broken_by_values v.launch.mastery) (verb_nam
 record IsResult (id : List ℕ) : Type 0 where
   pub about : (v : SeenSession) (j : Json) → broken_defined v (verb_named id) j ≡ None → is_that_id v.launch.activity (activity_of j) ≡ true
   pub first : (l : Launch) (before : List StoredStatement) (j : Json) → broken_defined (view_of l true false before) (verb_named id) j ≡ None → has_counting l id before ≡ false
-  pub other : bytes_eq launched id ≡ false
+  pub other : is_one_of own_verbs id ≡ false
 
 completed_counts : IsResult completed
 completed_counts = record {
@@ -233,7 +222,7 @@ counted_next id result launch st at l speaks more n free so_far =
     by_held true = subst (Counted st launch id) (sym (append-nil more)) so_far
     by_held false =
         subst (λ old. Fewer old (add_each st.statements (more ++ x ∷ [])) × CountsOnce launch id (add_each st.statements (more ++ x ∷ []))) (append_assoc st.statements more (x ∷ []))
-        (subst (λ held. Fewer (before ++ x ∷ []) held × CountsOnce launch id held) (sym (add_each-push st.statements more x)) (by_again (is_held x.id now)))
+        (subst (λ held. Fewer (before ++ x ∷ []) held × CountsOnce launch id held) (sym (add_each-append st.statements more (x ∷ []))) (by_again (is_held x.id now)))
 
 -- ---- what others say
 
@@ -241,79 +230,39 @@ and_false : (b : Bool) → b && false ≡ false
 and_false true = refl
 and_false false = refl
 
-each_append : {A : Type 0} (P : A → Type 0) (xs ys : List A) → AllByRecursion P xs → AllByRecursion P ys → AllByRecursion P (xs ++ ys)
-each_append P [] ys first next = next
-each_append P (x ∷ xs) ys first next = (first.0, each_append P xs ys first.1 next)
-
--- what is new of one statement that doesn't count
-uncounted : (launch : Launch) (id : List ℕ) (moment : ℕ) (o : Option Authority) (held : List StoredStatement) (n : WithId) → counts launch id (view n.tree) ≡ false
-    → NoneCounts launch id (new_ones held (kept_by moment o (n ∷ [])))
-uncounted launch id moment None held n none = tt
-uncounted launch id moment (Some by) held n none = by_held (is_held n.id held)
-  where
-    by_held : (b : Bool) → NoneCounts launch id (if b then [] else held_of moment by n ∷ [])
-    by_held true = tt
-    by_held false = (none, tt)
-
--- a caller who is no session says nothing that cmi5 defines
-none_next : (launch : Launch) (id : List ℕ) (st : State) (at : Occasion) (admin : Bool) → ((before : List StoredStatement) (j : Json) → broken_by st at.by before j ≡ broken_outside admin j)
+-- a caller who is no session says nothing that counts
+none_next : (launch : Launch) (id : List ℕ) (st : State) (at : Occasion) → ((before : List StoredStatement) (j : Json) → forbidden st at.by before j ≡ None → is_cmi5_defined j ≡ false)
     → Steps st at (NoneCounts launch id)
-none_next launch id st at admin outside more n free so_far =
-    let j : Json = view n.tree in
-    let unbroken : broken_outside admin j ≡ None = sym (outside (st.statements ++ more) j) ∙ none_told (broken_by st at.by (st.statements ++ more) j) free in
-    let first : when (is_cmi5_defined j) 1 ≡ None = (first_none (when (is_cmi5_defined j) 1) _ unbroken).0 in
+none_next launch id st at undefined =
+    none_pass (counts launch id) st at
+    (λ before j free.
     let matches : Bool = bytes_eq (verb_of j) id && is_that_id launch.registration (registration_of j) && is_that_id launch.activity (activity_of j) in
-    each_append (λ (s : StoredStatement). counts launch id (view s.received) ≡ false) more (new_by st at.by at.moment (n ∷ [])) so_far
-    (uncounted launch id at.moment (authority_of st at.by) st.statements n (ap (λ b. matches && b) (when_none (is_cmi5_defined j) 1 first) ∙ and_false matches))
+    ap (λ b. matches && b) (undefined before j free) ∙ and_false matches)
 
 -- ---- the law
 
 kept_by_writes : (id : List ℕ) → IsResult id → (launch : Launch) → KeptByWrites (CountsOnce launch id)
-kept_by_writes id result launch st at ns met once = by_caller at.by refl
+kept_by_writes id result launch st at ns met once =
+    by_speaker (λ xs. CountsOnce launch id (add_each st.statements xs)) st at ns
+    (λ admin outside. once_each launch id st.statements (new_by st at.by at.moment ns) (met (NoneCounts launch id) (none_next launch id st at (undefined_outside st at admin outside)) tt) once)
+    (λ l speaks. (met (Counted st launch id) (counted_next id result launch st at l speaks) so_far).1) once
   where
-    held : List StoredStatement
-    held = st.statements
+    so_far : Counted st launch id []
+    so_far = (subst (λ old. Fewer old st.statements) (sym (append-nil st.statements)) (not_fewer st.statements), once)
 
-    by_outside : (admin : Bool) → ((before : List StoredStatement) (j : Json) → broken_by st at.by before j ≡ broken_outside admin j) → CountsOnce launch id (add_each held (new_by st at.by at.moment ns))
-    by_outside admin outside = once_each launch id held (new_by st at.by at.moment ns) (met (NoneCounts launch id) (none_next launch id st at admin outside) tt) once
-
-    by_launch : (k : ℕ) (o : Option Launch) → at.by ≡ who.Session k → slice_get st.launches k ≡ o → CountsOnce launch id (add_each held (new_by st at.by at.moment ns))
-    by_launch k None acts there =
-        let none_new : new_by st at.by at.moment ns ≡ [] =
-        ap (λ by. new_by st by at.moment ns) acts ∙ ap (λ o. new_ones held (kept_by at.moment (option_map (λ (l : Launch). Session l.session) o) ns)) there in
-        subst (λ xs. CountsOnce launch id (add_each held xs)) (sym none_new) once
-    by_launch k (Some l) acts there =
-        let so_far : Counted st launch id [] = (subst (λ old. Fewer old held) (sym (append-nil held)) (not_fewer held), once) in
-        (met (Counted st launch id) (counted_next id result launch st at l (record { place = k; acts = acts; launched = there })) so_far).1
-
-    by_caller : (by : Who) → at.by ≡ by → CountsOnce launch id (add_each held (new_by st at.by at.moment ns))
-    by_caller who.Unknown is = by_outside false (λ before j. ap (λ by. broken_by st by before j) is)
-    by_caller who.Admin is = by_outside true (λ before j. ap (λ by. broken_by st by before j) is)
-    by_caller (who.Provider k) is = by_outside false (λ before j. ap (λ by. broken_by st by before j) is)
-    by_caller (who.Session k) is = by_launch k (slice_get st.launches k) is refl
-
--- what the store says of a launch has another verb
-named_launched : (mode : Mode) (unit : units.Unit) (actor : Agent) (activity publisher registration session : List ℕ) → verb_of (launched_json mode unit actor activity publisher registration session) ≡ launched
-unfolding verb_of
-named_launched mode unit actor activity publisher registration session = refl
-
-says_launched : (mode : Mode) (unit : units.Unit) (actor : Agent) (activity publisher registration session : List ℕ)
-    → verb_of (view (tree_of (launched_json mode unit actor activity publisher registration session))) ≡ launched
-says_launched mode unit actor activity publisher registration session =
-    ap verb_of (seen_tree (launched_json mode unit actor activity publisher registration session)) ∙ named_launched mode unit actor activity publisher registration session
-
-kept_by_launches : (id : List ℕ) → IsResult id → (launch : Launch) → KeptByLaunches (CountsOnce launch id)
-kept_by_launches id result launch t mode session made moment held once =
-    let j : Json = view (tree_of (launched_json mode t.unit t.registration.actor (activity_at t) t.publisher t.registration.id session)) in
-    let registered : Bool = is_that_id launch.registration (registration_of j) in
-    let about : Bool = is_that_id launch.activity (activity_of j) in
-    let none : counts launch id j ≡ false =
-    ap (λ v. bytes_eq v id && registered && about && is_cmi5_defined j) (says_launched mode t.unit t.registration.actor (activity_at t) t.publisher t.registration.id session)
-    ∙ ap (λ b. b && registered && about && is_cmi5_defined j) result.other in
-    once_each launch id held (launched_at t mode session made moment) (none, tt) once
+-- what the store says of its own has other verbs
+kept_by_desk : (id : List ℕ) → IsResult id → (launch : Launch) → KeptByDesk own_verbs (CountsOnce launch id)
+kept_by_desk id result launch held ss each once = once_each launch id held ss (each_weaker (IsOfDesk own_verbs) (λ (s : StoredStatement). counts launch id (view s.received) ≡ false) other ss each) once
+  where
+    other : (s : StoredStatement) → IsOfDesk own_verbs s → counts launch id (view s.received) ≡ false
+    other s is =
+        let j : Json = view s.received in
+        let registered : Bool = is_that_id launch.registration (registration_of j) in
+        let about : Bool = is_that_id launch.activity (activity_of j) in
+        ap (λ b. b && registered && about && is_cmi5_defined j) (other_verb own_verbs s id is result.other)
 
 pub results_count_once : ResultsCountOnce
 results_count_once limit h launch legal = (
-  over_legal (CountsOnce launch completed) (kept_by_writes completed completed_counts launch) (kept_by_launches completed completed_counts launch) refl limit h legal,
-  over_legal (CountsOnce launch passed) (kept_by_writes passed passed_counts launch) (kept_by_launches passed passed_counts launch) refl limit h legal,
+  over_legal (CountsOnce launch completed) (kept_by_writes completed completed_counts launch) (kept_by_desk completed completed_counts launch) refl limit h legal,
+  over_legal (CountsOnce launch passed) (kept_by_writes passed passed_counts launch) (kept_by_desk passed passed_counts launch) refl limit h legal,
 )

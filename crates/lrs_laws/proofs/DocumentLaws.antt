@@ -4,15 +4,18 @@ use Rattle.std.specs.Prelude.{if◌then◌else◌, is_none, unwrap_or}
 use Rattle.std.specs.Option.{option_or}
 use Rattle.std.proofs.lemmas.Cmp.{eq_by_cmp_equiv}
 use Rattle.lrs_history.specs.Answers.{document_said, write_said}
-use Rattle.lrs_history.specs.Effects.{Occasion, document_by, effect, effect_of, enrolling, fetching, giving, launching, occasion, telling}
+use Rattle.lrs_history.specs.Effects.{document_by, effect, effect_of}
+use Rattle.lrs_history.specs.Occasions.{Occasion, occasion}
+use Rattle.lrs_history.specs.DeskEffects.{launching}
 use Rattle.lrs_history.specs.History.{answer_of, end_place, next_entry, only, outcome_by, refused, refused_or, said_at_once, state}
 use Rattle.lrs_history.specs.Launches.{Target, data_at, data_key, target}
 use Rattle.lrs_history.specs.Refusals.{barred, bad_form, bad_role, conflict, missing, refusal, refused_agent, refused_document, unmergeable, unmergeable_with}
-use Rattle.lrs_history.specs.Sessions.{is_closed, outside, overstepped}
+use Rattle.lrs_history.specs.Sessions.{outside, overstepped}
 use Rattle.lrs_history.specs.Whose.{who_is}
 use Rattle.lrs_ids.specs.Choices.{first_some, when}
 use Rattle.lrs_laws.proofs.Accepting.{accepted_at, not_refused}
 use Rattle.lrs_laws.proofs.Again.{at_once, no_reason, said_refused, said_unchanged}
+use Rattle.lrs_laws.proofs.DeskKinds.{of_ending, of_enrolment, of_fetch, of_waiver}
 use Rattle.lrs_laws.proofs.HeldDocuments.{dropped_under, same_is, written_under}
 use Rattle.lrs_laws.proofs.Keepers.{state_from-append}
 use Rattle.lrs_laws.specs.Documents.{DocumentsAreFolds, HeldDocumentsAreShown, NothingIsDroppedQuietly, PostedDocumentsAreMerged, MayChange, UnmergeableIsTold, document_after, document_in, launch_in, launched_over}
@@ -20,16 +23,15 @@ use Rattle.lrs_laws.specs.Laws.{who_in}
 use Rattle.lrs_media.specs.Media.{is_json}
 use Rattle.lrs_names.specs.declared.draw.Draw.{Draw}
 use Rattle.lrs_parts.specs.Courses.{place_of_course}
-use Rattle.lrs_parts.specs.Launches.{key_under}
+use Rattle.lrs_parts.specs.Launches.{key_under, place_of_session}
 use Rattle.lrs_parts.specs.State.{State, changes_nothing, no_change, nothing}
-use Rattle.lrs_parts.specs.declared.acceptance.Acceptance.TheVariants as acceptance
-use Rattle.lrs_parts.specs.declared.launches.HeldKey.{HeldKey}
+use Rattle.lrs_parts.specs.declared.effect.Effect.{Effect}
 use Rattle.lrs_record.specs.declared.entry.Area.TheVariants.{Store}
 use Rattle.lrs_record.specs.declared.entry.Caller.{Caller}
 use Rattle.lrs_record.specs.declared.entry.Entry.{Entry}
 use Rattle.lrs_record.specs.declared.entry.How.TheVariants as how
 use Rattle.lrs_record.specs.declared.entry.Write.{Write as AWrite}
-use Rattle.lrs_record.specs.declared.entry.Write.TheVariants.{Drop, Enrol, Fetch}
+use Rattle.lrs_record.specs.declared.entry.Write.TheVariants.{Drop, Enrol, Fetch, Waive, Abandon}
 use Rattle.lrs_record.specs.declared.entry.Write.TheVariants as write
 use Rattle.lrs_replies.specs.declared.answered.Answered.TheVariants.{Kept, Same}
 use Rattle.lrs_replies.specs.declared.answered.Refusal.{Refusal}
@@ -46,6 +48,10 @@ use Rattle.xapi_keys.specs.declared.state_key.StateKey.{StateKey}
 
 -- ---- the fold
 
+-- the document under the key is the same
+abbrev Leaves : State → StateKey → Effect → Type 0
+Leaves st key x = document_under key (documents_after st.documents x.documents) ≡ document_under key st.documents
+
 after_write : (st : State) (at : Occasion) (w : AWrite) (key : StateKey)
     → document_under key (documents_after st.documents (effect_of st at w).documents) ≡ document_after st at key (document_under key st.documents) w
 after_write st at (write.State by k media bytes) key = written_under key k (document_by by media bytes at.moment (document_under k st.documents)) st.documents ∙ choice (is_same_key k key) refl
@@ -60,11 +66,7 @@ after_write st at (Drop activity agent registration chosen) key =
     choice : (b : Bool) → cond b None (document_under key st.documents) ≡ (if b then None else document_under key st.documents)
     choice true = refl
     choice false = refl
-after_write st at (Enrol course actor) key = enrolled (place_of_course course st.courses)
-  where
-    enrolled : (o : Option ℕ) → document_under key (documents_after st.documents (enrolling at actor o).documents) ≡ document_under key st.documents
-    enrolled None = refl
-    enrolled (Some k) = refl
+after_write st at (Enrol course actor) key = of_enrolment (Leaves st key) st at refl actor (place_of_course course st.courses) (λ k. refl)
 after_write st at (write.Launch registration unit mode return_url) key = launched (target st registration unit)
   where
     launched : (o : Option Target) → document_under key (documents_after st.documents (launching st at mode return_url o).documents) ≡ launched_over at key (document_under key st.documents) mode return_url o
@@ -75,17 +77,9 @@ after_write st at (write.Launch registration unit mode return_url) key = launche
             ≡ (if b then Some (data_at t mode return_url (at.supply 0) at.moment) else document_under key st.documents)
         choice true = refl
         choice false = refl
-after_write st at (Fetch name) key = fetched (key_under name st.keys)
-  where
-    by_tests : (k : HeldKey) (b c : Bool)
-        → document_under key (documents_after st.documents (if b then telling at.moment acceptance.KeyUsed else (if c then telling at.moment acceptance.SessionClosed else giving at k)).documents) ≡ document_under key st.documents
-    by_tests k true c = refl
-    by_tests k false true = refl
-    by_tests k false false = refl
-
-    fetched : (o : Option HeldKey) → document_under key (documents_after st.documents (fetching st at o).documents) ≡ document_under key st.documents
-    fetched None = refl
-    fetched (Some k) = by_tests k k.fetched (is_closed st k.launch)
+after_write st at (Fetch name) key = of_fetch (Leaves st key) st at refl (key_under name st.keys) (λ told. refl) (λ k is unused still. refl)
+after_write st at (Waive registration unit reason) key = of_waiver (Leaves st key) st at refl reason (target st registration unit) (λ t is. refl)
+after_write st at (Abandon session) key = of_ending (Leaves st key) st at refl (place_of_session session st.launches) (λ numbers. refl)
 after_write st at other key = refl
 
 pub documents_are_folds : DocumentsAreFolds

@@ -8,7 +8,9 @@ use Rattle.std.proofs.lemmas.Cmp.{nat_list_eq_equiv}
 use Rattle.std.proofs.lemmas.List.Folds.{find-append}
 use Rattle.lrs_command.specs.declared.command.Command.TheVariants as command
 use Rattle.lrs_history.specs.Answers.{write_said}
-use Rattle.lrs_history.specs.Effects.{Occasion, effect, effect_of, fetching, giving, occasion, telling}
+use Rattle.lrs_history.specs.Effects.{effect, effect_of}
+use Rattle.lrs_history.specs.Occasions.{Occasion, occasion}
+use Rattle.lrs_history.specs.DeskEffects.{fetching, giving, telling}
 use Rattle.lrs_history.specs.History.{ComesNext, IsLegalFrom, answer, founds, is_operator, is_zero, next_entry, state, state_from, step}
 use Rattle.lrs_history.specs.Refusals.{unless_there}
 use Rattle.lrs_history.specs.Sessions.{is_closed}

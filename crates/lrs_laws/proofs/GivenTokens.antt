@@ -10,7 +10,8 @@ use Rattle.std.proofs.Math.Seq.{drop-append_seam}
 use Rattle.std.proofs.lemmas.Fmt.{decimal_injective}
 use Rattle.std.proofs.lemmas.Iterator.Adapters.{position_from-zero}
 use Rattle.std.proofs.lemmas.List.Folds.{find-append}
-use Rattle.lrs_history.specs.Effects.{Occasion, effect, occasion}
+use Rattle.lrs_history.specs.Effects.{effect}
+use Rattle.lrs_history.specs.Occasions.{Occasion, occasion}
 use Rattle.lrs_history.specs.History.{state, state_from, step}
 use Rattle.lrs_laws.proofs.Launched.{after_one, by_entries}
 use Rattle.lrs_laws.proofs.Lists.{each_found, each_push, each_weaker, found_passes}
@@ -22,7 +23,7 @@ use Rattle.lrs_parts.specs.State.{State, nothing}
 use Rattle.lrs_parts.specs.declared.effect.Effect.{Effect}
 use Rattle.lrs_parts.specs.declared.launches.HeldToken.{HeldToken}
 use Rattle.lrs_parts.specs.declared.providers.HeldProvider.{HeldProvider}
-use Rattle.lrs_record.proofs.Words.{length-word_text}
+use Rattle.lrs_fields.proofs.Words.{length-word_text}
 use Rattle.lrs_record.specs.Entries.{word_text}
 use Rattle.lrs_record.specs.declared.entry.Entry.{Entry}
 use Rattle.lrs_record.specs.declared.entry.Write.{Write}

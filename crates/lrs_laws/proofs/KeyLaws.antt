@@ -5,7 +5,8 @@ use Rattle.std.specs.List.{AllByRecursion}
 use Rattle.std.specs.Str.{bytes_eq}
 use Rattle.std.specs.Cmp.Lexicographic.{same_text}
 use Rattle.cmi5_course.specs.declared.launch.Launch.{Launch}
-use Rattle.lrs_history.specs.Effects.{effect, occasion}
+use Rattle.lrs_history.specs.Effects.{effect}
+use Rattle.lrs_history.specs.Occasions.{occasion}
 use Rattle.lrs_history.specs.History.{state}
 use Rattle.lrs_laws.proofs.GivenTokens.{state_length}
 use Rattle.lrs_laws.proofs.Launched.{after_one, by_entries, there_after}

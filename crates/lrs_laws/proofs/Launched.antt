@@ -4,7 +4,9 @@ use Rattle.std.specs.Prelude.{if◌then◌else◌, option_map, slice_get}
 use Rattle.std.specs.List.{AllByRecursion}
 use Rattle.std.specs.Str.{bytes_eq}
 use Rattle.cmi5_course.specs.declared.launch.Launch.{Launch}
-use Rattle.lrs_history.specs.Effects.{Occasion, coming, effect, occasion}
+use Rattle.lrs_history.specs.Effects.{effect}
+use Rattle.lrs_history.specs.Occasions.{Occasion, occasion}
+use Rattle.lrs_history.specs.DeskEffects.{coming}
 use Rattle.lrs_history.specs.History.{state, state_from, step}
 use Rattle.lrs_history.specs.Whose.{known_as, who_is}
 use Rattle.lrs_laws.proofs.Keepers.{state_from-append}

@@ -3,6 +3,7 @@ pub mod Keepers
 pub mod Again
 pub mod Accepting
 pub mod NewIds
+pub mod DeskKinds
 pub mod Moves
 pub mod Launched
 pub mod GivenTokens
@@ -21,7 +22,14 @@ pub mod KeyLaws
 pub mod LaunchLaws
 pub mod Permitted
 pub mod MayFollow
+pub mod Registered
+pub mod SeenTrees
+pub mod DeskStatements
 pub mod Walking
 pub mod SpokenInOrder
-pub mod SeenTrees
 pub mod CountedOnce
+pub mod Counting
+pub mod CourseSizes
+pub mod OwedOnce
+pub mod Satisfied
+pub mod Abandoned

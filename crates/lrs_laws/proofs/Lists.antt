@@ -1,7 +1,7 @@
--- What holds of each item of a list, and of the item at a place.
-use Rattle.std.proofs.Common.{◌≡◌, ℕ, zero, suc, ◌<◌, List, [], ◌∷◌, ◌++◌, length, Bool, true, false, Some, cond, refl, subst, ◌∙◌, arith}
-use Rattle.std.specs.Prelude.{find, slice_get}
-use Rattle.std.specs.List.{AllByRecursion}
+-- What holds of each item of a list, of the item at a place, and of what an option holds.
+use Rattle.std.proofs.Common.{◌≡◌, ℕ, zero, suc, ◌<◌, List, [], ◌∷◌, ◌++◌, length, Bool, true, false, Option, Some, None, IfSome, cond, refl, subst, ◌∙◌, arith}
+use Rattle.std.specs.Prelude.{filter_map, find, option_and_then, option_map, slice_get}
+use Rattle.std.specs.List.{AllByRecursion, cons_option}
 use Rattle.std.proofs.lemmas.Option.{slice_get_within}
 use Rattle.lrs_register.specs.Register.{with_first}
 
@@ -14,6 +14,14 @@ each_weaker P Q from (x ∷ xs) each = (from x each.0, each_weaker P Q from xs e
 pub each_push : {A : Type 0} (P : A → Type 0) (xs : List A) (y : A) → AllByRecursion P xs → P y → AllByRecursion P (xs ++ y ∷ [])
 each_push P [] y each last = (last, tt)
 each_push P (x ∷ xs) y each last = (each.0, each_push P xs y each.1 last)
+
+pub each_append : {A : Type 0} (P : A → Type 0) (xs ys : List A) → AllByRecursion P xs → AllByRecursion P ys → AllByRecursion P (xs ++ ys)
+each_append P [] ys first next = next
+each_append P (x ∷ xs) ys first next = (first.0, each_append P xs ys first.1 next)
+
+pub each_front : {A : Type 0} (P : A → Type 0) (xs ys : List A) → AllByRecursion P (xs ++ ys) → AllByRecursion P xs
+each_front P [] ys each = tt
+each_front P (x ∷ xs) ys each = (each.0, each_front P xs ys each.1)
 
 pub each_first : {A : Type 0} (P : A → Type 0) (p : A → Bool) (y : A) (xs : List A) → AllByRecursion P xs → P y → AllByRecursion P (with_first p y xs)
 each_first P p y [] each there = tt
@@ -40,7 +48,31 @@ found_passes {A} p (y ∷ xs) x is = by_test (p y) refl is (λ later. found_pass
     by_test true here at more = let same : y ≡ x = cc at in subst (λ z. p z ≡ true) same here
     by_test false here at more = more at
 
+-- what holds of all that is given
+pub each_given : {A B : Type 0} (P : B → Type 0) (f : A → Option B) → ((x : A) → IfSome (f x) P) → (xs : List A) → AllByRecursion P (filter_map f xs)
+each_given P f given [] = tt
+each_given {A} {B} P f given (x ∷ xs) = by_some (f x) (given x) (each_given P f given xs)
+  where
+    by_some : (o : Option B) → IfSome o P → AllByRecursion P (filter_map f xs) → AllByRecursion P (cons_option o (filter_map f xs))
+    by_some None is rest = rest
+    by_some (Some y) is rest = (is, rest)
+
+-- ---- what an option holds
+
+pub all_then : {A B : Type 0} (P : B → Type 0) (f : A → Option B) (o : Option A) → ((x : A) → IfSome (f x) P) → IfSome (option_and_then f o) P
+all_then P f None each = tt
+all_then P f (Some x) each = each x
+
+pub all_mapped : {A B : Type 0} (P : B → Type 0) (f : A → B) (o : Option A) → ((x : A) → P (f x)) → IfSome (option_map f o) P
+all_mapped P f None each = tt
+all_mapped P f (Some x) each = each x
+
 -- ---- the one at a place
+
+pub each_at : {A : Type 0} (P : A → Type 0) (xs : List A) (k : ℕ) (x : A) → AllByRecursion P xs → slice_get xs k ≡ Some x → P x
+each_at P [] k x each is = cc is
+each_at P (y ∷ xs) zero x each is = let same : y ≡ x = cc is in subst P same each.0
+each_at P (y ∷ xs) (suc k) x each is = each_at P xs k x each.1 is
 
 pub item_there : {A : Type 0} (xs : List A) (k : ℕ) → k < length xs → (x : A) × (slice_get xs k ≡ Some x)
 item_there [] k less = absurd (omega (arith, less))

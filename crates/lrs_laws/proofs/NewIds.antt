@@ -21,6 +21,7 @@ use Rattle.lrs_ids.proofs.FreshLemmas.{not_all_used}
 use Rattle.lrs_names.specs.declared.id.TheConstants.{WORDS}
 use Rattle.lrs_parts.specs.Launches.{session_ids}
 use Rattle.lrs_parts.specs.Registrations.{registration_ids}
+use Rattle.lrs_parts.specs.Sessions.{made_session_ids}
 use Rattle.lrs_parts.specs.State.{State, used_in}
 use Rattle.lrs_replies.specs.declared.answered.Refusal.TheVariants.{Broken, TooLong}
 use Rattle.xapi_index.specs.Batches.{WithId, given_ids, id_for, with_ids, ids_under, supply_behind, with_given}
@@ -137,7 +138,7 @@ pub both_true : (a b : Bool) → a ≡ true → b ≡ true → a && b ≡ true
 both_true true b p q = q
 both_true false b p q = p
 
-differs : (ids : List (List ℕ)) (x q : List ℕ) → is_one_of ids x ≡ false → is_one_of ids q ≡ true → bytes_eq x q ≡ false
+pub differs : (ids : List (List ℕ)) (x q : List ℕ) → is_one_of ids x ≡ false → is_one_of ids q ≡ true → bytes_eq x q ≡ false
 differs ids x q new used = by_test (bytes_eq x q) refl
   where
     by_test : (b : Bool) → bytes_eq x q ≡ b → b ≡ false
@@ -249,11 +250,15 @@ counted st =
     let statements : List (List ℕ) = ids_of st.statements in
     let registrations : List (List ℕ) = registration_ids st.registrations in
     let sessions : List (List ℕ) = session_ids st.launches in
+    let made : List (List ℕ) = made_session_ids st.made_sessions in
     record {
-      ids = statements ++ (registrations ++ sessions);
-      same = λ id. sym (list_any-append (λ name. bytes_eq name id) statements (registrations ++ sessions)
-          ∙ ap (λ b. is_one_of statements id || b) (list_any-append (λ name. bytes_eq name id) registrations sessions));
-      count = length-append statements (registrations ++ sessions) ∙ ap (λ n. length statements + n) (length-append registrations sessions);
+      ids = statements ++ (registrations ++ (sessions ++ made));
+      same = λ id. sym (list_any-append (λ name. bytes_eq name id) statements (registrations ++ (sessions ++ made))
+          ∙ (ap (λ b. is_one_of statements id || b) (list_any-append (λ name. bytes_eq name id) registrations (sessions ++ made))
+          ∙ ap (λ b. is_one_of statements id || (is_one_of registrations id || b)) (list_any-append (λ name. bytes_eq name id) sessions made)));
+      count = length-append statements (registrations ++ (sessions ++ made))
+          ∙ (ap (λ n. length statements + n) (length-append registrations (sessions ++ made))
+          ∙ ap (λ n. length statements + (length registrations + n)) (length-append sessions made));
     }
 
 suffices_at_first : (st : State) (ts : List Tree) → (used_in st).count + length ts < WORDS → Suffices (used_in st) (given_ids ts) ((used_in st).count + length (given_ids ts)) (missing ts)
@@ -274,7 +279,8 @@ pub batch_new : (st : State) (name : ℕ) (ts : List Tree) → (used_in st).coun
 batch_new st name ts small =
     each_weaker (IsNew (used_in st)) (λ (n : WithId). own_id (view n.tree) ≡ None → is_held n.id st.statements ≡ false)
     (λ n new none. held_one n.id st.statements
-    ∙ left_false (is_one_of (ids_of st.statements) n.id) (is_one_of (registration_ids st.registrations) n.id || is_one_of (session_ids st.launches) n.id) (new none))
+    ∙ left_false (is_one_of (ids_of st.statements) n.id)
+    (is_one_of (registration_ids st.registrations) n.id || (is_one_of (session_ids st.launches) n.id || is_one_of (made_session_ids st.made_sessions) n.id)) (new none))
     (batch st name ts) (batch_unused st name ts small)
 
 pub made_ids_are_new : MadeIdsAreNew
@@ -282,39 +288,57 @@ made_ids_are_new h trees draw small formed = (batch_distinct (state h) draw.name
 
 -- ---- ids of the desk
 
--- the first two of a supply
-abbrev AreNewTwo : Used → Supply → Type 0
-AreNewTwo used supply = (used.is_used (supply 0) ≡ false) × (used.is_used (supply 1) ≡ false) × (supply 0 ≢ supply 1)
+-- the id of that number isn't used, and is none of these
+nth_free : (used : Used) → IsCounted used → (ids : List (List ℕ)) (most word k : ℕ) → Suffices used ids most (suc k)
+    → (used.is_used (made_id used ids most word k) ≡ false) × (is_one_of ids (made_id used ids most word k) ≡ false)
+nth_free used counted ids most word zero fits = made_free used counted ids most word 0 fits
+nth_free used counted ids most word (suc k) fits =
+    let id : List ℕ = id_of_word (free_word used ids most word) in
+    let next : ℕ = next_word (free_word used ids most word) in
+    let later = nth_free used counted (id ∷ ids) (most + 1) next k (one_made used id ids most (suc k) fits) in
+    (later.0, right_false (bytes_eq id (made_id used (id ∷ ids) (most + 1) next k)) (is_one_of ids (made_id used (id ∷ ids) (most + 1) next k)) later.1)
 
-new_two : (used : Used) (name : ℕ) → IsCounted used → used.count + 2 < WORDS → AreNewTwo used (supply_of used [] name)
-new_two used name counted small =
-    let first = made_free used counted [] most (name % WORDS) 1 fits in
-    let second = made_free used counted (id ∷ []) (most + 1) next 0 (one_made used id [] most 1 fits) in
-    (first.0, second.0, λ same. true≢false (sym (here id []) ∙ (ap (λ q. is_one_of (id ∷ []) q) same ∙ second.1)))
-  where
-    most : ℕ
-    most = used.count + length {A = List ℕ} []
-
-    fits : Suffices used [] most 2
-    fits = (omega arith, omega (arith, small))
-
-    id : List ℕ
-    id = id_of_word (free_word used [] most (name % WORDS))
-
-    next : ℕ
-    next = next_word (free_word used [] most (name % WORDS))
+-- nor is it that of an earlier one
+nth_other : (used : Used) → IsCounted used → (ids : List (List ℕ)) (most word j k : ℕ) → j < k → Suffices used ids most (suc k) → made_id used ids most word j ≢ made_id used ids most word k
+nth_other used counted ids most word j zero less fits = absurd (omega (arith, less))
+nth_other used counted ids most word zero (suc k) less fits =
+    let id : List ℕ = id_of_word (free_word used ids most word) in
+    let later = nth_free used counted (id ∷ ids) (most + 1) (next_word (free_word used ids most word)) k (one_made used id ids most (suc k) fits) in
+    λ same. true≢false (sym (here id ids) ∙ (ap (λ q. is_one_of (id ∷ ids) q) same ∙ later.1))
+nth_other used counted ids most word (suc j) (suc k) less fits =
+    let id : List ℕ = id_of_word (free_word used ids most word) in
+    nth_other used counted (id ∷ ids) (most + 1) (next_word (free_word used ids most word)) j k (omega (arith, less)) (one_made used id ids most (suc k) fits)
 
 unused : (st : State) (id : List ℕ) → (used_in st).is_used id ≡ false → IsUnused st id
 unused st id none =
     let statements = is_one_of (ids_of st.statements) id in
     let registrations = is_one_of (registration_ids st.registrations) id in
     let sessions = is_one_of (session_ids st.launches) id in
-    let others = right_false statements (registrations || sessions) none in
-    record { statements = left_false statements (registrations || sessions) none; registrations = left_false registrations sessions others; sessions = right_false registrations sessions others }
+    let made = is_one_of (made_session_ids st.made_sessions) id in
+    let others = right_false statements (registrations || (sessions || made)) none in
+    let last = right_false registrations (sessions || made) others in
+    record {
+      statements = left_false statements (registrations || (sessions || made)) none;
+      registrations = left_false registrations (sessions || made) others;
+      sessions = left_false sessions made last;
+      made_sessions = right_false sessions made last;
+    }
+
+-- the id of that number is new where there are enough to be made
+new_from : (used : Used) (name k : ℕ) → IsCounted used → used.count + k + 1 < WORDS
+    → (used.is_used (supply_of used [] name k) ≡ false) × ((j : ℕ) → j < k → supply_of used [] name j ≢ supply_of used [] name k)
+new_from used name k counted small =
+    ((nth_free used counted [] most (name % WORDS) k fits).0, λ j less. nth_other used counted [] most (name % WORDS) j k less fits)
+  where
+    most : ℕ
+    most = used.count + length {A = List ℕ} []
+
+    fits : Suffices used [] most (suc k)
+    fits = (omega arith, omega (arith, small))
 
 pub desk_ids_are_new : DeskIdsAreNew
-desk_ids_are_new h write draw none small =
+desk_ids_are_new h write draw k none small =
     let st = state h in
-    let two = new_two (used_in st) draw.name (counted st) small in
-    subst (λ given. let supply = supply_of (used_in st) given draw.name in IsUnused st (supply 0) × IsUnused st (supply 1) × (supply 0 ≢ supply 1)) (sym none)
-    (unused st (supply_of (used_in st) [] draw.name 0) two.0, unused st (supply_of (used_in st) [] draw.name 1) two.1, two.2)
+    let new = new_from (used_in st) draw.name k (counted st) small in
+    subst (λ given. let supply = supply_of (used_in st) given draw.name in IsUnused st (supply k) × ((j : ℕ) → j < k → supply j ≢ supply k)) (sym none)
+    (unused st (supply_of (used_in st) [] draw.name k) new.0, new.1)

@@ -11,7 +11,8 @@ use Rattle.std.proofs.lemmas.Cmp.{nat_list_eq_equiv}
 use Rattle.std.proofs.lemmas.Iterator.Adapters.{position_from-zero}
 use Rattle.std.proofs.lemmas.List.Folds.{find-append, list_all-append}
 use Rattle.lrs_command.specs.declared.who.Who.TheVariants as who
-use Rattle.lrs_history.specs.Effects.{effect, occasion}
+use Rattle.lrs_history.specs.Effects.{effect}
+use Rattle.lrs_history.specs.Occasions.{occasion}
 use Rattle.lrs_history.specs.History.{state, state_from, step}
 use Rattle.lrs_history.specs.Whose.{known_as}
 use Rattle.lrs_laws.proofs.Fetching.{fetched_name, gave, legal_from}

@@ -12,7 +12,8 @@ use Rattle.lrs_command.specs.declared.command.Read.TheVariants.{Documents}
 use Rattle.lrs_command.specs.declared.who.Who.TheVariants as who
 use Rattle.lrs_history.proofs.Strangers.{told_barred}
 use Rattle.lrs_history.specs.Answers.{read_said, write_said}
-use Rattle.lrs_history.specs.Effects.{effect, occasion}
+use Rattle.lrs_history.specs.Effects.{effect}
+use Rattle.lrs_history.specs.Occasions.{occasion}
 use Rattle.lrs_history.specs.History.{answer, end_place, next_entry, state}
 use Rattle.lrs_history.specs.Refusals.{bad_form, bad_role, barred, conflict, missing, read_refusal, refusal, refused_inside, unmergeable}
 use Rattle.lrs_history.specs.Sessions.{is_its_own, outside, over_state, overstepped}

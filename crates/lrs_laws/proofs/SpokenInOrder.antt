@@ -10,12 +10,14 @@ use Rattle.cmi5_launch.specs.Names.{initialized, terminated}
 use Rattle.cmi5_session.specs.Own.{is_of_session, says}
 use Rattle.lrs_command.specs.declared.who.Who.{Who}
 use Rattle.lrs_command.specs.declared.who.Who.TheVariants as who
-use Rattle.lrs_history.specs.Effects.{Occasion, new_by}
-use Rattle.lrs_history.specs.Launches.{launched_at}
+use Rattle.lrs_history.specs.Effects.{new_by}
+use Rattle.lrs_history.specs.Occasions.{Occasion}
 use Rattle.lrs_json.specs.View.{view}
+use Rattle.lrs_laws.proofs.DeskStatements.{IsOfDesk, own_verbs}
+use Rattle.lrs_laws.proofs.Lists.{each_weaker}
 use Rattle.lrs_laws.proofs.MayFollow.{AreInOrder, follows, own_append, own_push}
 use Rattle.lrs_laws.proofs.NewIds.{and_left, and_right, both_true}
-use Rattle.lrs_laws.proofs.Walking.{KeptByLaunches, KeptByWrites, SpeaksIn, Steps, its_authority, its_new, its_rule, over_legal}
+use Rattle.lrs_laws.proofs.Walking.{KeptByDesk, KeptByWrites, SpeaksIn, Steps, its_authority, its_new, its_rule, over_legal}
 use Rattle.lrs_laws.specs.Speaking.{SessionsSpeakInOrder, are_in_order, goes_on, is_between, own_statements}
 use Rattle.lrs_parts.specs.State.{State, is_empty}
 use Rattle.lrs_parts.specs.declared.providers.HeldProvider.{HeldProvider}
@@ -188,8 +190,10 @@ kept_by_writes session st at ns met order = by_caller at.by refl
     by_caller (who.Provider k) is = by_provider k (slice_get st.providers k)
     by_caller (who.Session k) is = by_launch k (slice_get st.launches k) is refl
 
-kept_by_launches : (session : List ℕ) → KeptByLaunches (AreInOrder session)
-kept_by_launches session t mode made id moment held order = ap are_in_order (same_own session held (launched_at t mode made id moment) (refl, tt)) ∙ order
+kept_by_desk : (session : List ℕ) → KeptByDesk own_verbs (AreInOrder session)
+kept_by_desk session held ss each order =
+    ap are_in_order (same_own session held ss
+    (each_weaker (IsOfDesk own_verbs) (λ (x : StoredStatement). is_of_session session x.authority ≡ false) (λ x of. ap (is_of_session session) of.0) ss each)) ∙ order
 
 pub sessions_speak_in_order : SessionsSpeakInOrder
-sessions_speak_in_order limit h session legal = over_legal (AreInOrder session) (kept_by_writes session) (kept_by_launches session) refl limit h legal
+sessions_speak_in_order limit h session legal = over_legal (AreInOrder session) (kept_by_writes session) (kept_by_desk session) refl limit h legal

@@ -14,24 +14,26 @@ use Rattle.lrs_record.specs.declared.entry.Area.TheVariants.{Store}
 use Rattle.lrs_command.specs.declared.who.Who.{Who}
 use Rattle.lrs_command.specs.declared.who.Who.TheVariants as who
 use Rattle.lrs_history.specs.Answers.{write_said}
-use Rattle.lrs_history.specs.Effects.{Occasion, brought, effect, occasion}
+use Rattle.lrs_history.specs.Effects.{brought, effect, new_by, owed_in_session}
+use Rattle.lrs_history.specs.Occasions.{Occasion, occasion}
 use Rattle.lrs_history.specs.History.{Answer, answer_of, end_place, next_entry, need, only, refused, state, outcome_by, with_entry}
 use Rattle.lrs_history.specs.Refusals.{barred, before_next, conflict, forbidden, missing, refusal, refused_batch, refused_form, refused_in, refused_over, refused_under}
-use Rattle.lrs_history.specs.Whose.{authority_of, known_as, who_is}
+use Rattle.lrs_history.specs.Whose.{authority_of, known_as, launch_of, who_is}
 use Rattle.lrs_history.proofs.Room.{no_room, kept_answer}
 use Rattle.lrs_json.specs.View.{view}
 use Rattle.lrs_json.specs.declared.tree.Tree.{Tree}
 use Rattle.lrs_laws.specs.Laws.{BatchesAreWhole, CallersHaveAuthority, IsAccepted, IsHeldSame, PutsAreHeld, batch_with_ids, occasion_of}
 use Rattle.lrs_laws.proofs.Again.{first_none, no_reason}
-use Rattle.lrs_laws.proofs.Keepers.{held_one, left_false, or_false, right_false, state_from-append, stays_each}
+use Rattle.lrs_laws.proofs.Keepers.{add_each-append, held_one, left_false, or_false, right_false, state_from-append, stays_each}
 use Rattle.lrs_laws.proofs.Launched.{AreLaunched, all_launched, token_launched}
+use Rattle.lrs_laws.proofs.Lists.{each_weaker}
 use Rattle.lrs_laws.proofs.NewIds.{batch_distinct, batch_new, not_true, and_left, and_right}
 use Rattle.lrs_names.specs.Members.{is_one_of}
 use Rattle.cmi5_course.specs.declared.launch.Launch.{Launch}
 use Rattle.lrs_parts.specs.Launches.{launch_of_token}
 use Rattle.lrs_parts.specs.Providers.{place_of_token}
 use Rattle.lrs_parts.specs.Founding.{is_admin}
-use Rattle.lrs_parts.specs.State.{State, changes_no_course, changes_nothing, is_empty, nothing}
+use Rattle.lrs_parts.specs.State.{State, changes_no_learning, changes_nothing, is_empty, nothing}
 use Rattle.lrs_parts.specs.declared.providers.HeldProvider.{HeldProvider}
 use Rattle.lrs_record.specs.Entries.{AreLawfulTrees}
 use Rattle.lrs_record.specs.declared.entry.Caller.{Caller}
@@ -44,7 +46,7 @@ use Rattle.lrs_replies.specs.declared.answered.Refusal.TheVariants.{Conflict}
 use Rattle.xapi_alike.specs.Same.{same, IsSameness}
 use Rattle.xapi_format.specs.declared.authority.Authority.{Authority}
 use Rattle.xapi_format.specs.declared.authority.Authority.TheVariants.{Admin, Provider, Session}
-use Rattle.xapi_index.specs.Batches.{WithId, held_of, id_for, kept_by, with_ids, ids_under, supply_behind}
+use Rattle.xapi_index.specs.Batches.{WithId, held_of, id_for, kept_by, with_ids, ids_under, supply_after, supply_behind}
 use Rattle.lrs_ids.specs.Choices.{when}
 use Rattle.lrs_ids.specs.Ids.{Supply, are_distinct}
 use Rattle.xapi_index.specs.Statements.{add, add_each, held_under, ids_of, is_held, new_ones}
@@ -75,18 +77,35 @@ none_new held xs is = by_new (new_ones held xs) is (add_each-new held xs)
     by_new [] is q = q
     by_new (n ∷ ns) is q = cc is
 
--- it isn't refused, what it is accepted with is told, and after it these statements are held
-abbrev IsAcceptedWith : List Entry → Entry → Answered → List StoredStatement → Answer → Type 0
-IsAcceptedWith h x t xs a = (refusal (state h) x ≡ None) × (a.said ≡ t) × ((state (with_entry h a.entry)).statements ≡ add_each (state h).statements xs)
+none_first : (xs ys : List StoredStatement) → is_empty (xs ++ ys) ≡ true → is_empty xs ≡ true
+none_first [] ys is = refl
+none_first (x ∷ xs) ys is = cc is
 
-is_behind_it : (limit place : ℕ) (h : List Entry) (x : Entry) (t : Answered) (xs : List StoredStatement) → (effect (state h) x).statements ≡ new_ones (state h).statements xs
+-- It isn't refused, what it is accepted with is told, and after it these statements are held, and maybe more behind them.
+abbrev IsAcceptedWith : List Entry → Entry → Answered → List StoredStatement → Answer → Type 0
+IsAcceptedWith h x t xs a =
+    (refusal (state h) x ≡ None) × (a.said ≡ t) × (more : List StoredStatement) × ((state (with_entry h a.entry)).statements ≡ add_each (add_each (state h).statements xs) more)
+
+is_behind_it : (limit place : ℕ) (h : List Entry) (x : Entry) (t : Answered) (xs owed : List StoredStatement) → (effect (state h) x).statements ≡ new_ones (state h).statements xs ++ owed
     → IsAccepted (answer_by limit place x t (refusal (state h) x) (changes_nothing (effect (state h) x)))
     → IsAcceptedWith h x t xs (answer_by limit place x t (refusal (state h) x) (changes_nothing (effect (state h) x)))
-is_behind_it limit place h x t xs new =
+is_behind_it limit place h x t xs owed new =
     let held : List StoredStatement = (state h).statements in
     by_answer (IsAcceptedWith h x t xs) limit place x t (refusal (state h) x) (changes_nothing (effect (state h) x))
-    (λ none same. (none, refl, none_new held xs (ap (λ l. is_empty l) (sym new) ∙ and_right _ (is_empty (effect (state h) x).statements) (and_left _ (changes_no_course (effect (state h) x)) same))))
-    (λ none. (none, refl, ap (λ s. s.statements) (state_from-append nothing h (x ∷ [])) ∙ (ap (λ l. add_each held l) new ∙ add_each-new held xs)))
+    (λ none same. (
+      none,
+      refl,
+      [],
+      none_new held xs (none_first (new_ones held xs) owed
+          (ap (λ l. is_empty l) (sym new) ∙ and_right _ (is_empty (effect (state h) x).statements) (and_left _ (changes_no_learning (effect (state h) x)) same))),
+    ))
+    (λ none. (
+      none,
+      refl,
+      owed,
+      ap (λ s. s.statements) (state_from-append nothing h (x ∷ []))
+          ∙ (ap (λ l. add_each held l) new ∙ (add_each-append held (new_ones held xs) owed ∙ ap (λ l. add_each l owed) (add_each-new held xs))),
+    ))
 
 -- ---- whoever is let in has an authority
 
@@ -130,7 +149,7 @@ others id [] none = tt
 others id (n ∷ ns) none =
     (left_false (bytes_eq n.id id) (is_one_of (ids_under ns) id) none, others id ns (right_false (bytes_eq n.id id) (is_one_of (ids_under ns) id) none))
 
-unheld_add : (held : List StoredStatement) (x : StoredStatement) (id : List ℕ) → is_held x.id held ≡ false → bytes_eq x.id id ≡ false → is_held id held ≡ false → is_held id (add held x) ≡ false
+pub unheld_add : (held : List StoredStatement) (x : StoredStatement) (id : List ℕ) → is_held x.id held ≡ false → bytes_eq x.id id ≡ false → is_held id held ≡ false → is_held id (add held x) ≡ false
 unheld_add held x id new other none =
     ap (λ l. is_held id l) (add-new held x new)
     ∙ (held_one id (held ++ x ∷ [])
@@ -211,6 +230,10 @@ whole_list moment by held ns apart taken alike =
     each_both (IsTaken held) (IsFresh moment by held ns) (IsHeldSame (add_each held (map (held_of moment by) ns))) (λ n t fresh. kept_one moment by held ns n (held_under n.id held) refl t fresh) ns taken
     (each_both (Added moment by held ns) (λ (n : WithId). same (view n.tree) (view n.tree) ≡ true) (IsFresh moment by held ns) (λ n a b. (a, b)) ns (added moment by held ns apart) alike)
 
+-- more statements change nothing of it
+held_still : (held more : List StoredStatement) (n : WithId) → IsHeldSame held n → IsHeldSame (add_each held more) n
+held_still held more n is = (is.0, stays_each n.id held more is.0 is.1, is.2)
+
 -- ---- the laws
 
 pub puts_are_held : IsSameness → PutsAreHeld
@@ -220,12 +243,14 @@ puts_are_held sameness limit h caller id t clock draw lawful accepted =
     let x : Entry = next_entry st caller (Put id t) clock draw in
     let at : Occasion = occasion st x in
     let n : WithId = record { id = id; tree = t } in
-    let behind = is_behind_it limit (end_place limit h) h x (write_said (effect st x)) (brought st at.by at.moment (n ∷ [])) refl accepted in
+    let owed : List StoredStatement = owed_in_session st at.supply at.moment (new_by st at.by at.moment (n ∷ [])) (launch_of st at.by) in
+    let behind = is_behind_it limit (end_place limit h) h x (write_said (effect st x)) (brought st at.by at.moment (n ∷ [])) owed refl accepted in
     let reasons = no_reason (barred Store at.by ∷ refused_form id (view t) ∷ missing st (Put id t) ∷ conflict st at (Put id t) ∷ []) behind.0 in
     let authority = known st caller (all_launched h) reasons.0 in
-    let statements = behind.2 ∙ ap (λ o. add_each held (kept_by at.moment o (n ∷ []))) authority.1 in
+    let statements = behind.3 ∙ ap (λ o. add_each (add_each held (kept_by at.moment o (n ∷ []))) behind.2) authority.1 in
     subst (λ l. IsHeldSame l n) (sym statements)
-    (whole_list at.moment authority.0 held (n ∷ []) refl (λ s is. taken_under st (forbidden st at.by held (view t)) t id s reasons.1.1.1.0 is, tt) (sameness.reflexive (view t) lawful.0, tt)).0
+    (held_still (add_each held (kept_by at.moment (Some authority.0) (n ∷ []))) behind.2 n
+    (whole_list at.moment authority.0 held (n ∷ []) refl (λ s is. taken_under st (forbidden st at.by held (view t)) t id s reasons.1.1.1.0 is, tt) (sameness.reflexive (view t) lawful.0, tt)).0)
 
 pub batches_are_whole : IsSameness → BatchesAreWhole
 batches_are_whole sameness limit h caller trees clock draw small lawful accepted =
@@ -234,13 +259,16 @@ batches_are_whole sameness limit h caller trees clock draw small lawful accepted
     let x : Entry = next_entry st caller (Post trees) clock draw in
     let at : Occasion = occasion_of h caller trees clock draw in
     let batch : List WithId = batch_with_ids h trees draw in
-    let behind = is_behind_it limit (end_place limit h) h x (write_said (effect st x)) (brought st at.by at.moment batch) refl accepted in
+    let owed : List StoredStatement = owed_in_session st (supply_after at.supply trees) at.moment (new_by st at.by at.moment batch) (launch_of st at.by) in
+    let behind = is_behind_it limit (end_place limit h) h x (write_said (effect st x)) (brought st at.by at.moment batch) owed refl accepted in
     let reasons = no_reason (barred Store at.by ∷ refused_batch trees ∷ missing st (Post trees) ∷ conflict st at (Post trees) ∷ []) behind.0 in
     let authority = known st caller (all_launched h) reasons.0 in
-    let statements = behind.2 ∙ ap (λ o. add_each held (kept_by at.moment o batch)) authority.1 in (
+    let now : List StoredStatement = add_each held (kept_by at.moment (Some authority.0) batch) in
+    let statements = behind.3 ∙ ap (λ o. add_each (add_each held (kept_by at.moment o batch)) behind.2) authority.1 in (
       behind.1,
       subst (λ l. AllByRecursion (IsHeldSame l) batch) (sym statements)
+          (each_weaker (IsHeldSame now) (IsHeldSame (add_each now behind.2)) (λ n is. held_still now behind.2 n is) batch
           (whole_list at.moment authority.0 held batch (batch_distinct st draw.name trees small reasons.1.0)
           (taken_from st at held at.supply trees reasons.1.1.1.0 (batch_new st draw.name trees small))
-          (alike_from sameness at.supply trees lawful)),
+          (alike_from sameness at.supply trees lawful))),
     )

@@ -10,7 +10,8 @@ use Rattle.lrs_agents.specs.declared.identifiers.Ifi.{Ifi}
 use Rattle.lrs_command.specs.declared.command.Command.TheVariants.{Read, Write}
 use Rattle.lrs_command.specs.declared.command.Read.TheVariants as read
 use Rattle.lrs_history.specs.Answers.{document_said}
-use Rattle.lrs_history.specs.Effects.{Occasion, document_by, occasion}
+use Rattle.lrs_history.specs.Effects.{document_by}
+use Rattle.lrs_history.specs.Occasions.{Occasion, occasion}
 use Rattle.lrs_history.specs.History.{answer, only, refused, state}
 use Rattle.lrs_history.specs.Launches.{Target, data_at, data_key, target}
 use Rattle.lrs_history.specs.Refusals.{refused_agent, refused_document}

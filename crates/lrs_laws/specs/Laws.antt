@@ -9,7 +9,7 @@ use Rattle.lrs_command.specs.declared.command.Command.{Command}
 use Rattle.lrs_command.specs.declared.command.Command.TheVariants.{Read, Write}
 use Rattle.lrs_command.specs.declared.command.Read.TheVariants as read
 use Rattle.lrs_command.specs.declared.who.Who.{Who}
-use Rattle.lrs_history.specs.Effects.{Occasion, given_in, occasion, supply_in}
+use Rattle.lrs_history.specs.Occasions.{Occasion, given_in, occasion, supply_in}
 use Rattle.lrs_history.specs.History.{Answer, answer, next_entry, only, refused, state, with_entry, IsLegal}
 use Rattle.lrs_history.specs.Refusals.{barred, refused_in, refused_batch, refused_form}
 use Rattle.lrs_command.specs.Areas.{command_area}
@@ -21,6 +21,7 @@ use Rattle.lrs_names.specs.declared.id.TheConstants.{WORDS}
 use Rattle.lrs_names.specs.Members.{is_one_of}
 use Rattle.lrs_parts.specs.Launches.{session_ids}
 use Rattle.lrs_parts.specs.Registrations.{registration_ids}
+use Rattle.lrs_parts.specs.Sessions.{made_session_ids}
 use Rattle.lrs_parts.specs.State.{State, used_in}
 use Rattle.lrs_record.specs.Entries.{AreLawfulTrees, IsLawfulTree}
 use Rattle.lrs_record.specs.declared.entry.Caller.{Caller}
@@ -168,18 +169,21 @@ MadeIdsAreNew =
     × AllByRecursion (λ (n : WithId). own_id (view n.tree) ≡ None → (used_in (state h)).is_used n.id ≡ false)
     (batch_with_ids h trees draw)
 
--- the id is that of no statement, of no registration and of no session
+-- the id is that of no statement, of no registration and of no session, whether a launch made it or not
 pub record IsUnused (st : State) (id : List ℕ) : Type 0 where
   pub statements : is_one_of (ids_of st.statements) id ≡ false
   pub registrations : is_one_of (registration_ids st.registrations) id ≡ false
   pub sessions : is_one_of (session_ids st.launches) id ≡ false
+  pub made_sessions : is_one_of (made_session_ids st.made_sessions) id ≡ false
 
--- The first two ids that a write of the desk can make aren't used, and aren't the same: such writes bring none.
+-- No id that a write of the desk can make is used, and no two of them are the same, as far as there are ids to be made.
+-- Such writes bring none.
 abbrev pub DeskIdsAreNew : Type 0
 DeskIdsAreNew =
-    (h : List Entry) (write : AWrite) (draw : Draw) → given_in write ≡ [] → (used_in (state h)).count + 2 < WORDS
+    (h : List Entry) (write : AWrite) (draw : Draw) (k : ℕ) → given_in write ≡ []
+    → (used_in (state h)).count + k + 1 < WORDS
     → let supply = supply_in (state h) write draw in
-    IsUnused (state h) (supply 0) × IsUnused (state h) (supply 1) × (supply 0 ≢ supply 1)
+    IsUnused (state h) (supply k) × ((j : ℕ) → j < k → supply j ≢ supply k)
 
 -- it isn't refused
 abbrev pub IsAccepted : Answer → Type 0

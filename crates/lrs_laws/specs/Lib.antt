@@ -3,3 +3,4 @@ pub mod Documents
 pub mod Fetches
 pub mod Sessions
 pub mod Speaking
+pub mod Verdicts

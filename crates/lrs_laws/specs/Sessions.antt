@@ -12,17 +12,19 @@ use Rattle.lrs_command.specs.declared.command.Command.{Command}
 use Rattle.lrs_command.specs.declared.command.Command.TheVariants as command
 use Rattle.lrs_command.specs.declared.command.Read.TheVariants.{Documents}
 use Rattle.lrs_command.specs.declared.who.Who.TheVariants as who
-use Rattle.lrs_history.specs.Effects.{supply_in}
+use Rattle.lrs_history.specs.Occasions.{supply_in}
+use Rattle.lrs_history.specs.Endings.{abandoned_jsons, open_of}
 use Rattle.lrs_history.specs.History.{answer, only, refused, state, IsLegal}
-use Rattle.lrs_history.specs.Launches.{Target, launched_at, target}
+use Rattle.lrs_history.specs.Launches.{Target, activity_at, launched_at, target}
 use Rattle.lrs_history.specs.Sessions.{is_its_own}
+use Rattle.lrs_json.specs.Json.{Json}
 use Rattle.lrs_laws.specs.Laws.{IsAccepted, sight_in, who_in}
 use Rattle.lrs_names.specs.declared.draw.Draw.{Draw}
 use Rattle.lrs_names.specs.declared.id.TheConstants.{WORDS}
 use Rattle.lrs_parts.specs.Founding.{is_admin}
 use Rattle.lrs_parts.specs.Launches.{key_under}
 use Rattle.lrs_parts.specs.Providers.{place_of_token}
-use Rattle.lrs_parts.specs.State.{used_in}
+use Rattle.lrs_parts.specs.State.{State, used_in}
 use Rattle.lrs_parts.specs.declared.launches.HeldKey.{HeldKey}
 use Rattle.lrs_record.specs.declared.entry.Area.TheVariants.{Desk}
 use Rattle.lrs_record.specs.declared.entry.Caller.{Caller}
@@ -105,18 +107,27 @@ OtherTokensAreUnknown =
 
 -- ---- what a launch leaves
 
--- An entry that launches a unit leaves the launched statement, under the second id that it made. There are fewer ids in
--- use than can be made.
+-- what is said of the sessions that a launch of the unit abandons
+abbrev pub said_first : State → Target → List Json
+said_first st t = abandoned_jsons st (open_of st t.registration.id (activity_at t))
+
+-- The entry leaves the launched statement under that id. The session has the first id that it made.
+pub record LeavesStatement (h : List Entry) (e : Entry) (mode : Mode) (t : Target) (id : List ℕ) : Type 0 where
+  pub statement : StoredStatement
+  pub made : launched_at t mode (supply_in (state h) e.write e.draw 0) id e.moment ≡ statement ∷ []
+  pub held : held_under id (state (h ++ e ∷ [])).statements ≡ Some statement
+
+-- An entry that launches a unit leaves the launched statement. Its id comes behind those of what is said of the
+-- sessions that the entry abandons. There are fewer ids in use than can be made.
 abbrev pub LaunchesLeaveStatements : Type 0
 LaunchesLeaveStatements =
     (limit : ℕ) (h : List Entry) (e : Entry) (registration unit : List ℕ) (mode : Mode)
     (return_url : Option (List ℕ))
     → (answer limit h e.caller (command.Write e.write) e.moment e.draw).entry ≡ Some e
-    → e.write ≡ write.Launch registration unit mode return_url → (used_in (state h)).count + 2 < WORDS
-    → let supply = supply_in (state h) e.write e.draw in
-    (t : Target) × (target (state h) registration unit ≡ Some t)
-    × (s : StoredStatement) × (launched_at t mode (supply 0) (supply 1) e.moment ≡ s ∷ [])
-    × (held_under (supply 1) (state (h ++ e ∷ [])).statements ≡ Some s)
+    → e.write ≡ write.Launch registration unit mode return_url
+    → (t : Target) × (target (state h) registration unit ≡ Some t)
+    × ((used_in (state h)).count + length (said_first (state h) t) + 2 < WORDS
+    → LeavesStatement h e mode t (supply_in (state h) e.write e.draw (length (said_first (state h) t) + 1)))
 
 -- ---- what a session sees and does
 

@@ -1,13 +1,16 @@
 -- What follows from the definitions over every legal history of what sessions say: each speaks in the order of the
--- rules on sessions, and a result counts once.
-use Rattle.std.specs.Prelude.{◌&&◌, ◌||◌, ℕ, Bool, true, not, IsTrue, List, [], ◌∷◌, ◌++◌, filter, if◌then◌else◌}
+-- rules on sessions, none behind its abandonment, and a result counts once.
+use Rattle.std.specs.Prelude.{◌≡◌, ◌&&◌, ◌||◌, ℕ, Bool, true, not, IsTrue, List, [], ◌∷◌, ◌++◌, filter, if◌then◌else◌}
 use Rattle.cmi5_course.specs.declared.launch.Launch.{Launch}
 use Rattle.cmi5_launch.specs.Names.{completed, failed, initialized, passed, terminated}
 use Rattle.cmi5_session.specs.Own.{is_cmi5_defined, is_of_session, says}
 use Rattle.cmi5_session.specs.Views.{counts, has_counting}
+use Rattle.lrs_command.specs.declared.who.Who.TheVariants as who
 use Rattle.lrs_history.specs.History.{state, IsLegal}
+use Rattle.lrs_history.specs.Sessions.{is_abandoned}
 use Rattle.lrs_json.specs.Json.{Json}
 use Rattle.lrs_json.specs.View.{view}
+use Rattle.lrs_laws.specs.Laws.{who_in}
 use Rattle.lrs_parts.specs.State.{is_empty}
 use Rattle.lrs_record.specs.declared.entry.Entry.{Entry}
 use Rattle.xapi_statement.specs.Stored.{StoredStatement}
@@ -38,6 +41,13 @@ are_in_order (s ∷ ss) = says initialized (view s.received) && goes_on ss
 abbrev pub SessionsSpeakInOrder : Type 0
 SessionsSpeakInOrder = (limit : ℕ) (h : List Entry) (session : List ℕ) → IsLegal limit h
     → IsTrue (are_in_order (own_statements session (state h).statements))
+
+-- Behind its abandonment a session says nothing: no entry of a caller that acts in it adds a statement.
+abbrev pub AbandonedSessionsAreSilent : Type 0
+AbandonedSessionsAreSilent =
+    (limit : ℕ) (h more : List Entry) (e : Entry) (k : ℕ) → IsLegal limit ((h ++ more) ++ e ∷ [])
+    → is_abandoned (state h) k ≡ true → who_in (h ++ more) e.caller ≡ who.Session k
+    → (state ((h ++ more) ++ e ∷ [])).statements ≡ (state (h ++ more)).statements
 
 -- ---- that a unit was completed, and that it was passed
 

@@ -2,12 +2,13 @@ ghost use Rattle.lrs_laws.specs.Documents.{DocumentsAreFolds, HeldDocumentsAreSh
 ghost use Rattle.lrs_laws.specs.Fetches.{FetchesGive, KeysGiveOnce, UsedKeysAreTold};
 ghost use Rattle.lrs_laws.specs.Laws.{BatchConflictsAreTold, BatchesAreWhole, CallersHaveAuthority, ConflictsAreTold, CoursesNameOne, DeskIdsAreNew, FirstPagesAreTold, LinksGoOn, LinksStay, LinksWhereMoreComes, MadeIdsAreNew, NamesForGood, NamesOne, PagesEnd, PagesGiveTheList, PositionsComeOnce, PutsAreHeld, RepeatedBatchesAreTaken, RepeatsAreTaken, StaysVoided, StrangersAreToldAlike};
 ghost use Rattle.lrs_laws.specs.Sessions.{GivenTokensAct, KeysAreTheirLaunches, LaunchesLeaveStatements, OtherTokensAreUnknown, SessionTokensWereGiven, SessionsAreBarredFromTheDesk, SessionsAreLaunched, SessionsKeepLaunchData, SessionsKeepToTheirDocuments, SessionsSeeTheirRegistration};
-ghost use Rattle.lrs_laws.specs.Speaking.{ResultsCountOnce, SessionsSpeakInOrder};
+ghost use Rattle.lrs_laws.specs.Speaking.{AbandonedSessionsAreSilent, ResultsCountOnce, SessionsSpeakInOrder};
+ghost use Rattle.lrs_laws.specs.Verdicts.{SatisfiedOnce};
 
 /// Over every history whoever is let in has an authority, and who isn't is told the same whatever it asks. An id names
 /// one statement, for good, no two courses have one, and what is voided stays so. A repeat makes no entry, and another
-/// statement under the id is told it, alone and in a batch. Made ids are new, what isn't refused is held, and a batch is
-/// kept whole.
+/// statement under the id is told it, alone and in a batch. Made ids are new, what isn't refused is held, and a batch
+/// is kept whole.
 pub fn law_of_names()
     ensures authority { CallersHaveAuthority }
     ensures strangers { StrangersAreToldAlike }
@@ -60,12 +61,12 @@ pub fn law_of_fetches()
 {}
 
 /// Over every history a session is that of a launch, and its token was given away by a fetch. A token that a fetch gave
-/// away acts, for good, in the session of the launch whose entry gave the key away; one that is neither an admin's nor a
-/// provider's, and that no fetch gave away, is nobody's. A launch leaves its statement. A session sees the statements of
-/// its launch's registration and no others, is let in at no command of the desk, and has no documents but those of its
-/// launch's actor, in its launch's registration or in none; of these it never changes what its launch wrote. Over every
-/// legal history it speaks in order, from initialized on to terminated, and in a registration a unit is completed once
-/// and passed once, unless the earlier statement was voided.
+/// away acts, for good, in the session of the launch whose entry gave the key away; one that is neither an admin's nor
+/// a provider's, and that no fetch gave away, is nobody's. A launch leaves its statement. A session sees the statements
+/// of its launch's registration and no others, is let in at no command of the desk, and has no documents but those of
+/// its launch's actor, in its launch's registration or in none; of these it never changes what its launch wrote. Over
+/// every legal history it speaks in order, from initialized on to terminated, and says nothing behind its abandonment;
+/// and in a registration a unit is completed once and passed once, unless the earlier statement was voided.
 pub fn law_of_sessions()
     ensures launched { SessionsAreLaunched }
     ensures given { SessionTokensWereGiven }
@@ -78,5 +79,12 @@ pub fn law_of_sessions()
     ensures documents { SessionsKeepToTheirDocuments }
     ensures launch_data { SessionsKeepLaunchData }
     ensures order { SessionsSpeakInOrder }
+    ensures silent { AbandonedSessionsAreSilent }
     ensures results { ResultsCountOnce }
+{}
+
+/// Over every legal history of a registration and a node at most one statement says that it is satisfied, whether one
+/// is voided or not.
+pub fn law_of_verdicts()
+    ensures { SatisfiedOnce }
 {}

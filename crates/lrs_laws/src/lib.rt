@@ -4,4 +4,6 @@
 
 mod laws;
 
-pub use laws::{law_of_documents, law_of_fetches, law_of_names, law_of_pages, law_of_sessions};
+pub use laws::{
+    law_of_documents, law_of_fetches, law_of_names, law_of_pages, law_of_sessions, law_of_verdicts,
+};

@@ -8,6 +8,7 @@ use Rattle.lrs_parts.specs.Launches.{key_text, token_text}
 use Rattle.lrs_parts.specs.Learning.{AddsNoLearningPlaces, MakesLearningPlaces, TakesLearningPlacesBack}
 use Rattle.lrs_parts.specs.Parts.{AddsNoPlaces}
 use Rattle.lrs_parts.specs.Registrations.{registration_key}
+use Rattle.lrs_parts.specs.Sessions.{made_session_id}
 use Rattle.lrs_parts.specs.declared.effect.Effect.{Effect}
 use Rattle.lrs_parts.specs.declared.learning.Learning.{Learning}
 use Rattle.lrs_parts.specs.declared.parts.Parts.{Parts}
@@ -29,6 +30,7 @@ learning_back before mid new x made taken = record {
   courses = back course_key x.courses before.courses mid.courses new.courses made.courses taken.courses;
   registrations = back registration_key x.registrations before.registrations mid.registrations new.registrations made.registrations taken.registrations;
   launches = back session_of x.launches before.launches mid.launches new.launches made.launches taken.launches;
+  made_sessions = back made_session_id x.made_sessions before.made_sessions mid.made_sessions new.made_sessions made.made_sessions taken.made_sessions;
   keys = back key_text x.keys before.keys mid.keys new.keys made.keys taken.keys;
   tokens = back token_text x.tokens before.tokens mid.tokens new.tokens made.tokens taken.tokens;
 }
@@ -36,7 +38,7 @@ learning_back before mid new x made taken = record {
 pub none_more : (parts : Parts) → AddsNoPlaces parts parts
 none_more parts = record {
   providers = λ k has. has;
-  learning = record { courses = λ k has. has; registrations = λ k has. has; launches = λ k has. has; keys = λ k has. has; tokens = λ k has. has };
+  learning = record { courses = λ k has. has; registrations = λ k has. has; launches = λ k has. has; made_sessions = λ k has. has; keys = λ k has. has; tokens = λ k has. has };
   ids = λ k has. has;
   targets = λ k has. has;
   documents = λ k has. has;

@@ -1,3 +1,4 @@
 pub mod Counting
 pub mod Keys
 pub mod Ahead
+pub mod Changed

@@ -5,6 +5,7 @@ pub mod Courses
 pub mod Learners
 pub mod Registrations
 pub mod Launches
+pub mod Sessions
 pub mod State
 pub mod Learning
 pub mod Parts

@@ -8,8 +8,12 @@ use Rattle.lrs_parts.specs.Launches.{keys_after, launches_after, session_ids, to
 use Rattle.lrs_parts.specs.Launches.{unchanged_launches, unchanged_tokens}
 use Rattle.lrs_parts.specs.Providers.{providers_after, unchanged_providers}
 use Rattle.lrs_parts.specs.Registrations.{registration_ids, registrations_after, unchanged_registrations}
+use Rattle.lrs_parts.specs.Sessions.{changes_sessions, made_session_ids, made_sessions_after, sessions_after}
+use Rattle.lrs_parts.specs.Sessions.{unchanged_made_sessions, unchanged_sessions}
 use Rattle.lrs_parts.specs.declared.launches.HeldKey.{HeldKey}
 use Rattle.lrs_parts.specs.declared.launches.HeldToken.{HeldToken}
+use Rattle.lrs_parts.specs.declared.sessions.HeldSession.{HeldSession}
+use Rattle.lrs_parts.specs.declared.sessions.MadeSession.{MadeSession}
 use Rattle.lrs_parts.specs.declared.providers.HeldProvider.{HeldProvider}
 use Rattle.lrs_parts.specs.declared.effect.Effect.{Effect}
 use Rattle.lrs_parts.specs.declared.founding.Founding.{Founding}
@@ -38,6 +42,10 @@ pub record State : Type 0 where
   pub registrations : List HeldRegistration
   -- the launches in their order, each with a session of its own
   pub launches : List Launch
+  -- what the desk knows of the sessions of launches, one for each
+  pub sessions : List HeldSession
+  -- the session ids that enrolments and waivers made
+  pub made_sessions : List MadeSession
   -- the keys that launches made, each for one token
   pub keys : List HeldKey
   -- the tokens that were given away for keys
@@ -56,6 +64,8 @@ nothing = record {
   courses = [];
   registrations = [];
   launches = [];
+  sessions = [];
+  made_sessions = [];
   keys = [];
   tokens = [];
   length = 0;
@@ -72,6 +82,8 @@ no_change moment = record {
   courses = unchanged_courses;
   registrations = unchanged_registrations;
   launches = unchanged_launches;
+  sessions = unchanged_sessions;
+  made_sessions = unchanged_made_sessions;
   keys = unchanged_keys;
   tokens = unchanged_tokens;
   moment = moment;
@@ -82,16 +94,17 @@ abbrev pub is_empty : {A : Type 0} → List A → Bool
 is_empty [] = true
 is_empty (x ∷ xs) = false
 
--- it changes no course, no registration, no launch, no key and no token
-abbrev pub changes_no_course : Effect → Bool
-changes_no_course x =
-    not (changes x.courses) && not (changes x.registrations) && not (changes x.launches) && not (changes x.keys)
+-- it changes nothing of what is held of courses and of their learners
+abbrev pub changes_no_learning : Effect → Bool
+changes_no_learning x =
+    not (changes x.courses) && not (changes x.registrations) && not (changes x.launches)
+    && not (changes_sessions x.sessions) && not (changes x.made_sessions) && not (changes x.keys)
     && not (changes x.tokens)
 
 abbrev pub changes_nothing : Effect → Bool
 changes_nothing x =
     is_none x.founding && not (changes x.providers) && not (changes_documents x.documents) && is_empty x.statements
-    && changes_no_course x
+    && changes_no_learning x
 
 -- Each part takes its own change in.
 abbrev pub apply : State → Effect → State
@@ -103,14 +116,18 @@ apply st x = record {
   courses = courses_after st.courses x.courses;
   registrations = registrations_after st.registrations x.registrations;
   launches = launches_after st.launches x.launches;
+  sessions = sessions_after x.moment st.sessions x.sessions;
+  made_sessions = made_sessions_after st.made_sessions x.made_sessions;
   keys = keys_after st.keys x.keys;
   tokens = tokens_after st.tokens x.tokens;
   length = st.length + 1;
   last = x.moment;
 }
 
--- the ids that are used: those of the statements, of the registrations, and of the sessions of launches
+-- the ids that are used: those of the statements, of the registrations, and of sessions, whether a launch made them or
+-- not
 abbrev pub used_in : State → Used
 used_in st =
     either (those (ids_of st.statements))
-    (either (those (registration_ids st.registrations)) (those (session_ids st.launches)))
+    (either (those (registration_ids st.registrations))
+    (either (those (session_ids st.launches)) (those (made_session_ids st.made_sessions))))

@@ -24,6 +24,8 @@ pub enum Acceptance {
         method: Method,
         url: Text,
     },
+    /// The sessions that it abandons, in the order of their launches.
+    Swept(Items<Id>),
     /// The token that it gives away.
     Token(Text),
     /// That no token is given away any more, because it was once.

@@ -1,9 +1,9 @@
 ghost use Rattle.std.specs.Prelude.{◌≡◌};
-ghost use Rattle.lrs_parts.specs.State.{changes_no_course, changes_nothing, no_change};
+ghost use Rattle.lrs_parts.specs.State.{changes_no_learning, changes_nothing, no_change};
 
 use crate::{
-    Acceptance, CoursesChange, Founding, KeysChange, LaunchesChange, ProvidersChange,
-    RegistrationsChange, TokensChange,
+    Acceptance, CoursesChange, Founding, KeysChange, LaunchesChange, MadeSessionsChange,
+    ProvidersChange, RegistrationsChange, SessionsChange, TokensChange,
 };
 use lrs_json::Items;
 use lrs_time::Moment;
@@ -21,6 +21,8 @@ pub struct Effect {
     pub courses: CoursesChange,
     pub registrations: RegistrationsChange,
     pub launches: LaunchesChange,
+    pub sessions: SessionsChange,
+    pub made_sessions: MadeSessionsChange,
     pub keys: KeysChange,
     pub tokens: TokensChange,
     pub moment: Moment,
@@ -40,6 +42,8 @@ impl Effect {
             courses: CoursesChange::none(),
             registrations: RegistrationsChange::none(),
             launches: LaunchesChange::none(),
+            sessions: SessionsChange::none(alloc),
+            made_sessions: MadeSessionsChange::none(),
             keys: KeysChange::none(),
             tokens: TokensChange::none(),
             moment,
@@ -55,16 +59,18 @@ impl Effect {
             && !self.providers.changes()
             && !self.documents.changes()
             && self.statements.is_empty()
-            && self.changes_no_course()
+            && self.changes_no_learning()
     }
 
-    // Whether no course, no registration, no launch, no key and no token is changed.
-    fn changes_no_course(&self) -> bool
-        ensures { result ≡ changes_no_course self.now }
+    // Whether nothing is changed of courses and of their learners.
+    fn changes_no_learning(&self) -> bool
+        ensures { result ≡ changes_no_learning self.now }
     {
         !self.courses.changes()
             && !self.registrations.changes()
             && !self.launches.changes()
+            && !self.sessions.changes()
+            && !self.made_sessions.changes()
             && !self.keys.changes()
             && !self.tokens.changes()
     }

@@ -3,7 +3,7 @@ ghost use Rattle.std.specs.Prelude.{◌≡◌, [], OnOk};
 ghost use Rattle.lrs_parts.specs.Learning.{IsLearningReadyFor, KeepsLearning, MakesLearningPlaces};
 ghost use Rattle.lrs_parts.specs.Learning.{TakesLearningPlacesBack};
 
-use crate::{Courses, Effect, Keys, Launches, Registrations, Tokens};
+use crate::{Courses, Effect, Keys, Launches, MadeSessions, Registrations, Sessions, Tokens};
 use lrs_json::Memory;
 use std::alloc::Global;
 
@@ -13,6 +13,8 @@ pub struct Learning {
     pub courses: Courses,
     pub registrations: Registrations,
     pub launches: Launches,
+    pub sessions: Sessions,
+    pub made_sessions: MadeSessions,
     pub keys: Keys,
     pub tokens: Tokens,
 }
@@ -22,6 +24,8 @@ impl Learning {
         ensures courses { result.courses.held ≡ [] }
         ensures registrations { result.registrations.held ≡ [] }
         ensures launches { result.launches.held ≡ [] }
+        ensures sessions { result.sessions.held ≡ [] }
+        ensures made_sessions { result.made_sessions.held ≡ [] }
         ensures keys { result.keys.held ≡ [] }
         ensures tokens { result.tokens.held ≡ [] }
     {
@@ -29,12 +33,14 @@ impl Learning {
             courses: Courses::new(alloc),
             registrations: Registrations::new(alloc),
             launches: Launches::new(alloc),
+            sessions: Sessions::new(alloc),
+            made_sessions: MadeSessions::new(alloc),
             keys: Keys::new(alloc),
             tokens: Tokens::new(alloc),
         }
     }
 
-    // Makes room for an effect in each of its registers.
+    // Makes room for an effect in each of its lists.
     pub(crate) fn ready(&mut self, effect: &Effect) -> Result<(), Memory>
         ensures same { KeepsLearning self.old self.new }
         ensures ready { OnOk result (IsLearningReadyFor self.new effect.now) }
@@ -43,6 +49,8 @@ impl Learning {
         self.courses.ready(&effect.courses)?;
         self.registrations.ready(&effect.registrations)?;
         self.launches.ready(&effect.launches)?;
+        self.sessions.ready(&effect.sessions)?;
+        self.made_sessions.ready(&effect.made_sessions)?;
         self.keys.ready(&effect.keys)?;
         self.tokens.ready(&effect.tokens)
     }
@@ -55,6 +63,7 @@ impl Learning {
         self.courses.release(&effect.courses);
         self.registrations.release(&effect.registrations);
         self.launches.release(&effect.launches);
+        self.made_sessions.release(&effect.made_sessions);
         self.keys.release(&effect.keys);
         self.tokens.release(&effect.tokens);
     }

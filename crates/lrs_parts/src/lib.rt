@@ -13,6 +13,7 @@ mod learning;
 mod parts;
 mod providers;
 mod registrations;
+mod sessions;
 
 pub use acceptance::Acceptance;
 pub use counted::Counted;
@@ -27,4 +28,7 @@ pub use parts::Parts;
 pub use providers::{HeldProvider, Providers, ProvidersChange, is_name};
 pub use registrations::{
     HeldRegistration, Learner, Registrations, RegistrationsChange, is_learner,
+};
+pub use sessions::{
+    HeldSession, MadeSession, MadeSessions, MadeSessionsChange, Sessions, SessionsChange,
 };

@@ -84,6 +84,8 @@ impl Parts {
             courses,
             registrations,
             launches,
+            sessions,
+            made_sessions,
             keys,
             tokens,
             moment,
@@ -96,6 +98,8 @@ impl Parts {
         self.learning.courses.install(courses);
         self.learning.registrations.install(registrations);
         self.learning.launches.install(launches);
+        self.learning.sessions.install(moment, sessions);
+        self.learning.made_sessions.install(made_sessions);
         self.learning.keys.install(keys);
         self.learning.tokens.install(tokens);
         self.length += 1;
@@ -103,7 +107,7 @@ impl Parts {
     }
 }
 
-// The ids of the statements and of the registrations are used, and those of the sessions of launches.
+// The ids of the statements and of the registrations are used, and those of sessions.
 impl UsedIds for Parts {
     ghost use Rattle.lrs_parts.specs.Parts.{state_of};
     ghost use Rattle.lrs_parts.specs.State.{used_in};
@@ -114,12 +118,14 @@ impl UsedIds for Parts {
         self.statements.is_used(id)
             || self.learning.registrations.is_used(id)
             || self.learning.launches.is_used(id)
+            || self.learning.made_sessions.is_used(id)
     }
 
     fn count(&self) -> u128 {
         self.statements.len() as u128
             + self.learning.registrations.len() as u128
             + self.learning.launches.len() as u128
+            + self.learning.made_sessions.len() as u128
     }
 }
 

@@ -1,3 +1,4 @@
+use Rattle.lrs_laws.proofs.Abandoned.{abandoned_sessions_are_silent}
 use Rattle.lrs_laws.proofs.LaunchLaws.{launches_leave_statements}
 use Rattle.lrs_laws.proofs.KeyLaws.{keys_are_their_launches}
 use Rattle.lrs_laws.proofs.OpenedSessions.{given_tokens_act}
@@ -38,6 +39,9 @@ returns-clause-launch_data c = sessions_keep_launch_data
 
 pub returns-clause-order : goal.returns-clause-order
 returns-clause-order c = sessions_speak_in_order
+
+pub returns-clause-silent : goal.returns-clause-silent
+returns-clause-silent c = abandoned_sessions_are_silent
 
 pub returns-clause-results : goal.returns-clause-results
 returns-clause-results c = results_count_once

@@ -2,6 +2,7 @@ use Rattle.lrs_ids.specs.Ids.{either, those}
 use Rattle.lrs_parts.proofs.Counting.{either_counted, those_counted}
 use Rattle.lrs_parts.specs.Launches.{session_ids}
 use Rattle.lrs_parts.specs.Registrations.{registration_ids}
+use Rattle.lrs_parts.specs.Sessions.{made_session_ids}
 use Rattle.xapi_index.specs.Statements.{ids_of}
 use Rattle.std.proofs.Common.{arith}
 use Rattle.lrs_parts.proofs.parts.PartsUsedIds.count.Goals as goal
@@ -12,8 +13,10 @@ returns-clause-counted c =
     let statements = ids_of parts.statements.held in
     let registrations = registration_ids parts.learning.registrations.held in
     let sessions = session_ids parts.learning.launches.held in
-    either_counted (those statements) (either (those registrations) (those sessions)) (those_counted statements)
-    (either_counted (those registrations) (those sessions) (those_counted registrations) (those_counted sessions))
+    let made = made_session_ids parts.learning.made_sessions.held in
+    either_counted (those statements) (either (those registrations) (either (those sessions) (those made))) (those_counted statements)
+    (either_counted (those registrations) (either (those sessions) (those made)) (those_counted registrations)
+    (either_counted (those sessions) (those made) (those_counted sessions) (those_counted made)))
 
 pub returns-clause-few : goal.returns-clause-few
 returns-clause-few c = omega arith
