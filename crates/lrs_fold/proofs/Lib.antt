@@ -9,3 +9,4 @@ pub mod Puts
 pub mod Founded
 pub mod Again
 pub mod Written
+pub mod Owed

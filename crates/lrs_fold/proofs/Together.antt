@@ -9,9 +9,11 @@ use Rattle.cmi5_session.specs.Rules.{broken_rule}
 use Rattle.cmi5_session.specs.Views.{SeenSession, view_behind, view_of}
 use Rattle.lrs_command.specs.declared.who.Who.{Who}
 use Rattle.lrs_command.specs.declared.who.Who.TheVariants as who
-use Rattle.lrs_fold.specs.Meeting.{refused_behind, refused_each, session_behind}
-use Rattle.lrs_history.specs.Effects.{Occasion, new_by}
+use Rattle.lrs_fold.specs.Meeting.{refused_behind, refused_each, session_behind, was_abandoned}
+use Rattle.lrs_history.specs.Effects.{new_by}
+use Rattle.lrs_history.specs.Occasions.{Occasion}
 use Rattle.lrs_history.specs.Refusals.{before_next, conflict, forbidden, refused_in, refused_over, refused_under, told_forbidden}
+use Rattle.lrs_history.specs.Sessions.{is_abandoned}
 use Rattle.lrs_history.specs.Whose.{launch_of}
 use Rattle.lrs_json.specs.Json.{Json}
 use Rattle.lrs_json.specs.View.{view}
@@ -37,7 +39,8 @@ alone st (who.Provider k) before j none = refl
 alone st (who.Session k) before j none = by_launch (slice_get st.launches k) none
   where
     by_launch : (o : Option Launch) → o ≡ None
-        → told_forbidden (option_and_then (λ l. broken_rule (view_of l true false before) j) o) ≡ told_forbidden (option_and_then (λ l. broken_rule (view_of l true false st.statements) j) o)
+        → told_forbidden (option_and_then (λ l. broken_rule (view_of l true (is_abandoned st k) before) j) o)
+        ≡ told_forbidden (option_and_then (λ l. broken_rule (view_of l true (is_abandoned st k) st.statements) j) o)
     by_launch None is = refl
     by_launch (Some l) is = cc is
 
@@ -79,17 +82,18 @@ new_passes st new made (Some id) j unheld none = none_held (held_under id st.sta
 abbrev SameTargets : List StoredStatement → List StoredStatement → Type 0
 SameTargets before held = (id : List ℕ) → is_target id before ≡ is_target id held
 
-abbrev session_at : Launch → List StoredStatement → SeenSession
-session_at launch before = view_of launch true false before
+-- the session of the launch of that number
+abbrev session_at : State → ℕ → Launch → List StoredStatement → SeenSession
+session_at st k launch before = view_of launch true (is_abandoned st k) before
 
 -- behind one that isn't refused
-record IsNext (st : State) (at : Occasion) (launch : Launch) (before : List StoredStatement) (n : WithId) : Type 0 where
+record IsNext (st : State) (at : Occasion) (k : ℕ) (launch : Launch) (before : List StoredStatement) (n : WithId) : Type 0 where
   pub targets : SameTargets (before_next st at before n) st.statements
-  pub session : session_at launch (before_next st at before n) ≡ session_behind st (session_at launch before) n
+  pub session : session_at st k launch (before_next st at before n) ≡ session_behind st (session_at st k launch before) n
 
 next_is : (st : State) (at : Occasion) (k : ℕ) (launch : Launch) → at.by ≡ who.Session k → slice_get st.launches k ≡ Some launch → (before : List StoredStatement) → SameTargets before st.statements
     → (made : List ℕ) (t : Tree) → refused_under st (forbidden st at.by before (view t)) (own_id (view t)) (view t) ≡ None
-    → IsNext st at launch before (record { id = id_for made (own_id (view t)); tree = t })
+    → IsNext st at k launch before (record { id = id_for made (own_id (view t)); tree = t })
 next_is st at k launch by is before same made t none = by_held (is_held n.id st.statements) refl
   where
     n : WithId
@@ -98,8 +102,8 @@ next_is st at k launch by is before same made t none = by_held (is_held n.id st.
     s : StoredStatement
     s = held_of at.moment (authority.Session launch.session) n
 
-    forbidden_is : forbidden st at.by before (view t) ≡ told_forbidden (broken_rule (session_at launch before) (view t))
-    forbidden_is = ap (λ w. forbidden st w before (view t)) by ∙ ap (λ o. told_forbidden (option_and_then (λ l. broken_rule (session_at l before) (view t)) o)) is
+    forbidden_is : forbidden st at.by before (view t) ≡ told_forbidden (broken_rule (session_at st k launch before) (view t))
+    forbidden_is = ap (λ w. forbidden st w before (view t)) by ∙ ap (λ o. told_forbidden (option_and_then (λ l. broken_rule (session_at st k l before) (view t)) o)) is
 
     comes : (b : Bool) → is_held n.id st.statements ≡ b → before_next st at before n ≡ before ++ (if b then [] else s ∷ [])
     comes b held =
@@ -107,29 +111,29 @@ next_is st at k launch by is before same made t none = by_held (is_held n.id st.
         ∙ (ap (λ o. before ++ new_ones st.statements (kept_by at.moment (option_map (λ (l : Launch). authority.Session l.session) o) (n ∷ []))) is
         ∙ ap (λ c. before ++ (if c then [] else s ∷ [])) held)
 
-    by_held : (b : Bool) → is_held n.id st.statements ≡ b → IsNext st at launch before n
+    by_held : (b : Bool) → is_held n.id st.statements ≡ b → IsNext st at k launch before n
     by_held true held =
         let still : before_next st at before n ≡ before = comes true held ∙ append-nil before in
         record {
           targets = λ id. ap (is_target id) still ∙ same id;
-          session = ap (session_at launch) still ∙ ap (λ b. if b then session_at launch before else view_behind (session_at launch before) (view t) (is_target n.id st.statements)) (sym held);
+          session = ap (session_at st k launch) still ∙ ap (λ b. if b then session_at st k launch before else view_behind (session_at st k launch before) (view t) (is_target n.id st.statements)) (sym held);
         }
     by_held false held =
-        let quiet : is_voiding (view t) ≡ false = no_voiding (session_at launch before) (view t)
-        (no_rule (broken_rule (session_at launch before) (view t)) (sym forbidden_is ∙ new_passes st (forbidden st at.by before (view t)) made (own_id (view t)) (view t) held none)) in
+        let quiet : is_voiding (view t) ≡ false = no_voiding (session_at st k launch before) (view t)
+        (no_rule (broken_rule (session_at st k launch before) (view t)) (sym forbidden_is ∙ new_passes st (forbidden st at.by before (view t)) made (own_id (view t)) (view t) held none)) in
         record {
           targets = λ id. ap (is_target id) (comes false held) ∙ (same_target before s quiet id ∙ same id);
-          session = ap (session_at launch) (comes false held)
-              ∙ (one_more launch true false before s refl quiet
-              ∙ (ap (λ b. view_behind (session_at launch before) (view t) b) (same n.id)
-              ∙ ap (λ b. if b then session_at launch before else view_behind (session_at launch before) (view t) (is_target n.id st.statements)) (sym held)));
+          session = ap (session_at st k launch) (comes false held)
+              ∙ (one_more launch true (is_abandoned st k) before s refl quiet
+              ∙ (ap (λ b. view_behind (session_at st k launch before) (view t) b) (same n.id)
+              ∙ ap (λ b. if b then session_at st k launch before else view_behind (session_at st k launch before) (view t) (is_target n.id st.statements)) (sym held)));
         }
 
 refused_after : (st : State) (at : Occasion) (k : ℕ) (launch : Launch) → at.by ≡ who.Session k → slice_get st.launches k ≡ Some launch → (before : List StoredStatement) → SameTargets before st.statements
-    → (supply : Supply) (ts : List Tree) → refused_behind st (session_at launch before) (with_ids supply ts) ≡ refused_in st at before (with_ids supply ts)
+    → (supply : Supply) (ts : List Tree) → refused_behind st (session_at st k launch before) (with_ids supply ts) ≡ refused_in st at before (with_ids supply ts)
 refused_after st at k launch by is before same supply [] = refl
 refused_after st at k launch by is before same supply (t ∷ ts) =
-    ap (λ new. option_or (refused_under st new (own_id (view t)) (view t)) (refused_behind st (session_behind st (session_at launch before) n) rest)) (sym forbidden_is)
+    ap (λ new. option_or (refused_under st new (own_id (view t)) (view t)) (refused_behind st (session_behind st (session_at st k launch before) n) rest)) (sym forbidden_is)
     ∙ by_refusal (λ still. refused_after st at k launch by is (before_next st at before (record { id = id_for (supply 0) (own_id (view t)); tree = t })) still (supply_behind supply (own_id (view t))) ts)
     (refused_under st (forbidden st at.by before (view t)) (own_id (view t)) (view t)) refl
   where
@@ -139,24 +143,24 @@ refused_after st at k launch by is before same supply (t ∷ ts) =
     rest : List WithId
     rest = with_ids (supply_behind supply (own_id (view t))) ts
 
-    forbidden_is : forbidden st at.by before (view t) ≡ told_forbidden (broken_rule (session_at launch before) (view t))
-    forbidden_is = ap (λ w. forbidden st w before (view t)) by ∙ ap (λ o. told_forbidden (option_and_then (λ l. broken_rule (session_at l before) (view t)) o)) is
+    forbidden_is : forbidden st at.by before (view t) ≡ told_forbidden (broken_rule (session_at st k launch before) (view t))
+    forbidden_is = ap (λ w. forbidden st w before (view t)) by ∙ ap (λ o. told_forbidden (option_and_then (λ l. broken_rule (session_at st k l before) (view t)) o)) is
 
-    by_refusal : (SameTargets (before_next st at before n) st.statements → refused_behind st (session_at launch (before_next st at before n)) rest ≡ refused_in st at (before_next st at before n) rest)
+    by_refusal : (SameTargets (before_next st at before n) st.statements → refused_behind st (session_at st k launch (before_next st at before n)) rest ≡ refused_in st at (before_next st at before n) rest)
         → (o : Option Refusal) → refused_under st (forbidden st at.by before (view t)) (own_id (view t)) (view t) ≡ o
-        → option_or o (refused_behind st (session_behind st (session_at launch before) n) rest) ≡ option_or o (refused_in st at (before_next st at before n) rest)
+        → option_or o (refused_behind st (session_behind st (session_at st k launch before) n) rest) ≡ option_or o (refused_in st at (before_next st at before n) rest)
     by_refusal more (Some r) at_once = refl
     by_refusal more None none =
         let next = next_is st at k launch by is before same (supply 0) t none in
         ap (λ v. refused_behind st v rest) (sym next.session) ∙ more next.targets
 
 pub session_refused : (st : State) (by : Who) (launch : Launch) (supply : Supply) (ts : List Tree) (at : Occasion) → launch_of st by ≡ Some launch → at.by ≡ by → at.supply ≡ supply
-    → refused_behind st (session_at launch st.statements) (with_ids supply ts) ≡ conflict st at (Post ts)
+    → refused_behind st (view_of launch true (was_abandoned st by) st.statements) (with_ids supply ts) ≡ conflict st at (Post ts)
 session_refused st who.Unknown launch supply ts at has is given = cc has
 session_refused st who.Admin launch supply ts at has is given = cc has
 session_refused st (who.Provider k) launch supply ts at has is given = cc has
 session_refused st (who.Session k) launch supply ts at has is given =
-    ap (λ p. refused_behind st (session_at launch st.statements) (with_ids p ts)) (sym given) ∙ refused_after st at k launch is has st.statements (λ id. refl) at.supply ts
+    ap (λ p. refused_behind st (session_at st k launch st.statements) (with_ids p ts)) (sym given) ∙ refused_after st at k launch is has st.statements (λ id. refl) at.supply ts
 
 -- ---- the last of the reasons
 

@@ -4,3 +4,4 @@ pub mod Meeting
 pub mod Next
 pub mod Outcomes
 pub mod Own
+pub mod Written

@@ -1,11 +1,14 @@
 -- What statements that come together meet: each by itself, or behind those of its session before it.
-use Rattle.std.specs.Prelude.{ℕ, List, [], ◌∷◌, Option, None, if◌then◌else◌}
+use Rattle.std.specs.Prelude.{ℕ, Bool, false, List, [], ◌∷◌, drop, Option, None, if◌then◌else◌}
 use Rattle.std.specs.Option.{option_or}
 use Rattle.cmi5_session.specs.Rules.{broken_rule}
 use Rattle.cmi5_session.specs.Views.{SeenSession, view_behind}
 use Rattle.lrs_command.specs.declared.who.Who.{Who}
-use Rattle.lrs_history.specs.Effects.{Occasion, supply_in}
+use Rattle.lrs_command.specs.declared.who.Who.TheVariants as who
+use Rattle.lrs_fold.specs.Naming.{with_these_ids}
+use Rattle.lrs_history.specs.Occasions.{Occasion, supply_in}
 use Rattle.lrs_history.specs.Refusals.{forbidden, refused_under, told_forbidden}
+use Rattle.lrs_history.specs.Sessions.{is_abandoned}
 use Rattle.lrs_json.specs.View.{view}
 use Rattle.lrs_json.specs.declared.tree.Tree.{Tree}
 use Rattle.lrs_names.specs.declared.draw.Draw.{Draw}
@@ -25,6 +28,11 @@ occasion_of st by draw write moment token = record {
   supply = supply_in st write draw;
 }
 
+-- the caller is a session that was abandoned
+abbrev pub was_abandoned : State → Who → Bool
+was_abandoned st (who.Session k) = is_abandoned st k
+was_abandoned st other = false
+
 -- the refusal of the first statement that is refused under its own id, whatever stands before it
 abbrev pub refused_each : State → Who → List Tree → Option Refusal
 refused_each st by [] = None
@@ -43,3 +51,7 @@ refused_behind st session [] = None
 refused_behind st session (n ∷ ns) = option_or
     (refused_under st (told_forbidden (broken_rule session (view n.tree))) (own_id (view n.tree)) (view n.tree))
     (refused_behind st (session_behind st session n) ns)
+
+-- the same of those from that place on
+abbrev pub refused_from : State → SeenSession → List (List ℕ) → List Tree → ℕ → Option Refusal
+refused_from st session ids trees at = refused_behind st session (with_these_ids (drop at ids) (drop at trees))

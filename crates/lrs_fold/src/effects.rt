@@ -1,30 +1,40 @@
 // What an entry changes.
-ghost use Rattle.std.specs.Prelude.{◌≡◌, ◌∷◌, ◌++◌, [], Some, IfOk, OnOk};
+ghost use Rattle.std.specs.Prelude.{◌≡◌, ◌∷◌, ◌++◌, [], None, Some, IfOk, OnOk};
 ghost use Rattle.std.specs.List.{AllByRecursion};
 ghost use Rattle.std.specs.Option.{option_copied};
+ghost use Rattle.std.specs.Vec.Iter.{into_iter_items};
+ghost use Rattle.cmi5_course.specs.Courses.{course_of};
+ghost use Rattle.cmi5_course.specs.Rules.{broken_rule};
 ghost use Rattle.lrs_fold.specs.Judged.{IsJudged, IsJudgedTree};
 ghost use Rattle.lrs_fold.specs.Naming.{with_these_ids};
-ghost use Rattle.lrs_history.specs.Effects.{document_by, dropping, effect, keeping, keeping_all, making, new_by, supply_in, writing};
+ghost use Rattle.lrs_fold.specs.Written.{effect_by};
+ghost use Rattle.lrs_history.specs.DeskEffects.{taking};
+ghost use Rattle.lrs_history.specs.Effects.{document_by, dropping, effect, making, new_by, writing};
+ghost use Rattle.lrs_history.specs.Occasions.{supply_in};
+ghost use Rattle.lrs_ids.specs.IdSupply.{GiveSame, left_of};
+ghost use Rattle.lrs_json.specs.Fits.{Fits};
+ghost use Rattle.lrs_json.specs.View.{view};
 ghost use Rattle.lrs_parts.specs.Founding.{IsBase};
 ghost use Rattle.lrs_parts.specs.Parts.{state_of};
 ghost use Rattle.lrs_parts.specs.declared.acceptance.Acceptance.TheVariants as acceptance;
-ghost use Rattle.lrs_parts.specs.State.{no_change};
+ghost use Rattle.lrs_parts.specs.State.{no_change, used_in};
 ghost use Rattle.lrs_replies.specs.Texts.{token_text};
-ghost use Rattle.lrs_record.specs.declared.entry.Write.TheVariants as write;
-ghost use Rattle.xapi_index.specs.Batches.{with_ids};
+ghost use Rattle.lrs_record.specs.declared.entry.Write.TheVariants as writes;
 
 use crate::Fold;
 use lrs_agents::Ifi;
 use lrs_command::Who;
+use lrs_ids::IdSupply;
 use lrs_json::{Items, Memory, Text, Tree};
-use lrs_learning::{enrolling, fetching, launching, taking};
+use lrs_learning::{abandoning_one, enrolling, fetching, launching, sweeping, taking, waiving};
 use lrs_names::{Draw, Id, Iri};
 use lrs_parts::{Acceptance, Effect, Founding, HeldProvider, ProvidersChange};
 use lrs_record::{Entry, How, Moment, Write};
 use lrs_replies::token_text;
 use std::alloc::Global;
+use std::vec::IntoIter;
 use xapi_docs::{Document, DocumentsChange, posted};
-use xapi_index::batch_ids;
+use xapi_index::{given_ids, take_ids};
 use xapi_keys::StateKey;
 use xapi_statement::{Statement, StoredStatement};
 
@@ -42,13 +52,26 @@ impl Fold {
         } = entry;
         let who = self.who(&caller);
         drop(caller);
+        self.effect_by(alloc, who, moment, &draw, write)
+    }
+
+    // What a write changes by that caller, at that moment and with that draw.
+    fn effect_by(
+        &self,
+        alloc: Global,
+        who: Who,
+        moment: Moment,
+        draw: &Draw,
+        write: Write,
+    ) -> Result<Effect, Memory>
+        requires { IsJudged write }
+        ensures { IfOk result (λ made. made ≡ effect_by (state_of self.now.parts) who moment draw.now write) }
+    {
         match write {
             Write::Found { admin, base } => Ok(founding(alloc, admin, base, moment)),
-            Write::Provider { name } => self.provider(alloc, name, moment, &draw),
-            Write::Put { id, statement } => self.put(alloc, who, moment, id, statement),
-            Write::Post { statements } => {
-                self.post(alloc, who, moment, &draw, statements.into_vec())
-            }
+            Write::Provider { name } => self.provider(alloc, name, moment, draw),
+            Write::Put { id, statement } => self.put(alloc, who, moment, draw, id, statement),
+            Write::Post { statements } => self.post(alloc, who, moment, draw, statements),
             Write::State {
                 how,
                 key,
@@ -60,23 +83,13 @@ impl Fold {
                 agent,
                 registration,
                 state,
-            } => {
-                let effect = self.dropping(alloc, moment, &activity, &agent, &registration, &state);
-                drop(activity);
-                drop(agent);
-                drop(state);
-                effect
-            }
-            Write::Course { tree } => {
-                let effect = taking(alloc, &self.parts, moment, &tree);
-                drop(tree);
-                effect
-            }
+            } => self.drop_documents(alloc, moment, activity, agent, registration, state),
+            Write::Course { tree } => self.course(alloc, moment, tree),
             Write::Enrol { course, actor } => enrolling(
                 alloc,
                 &self.parts,
                 moment,
-                &draw,
+                draw,
                 course,
                 actor,
             ),
@@ -89,13 +102,20 @@ impl Fold {
                 alloc,
                 &self.parts,
                 moment,
-                &draw,
+                draw,
                 registration,
                 unit,
                 mode,
                 return_url,
             ),
-            Write::Fetch { key } => fetching(alloc, &self.parts, moment, &draw, key),
+            Write::Fetch { key } => fetching(alloc, &self.parts, moment, draw, key),
+            Write::Waive {
+                registration,
+                unit,
+                reason,
+            } => waiving(alloc, &self.parts, moment, draw, registration, unit, reason),
+            Write::Abandon { session } => abandoning_one(alloc, &self.parts, moment, draw, session),
+            Write::Sweep { idle } => sweeping(alloc, &self.parts, moment, draw, idle),
         }
     }
 
@@ -119,39 +139,63 @@ impl Fold {
         Ok(effect)
     }
 
+    // A session says more behind its statement: that needs the draw.
     fn put(
         &self,
         alloc: Global,
         who: Who,
         moment: Moment,
+        draw: &Draw,
         id: Id,
         statement: Tree,
     ) -> Result<Effect, Memory>
         requires { IsJudgedTree statement }
         ensures { IfOk result (λ made. made
-            ≡ keeping (state_of self.now.parts) who moment (record { id = id; tree = statement } ∷ [])) }
+            ≡ effect_by (state_of self.now.parts) who moment draw.now (writes.Put id statement)) }
     {
         let mut added = Vec::new(alloc);
         self.push_new(&mut added, who, moment, &id, statement)?;
+        self.owe_behind_put(alloc, who, moment, draw, &id, &mut added)?;
         Ok(writing_new(alloc, moment, added))
     }
 
-    #[tactic(auto, using(crate::proofs::Naming::with_ids_again))]
     fn post(
         &self,
         alloc: Global,
         who: Who,
         moment: Moment,
         draw: &Draw,
-        statements: Vec<Tree>,
+        statements: Items<Tree>,
     ) -> Result<Effect, Memory>
-        requires { AllByRecursion IsJudgedTree statements.items }
-        ensures { IfOk result (λ made. made ≡ keeping_all (state_of self.now.parts) who moment
-            (with_ids (supply_in (state_of self.now.parts) (write.Post statements.items) draw.now) statements.items)) }
+        requires { AllByRecursion IsJudgedTree statements }
+        ensures { IfOk result (λ made. made
+            ≡ effect_by (state_of self.now.parts) who moment draw.now (writes.Post statements)) }
     {
-        let ids = batch_ids(alloc, &self.parts, statements.as_slice(), draw)?;
-        let added = self.new_of_batch(alloc, who, moment, ids.as_slice(), statements)?;
+        let mut supply = self.supply_of_batch(alloc, statements.as_slice(), draw)?;
+        let ids = take_ids(alloc, &self.parts, &mut supply, statements.as_slice())?;
+        let mut added = self.new_of_batch(
+            alloc,
+            who,
+            moment,
+            ids.as_slice(),
+            statements.into_vec(),
+        )?;
+        self.owe_behind(alloc, who, moment, &mut supply, &mut added)?;
         Ok(writing_all(alloc, moment, added, ids))
+    }
+
+    // The ids that can be made for statements that come together.
+    fn supply_of_batch(
+        &self,
+        alloc: Global,
+        statements: &[Tree],
+        draw: &Draw,
+    ) -> Result<IdSupply, Memory>
+        ensures { IfOk result (λ supply. GiveSame (left_of (used_in (state_of self.now.parts)) supply)
+            (supply_in (state_of self.now.parts) (writes.Post statements.now) draw.now)) }
+    {
+        let given = given_ids(alloc, statements)?;
+        IdSupply::new(alloc, &self.parts, given.as_slice(), draw.name)
     }
 
     fn state(
@@ -198,6 +242,36 @@ impl Fold {
         let mut effect = Effect::no_change(alloc, moment);
         effect.documents = DocumentsChange::Dropped(keys);
         Ok(effect)
+    }
+
+    // The same, and drops what was named.
+    fn drop_documents(
+        &self,
+        alloc: Global,
+        moment: Moment,
+        activity: Iri,
+        agent: Ifi,
+        registration: Option<Id>,
+        state: Option<Text>,
+    ) -> Result<Effect, Memory>
+        ensures { IfOk result (λ made. made
+            ≡ dropping (state_of self.now.parts) moment activity agent registration state) }
+    {
+        let effect = self.dropping(alloc, moment, &activity, &agent, &registration, &state);
+        drop(activity);
+        drop(agent);
+        drop(state);
+        effect
+    }
+
+    fn course(&self, alloc: Global, moment: Moment, tree: Tree) -> Result<Effect, Memory>
+        requires fits { Fits (view tree) }
+        requires unbroken { broken_rule (view tree) ≡ None }
+        ensures { IfOk result (λ made. made ≡ taking (state_of self.now.parts) moment (course_of tree)) }
+    {
+        let effect = taking(alloc, &self.parts, moment, &tree);
+        drop(tree);
+        effect
     }
 
     // Puts a statement after the new ones, if its id isn't held and its caller has an authority.
@@ -255,7 +329,27 @@ impl Fold {
             ≡ added.old.items
             ++ new_by (state_of self.now.parts) who moment (with_these_ids ids.now statements.items)) }
     {
-        let mut statements = statements.into_iter();
+        let mut left = statements.into_iter();
+        let pushed = self.push_left(added, who, moment, ids, &mut left);
+        drop(left);
+        pushed
+    }
+
+    // The same of those that are left of a batch.
+    fn push_left(
+        &self,
+        added: &mut Vec<StoredStatement>,
+        who: Who,
+        moment: Moment,
+        ids: &[Id],
+        statements: &mut IntoIter<Tree>,
+    ) -> Result<(), Memory>
+        requires { AllByRecursion IsJudgedTree (into_iter_items statements.old) }
+        ensures { OnOk result (added.new.items
+            ≡ added.old.items
+            ++ new_by (state_of self.now.parts) who moment
+            (with_these_ids ids.now (into_iter_items statements.old))) }
+    {
         for id in ids {
             match statements.next() {
                 Some(statement) => self.push_new(added, who, moment, id, statement)?,

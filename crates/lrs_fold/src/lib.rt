@@ -1,6 +1,7 @@
 //! The abstract store in memory: the parts that the entries so far give, why a command is refused, what an entry
 //! changes, and what is said to a command. There is no disk here. Begin with `outcome`: `refusals`, `effects` and
-//! `saying` are its steps. What the launch desk writes stands in `lrs_learning`.
+//! `saying` are its steps. What the launch desk writes stands in `lrs_learning`; which nodes of a course are satisfied
+//! behind a session's statements, `owing` asks `lrs_made`.
 #![tactic(auto)]
 
 mod effects;
@@ -9,6 +10,7 @@ mod forms;
 mod meeting;
 mod next;
 mod outcome;
+mod owing;
 mod own;
 mod questions;
 mod refusals;

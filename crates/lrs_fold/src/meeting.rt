@@ -1,8 +1,8 @@
 // What the statements of a write meet in the store.
-ghost use Rattle.std.specs.Prelude.{◌≡◌, ℕ, List, not, false, true, IfOk, MatchResult, None, Some};
+ghost use Rattle.std.specs.Prelude.{◌≡◌, ◌+◌, ◌<◌, ℕ, List, length, not, true, IfOk, MatchResult, None, Some};
 ghost use Rattle.cmi5_session.specs.Rules.{broken_outside, broken_rule};
 ghost use Rattle.cmi5_session.specs.Views.{seen, view_of};
-ghost use Rattle.lrs_fold.specs.Meeting.{occasion_of, refused_behind, refused_each, session_behind};
+ghost use Rattle.lrs_fold.specs.Meeting.{occasion_of, refused_behind, refused_each, refused_from, session_behind};
 ghost use Rattle.lrs_fold.specs.Naming.{with_these_ids};
 ghost use Rattle.lrs_history.specs.Refusals.{conflict, forbidden, refused_under, told_forbidden};
 ghost use Rattle.lrs_json.specs.View.{view};
@@ -63,10 +63,10 @@ fn refused_beside(id: &Id, statement: &Tree, held: &StoredStatement) -> Option<R
 
 impl Fold {
     // The session of a launch whose token was fetched, as its next statement finds it.
-    fn session_of<'a>(&self, launch: &'a Launch) -> SessionView<'a>
-        ensures { seen result ≡ view_of launch.now true false self.now.parts.statements.held }
+    fn session_of<'a>(&self, launch: &'a Launch, abandoned: bool) -> SessionView<'a>
+        ensures { seen result ≡ view_of launch.now true abandoned self.now.parts.statements.held }
     {
-        view_of(&self.parts.statements, launch, true, false)
+        view_of(&self.parts.statements, launch, true, abandoned)
     }
 
     // Why a statement isn't kept, if it is new.
@@ -77,7 +77,10 @@ impl Fold {
             Who::Admin => forbidden_outside(true, statement),
             Who::Unknown | Who::Provider(_) => forbidden_outside(false, statement),
             Who::Session(number) => match self.parts.learning.launches.get(number) {
-                Some(launch) => forbidden_to(&self.session_of(launch), statement),
+                Some(launch) => {
+                    let abandoned = self.parts.learning.sessions.is_abandoned(number);
+                    forbidden_to(&self.session_of(launch, abandoned), statement)
+                }
                 None => None,
             },
         }
@@ -110,7 +113,8 @@ impl Fold {
         match self.launch_of(who) {
             Some(launch) => {
                 let ids = batch_ids(alloc, &self.parts, statements, draw)?;
-                Ok(self.refused_behind(self.session_of(launch), ids.as_slice(), statements))
+                let session = self.session_of(launch, self.was_abandoned(who));
+                Ok(self.refused_behind(session, ids.as_slice(), statements))
             }
             None => Ok(self.refused_each(who, statements)),
         }
@@ -153,15 +157,36 @@ impl Fold {
     {
         let mut session = session;
         for at in 0..statements.len() {
-            let (Some(id), Some(statement)) = (ids.get(at), statements.get(at)) else {
-                return None;
-            };
-            if let Some(refusal) = self.refused_of_session(&session, statement) {
-                return Some(refusal);
+            match self.behind_next(session, ids, statements, at) {
+                Ok(next) => session = next,
+                Err(told) => return told,
             }
-            session = self.session_behind(session, id, statement);
         }
         None
+    }
+
+    // The session behind the statement at that place, if that isn't refused; else what all from there on are told.
+    #[tactic(auto, using(crate::proofs::Naming::next_with_id, crate::proofs::Naming::no_ids_left))]
+    fn behind_next<'a>(
+        &self,
+        session: SessionView<'a>,
+        ids: &[Id],
+        statements: &[Tree],
+        at: usize,
+    ) -> Result<SessionView<'a>, Option<Refusal>>
+        requires { at < length statements.now }
+        ensures { MatchResult result
+            (λ next. refused_from (state_of self.now.parts) (seen session.entry) ids.now statements.now at
+            ≡ refused_from (state_of self.now.parts) (seen next) ids.now statements.now (at + 1))
+            (λ told. refused_from (state_of self.now.parts) (seen session.entry) ids.now statements.now at ≡ told) }
+    {
+        let (Some(id), Some(statement)) = (ids.get(at), statements.get(at)) else {
+            return Err(None);
+        };
+        match self.refused_of_session(&session, statement) {
+            Some(refusal) => Err(Some(refusal)),
+            None => Ok(self.session_behind(session, id, statement)),
+        }
     }
 
     // Why the next statement of a session isn't kept, under its own id or a made one.

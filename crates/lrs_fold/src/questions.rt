@@ -1,11 +1,14 @@
 // What is said to a question.
-ghost use Rattle.std.specs.Prelude.{◌≡◌, ◌≤◌, length, IfOk};
+ghost use Rattle.std.specs.Prelude.{◌≡◌, ◌≤◌, length, IfOk, Some};
 ghost use Rattle.std.specs.Option.{option_copied};
 ghost use Rattle.lrs_command.specs.declared.command.Read.TheVariants as question;
-ghost use Rattle.lrs_history.specs.Answers.{document_said, documents_said, is_shown, one_said, page_said, wanted_said};
+ghost use Rattle.lrs_history.specs.Answers.{document_said, documents_said, is_shown, one_said, page_said};
+ghost use Rattle.lrs_history.specs.Answers.{standing_said, wanted_said};
+ghost use Rattle.lrs_history.specs.Enrolments.{enrolled};
 ghost use Rattle.lrs_history.specs.History.{answered_inside, read_answered};
 ghost use Rattle.lrs_history.specs.Refusals.{outside_of};
 ghost use Rattle.lrs_history.specs.Whose.{launch_of, who_is};
+ghost use Rattle.lrs_made.specs.Lent.{seen_enrolled};
 ghost use Rattle.lrs_parts.specs.Parts.{state_of};
 ghost use Rattle.xapi_index.specs.Statements.{held_under};
 ghost use Rattle.xapi_statement.specs.Shown.{shown_text};
@@ -14,9 +17,10 @@ use crate::Fold;
 use lrs_command::{Read, Who};
 use lrs_history::{barred, outside};
 use lrs_json::{Items, Memory};
+use lrs_made::{LentEnrolled, enrolled, verdicts_of};
 use lrs_names::Id;
 use lrs_record::Caller;
-use lrs_replies::{Answered, Refusal, states_text, versions_text};
+use lrs_replies::{Answered, Refusal, standing_text, states_text, versions_text};
 use lrs_rules::Rule;
 use std::alloc::Global;
 use xapi_docs::Document;
@@ -53,6 +57,7 @@ impl Fold {
             Read::More(link) => self.more_said(alloc, who, link),
             Read::Documents(wanted) => self.documents_answered(alloc, who, wanted),
             Read::Profile => Ok(Answered::Refused(Refusal::NotFound)),
+            Read::Registration(id) => self.standing_said(alloc, id),
             Read::About => Ok(Answered::Shown {
                 text: Items::from_vec(versions_text(alloc)?),
                 through: None,
@@ -112,6 +117,38 @@ impl Fold {
                 })
             }
         }
+    }
+
+    // How far the learner of a registration has come, if there is such a registration.
+    fn standing_said(&self, alloc: Global, id: &Id) -> Result<Answered, Memory>
+        ensures { IfOk result (λ said. said
+            ≡ standing_said (state_of self.now.parts) (enrolled (state_of self.now.parts) id.now)) }
+    {
+        match enrolled(&self.parts, id) {
+            Some(known) => self.standing_of(alloc, &known),
+            None => Ok(Answered::Refused(Refusal::NotFound)),
+        }
+    }
+
+    // The same of the registration that is there.
+    fn standing_of(&self, alloc: Global, known: &LentEnrolled<'_>) -> Result<Answered, Memory>
+        ensures { IfOk result (λ said. said
+            ≡ standing_said (state_of self.now.parts) (Some (seen_enrolled known.now))) }
+    {
+        let verdicts = verdicts_of(alloc, &self.parts, known)?;
+        let registration = known.registration;
+        let course = known.course;
+        let body = standing_text(
+            alloc,
+            &registration.id,
+            course.id().text(),
+            course.nodes(),
+            verdicts.as_slice(),
+        )?;
+        Ok(Answered::Shown {
+            text: Items::from_vec(body),
+            through: None,
+        })
     }
 
     // The page that a link leads to, if there is such a list.

@@ -10,7 +10,9 @@ ghost use Rattle.lrs_record.specs.Entries.{IsLawfulWrite};
 use crate::Fold;
 use crate::forms::{refused_batch, refused_form};
 use lrs_command::Who;
-use lrs_history::{barred, refused_actor, refused_agent, refused_document, refused_name};
+use lrs_history::{
+    barred, refused_actor, refused_agent, refused_document, refused_idle, refused_name,
+};
 use lrs_json::{Memory, Text};
 use lrs_learning::{course_conflict, missing, refused_course};
 use lrs_media::is_json;
@@ -39,7 +41,9 @@ fn bad_form(alloc: Global, write: &Write) -> Result<Option<Refusal>, Memory>
         Write::Drop { agent, .. } => Ok(refused_agent(agent)),
         Write::Course { tree } => refused_course(alloc, tree),
         Write::Enrol { actor, .. } => Ok(refused_actor(actor)),
-        Write::Launch { .. } | Write::Fetch { .. } => Ok(None),
+        Write::Sweep { idle } => Ok(refused_idle(*idle)),
+        Write::Launch { .. } | Write::Fetch { .. } | Write::Waive { .. } | Write::Abandon { .. } =>
+            Ok(None),
     }
 }
 

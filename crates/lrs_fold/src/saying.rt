@@ -1,13 +1,13 @@
 // What is said of a write that isn't refused.
-ghost use Rattle.std.specs.Prelude.{◌≡◌, IfOk, None};
-ghost use Rattle.lrs_history.specs.Answers.{write_said};
-ghost use Rattle.lrs_replies.specs.declared.answered.Answered.TheVariants.{Shown};
+ghost use Rattle.std.specs.Prelude.{◌≡◌, ℕ, List, None, IfOk, if◌then◌else◌};
+ghost use Rattle.lrs_history.specs.Answers.{acceptance_said, write_said};
+ghost use Rattle.lrs_replies.specs.declared.answered.Answered.TheVariants.{Kept, Same, Shown};
 
 use lrs_json::{Items, Memory};
 use lrs_parts::{Acceptance, Effect};
 use lrs_replies::{
     Answered, course_text, ids_text, key_used_text, launch_text, provider_text, registration_text,
-    session_closed_text, session_token_text,
+    session_closed_text, session_token_text, swept_text,
 };
 use std::alloc::Global;
 
@@ -15,35 +15,47 @@ use std::alloc::Global;
 pub(crate) fn write_said(alloc: Global, effect: &Effect) -> Result<Answered, Memory>
     ensures { IfOk result (λ said. said ≡ write_said effect.now) }
 {
-    match &effect.acceptance {
+    acceptance_said(alloc, &effect.acceptance, effect.changes_nothing())
+}
+
+// What is told of what was made, or why no token is given away; else whether anything changes.
+fn acceptance_said(alloc: Global, acceptance: &Acceptance, same: bool) -> Result<Answered, Memory>
+    ensures { IfOk result (λ said. said ≡ acceptance_said acceptance.now (if same then Same else Kept)) }
+{
+    match acceptance {
         Acceptance::Plain => {
-            if effect.changes_nothing() {
+            if same {
                 Ok(Answered::Same)
             } else {
                 Ok(Answered::Kept)
             }
         }
-        Acceptance::Ids(ids) => Ok(shown(ids_text(alloc, ids.as_slice())?)),
-        Acceptance::Provider { place, token } => Ok(shown(provider_text(alloc, *place, token)?)),
-        Acceptance::Course(id) => Ok(shown(course_text(alloc, id)?)),
-        Acceptance::Registration(id) => Ok(shown(registration_text(alloc, id)?)),
+        Acceptance::Ids(ids) => shown(ids_text(alloc, ids.as_slice())),
+        Acceptance::Provider { place, token } => shown(provider_text(alloc, *place, token)),
+        Acceptance::Course(id) => shown(course_text(alloc, id)),
+        Acceptance::Registration(id) => shown(registration_text(alloc, id)),
         Acceptance::Launch {
             session,
             method,
             url,
-        } => Ok(shown(launch_text(alloc, session, *method, url)?)),
-        Acceptance::Token(token) => Ok(shown(session_token_text(alloc, token)?)),
-        Acceptance::KeyUsed => Ok(shown(key_used_text(alloc)?)),
-        Acceptance::SessionClosed => Ok(shown(session_closed_text(alloc)?)),
+        } => shown(launch_text(alloc, session, *method, url)),
+        Acceptance::Swept(sessions) => shown(swept_text(alloc, sessions.as_slice())),
+        Acceptance::Token(token) => shown(session_token_text(alloc, token)),
+        Acceptance::KeyUsed => shown(key_used_text(alloc)),
+        Acceptance::SessionClosed => shown(session_closed_text(alloc)),
     }
 }
 
 // A text that tells nothing of the statements.
-fn shown(text: Vec<u8>) -> Answered
-    ensures { result ≡ Shown text.items None }
+fn shown(text: Result<Vec<u8>, Memory>) -> Result<Answered, Memory>
+    ensures { (body : List ℕ) → IfOk text (λ told. told.items ≡ body)
+        → IfOk result (λ said. said ≡ Shown body None) }
 {
-    Answered::Shown {
-        text: Items::from_vec(text),
-        through: None,
+    match text {
+        Ok(body) => Ok(Answered::Shown {
+            text: Items::from_vec(body),
+            through: None,
+        }),
+        Err(refused) => Err(refused),
     }
 }

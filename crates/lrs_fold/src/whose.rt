@@ -1,6 +1,7 @@
 // Who a caller is, under whose authority its statements stand, what it sees, and what it does with documents.
 ghost use Rattle.std.specs.Prelude.{◌≡◌, IfOk};
 ghost use Rattle.std.specs.Option.{option_copied};
+ghost use Rattle.lrs_fold.specs.Meeting.{was_abandoned};
 ghost use Rattle.lrs_history.specs.Refusals.{bad_role};
 ghost use Rattle.lrs_history.specs.Whose.{authority_of, known_as, launch_of, sight_of, who_is, who_presents};
 ghost use Rattle.lrs_parts.specs.Launches.{launch_of_token};
@@ -58,6 +59,16 @@ impl Fold {
         match who {
             Who::Session(number) => self.parts.learning.launches.get(number),
             Who::Unknown | Who::Admin | Who::Provider(_) => None,
+        }
+    }
+
+    /// Whether a caller is a session that was abandoned.
+    pub(crate) fn was_abandoned(&self, who: Who) -> bool
+        ensures { result ≡ was_abandoned (state_of self.now.parts) who }
+    {
+        match who {
+            Who::Session(number) => self.parts.learning.sessions.is_abandoned(number),
+            Who::Unknown | Who::Admin | Who::Provider(_) => false,
         }
     }
 

@@ -4,13 +4,13 @@ ghost use Rattle.lrs_history.specs.Refusals.{missing};
 ghost use Rattle.lrs_parts.specs.Parts.{state_of};
 
 use crate::courses::place_of_course;
-use crate::targets::target;
+use lrs_made::target;
 use lrs_parts::Parts;
 use lrs_record::Write;
 use lrs_replies::Refusal;
 
-/// Why a write doesn't find what it speaks of: the course of an enrolment, the registration or the unit of a launch,
-/// the key of a fetch.
+/// Why a write doesn't find what it speaks of: the course of an enrolment, the registration or the unit of a launch or
+/// a waiver, the key of a fetch, the session that is abandoned.
 pub fn missing(parts: &Parts, write: &Write) -> Option<Refusal>
     ensures { result ≡ missing (state_of parts.now) write.now }
 {
@@ -28,6 +28,18 @@ pub fn missing(parts: &Parts, write: &Write) -> Option<Refusal>
             None => Some(Refusal::NotFound),
         },
         Write::Fetch { key } => match parts.learning.keys.find(key) {
+            Some(_) => None,
+            None => Some(Refusal::NotFound),
+        },
+        Write::Waive {
+            registration,
+            unit,
+            ..
+        } => match target(parts, registration, unit) {
+            Some(_) => None,
+            None => Some(Refusal::NotFound),
+        },
+        Write::Abandon { session } => match parts.learning.launches.place(session) {
             Some(_) => None,
             None => Some(Refusal::NotFound),
         },

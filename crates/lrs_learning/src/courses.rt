@@ -2,7 +2,7 @@
 ghost use Rattle.std.specs.Prelude.{◌≡◌, IfOk, None, Some};
 ghost use Rattle.cmi5_course.specs.Courses.{course_key, course_of};
 ghost use Rattle.cmi5_course.specs.Rules.{broken_rule};
-ghost use Rattle.lrs_history.specs.Effects.{new_course, taking};
+ghost use Rattle.lrs_history.specs.DeskEffects.{new_course, taking};
 ghost use Rattle.lrs_history.specs.Refusals.{course_conflict, refused_beside, refused_course};
 ghost use Rattle.lrs_json.specs.Fits.{Fits};
 ghost use Rattle.lrs_json.specs.View.{view};

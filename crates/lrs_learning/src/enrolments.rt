@@ -1,25 +1,33 @@
 // Enrolments: a learner is enrolled in a course, and a registration comes of it.
-ghost use Rattle.std.specs.Prelude.{◌≡◌, IfOk, IsTrue};
+ghost use Rattle.std.specs.Prelude.{◌≡◌, [], IfOk, IsTrue, Some};
 ghost use Rattle.lrs_command.specs.declared.who.Who.{Who as SpecWho};
-ghost use Rattle.lrs_history.specs.Effects.{coming, enrolling};
+ghost use Rattle.lrs_history.specs.DeskEffects.{coming, enrolling, made_session};
+ghost use Rattle.lrs_history.specs.Enrolments.{enrolled_as};
+ghost use Rattle.lrs_history.specs.Made.{owed_made};
+ghost use Rattle.lrs_ids.specs.IdSupply.{left_of};
 ghost use Rattle.lrs_learning.specs.Occasions.{occasion_at};
 ghost use Rattle.lrs_parts.specs.Courses.{place_of_course};
 ghost use Rattle.lrs_parts.specs.Learners.{is_learner};
 ghost use Rattle.lrs_parts.specs.Parts.{state_of};
-ghost use Rattle.lrs_parts.specs.State.{no_change};
+ghost use Rattle.lrs_parts.specs.State.{no_change, used_in};
 ghost use Rattle.lrs_parts.specs.declared.acceptance.Acceptance.TheVariants as acceptance;
 
 use crate::courses::place_of_course;
-use crate::ids::one_id;
+use crate::ids::first_two;
 use lrs_agents::Agent;
-use lrs_json::Memory;
+use lrs_ids::IdSupply;
+use lrs_json::{Items, Memory};
+use lrs_made::{add_owed, enrolled_as};
 use lrs_names::{Draw, Id, Iri};
-use lrs_parts::{Acceptance, Effect, HeldRegistration, Learner, Parts, RegistrationsChange};
+use lrs_parts::{
+    Acceptance, Effect, HeldRegistration, Learner, MadeSession, MadeSessionsChange, Parts,
+    RegistrationsChange,
+};
 use lrs_record::Moment;
 use std::alloc::Global;
+use xapi_statement::StoredStatement;
 
-/// Enrols a learner in the course of that id, if there is one.
-#[tactic(auto, using(crate::proofs::Changes::enrolled_is))]
+/// Enrols a learner in the course of that id, if there is one. What is satisfied at once is said.
 pub fn enrolling(
     alloc: Global,
     parts: &Parts,
@@ -30,15 +38,41 @@ pub fn enrolling(
 ) -> Result<Effect, Memory>
     requires { IsTrue (is_learner actor) }
     ensures { IfOk result (λ made. (by : SpecWho) → made
-        ≡ enrolling (occasion_at (state_of parts.now) by moment draw.now) actor
+        ≡ enrolling (state_of parts.now) (occasion_at (state_of parts.now) by moment draw.now) actor
         (place_of_course course (state_of parts.now).courses)) }
 {
     let Some(course) = place_of_course(parts, &course) else {
         drop(actor);
         return Ok(Effect::no_change(alloc, moment));
     };
-    match one_id(alloc, parts, draw) {
-        Ok(id) => Ok(enrolled(alloc, moment, id, course, Learner::of(actor))),
+    enrol_in(alloc, parts, moment, draw, course, Learner::of(actor))
+}
+
+// In the course of that place.
+fn enrol_in(
+    alloc: Global,
+    parts: &Parts,
+    moment: Moment,
+    draw: &Draw,
+    course: u32,
+    actor: Learner,
+) -> Result<Effect, Memory>
+    ensures { IfOk result (λ made. (by : SpecWho) → made
+        ≡ enrolling (state_of parts.now) (occasion_at (state_of parts.now) by moment draw.now) actor (Some course)) }
+{
+    match first_two(alloc, parts, draw) {
+        Ok(made) => enrol_as(
+            alloc,
+            parts,
+            moment,
+            HeldRegistration {
+                id: made.0,
+                course,
+                actor,
+            },
+            made.1,
+            made.2,
+        ),
         Err(refused) => {
             drop(actor);
             Err(refused)
@@ -46,14 +80,89 @@ pub fn enrolling(
     }
 }
 
-fn enrolled(alloc: Global, moment: Moment, id: Id, course: u32, actor: Learner) -> Effect
+// Under that registration. What is owed is said in that session, under the ids that are left.
+fn enrol_as(
+    alloc: Global,
+    parts: &Parts,
+    moment: Moment,
+    registration: HeldRegistration,
+    session: Id,
+    supply: IdSupply,
+) -> Result<Effect, Memory>
+    ensures { IfOk result (λ made. made ≡ record (no_change moment) {
+      statements = owed_made (state_of parts.now) session (left_of (used_in (state_of parts.now)) supply) moment []
+          (enrolled_as (state_of parts.now) registration);
+      registrations = coming registration;
+      made_sessions = made_session session
+          (owed_made (state_of parts.now) session (left_of (used_in (state_of parts.now)) supply) moment []
+          (enrolled_as (state_of parts.now) registration));
+      acceptance = acceptance.Registration registration.id;
+    }) }
+{
+    match owed_at_once(alloc, parts, moment, &registration, &session, supply) {
+        Ok(owed) => Ok(enrolled(alloc, moment, registration, session, owed)),
+        Err(refused) => {
+            drop(registration);
+            Err(refused)
+        }
+    }
+}
+
+// What is owed to a registration before anything was said in it.
+fn owed_at_once(
+    alloc: Global,
+    parts: &Parts,
+    moment: Moment,
+    registration: &HeldRegistration,
+    session: &Id,
+    supply: IdSupply,
+) -> Result<Vec<StoredStatement>, Memory>
+    ensures { IfOk result (λ owed. owed.items ≡ owed_made (state_of parts.now) session.now
+        (left_of (used_in (state_of parts.now)) supply) moment [] (enrolled_as (state_of parts.now) registration.now)) }
+{
+    let mut supply = supply;
+    let mut made = Vec::new(alloc);
+    let enrolled = enrolled_as(parts, registration);
+    add_owed(
+        alloc,
+        parts,
+        enrolled.as_ref(),
+        session,
+        moment,
+        &mut supply,
+        &mut made,
+    )?;
+    Ok(made)
+}
+
+fn enrolled(
+    alloc: Global,
+    moment: Moment,
+    registration: HeldRegistration,
+    session: Id,
+    owed: Vec<StoredStatement>,
+) -> Effect
     ensures { result ≡ record (no_change moment) {
-      registrations = coming (record { id = id; course = course; actor = actor });
-      acceptance = acceptance.Registration id;
+      statements = owed.items;
+      registrations = coming registration;
+      made_sessions = made_session session owed.items;
+      acceptance = acceptance.Registration registration.id;
     } }
 {
     let mut effect = Effect::no_change(alloc, moment);
-    effect.registrations = RegistrationsChange::of_new(HeldRegistration { id, course, actor });
-    effect.acceptance = Acceptance::Registration(id);
+    effect.acceptance = Acceptance::Registration(registration.id);
+    effect.made_sessions = session_if(session, owed.as_slice());
+    effect.statements = Items::from_vec(owed);
+    effect.registrations = RegistrationsChange::of_new(registration);
     effect
+}
+
+// The session id comes with what is said, if anything is.
+fn session_if(session: Id, said: &[StoredStatement]) -> MadeSessionsChange
+    ensures { result ≡ made_session session said.now }
+{
+    match said.first() {
+        Some(_) => MadeSessionsChange::of_new(MadeSession { id: session }),
+        None => MadeSessionsChange::none(),
+    }
 }

@@ -1,19 +1,17 @@
 // What a fetch does: it gives the token of a session away.
 ghost use Rattle.std.specs.Prelude.{◌≡◌, IfOk};
 ghost use Rattle.lrs_command.specs.declared.who.Who.{Who as SpecWho};
-ghost use Rattle.lrs_history.specs.Effects.{fetching, giving, telling};
-ghost use Rattle.lrs_history.specs.Sessions.{is_closed};
+ghost use Rattle.lrs_history.specs.DeskEffects.{fetching, giving, telling};
 ghost use Rattle.lrs_learning.specs.Occasions.{occasion_at};
 ghost use Rattle.lrs_parts.specs.Launches.{key_under};
 ghost use Rattle.lrs_parts.specs.Parts.{state_of};
 
-use cmi5_launch::names::TERMINATED;
-use cmi5_session::has_own;
 use lrs_json::{Memory, Text};
 use lrs_names::Draw;
 use lrs_parts::{Acceptance, Effect, HeldKey, HeldToken, Parts, TokensChange};
 use lrs_record::Moment;
 use lrs_replies::token_text;
+use lrs_sessions::is_closed;
 use std::alloc::Global;
 
 /// Gives the token of a key's session away, unless it was given or the session is closed.
@@ -55,6 +53,7 @@ fn giving(
     let told = token.clone()?;
     let text = key.key.clone()?;
     let mut effect = telling(alloc, moment, Acceptance::Token(told));
+    effect.sessions.fetched = Some(key.launch);
     effect.keys.replaced = Some(HeldKey {
         key: text,
         launch: key.launch,
@@ -65,16 +64,6 @@ fn giving(
         launch: key.launch,
     });
     Ok(effect)
-}
-
-// Whether the session of the launch of that number is closed.
-fn is_closed(parts: &Parts, number: u32) -> bool
-    ensures { result ≡ is_closed (state_of parts.now) number }
-{
-    match parts.learning.launches.get(number) {
-        Some(launch) => has_own(&parts.statements, &launch.session, TERMINATED),
-        None => false,
-    }
 }
 
 fn telling(alloc: Global, moment: Moment, told: Acceptance) -> Effect

@@ -1,33 +1,39 @@
 // What a launch brings.
-ghost use Rattle.std.specs.Prelude.{◌≡◌, false, length, IfOk, OnOk, Some};
+ghost use Rattle.std.specs.Prelude.{◌≡◌, ◌++◌, false, length, map, IfOk, OnOk, Some};
 ghost use Rattle.cmi5_launch.specs.Addresses.{IsAddress};
 ghost use Rattle.lrs_command.specs.declared.who.Who.{Who as SpecWho};
-ghost use Rattle.lrs_history.specs.Effects.{coming, launching};
+ghost use Rattle.lrs_history.specs.DeskEffects.{session_begun, coming, launching};
 ghost use Rattle.lrs_history.specs.Launches.{activity_at, address_at, data_at, data_key, launch_at, launched_at, target};
-ghost use Rattle.lrs_learning.specs.Occasions.{occasion_at};
-ghost use Rattle.lrs_learning.specs.Targets.{seen};
+ghost use Rattle.lrs_ids.specs.Ids.{rest_of};
+ghost use Rattle.lrs_json.specs.View.{view};
+ghost use Rattle.lrs_learning.specs.Occasions.{occasion_at, supply_at};
+ghost use Rattle.lrs_made.specs.Lent.{seen_target};
+ghost use Rattle.xapi_statement.specs.declared.statement.Statement.{Statement as SpecStatement};
+ghost use Rattle.lrs_history.specs.Made.{left_behind, made_under};
 ghost use Rattle.lrs_parts.specs.Parts.{state_of};
 ghost use Rattle.lrs_parts.specs.State.{no_change};
 ghost use Rattle.lrs_parts.specs.declared.acceptance.Acceptance.TheVariants as acceptance;
 ghost use Rattle.lrs_replies.specs.Texts.{token_text};
 ghost use Rattle.xapi_docs.specs.declared.changes.DocumentsChange.TheVariants.{Written};
 
-use crate::ids::two_ids;
-use crate::targets::{LentTarget, target};
+use crate::ids::supply_of;
 use cmi5_course::{Launch, Mode};
 use cmi5_launch::names::LAUNCH_DATA;
 use cmi5_launch::{Made, launch_address, launch_data, made_statement};
 use lrs_json::{Items, Memory, Text};
+use lrs_made::{LentTarget, make_under, target};
 use lrs_names::{Draw, Id, Iri};
-use lrs_parts::{Acceptance, Effect, HeldKey, KeysChange, LaunchesChange, Parts};
+use lrs_parts::{Acceptance, Effect, HeldKey, KeysChange, LaunchesChange, Parts, SessionsChange};
 use lrs_record::Moment;
 use lrs_replies::token_text;
+use lrs_sessions::{abandoned_statements, open_of};
 use std::alloc::Global;
 use xapi_docs::{Document, DocumentsChange};
 use xapi_keys::StateKey;
-use xapi_statement::{Authority, StoredStatement};
+use xapi_statement::{Authority, Statement, StoredStatement};
 
-/// Launches the unit of that id in the course of that registration, if both are there.
+/// Launches the unit of that id in the course of that registration, if both are there. Its open sessions in the
+/// registration are abandoned.
 pub fn launching(
     alloc: Global,
     parts: &Parts,
@@ -80,18 +86,71 @@ fn launch_into(
     ensures { OnOk result ((by : SpecWho) → effect.new
         ≡ launching (state_of parts.now)
         (occasion_at (state_of parts.now) by moment draw.now) mode return_url.now
-        (Some (seen target.now))) }
+        (Some (seen_target target.now))) }
 {
-    let (session, id) = two_ids(alloc, parts, draw)?;
     let activity = target.activity(alloc)?;
-    let launched = launch_as(
-        alloc, parts, moment, draw, target, &activity, mode, return_url, session, id, effect,
+    let launched = launch_over(
+        alloc, parts, moment, draw, target, &activity, mode, return_url, effect,
     );
     drop(activity);
     launched
 }
 
-// The same under that id of the unit, of the session and of the statement.
+// The same under that id of the unit, whose open sessions in the registration are abandoned.
+fn launch_over(
+    alloc: Global,
+    parts: &Parts,
+    moment: Moment,
+    draw: &Draw,
+    target: &LentTarget<'_>,
+    activity: &Iri,
+    mode: Mode,
+    return_url: &Option<Iri>,
+    effect: &mut Effect,
+) -> Result<(), Memory>
+    requires address { IsAddress target.now.unit.now.url }
+    requires activity { activity.now ≡ activity_at (seen_target target.now) }
+    requires alone { effect.old ≡ no_change moment }
+    ensures { OnOk result ((by : SpecWho) → effect.new
+        ≡ launching (state_of parts.now)
+        (occasion_at (state_of parts.now) by moment draw.now) mode return_url.now
+        (Some (seen_target target.now))) }
+{
+    let numbers = open_of(alloc, parts, &target.registration.id, activity)?;
+    let said = abandoned_statements(alloc, parts, numbers.as_slice())?;
+    let begun = begin(alloc, parts, moment, draw, said)?;
+    set_sessions(effect, numbers);
+    launch_as(
+        alloc, parts, moment, draw, target, activity, mode, return_url, begun.0, begun.1, begun.2,
+        effect,
+    )?;
+    Ok(())
+}
+
+// The ids of the session and of the launched statement, and the statements that are made before that one.
+fn begin(
+    alloc: Global,
+    parts: &Parts,
+    moment: Moment,
+    draw: &Draw,
+    said: Vec<Statement>,
+) -> Result<(Id, Id, Vec<StoredStatement>), Memory>
+    ensures session { IfOk result (λ begun. begun.0 ≡ supply_at (state_of parts.now) draw.now 0) }
+    ensures id { IfOk result (λ begun. begun.1 ≡ left_behind (rest_of (supply_at (state_of parts.now) draw.now))
+        (map (λ (s : SpecStatement). view s.tree) said.items) 0) }
+    ensures made { IfOk result (λ begun. begun.2.items
+        ≡ made_under (rest_of (supply_at (state_of parts.now) draw.now)) moment
+        (map (λ (s : SpecStatement). view s.tree) said.items)) }
+{
+    let mut supply = supply_of(alloc, parts, draw)?;
+    let session = supply.make(parts)?;
+    let mut made = Vec::new(alloc);
+    make_under(parts, &mut supply, moment, said, &mut made)?;
+    let id = supply.make(parts)?;
+    Ok((session, id, made))
+}
+
+// The same under these ids, behind the statements that are made before.
 fn launch_as(
     alloc: Global,
     parts: &Parts,
@@ -103,22 +162,23 @@ fn launch_as(
     return_url: &Option<Iri>,
     session: Id,
     id: Id,
+    made: Vec<StoredStatement>,
     effect: &mut Effect,
 ) -> Result<(), Memory>
     requires address { IsAddress target.now.unit.now.url }
-    requires activity { activity.now ≡ activity_at (seen target.now) }
+    requires activity { activity.now ≡ activity_at (seen_target target.now) }
     ensures { OnOk result (effect.new ≡ record effect.old {
-      statements = launched_at (seen target.now) mode session id moment;
-      documents = Written (data_key (seen target.now))
-          (data_at (seen target.now) mode return_url.now session moment);
-      launches = coming (launch_at (seen target.now) mode session);
+      statements = made.items ++ launched_at (seen_target target.now) mode session id moment;
+      documents = Written (data_key (seen_target target.now))
+          (data_at (seen_target target.now) mode return_url.now session moment);
+      launches = coming (launch_at (seen_target target.now) mode session);
       keys = coming (record {
         key = token_text parts.now.length draw.now.secret;
         launch = length (state_of parts.now).launches;
         fetched = false;
       });
       acceptance = acceptance.Launch session target.now.unit.now.method
-          (address_at (seen target.now) (token_text parts.now.length draw.now.secret));
+          (address_at (seen_target target.now) (token_text parts.now.length draw.now.secret));
     }) }
 {
     add_key(alloc, parts, draw, target, activity, session, effect)?;
@@ -126,7 +186,9 @@ fn launch_as(
         alloc, target, activity, mode, return_url, session, moment, effect,
     )?;
     add_launch(target, activity, mode, session, effect)?;
-    add_statement(alloc, target, activity, mode, session, id, moment, effect)
+    add_statement(
+        alloc, target, activity, mode, session, id, moment, made, effect,
+    )
 }
 
 // The key, and the address that tells it.
@@ -140,7 +202,7 @@ fn add_key(
     effect: &mut Effect,
 ) -> Result<(), Memory>
     requires address { IsAddress target.now.unit.now.url }
-    requires activity { activity.now ≡ activity_at (seen target.now) }
+    requires activity { activity.now ≡ activity_at (seen_target target.now) }
     ensures { OnOk result (effect.new ≡ record effect.old {
       keys = coming (record {
         key = token_text parts.now.length draw.now.secret;
@@ -148,7 +210,7 @@ fn add_key(
         fetched = false;
       });
       acceptance = acceptance.Launch session target.now.unit.now.method
-          (address_at (seen target.now) (token_text parts.now.length draw.now.secret));
+          (address_at (seen_target target.now) (token_text parts.now.length draw.now.secret));
     }) }
 {
     let launch = next_launch(parts)?;
@@ -198,10 +260,20 @@ fn set_launch(effect: &mut Effect, launch: Launch)
     effect.launches = LaunchesChange::of_new(launch);
 }
 
-fn set_statements(effect: &mut Effect, made: Items<StoredStatement>)
-    ensures { effect.new ≡ record effect.old { statements = made } }
+fn set_sessions(effect: &mut Effect, abandoned: Vec<u32>)
+    ensures { effect.new ≡ record effect.old { sessions = session_begun abandoned.items } }
 {
-    effect.statements = made;
+    effect.sessions = SessionsChange {
+        abandoned: Items::from_vec(abandoned),
+        fetched: None,
+        launched: true,
+    };
+}
+
+fn set_statements(effect: &mut Effect, made: Vec<StoredStatement>)
+    ensures { effect.new ≡ record effect.old { statements = made.items } }
+{
+    effect.statements = Items::from_vec(made);
 }
 
 fn add_data(
@@ -214,10 +286,10 @@ fn add_data(
     moment: Moment,
     effect: &mut Effect,
 ) -> Result<(), Memory>
-    requires { activity.now ≡ activity_at (seen target.now) }
+    requires { activity.now ≡ activity_at (seen_target target.now) }
     ensures { OnOk result (effect.new ≡ record effect.old {
-      documents = Written (data_key (seen target.now))
-          (data_at (seen target.now) mode return_url.now session moment);
+      documents = Written (data_key (seen_target target.now))
+          (data_at (seen_target target.now) mode return_url.now session moment);
     }) }
 {
     let change = data(alloc, target, activity, mode, return_url, &session, moment)?;
@@ -232,9 +304,9 @@ fn add_launch(
     session: Id,
     effect: &mut Effect,
 ) -> Result<(), Memory>
-    requires { activity.now ≡ activity_at (seen target.now) }
+    requires { activity.now ≡ activity_at (seen_target target.now) }
     ensures { OnOk result (effect.new ≡ record effect.old {
-      launches = coming (launch_at (seen target.now) mode session);
+      launches = coming (launch_at (seen_target target.now) mode session);
     }) }
 {
     let launch = launch_at(target, activity, mode, session)?;
@@ -250,14 +322,18 @@ fn add_statement(
     session: Id,
     id: Id,
     moment: Moment,
+    made: Vec<StoredStatement>,
     effect: &mut Effect,
 ) -> Result<(), Memory>
-    requires { activity.now ≡ activity_at (seen target.now) }
+    requires { activity.now ≡ activity_at (seen_target target.now) }
     ensures { OnOk result (effect.new ≡ record effect.old {
-      statements = launched_at (seen target.now) mode session id moment;
+      statements = made.items ++ launched_at (seen_target target.now) mode session id moment;
     }) }
 {
-    let made = statements(alloc, target, activity, mode, &session, id, moment)?;
+    let mut made = made;
+    push_launched(
+        alloc, target, activity, mode, &session, id, moment, &mut made,
+    )?;
     set_statements(effect, made);
     Ok(())
 }
@@ -281,9 +357,9 @@ fn told(
     session: Id,
 ) -> Result<Acceptance, Memory>
     requires address { IsAddress target.now.unit.now.url }
-    requires activity { activity.now ≡ activity_at (seen target.now) }
+    requires activity { activity.now ≡ activity_at (seen_target target.now) }
     ensures { IfOk result (λ told. told
-        ≡ acceptance.Launch session target.now.unit.now.method (address_at (seen target.now) key.now)) }
+        ≡ acceptance.Launch session target.now.unit.now.method (address_at (seen_target target.now) key.now)) }
 {
     let unit = target.unit;
     let url = launch_address(
@@ -312,9 +388,9 @@ fn data(
     session: &Id,
     moment: Moment,
 ) -> Result<DocumentsChange, Memory>
-    requires { activity.now ≡ activity_at (seen target.now) }
-    ensures { IfOk result (λ change. change ≡ Written (data_key (seen target.now))
-        (data_at (seen target.now) mode return_url.now session.now moment)) }
+    requires { activity.now ≡ activity_at (seen_target target.now) }
+    ensures { IfOk result (λ change. change ≡ Written (data_key (seen_target target.now))
+        (data_at (seen_target target.now) mode return_url.now session.now moment)) }
 {
     let bytes = launch_data(
         alloc,
@@ -340,8 +416,8 @@ fn data(
 }
 
 fn data_key(alloc: Global, target: &LentTarget<'_>, activity: &Iri) -> Result<StateKey, Memory>
-    requires { activity.now ≡ activity_at (seen target.now) }
-    ensures { IfOk result (λ key. key ≡ data_key (seen target.now)) }
+    requires { activity.now ≡ activity_at (seen_target target.now) }
+    ensures { IfOk result (λ key. key ≡ data_key (seen_target target.now)) }
 {
     Ok(StateKey {
         registration: Some(target.registration.id),
@@ -357,8 +433,8 @@ fn launch_at(
     mode: Mode,
     session: Id,
 ) -> Result<Launch, Memory>
-    requires { activity.now ≡ activity_at (seen target.now) }
-    ensures { IfOk result (λ launch. launch ≡ launch_at (seen target.now) mode session) }
+    requires { activity.now ≡ activity_at (seen_target target.now) }
+    ensures { IfOk result (λ launch. launch ≡ launch_at (seen_target target.now) mode session) }
 {
     Ok(Launch {
         session,
@@ -373,7 +449,7 @@ fn launch_at(
 
 // The score that passes the unit, as its course spells it.
 fn mastery_of(target: &LentTarget<'_>) -> Result<Option<Text>, Memory>
-    ensures { IfOk result (λ mastery. mastery ≡ (seen target.now).unit.mastery_text) }
+    ensures { IfOk result (λ mastery. mastery ≡ (seen_target target.now).unit.mastery_text) }
 {
     let unit = target.unit;
     match &unit.mastery_text {
@@ -382,8 +458,8 @@ fn mastery_of(target: &LentTarget<'_>) -> Result<Option<Text>, Memory>
     }
 }
 
-// The statement that the store makes of it (cmi5 Quartz, section 9.3.1).
-fn statements(
+// Puts the statement that the store makes of it (cmi5 Quartz, section 9.3.1) behind others.
+fn push_launched(
     alloc: Global,
     target: &LentTarget<'_>,
     activity: &Iri,
@@ -391,11 +467,13 @@ fn statements(
     session: &Id,
     id: Id,
     moment: Moment,
-) -> Result<Items<StoredStatement>, Memory>
-    requires { activity.now ≡ activity_at (seen target.now) }
-    ensures { IfOk result (λ made. made ≡ launched_at (seen target.now) mode session.now id moment) }
+    made: &mut Vec<StoredStatement>,
+) -> Result<(), Memory>
+    requires { activity.now ≡ activity_at (seen_target target.now) }
+    ensures { OnOk result (made.new.items
+        ≡ made.old.items ++ launched_at (seen_target target.now) mode session.now id moment) }
 {
-    let made = made_statement(
+    let said = made_statement(
         alloc,
         &Made::Launched {
             mode,
@@ -407,7 +485,6 @@ fn statements(
         &target.registration.id,
         session,
     )?;
-    let mut statements = Items::new(alloc);
-    statements.push(made.complete(id, moment, Authority::Desk))?;
-    Ok(statements)
+    made.push(said.complete(id, moment, Authority::Desk))?;
+    Ok(())
 }

@@ -1,6 +1,6 @@
-use Rattle.std.proofs.Common.{◌≡◌, drop}
+use Rattle.std.proofs.Common.{◌≡◌}
 use Rattle.cmi5_session.specs.Views.{seen}
-use Rattle.lrs_fold.specs.Meeting.{refused_behind}
+use Rattle.lrs_fold.specs.Meeting.{refused_behind, refused_from}
 use Rattle.lrs_fold.specs.Naming.{with_these_ids}
 use Rattle.lrs_parts.specs.Parts.{state_of}
 use Rattle.lrs_fold.proofs.fold.Fold.refused_behind.Given as goal
@@ -8,5 +8,5 @@ use Rattle.lrs_fold.proofs.fold.Fold.refused_behind.Given as goal
 -- the rest, behind the session so far
 abbrev pub invariant-loop-at : goal.invariant-loop-at
 invariant-loop-at l =
-    refused_behind (state_of l.self.parts) (seen l.session) (with_these_ids (drop l.at l.ids) (drop l.at l.statements))
+    refused_from (state_of l.self.parts) (seen l.session) l.ids l.statements l.at
     ≡ refused_behind (state_of l.self.parts) (seen l.fn.session) (with_these_ids l.ids l.statements)

@@ -1,0 +1,19 @@
+use Rattle.std.proofs.Common.{◌≡◌, Some, ◌∙◌}
+use Rattle.std.proofs.lemmas.Result.{IfOk-weaker}
+use Rattle.lrs_command.specs.declared.who.Who.{Who}
+use Rattle.lrs_history.specs.DeskEffects.{enrolling}
+use Rattle.lrs_ids.specs.IdSupply.{left_of}
+use Rattle.lrs_learning.proofs.Changes.{enrolled_is, enrolled_under, registered}
+use Rattle.lrs_learning.specs.Occasions.{occasion_at}
+use Rattle.lrs_parts.specs.Parts.{state_of}
+use Rattle.lrs_parts.specs.State.{used_in}
+use Rattle.lrs_learning.proofs.enrolments.enrol_in.Goals as goal
+
+pub returns-in-Ok : goal.returns-in-Ok
+returns-in-Ok c =
+    let st = state_of c.args.parts.now in
+    let s = left_of (used_in st) c.in-Ok.made.2 in
+    IfOk-weaker c.enrol_as.result (λ made. made ≡ enrolled_under st c.args.moment (registered c.in-Ok.made.0 c.args.course c.args.actor) c.in-Ok.made.1 s)
+    (λ made. (by : Who) → made ≡ enrolling st (occasion_at st by c.args.moment c.args.draw.now) c.args.actor (Some c.args.course))
+    (λ made is. λ by. is ∙ enrolled_is st by c.args.moment c.args.draw.now c.args.course c.args.actor c.in-Ok.made.0 c.in-Ok.made.1 s
+    c.in-Ok.ensures.first c.in-Ok.ensures.second c.in-Ok.ensures.left) c.enrol_as.ensures

@@ -1,0 +1,20 @@
+use Rattle.std.proofs.Common.{[], ◌∷◌, ◌∙◌, ap}
+use Rattle.std.specs.Prelude.{option_map}
+use Rattle.lrs_history.specs.Enrolments.{enrolled_as}
+use Rattle.lrs_history.specs.Made.{made_under}
+use Rattle.lrs_ids.specs.Ids.{rest_of}
+use Rattle.lrs_ids.specs.IdSupply.{left_of}
+use Rattle.lrs_json.specs.View.{view}
+use Rattle.lrs_learning.proofs.Changes.{owed_behind_waived}
+use Rattle.lrs_made.specs.Lent.{seen_enrolled, seen_target}
+use Rattle.lrs_parts.specs.Parts.{state_of}
+use Rattle.lrs_parts.specs.State.{used_in}
+use Rattle.lrs_learning.proofs.waivers.with_owed.Goals as goal
+
+pub returns : goal.returns
+returns c =
+    let st = state_of c.args.parts.now in
+    let s = left_of (used_in st) c.args.supply.now in
+    owed_behind_waived st c.args.session.now (left_of (used_in st) c.alone.new.supply) (rest_of s) c.args.moment c.add_owed.new.made.items c.in_ok-made.made.items
+    (made_under s c.args.moment (view c.args.said.tree ∷ [])) _ (enrolled_as st (seen_target c.args.target.now).registration) c.in_ok-made.ensures.made c.in_ok-made.ensures.left
+    (ap (option_map seen_enrolled) c.as_ref.ensures.value ∙ c.enrolled_as-enrolled.ensures) c.in_ok-add_owed.ensures

@@ -1,0 +1,4 @@
+pub mod Trees
+pub mod Same
+pub mod Supplied
+pub mod Satisfied

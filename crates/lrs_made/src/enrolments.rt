@@ -1,0 +1,93 @@
+// Registrations with their courses.
+ghost use Rattle.std.specs.Prelude.{◌≡◌, option_map, IfOk};
+ghost use Rattle.cmi5_verdict.specs.Nodes.{seen};
+ghost use Rattle.lrs_history.specs.Enrolments.{enrolled, enrolled_as, enrolled_from, enrolment_of, verdicts_of};
+ghost use Rattle.lrs_made.specs.Lent.{seen_enrolled};
+ghost use Rattle.lrs_parts.specs.Parts.{state_of};
+ghost use Rattle.lrs_parts.specs.declared.founding.Founding.{Founding as SpecFounding};
+
+use crate::held::held_alone;
+use cmi5_course::Course;
+use cmi5_verdict::{Enrolment, verdicts};
+use lrs_json::Memory;
+use lrs_names::{Id, Iri};
+use lrs_parts::{HeldRegistration, Parts};
+use std::alloc::Global;
+
+/// A registration, its course, and the address that the store's own names begin with: all lent by the parts.
+#[derive(Clone, Copy)]
+pub struct LentEnrolled<'a> {
+    pub base: &'a Iri,
+    pub registration: &'a HeldRegistration,
+    pub course: &'a Course,
+}
+
+impl LentEnrolled<'_> {
+    /// What a verdict looks at.
+    pub(crate) fn enrolment(&self) -> Enrolment<'_>
+        ensures { seen result ≡ enrolment_of (seen_enrolled self.now) }
+    {
+        let registration = self.registration;
+        let course = self.course;
+        Enrolment {
+            registration: &registration.id,
+            base: self.base,
+            course: registration.course,
+            nodes: course.nodes(),
+        }
+    }
+}
+
+/// The registration of that id with its course, if both are there.
+pub fn enrolled<'a>(parts: &'a Parts, id: &Id) -> Option<LentEnrolled<'a>>
+    ensures { option_map seen_enrolled result ≡ enrolled (state_of parts.now) id.now }
+{
+    match parts.learning.registrations.find(id) {
+        Some(registration) => enrolled_as(parts, registration),
+        None => None,
+    }
+}
+
+/// A registration with its course, if that is there. The registration may be one that is yet to be held.
+pub fn enrolled_as<'a>(
+    parts: &'a Parts,
+    registration: &'a HeldRegistration,
+) -> Option<LentEnrolled<'a>>
+    ensures { option_map seen_enrolled result ≡ enrolled_as (state_of parts.now) registration.now }
+{
+    match &parts.founding {
+        Some(founding) => enrolled_from(parts, &founding.base, registration),
+        None => None,
+    }
+}
+
+// The same in a store of that address.
+fn enrolled_from<'a>(
+    parts: &'a Parts,
+    base: &'a Iri,
+    registration: &'a HeldRegistration,
+) -> Option<LentEnrolled<'a>>
+    ensures { (founding : SpecFounding) → founding.base ≡ base.now → option_map seen_enrolled result
+        ≡ enrolled_from (state_of parts.now) registration.now founding }
+{
+    let Some(course) = parts.learning.courses.get(registration.course) else {
+        return None;
+    };
+    Some(LentEnrolled {
+        base,
+        registration,
+        course,
+    })
+}
+
+/// Whether each node of the course is satisfied, in the order of the text.
+pub fn verdicts_of(
+    alloc: Global,
+    parts: &Parts,
+    enrolled: &LentEnrolled<'_>,
+) -> Result<Vec<bool>, Memory>
+    ensures { IfOk result (λ verdicts. verdicts.items
+        ≡ verdicts_of (state_of parts.now) (seen_enrolled enrolled.now)) }
+{
+    verdicts(alloc, &held_alone(parts), &enrolled.enrolment())
+}

@@ -1,0 +1,168 @@
+// That blocks and courses are satisfied.
+ghost use Rattle.std.specs.Prelude.{◌≡◌, ◌++◌, ◌∷◌, [], IfOk, OnOk, filter_map, map, option_map};
+ghost use Rattle.std.specs.Option.{option_copied};
+ghost use Rattle.lrs_history.specs.Enrolments.{owed_behind};
+ghost use Rattle.lrs_history.specs.Made.{made_under, owed_jsons, owed_made, satisfied_at, satisfied_json};
+ghost use Rattle.lrs_ids.specs.IdSupply.{left_of};
+ghost use Rattle.lrs_json.specs.View.{view};
+ghost use Rattle.lrs_made.specs.Lent.{seen_enrolled};
+ghost use Rattle.lrs_parts.specs.Parts.{state_of};
+ghost use Rattle.lrs_parts.specs.State.{used_in};
+ghost use Rattle.xapi_statement.specs.declared.statement.Statement.{Statement as SpecStatement};
+
+use crate::enrolments::LentEnrolled;
+use crate::making::make_under;
+use crate::saying::statement_of;
+use cmi5_course::Node;
+use cmi5_launch::{Made, activity_id};
+use cmi5_verdict::{Statements, owed};
+use lrs_ids::IdSupply;
+use lrs_json::Memory;
+use lrs_names::Id;
+use lrs_parts::Parts;
+use lrs_time::Moment;
+use std::alloc::Global;
+use xapi_statement::{Statement, StoredStatement};
+
+/// Puts behind the statements that were made what the store says of its own behind them, in that session: which nodes
+/// of a registration are satisfied. Nothing is said where there is no registration.
+pub fn add_owed(
+    alloc: Global,
+    parts: &Parts,
+    enrolled: Option<&LentEnrolled<'_>>,
+    session: &Id,
+    moment: Moment,
+    supply: &mut IdSupply,
+    made: &mut Vec<StoredStatement>,
+) -> Result<(), Memory>
+    ensures { OnOk result (made.new.items
+        ≡ made.old.items
+        ++ owed_made (state_of parts.now) session.now (left_of (used_in (state_of parts.now)) supply.old) moment
+        made.old.items (option_map seen_enrolled (option_copied enrolled.entry))) }
+{
+    match enrolled {
+        Some(enrolled) => add_owed_in(alloc, parts, enrolled, session, moment, supply, made),
+        None => Ok(()),
+    }
+}
+
+// The same of a registration that is there.
+fn add_owed_in(
+    alloc: Global,
+    parts: &Parts,
+    enrolled: &LentEnrolled<'_>,
+    session: &Id,
+    moment: Moment,
+    supply: &mut IdSupply,
+    made: &mut Vec<StoredStatement>,
+) -> Result<(), Memory>
+    ensures { OnOk result (made.new.items
+        ≡ made.old.items
+        ++ made_under (left_of (used_in (state_of parts.now)) supply.old) moment
+        (owed_jsons (state_of parts.now) session.now made.old.items (seen_enrolled enrolled.now))) }
+{
+    let said = owed_statements(alloc, parts, made.as_slice(), enrolled, session)?;
+    make_under(parts, supply, moment, said, made)
+}
+
+// What is to be said behind these new statements.
+fn owed_statements(
+    alloc: Global,
+    parts: &Parts,
+    new: &[StoredStatement],
+    enrolled: &LentEnrolled<'_>,
+    session: &Id,
+) -> Result<Vec<Statement>, Memory>
+    ensures { IfOk result (λ said. map (λ (s : SpecStatement). view s.tree) said.items
+        ≡ owed_jsons (state_of parts.now) session.now new.now (seen_enrolled enrolled.now)) }
+{
+    let places = owed_places(alloc, parts, new, enrolled)?;
+    satisfied_statements(alloc, enrolled, session, places.as_slice())
+}
+
+// The numbers of the nodes of which it is to be said.
+fn owed_places(
+    alloc: Global,
+    parts: &Parts,
+    new: &[StoredStatement],
+    enrolled: &LentEnrolled<'_>,
+) -> Result<Vec<u32>, Memory>
+    ensures { IfOk result (λ places. places.items
+        ≡ owed_behind (state_of parts.now) new.now (seen_enrolled enrolled.now)) }
+{
+    let statements = Statements {
+        held: &parts.statements,
+        new,
+    };
+    owed(alloc, &statements, &enrolled.enrolment())
+}
+
+// That each of these nodes is satisfied, in that session.
+fn satisfied_statements(
+    alloc: Global,
+    enrolled: &LentEnrolled<'_>,
+    session: &Id,
+    places: &[u32],
+) -> Result<Vec<Statement>, Memory>
+    ensures { IfOk result (λ said. map (λ (s : SpecStatement). view s.tree) said.items
+        ≡ filter_map (satisfied_at (seen_enrolled enrolled.now) session.now) places.now) }
+{
+    let mut said = Vec::with_capacity(alloc, places.len())?;
+    for place in places {
+        push_satisfied(alloc, enrolled, session, *place, &mut said)?;
+    }
+    Ok(said)
+}
+
+// Says it of the node of that number, if there is one.
+fn push_satisfied(
+    alloc: Global,
+    enrolled: &LentEnrolled<'_>,
+    session: &Id,
+    place: u32,
+    said: &mut Vec<Statement>,
+) -> Result<(), Memory>
+    ensures { OnOk result (map (λ (s : SpecStatement). view s.tree) said.new.items
+        ≡ map (λ (s : SpecStatement). view s.tree) said.old.items
+        ++ filter_map (satisfied_at (seen_enrolled enrolled.now) session.now) (place ∷ [])) }
+{
+    let course = enrolled.course;
+    match course.node_at(place) {
+        Some(node) => push_of_node(alloc, enrolled, session, place, node, said),
+        None => Ok(()),
+    }
+}
+
+fn push_of_node(
+    alloc: Global,
+    enrolled: &LentEnrolled<'_>,
+    session: &Id,
+    place: u32,
+    node: &Node,
+    said: &mut Vec<Statement>,
+) -> Result<(), Memory>
+    ensures { OnOk result (map (λ (s : SpecStatement). view s.tree) said.new.items
+        ≡ map (λ (s : SpecStatement). view s.tree) said.old.items
+        ++ satisfied_json (seen_enrolled enrolled.now) session.now place node.now ∷ []) }
+{
+    let statement = satisfied_statement(alloc, enrolled, session, place, node)?;
+    said.push(statement)?;
+    Ok(())
+}
+
+// That the node of that number is satisfied, in that session.
+fn satisfied_statement(
+    alloc: Global,
+    enrolled: &LentEnrolled<'_>,
+    session: &Id,
+    place: u32,
+    node: &Node,
+) -> Result<Statement, Memory>
+    ensures { IfOk result (λ s. view s.tree
+        ≡ satisfied_json (seen_enrolled enrolled.now) session.now place node.now) }
+{
+    let registration = enrolled.registration;
+    let made = Made::Satisfied { kind: node.kind };
+    let activity = activity_id(alloc, enrolled.base.text(), registration.course, place)?;
+    statement_of(alloc, &made, registration, &activity, &node.id, session)
+}

@@ -1,0 +1,33 @@
+-- What is said of sessions that are abandoned, as the program finds it.
+use Rattle.std.proofs.Common.{◌≡◌, ℕ, List, [], ◌∷◌, ◌++◌, Option, Some, None, option_map, sym, ap, ◌∙◌, append-nil}
+use Rattle.std.specs.List.{cons_option}
+use Rattle.cmi5_course.specs.declared.launch.Launch.{Launch}
+use Rattle.cmi5_launch.specs.Made.{said_abandoned, saying_json}
+use Rattle.lrs_agents.specs.declared.agents.Agent.{Agent}
+use Rattle.lrs_history.specs.Endings.{abandoned_at, abandoned_from, abandoned_json, abandoned_jsons, lasted}
+use Rattle.lrs_history.specs.Launches.{Target, activity_at, target}
+use Rattle.lrs_json.specs.Json.{Json}
+use Rattle.lrs_parts.specs.State.{State}
+
+-- ---- of one session
+
+pub abandoned_is : (launch : Launch) (t : Target) (ms : ℕ) (actor : Agent) (activity : List ℕ) (j : Json) → j ≡ saying_json (said_abandoned ms) actor activity t.publisher t.registration.id launch.session
+    → actor ≡ t.registration.actor → activity ≡ activity_at t → j ≡ abandoned_json launch t ms
+abandoned_is launch t ms actor activity j made learner there =
+    made ∙ (ap (λ (a : Agent). saying_json (said_abandoned ms) a activity t.publisher t.registration.id launch.session) learner
+    ∙ ap (λ (a : List ℕ). saying_json (said_abandoned ms) t.registration.actor a t.publisher t.registration.id launch.session) there)
+
+pub abandoned_there : (st : State) (launch : Launch) (began : ℕ) (t : Target) (ms : ℕ) (j : Json) → Some t ≡ target st launch.registration launch.publisher → ms ≡ lasted launch.session st.statements began
+    → j ≡ abandoned_json launch t ms → Some j ≡ abandoned_from st launch began
+abandoned_there st launch began t ms j there long made =
+    ap (λ (x : Json). Some x) made
+    ∙ (ap (λ (n : ℕ). Some (abandoned_json launch t n)) long
+    ∙ ap (λ (o : Option Target). option_map (λ (u : Target). abandoned_json launch u (lasted launch.session st.statements began)) o) there)
+
+-- ---- of the next of several
+
+pub told_one : (st : State) (number : ℕ) (before now : List Json) (j : Json) → now ≡ before ++ j ∷ [] → Some j ≡ abandoned_at st number → now ≡ before ++ abandoned_jsons st (number ∷ [])
+told_one st number before now j is told = is ∙ ap (λ (o : Option Json). before ++ cons_option o []) told
+
+pub told_none : (st : State) (number : ℕ) (before : List Json) → None ≡ abandoned_at st number → before ≡ before ++ abandoned_jsons st (number ∷ [])
+told_none st number before told = sym (append-nil before) ∙ ap (λ (o : Option Json). before ++ cons_option o []) told

@@ -1,0 +1,24 @@
+use Rattle.std.proofs.Common.{◌≡◌, ◌&&◌, ◌∙◌, ℕ, length, ap, arith}
+use Rattle.std.specs.Prelude.{filter}
+use Rattle.std.specs.List.{range_with_len}
+use Rattle.lrs_history.specs.Endings.{is_number_of, is_open}
+use Rattle.lrs_parts.specs.Parts.{state_of}
+use Rattle.lrs_sessions.proofs.Filled.{passed_more}
+use Rattle.lrs_sessions.proofs.closed.open_of.Goals as goal
+
+pub loop-number-init : goal.loop-number-init
+loop-number-init c = c.new-numbers.ensures.items
+
+pub loop-number-preserved : goal.loop-number-preserved
+loop-number-preserved c =
+    let st = state_of c.args.parts.now in
+    let at = c.loop-number in
+    passed_more (λ (k : ℕ). is_number_of st c.args.registration.now c.args.activity.now k && is_open st k) at.numbers.items c.push_if.new.list.items at.number c.is_open_of.result
+    at.invariant c.in_ok-push_if.ensures c.is_open_of.ensures
+
+pub returns : goal.returns
+returns c =
+    let st = state_of c.args.parts.now in
+    let at = c.loop-number in
+    let all : at.number ≡ length c.args.parts.now.learning.launches.held = omega (arith, c.in_ok-count.ensures) in
+    at.invariant ∙ ap (λ n. filter (λ (k : ℕ). is_number_of st c.args.registration.now c.args.activity.now k && is_open st k) (range_with_len 0 n)) all

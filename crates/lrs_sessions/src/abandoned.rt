@@ -1,0 +1,113 @@
+// What the store says of sessions that it abandons (cmi5 Quartz, section 9.3.6).
+ghost use Rattle.std.specs.Prelude.{◌≡◌, ◌∷◌, ◌++◌, [], IfOk, OnOk};
+ghost use Rattle.lrs_history.specs.Endings.{abandoned_at, abandoned_from, abandoned_json, abandoned_jsons};
+ghost use Rattle.lrs_history.specs.Endings.{abandoned_of};
+ghost use Rattle.lrs_json.specs.View.{view};
+ghost use Rattle.lrs_made.specs.Lent.{seen_target};
+ghost use Rattle.lrs_parts.specs.Parts.{state_of};
+ghost use Rattle.lrs_sessions.specs.Said.{json_given, jsons_of};
+
+use crate::moments::{began_at, lasted};
+use cmi5_course::Launch;
+use cmi5_launch::{Made, made_statement};
+use lrs_json::Memory;
+use lrs_made::{LentTarget, target};
+use lrs_parts::Parts;
+use lrs_time::Moment;
+use std::alloc::Global;
+use xapi_statement::Statement;
+
+/// What is said of the sessions of the launches of these numbers: nothing of one that never began.
+pub fn abandoned_statements(
+    alloc: Global,
+    parts: &Parts,
+    numbers: &[u32],
+) -> Result<Vec<Statement>, Memory>
+    ensures { IfOk result (λ said. jsons_of said.items ≡ abandoned_jsons (state_of parts.now) numbers.now) }
+{
+    let mut said = Vec::new(alloc);
+    for number in numbers {
+        push_abandoned(alloc, parts, *number, &mut said)?;
+    }
+    Ok(said)
+}
+
+fn push_abandoned(
+    alloc: Global,
+    parts: &Parts,
+    number: u32,
+    said: &mut Vec<Statement>,
+) -> Result<(), Memory>
+    ensures { OnOk result (jsons_of said.new.items
+        ≡ jsons_of said.old.items ++ abandoned_jsons (state_of parts.now) (number ∷ [])) }
+{
+    let made = abandoned_at(alloc, parts, number)?;
+    match made {
+        Some(statement) => push_said(said, statement),
+        None => Ok(()),
+    }
+}
+
+fn push_said(said: &mut Vec<Statement>, statement: Statement) -> Result<(), Memory>
+    ensures { OnOk result (jsons_of said.new.items ≡ jsons_of said.old.items ++ view statement.tree ∷ []) }
+{
+    Ok(said.push(statement)?)
+}
+
+fn abandoned_at(alloc: Global, parts: &Parts, number: u32) -> Result<Option<Statement>, Memory>
+    ensures { IfOk result (λ said. json_given said ≡ abandoned_at (state_of parts.now) number) }
+{
+    let Some(launch) = parts.learning.launches.get(number) else {
+        return Ok(None);
+    };
+    abandoned_of(alloc, parts, launch)
+}
+
+fn abandoned_of(alloc: Global, parts: &Parts, launch: &Launch) -> Result<Option<Statement>, Memory>
+    ensures { IfOk result (λ said. json_given said ≡ abandoned_of (state_of parts.now) launch.now) }
+{
+    match began_at(&parts.statements, &launch.session) {
+        Some(began) => abandoned_from(alloc, parts, launch, began),
+        None => Ok(None),
+    }
+}
+
+// The same of a session that began then.
+fn abandoned_from(
+    alloc: Global,
+    parts: &Parts,
+    launch: &Launch,
+    began: Moment,
+) -> Result<Option<Statement>, Memory>
+    ensures { IfOk result (λ said. json_given said ≡ abandoned_from (state_of parts.now) launch.now began) }
+{
+    let Some(found) = target(parts, &launch.registration, &launch.publisher) else {
+        return Ok(None);
+    };
+    let ms = lasted(&parts.statements, &launch.session, began);
+    Ok(Some(abandoned_statement(alloc, &found, launch, ms)?))
+}
+
+// The same of one that lasted so many milliseconds.
+fn abandoned_statement(
+    alloc: Global,
+    target: &LentTarget<'_>,
+    launch: &Launch,
+    ms: u64,
+) -> Result<Statement, Memory>
+    ensures { IfOk result (λ said. view said.tree ≡ abandoned_json launch.now (seen_target target.now) ms) }
+{
+    let activity = target.activity(alloc)?;
+    made_statement(
+        alloc,
+        &Made::Abandoned {
+            ms,
+            unit: target.unit,
+        },
+        target.registration.actor.agent(),
+        &activity,
+        target.publisher,
+        &target.registration.id,
+        &launch.session,
+    )
+}
