@@ -8,11 +8,12 @@ ghost use Rattle.lrs_machine.specs.Acts.{HasDiskCause};
 ghost use Rattle.lrs_machine.specs.Fold.{state_of};
 ghost use Rattle.lrs_machine.specs.Steps.{Does};
 ghost use Rattle.lrs_parts.specs.Parts.{AddsNoPlaces, IsReadyFor, MakesPlacesFor};
+ghost use Rattle.lrs_parts.specs.State.{apply};
 ghost use Rattle.lrs_parts.specs.declared.parts.Parts.{Parts};
 
 use lrs_disk::Disk;
 use lrs_fold::{Accepted, Fold};
-use lrs_journal::{AppendRefused, Full, Journal};
+use lrs_journal::{Full, Journal};
 use lrs_record::Entry;
 use lrs_replies::{Answered, Refusal, Trouble};
 use std::snapshot::Snapshot;
@@ -33,10 +34,31 @@ pub(crate) fn keep<D: Disk>(
     ensures cause { HasDiskCause (D.fault_count journal.old.disk) (D.fault_count journal.new.disk) result.0 }
     ensures places { IsNone result.1 → AddsNoPlaces fold.old.parts fold.new.parts }
 {
-    if let Err(Full { need, limit }) = journal.room(accepted.text.as_slice()) {
-        drop(accepted);
-        return (Ok(Answered::Refused(Refusal::Full { need, limit })), None);
+    match journal.room(accepted.text.as_slice()) {
+        Ok(()) => keep_within(journal, fold, accepted),
+        Err(Full { need, limit }) => {
+            drop(accepted);
+            (Ok(Answered::Refused(Refusal::Full { need, limit })), None)
+        }
     }
+}
+
+// Keeps an entry that has room.
+fn keep_within<D: Disk>(
+    journal: &mut Journal<D>,
+    fold: &mut Fold,
+    accepted: Accepted,
+) -> (Result<Answered, Trouble>, Option<Snapshot<Entry>>)
+    requires settled { journal.old.doubt ≡ false }
+    requires sound { IsJournal D.told D.image journal.old }
+    requires room { need_of journal.old accepted.text ≤ journal.old.limit }
+    ensures kept { (v : Outcome) → IsOutcome (state_of fold.old) v (made.Accepted accepted)
+        → Does D.told D.time D.image_since journal.old journal.new (state_of fold.old) (state_of fold.new) v
+        result.0 (option_map (λ s. s.value) result.1) }
+    ensures sound { IsJournal D.told D.image journal.new }
+    ensures cause { HasDiskCause (D.fault_count journal.old.disk) (D.fault_count journal.new.disk) result.0 }
+    ensures places { IsNone result.1 → AddsNoPlaces fold.old.parts fold.new.parts }
+{
     match fold.ready(&accepted.effect) {
         Ok(()) => append(journal, fold, accepted),
         Err(refused) => {
@@ -65,33 +87,39 @@ fn append<D: Disk>(
     ensures places { IsNone result.1 → (before : Parts) → MakesPlacesFor before fold.old.parts accepted.effect
         → AddsNoPlaces before fold.new.parts }
 {
+    match journal.append(accepted.text.as_slice()) {
+        Ok(_) => {
+            let (said, entry) = take_in(fold, accepted);
+            (Ok(said), Some(entry))
+        }
+        // There was room, so the disk failed.
+        Err(_) => {
+            if journal.in_doubt() {
+                let (said, entry) = take_in(fold, accepted);
+                drop(said);
+                (Err(Trouble::Disk), Some(entry))
+            } else {
+                fold.release(&accepted.effect);
+                drop(accepted);
+                (Err(Trouble::Disk), None)
+            }
+        }
+    }
+}
+
+// Takes in the effect of an entry for which all is ready, and hands on what is said of it and the entry.
+fn take_in(fold: &mut Fold, accepted: Accepted) -> (Answered, Snapshot<Entry>)
+    requires { IsReadyFor fold.old.parts accepted.effect }
+    ensures applied { state_of fold.new ≡ apply (state_of fold.old) accepted.effect }
+    ensures same { (result.0 ≡ accepted.said) × (result.1 ≡ accepted.entry) }
+{
     let Accepted {
         entry,
         text,
         effect,
         said,
     } = accepted;
-    match journal.append(text.as_slice()) {
-        Ok(_) => {
-            fold.install(effect);
-            (Ok(said), Some(entry))
-        }
-        Err(AppendRefused::Full { need, limit }) => {
-            fold.release(&effect);
-            drop(effect);
-            drop(said);
-            (Ok(Answered::Refused(Refusal::Full { need, limit })), None)
-        }
-        Err(AppendRefused::Failed) => {
-            drop(said);
-            if journal.in_doubt() {
-                fold.install(effect);
-                (Err(Trouble::Disk), Some(entry))
-            } else {
-                fold.release(&effect);
-                drop(effect);
-                (Err(Trouble::Disk), None)
-            }
-        }
-    }
+    drop(text);
+    fold.install(effect);
+    (said, entry)
 }

@@ -1,15 +1,15 @@
-use Rattle.std.proofs.Common.{◌≡◌, ◌<◌, None, Err, refl, sym, subst, ◌∙◌}
-use Rattle.std.specs.Prelude.{option_map}
-use Rattle.lrs_fold.specs.Outcomes.{IsOutcome}
-use Rattle.lrs_fold.specs.declared.outcome.Outcome.TheVariants as made
-use Rattle.lrs_history.specs.History.{Outcome}
+use Rattle.std.proofs.Common.{◌≡◌, ◌<◌, ◌≤◌, refl, subst}
 use Rattle.lrs_journal.specs.Journal.{need_of}
 use Rattle.lrs_journal.specs.Store.{need_told}
 use Rattle.lrs_machine.specs.Fold.{state_of}
-use Rattle.lrs_machine.specs.Steps.{Does}
-use Rattle.lrs_machine.proofs.ActLemmas.{full_does, wanting_does}
+use Rattle.lrs_machine.proofs.ActLemmas.{full_does}
 use Rattle.lrs_parts.proofs.Ahead.{none_more}
 use Rattle.lrs_machine.proofs.keeping.keep.Goals as goal
+
+pub keep_within-requires-clause-room : goal.keep_within-requires-clause-room
+keep_within-requires-clause-room g c =
+    let j = c.args.journal.now in
+    subst (λ f. need_of j f ≤ j.limit) c.as_slice.ensures (c.in-Ok.ensures.fits refl)
 
 pub returns-in-Err-clause-kept : goal.returns-in-Err-clause-kept
 returns-in-Err-clause-kept g c = λ v is.
@@ -17,21 +17,5 @@ returns-in-Err-clause-kept g c = λ v is.
     full_does g.D.Disk.told g.D.Disk.image g.D.Disk.time g.D.Disk.image_since g.met.D.Disk.only_now j (state_of c.args.fold.now) c.args.accepted c.in-Err.field-0.need c.in-Err.field-0.limit v c.requires.sound is c.requires.settled
     (subst (λ f. j.limit < need_of j f) c.as_slice.ensures (c.in-Err.ensures.full refl)) (subst (λ f. c.in-Err.field-0.need ≡ need_told j.end f) c.as_slice.ensures c.in-Err.ensures.told.0) c.in-Err.ensures.told.1
 
-pub returns-in-Ok-clause-kept : goal.returns-in-Ok-clause-kept
-returns-in-Ok-clause-kept g c =
-    subst (λ z. (v : Outcome) → IsOutcome z v (made.Accepted c.args.accepted)
-    → Does g.D.Disk.told g.D.Disk.time g.D.Disk.image_since c.args.journal.now c.append.new.journal z (state_of c.append.new.fold) v c.append.result.0 (option_map (λ s. s.value) c.append.result.1)) c.ready.ensures.same c.append.ensures.kept
-
-pub returns-in-Err-ready-clause-kept : goal.returns-in-Err-ready-clause-kept
-returns-in-Err-ready-clause-kept g c = λ v is.
-    subst (λ t. Does g.D.Disk.told g.D.Disk.time g.D.Disk.image_since c.args.journal.now c.args.journal.now (state_of c.args.fold.now) (state_of c.release.new.self) v (Err t) None) (sym c.from.ensures)
-    (wanting_does g.D.Disk.told g.D.Disk.image g.D.Disk.time g.D.Disk.image_since g.met.D.Disk.only_now c.args.journal.now (state_of c.args.fold.now) (state_of c.release.new.self) v c.requires.sound (c.release.ensures.same ∙ c.ready.ensures.same) c.requires.settled)
-
 pub returns-in-Err-clause-places : goal.returns-in-Err-clause-places
 returns-in-Err-clause-places g c = λ none. none_more c.args.fold.now.parts
-
-pub returns-in-Ok-clause-places : goal.returns-in-Ok-clause-places
-returns-in-Ok-clause-places g c = λ none. c.append.ensures.places none c.args.fold.now.parts c.ready.ensures.made
-
-pub returns-in-Err-ready-clause-places : goal.returns-in-Err-ready-clause-places
-returns-in-Err-ready-clause-places g c = λ none. c.release.ensures.undone c.args.fold.now.parts c.ready.ensures.made

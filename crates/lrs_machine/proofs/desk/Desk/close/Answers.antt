@@ -67,3 +67,22 @@ returns-in-Err-clause-failed g c =
       closed g.D.Disk.told g.D.Disk.image g.D.Disk.time g.D.Disk.image_since i.journal c.settle.new.self (state_of i.fold) (line_of i.opened_at i.opening.items i.acts.items) true
           c.self.invariant.0 s.frames s.sound (c.in-Err.ensures.failed refl),
     ))
+
+pub returns-in-Ok-clause-legal : goal.returns-in-Ok-clause-legal
+returns-in-Ok-clause-legal g c = rw (sym c.self.view_is) c.self.invariant.0.legal
+
+pub returns-in-Err-clause-legal : goal.returns-in-Err-clause-legal
+returns-in-Err-clause-legal g c = rw (sym c.self.view_is) c.self.invariant.0.legal
+
+pub returns-in-Ok-clause-later : goal.returns-in-Ok-clause-later
+returns-in-Ok-clause-later g c = rw (c.into_disk.ensures.disk) (rw (sym c.self.view_is) c.settle.ensures.later)
+
+pub returns-in-Err-clause-later_err : goal.returns-in-Err-clause-later_err
+returns-in-Err-clause-later_err g c = rw (c.into_disk-in-Err.ensures.disk) (rw (sym c.self.view_is) c.settle.ensures.later)
+
+pub returns-in-Ok-clause-kept : goal.returns-in-Ok-clause-kept
+returns-in-Ok-clause-kept g c = rw (c.into_disk.ensures.disk) (rw (sym c.self.view_is) (c.in-Ok.ensures.cause.kept refl))
+
+pub returns-in-Err-clause-cause : goal.returns-in-Err-clause-cause
+returns-in-Err-clause-cause g c =
+    rw (c.into_disk-in-Err.ensures.disk) (rw (sym c.self.view_is) (c.in-Err.ensures.cause.later, c.in-Err.ensures.cause.failed refl))
