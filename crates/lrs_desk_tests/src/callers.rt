@@ -1,5 +1,5 @@
 // Who is made a caller, and who may ask the desk.
-use crate::rows::check_rows;
+use lrs_desk_rows::check_rows;
 use std::alloc::Global;
 use std::test::Fail;
 

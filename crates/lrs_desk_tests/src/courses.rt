@@ -1,5 +1,5 @@
 // Courses and enrolments.
-use crate::rows::check_rows;
+use lrs_desk_rows::check_rows;
 use std::alloc::Global;
 use std::test::Fail;
 
@@ -25,7 +25,7 @@ admin POST /desk/callers {"name":"p"} => 200 {"caller":0,"token":"00000000000000
 00000000000000000000000000000005-3 POST /desk/registrations/ID50/launches {} => 403 {"error":"A2"}
 admin GET /desk/courses => POST
 admin PUT /desk/registrations => POST
-admin GET /desk/registrations/ID50 => no route
+admin GET /desk/registrations/ID50 => 404 {"error":"404"}
 "#;
 
 #[test]
@@ -36,7 +36,7 @@ fn a_course_is_taken_up_once(rt: HostRuntime) -> Result<(), Fail> {
 // A learner is enrolled under a new id each time. Ids that are held are passed over, and so are those of registrations.
 const ENROLLED: &str = r#"
 admin POST /desk/registrations {"course":"http://c/1","actor":ACTOR} => 404 {"error":"404"}
-admin POST /desk/courses {"id":"http://c/1","title":{"en":"C"},"children":[{"kind":"unit","id":"http://c/u","title":{"en":"U"},"url":"https://au.example/u"}]} => 200 {"course":"http://c/1"} kept
+admin POST /desk/courses {"id":"http://c/1","title":{"en":"C"},"children":[{"kind":"unit","id":"http://c/u","title":{"en":"U"},"url":"https://au.example/u","moveOn":"Passed"}]} => 200 {"course":"http://c/1"} kept
 draw 16 0
 admin POST /desk/registrations {"course":"http://c/1","actor":ACTOR} => 200 {"registration":"ID10"} kept
 admin POST /desk/registrations {"course":"http://c/1","actor":ACTOR} => 200 {"registration":"ID11"} kept

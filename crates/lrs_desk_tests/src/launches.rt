@@ -1,5 +1,5 @@
 // Launches and fetches.
-use crate::rows::check_rows;
+use lrs_desk_rows::check_rows;
 use std::alloc::Global;
 use std::test::Fail;
 

@@ -1,5 +1,5 @@
 // What a session sees in lists of statements.
-use crate::rows::check_rows;
+use lrs_desk_rows::check_rows;
 use std::alloc::Global;
 use std::test::Fail;
 

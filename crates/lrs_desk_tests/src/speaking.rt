@@ -1,5 +1,5 @@
 // What sessions may say of their learners, and when.
-use crate::rows::check_rows;
+use lrs_desk_rows::check_rows;
 use std::alloc::Global;
 use std::test::Fail;
 
@@ -61,7 +61,8 @@ TOKEN POST /xapi/statements {"verb":{"id":"VERB/completed"},"result":{"completio
 TOKEN POST /xapi/statements {"verb":{"id":"VERB/failed"},"result":{"success":false,"score":{"scaled":0.1}},FIRST} => 200 ["ID43"] kept
 TOKEN POST /xapi/statements {"verb":{"id":"VERB/passed"},"result":{"success":true,"score":{"scaled":0.8}},FIRST} => 200 ["ID44"] kept
 TOKEN POST /xapi/statements {"verb":{"id":"VERB/passed"},"result":{"success":true,"score":{"scaled":0.9}},FIRST} => 403 {"error":"C17"}
-TOKEN POST /xapi/statements {"verb":{"id":"VERB/terminated"},"result":{"duration":"PT1S"},FIRST} => 200 ["ID45"] kept
+// the store said of the block and of the course that they are satisfied
+TOKEN POST /xapi/statements {"verb":{"id":"VERB/terminated"},"result":{"duration":"PT1S"},FIRST} => 200 ["ID47"] kept
 "#;
 
 #[test]
@@ -118,7 +119,8 @@ TOKEN POST /xapi/statements {"verb":{"id":"VERB/passed"},"result":{"success":tru
 admin POST /xapi/statements {"actor":{"mbox":"mailto:a@b"},"verb":{"id":"VERB/voided"},"object":{"objectType":"StatementRef","id":"ID40"}} => 200 ["ID48"] kept
 TOKEN POST /xapi/statements {"verb":{"id":"VERB/initialized"},FIRST} => 403 {"error":"C12"}
 TOKEN POST /xapi/statements [{"verb":{"id":"VERB/completed"},"result":{"completion":true},FIRST},{"verb":{"id":"VERB/terminated"},"result":{"duration":"PT1S"},FIRST}] => 200 ["ID49","ID4a"] kept
-admin POST /xapi/statements [{"actor":{"mbox":"mailto:a@b"},"verb":{"id":"VERB/voided"},"object":{"objectType":"StatementRef","id":"ID49"}},{"actor":{"mbox":"mailto:a@b"},"verb":{"id":"VERB/voided"},"object":{"objectType":"StatementRef","id":"ID4a"}}] => 200 ["ID4b","ID4c"] kept
+// the store said of the block and of the course that they are satisfied
+admin POST /xapi/statements [{"actor":{"mbox":"mailto:a@b"},"verb":{"id":"VERB/voided"},"object":{"objectType":"StatementRef","id":"ID49"}},{"actor":{"mbox":"mailto:a@b"},"verb":{"id":"VERB/voided"},"object":{"objectType":"StatementRef","id":"ID4a"}}] => 200 ["ID4d","ID4e"] kept
 TOKEN POST /xapi/statements {"verb":{"id":"VERB/completed"},"result":{"completion":true},FIRST} => 403 {"error":"C6"}
 "#;
 
@@ -186,4 +188,55 @@ draw 64 0
 #[test]
 fn who_browses_has_no_result(rt: HostRuntime) -> Result<(), Fail> {
     check_rows(rt.alloc(), BROWSED)
+}
+
+// Two units of one registration, and one of them in another: `u` is completed and passed by a session, `v` by another.
+const UNITS: &str = r#"
+draw 0 0
+admin POST /desk/courses {"id":"http://c/1","title":{"en":"C"},"children":[{"kind":"unit","id":"http://c/v","title":{"en":"V"},"url":"https://au.example/u","moveOn":"Passed"},{"kind":"unit","id":"http://c/u","title":{"en":"U"},"url":"https://au.example/u","moveOn":"Passed"},{"kind":"unit","id":"http://c/w","title":{"en":"W"},"url":"https://au.example/u","moveOn":"Passed"}]} => 200 {"course":"http://c/1"} kept
+draw 16 0
+admin POST /desk/registrations {"course":"http://c/1","actor":ACTOR} => 200 {"registration":"ID10"} kept
+admin POST /desk/registrations {"course":"http://c/1","actor":ACTOR} => 200 {"registration":"ID11"} kept
+draw 32 1
+admin POST /desk/registrations/ID10/launches {"unit":"http://c/u"} => 200 {"session":"ID20","launchMethod":"AnyWindow","url":"ADDRESSZEROS1-4WHOSEID10WHICH0%2F2"} kept
+draw 0 2
+nobody POST /fetch/ZEROS1-4 => 200 {"auth-token":"ZEROS2-5"} kept
+draw 64 0
+ZEROS2-5 POST /xapi/statements [{INITIALIZED,FIRST},{COMPLETED,FIRST},{PASSED,FIRST}] => 200 ["ID40","ID41","ID42"] kept
+ZEROS2-5 POST /xapi/statements {COMPLETED,FIRST} => 403 {"error":"C16"}
+ZEROS2-5 POST /xapi/statements {PASSED,FIRST} => 403 {"error":"C17"}
+// the other unit, in the same registration
+draw 80 3
+admin POST /desk/registrations/ID10/launches {"unit":"http://c/v"} => 200 {"session":"ID50","launchMethod":"AnyWindow","url":"ADDRESSZEROS3-7WHOSEID10WHICH0%2F1"} kept
+draw 0 4
+nobody POST /fetch/ZEROS3-7 => 200 {"auth-token":"ZEROS4-8"} kept
+draw 96 0
+ZEROS4-8 POST /xapi/statements [{INITIALIZED,ABOUT1UNDER"ID10"GIVENvWITHIN"ID50"}}},{PASSED,ABOUT1UNDER"ID10"GIVENvWITHIN"ID50"}}},{COMPLETED,ABOUT1UNDER"ID10"GIVENvWITHIN"ID50"}}}] => 200 ["ID60","ID61","ID62"] kept
+ZEROS4-8 POST /xapi/statements {PASSED,ABOUT1UNDER"ID10"GIVENvWITHIN"ID50"}}} => 403 {"error":"C17"}
+ZEROS4-8 POST /xapi/statements {COMPLETED,ABOUT1UNDER"ID10"GIVENvWITHIN"ID50"}}} => 403 {"error":"C16"}
+// the first unit, in the other registration
+draw 112 5
+admin POST /desk/registrations/ID11/launches {"unit":"http://c/u"} => 200 {"session":"ID70","launchMethod":"AnyWindow","url":"ADDRESSZEROS5-10WHOSEID11WHICH0%2F2"} kept
+draw 0 6
+nobody POST /fetch/ZEROS5-10 => 200 {"auth-token":"ZEROS6-11"} kept
+draw 128 0
+ZEROS6-11 POST /xapi/statements [{INITIALIZED,ABOUT2UNDER"ID11"GIVENuWITHIN"ID70"}}},{PASSED,ABOUT2UNDER"ID11"GIVENuWITHIN"ID70"}}},{COMPLETED,ABOUT2UNDER"ID11"GIVENuWITHIN"ID70"}}}] => 200 ["ID80","ID81","ID82"] kept
+// the voided passed of one unit lets that one be passed again, and no other
+admin POST /xapi/statements VOIDS"ID61"}} => 200 ["ID83"] kept
+ZEROS2-5 POST /xapi/statements {PASSED,FIRST} => 403 {"error":"C17"}
+ZEROS4-8 POST /xapi/statements {PASSED,ABOUT1UNDER"ID10"GIVENvWITHIN"ID50"}}} => 200 ["ID84"] kept
+// a later session of a unit
+draw 144 7
+admin POST /desk/registrations/ID10/launches {"unit":"http://c/u"} => 200 {"session":"ID90","launchMethod":"AnyWindow","url":"ADDRESSZEROS7-15WHOSEID10WHICH0%2F2"} kept
+draw 0 8
+nobody POST /fetch/ZEROS7-15 => 200 {"auth-token":"ZEROS8-16"} kept
+draw 160 0
+ZEROS8-16 POST /xapi/statements [{INITIALIZED,SAYING"ID90"}}},{COMPLETED,SAYING"ID90"}}}] => 403 {"error":"C16"}
+ZEROS8-16 POST /xapi/statements [{INITIALIZED,SAYING"ID90"}}},{PASSED,SAYING"ID90"}}}] => 403 {"error":"C17"}
+ZEROS8-16 POST /xapi/statements {INITIALIZED,SAYING"ID90"}}} => 200 ["IDa0"] kept
+"#;
+
+#[test]
+fn results_count_once_for_a_unit_and_a_registration(rt: HostRuntime) -> Result<(), Fail> {
+    check_rows(rt.alloc(), UNITS)
 }

@@ -1,5 +1,5 @@
 // What a launch makes of what its unit and its learner have.
-use crate::rows::check_rows;
+use lrs_desk_rows::check_rows;
 use std::alloc::Global;
 use std::test::Fail;
 

@@ -2,6 +2,7 @@
 //
 //   WHO METHOD TARGET BODY => STATUS BODY      a request, and its reply; `kept` behind it if an entry is kept
 //   draw NAME SECRET                           what is drawn for the requests from here on
+//   clock MILLISECONDS                         what the clock reads for them
 //   sample                                     the rows that launch the sample unit and fetch its session's token
 //
 // WHO is `admin`, `nobody`, or a token. The body and the spaces in it go to the end. A line after `//` is none.
@@ -11,8 +12,12 @@
 // In rows `ID` and two digits stand for the id that ends with them, `ACTOR` for the sample learner's Agent, `LEARNER` for
 // its text in launch addresses, `AGENT` and `OTHER` for it and another one as parameters, `BASE` for the store's address,
 // `STATE` for the documents of the sample unit, `KEY` and `TOKEN` for the fetch key and the token of the sample session,
-// `CMI5` for cmi5's category, `VERB/` for what its verbs begin with. `FIRST` stands for the actor, the object and the
-// context of what the sample session says, `SECOND` for those of session 30 in its registration.
+// `ZEROS` for all zeros of a key or a token with a small secret, `CMI5` for cmi5's category, `VERB/` and `ADL/` for what
+// its verbs begin with. `FIRST` stands for the actor, the object and the context of what the sample session says, `SECOND`
+// for those of session 30 in its registration; those of any other are put together of `ABOUT`, a unit's node, `UNDER`, a
+// registration, `GIVEN`, the last letter of the publisher's id, `WITHIN` and a session. `INITIALIZED`, `COMPLETED`,
+// `PASSED` and `TERMINATED` stand for a verb and its result, `VOIDS` and an id for a statement that voids that one.
+// `ADDRESS`, a key, `WHOSE`, a registration, `WHICH` and the unit's activity make a launch address.
 use lrs_http::{Method, Request};
 use lrs_in_memory::MemDisk;
 use lrs_json::{Items, Text};
@@ -32,18 +37,57 @@ admin POST /desk/courses {"id":"http://c/1","title":{"en":"C"},"children":[{"kin
 draw 16 0
 admin POST /desk/registrations {"course":"http://c/1","actor":ACTOR} => 200 {"registration":"ID10"} kept
 draw 32 1
-admin POST /desk/registrations/ID10/launches {"unit":"http://c/u"} => 200 {"session":"ID20","launchMethod":"AnyWindow","url":"https://au.example/u?endpoint=http%3A%2F%2F127.0.0.1%3A8080%2Fxapi%2F&fetch=http%3A%2F%2F127.0.0.1%3A8080%2Ffetch%2FKEY&actor=%7B%22objectType%22%3A%22Agent%22%2C%22account%22%3A%7B%22homePage%22%3A%22https%3A%2F%2Fp.example%22%2C%22name%22%3A%22k1%22%7D%7D&registration=ID10&activityId=http%3A%2F%2F127.0.0.1%3A8080%2Factivities%2F0%2F2"} kept
+admin POST /desk/registrations/ID10/launches {"unit":"http://c/u"} => 200 {"session":"ID20","launchMethod":"AnyWindow","url":"ADDRESSKEYWHOSEID10WHICH0%2F2"} kept
 draw 0 2
 nobody POST /fetch/KEY => 200 {"auth-token":"TOKEN"} kept
 "#;
 
 // What stands for what, in this order.
-const SHORT: [(&str, &str); 14] = [
+const SHORT: [(&str, &str); 28] = [
     ("FIRST", r#"SAYING"ID20"}}"#),
     ("SECOND", r#"SAYING"ID30"}}"#),
+    ("SAYING", r#"ABOUT2UNDER"ID10"GIVENuWITHIN"#),
     (
-        "SAYING",
-        r#""actor":LEARNER,"object":{"id":"BASEactivities/0/2"},"context":{"registration":"ID10","contextActivities":{"grouping":[{"id":"http://c/u"}],"category":[{"id":"CMI5"},{"id":"https://w3id.org/xapi/cmi5/context/categories/moveon"}]},"extensions":{"https://w3id.org/xapi/cmi5/context/extensions/sessionid":"#,
+        "ABOUT",
+        r#""actor":LEARNER,"object":{"id":"BASEactivities/0/"#,
+    ),
+    ("UNDER", r#""},"context":{"registration":"#),
+    (
+        "GIVEN",
+        r#","contextActivities":{"grouping":[{"id":"http://c/"#,
+    ),
+    (
+        "WITHIN",
+        r#""}],"category":[{"id":"CMI5"},{"id":"https://w3id.org/xapi/cmi5/context/categories/moveon"}]},"extensions":{"https://w3id.org/xapi/cmi5/context/extensions/sessionid":"#,
+    ),
+    ("INITIALIZED", r#""verb":{"id":"VERB/initialized"}"#),
+    (
+        "COMPLETED",
+        r#""verb":{"id":"VERB/completed"},"result":{"completion":true}"#,
+    ),
+    (
+        "PASSED",
+        r#""verb":{"id":"VERB/passed"},"result":{"success":true}"#,
+    ),
+    (
+        "TERMINATED",
+        r#""verb":{"id":"VERB/terminated"},"result":{"duration":"PT1S"}"#,
+    ),
+    (
+        "VOIDS",
+        r#"{"actor":{"mbox":"mailto:a@b"},"verb":{"id":"VERB/voided"},"object":{"objectType":"StatementRef","id":"#,
+    ),
+    (
+        "ADDRESS",
+        "https://au.example/u?endpoint=http%3A%2F%2F127.0.0.1%3A8080%2Fxapi%2F&fetch=http%3A%2F%2F127.0.0.1%3A8080%2Ffetch%2F",
+    ),
+    (
+        "WHOSE",
+        "&actor=%7B%22objectType%22%3A%22Agent%22%2C%22account%22%3A%7B%22homePage%22%3A%22https%3A%2F%2Fp.example%22%2C%22name%22%3A%22k1%22%7D%7D&registration=",
+    ),
+    (
+        "WHICH",
+        "&activityId=http%3A%2F%2F127.0.0.1%3A8080%2Factivities%2F",
     ),
     (
         "ACTOR",
@@ -66,15 +110,17 @@ const SHORT: [(&str, &str); 14] = [
         "/xapi/activities/state?activityId=BASEactivities/0/2",
     ),
     ("BASE", "http://127.0.0.1:8080/"),
-    ("KEY", "00000000000000000000000000000001-3"),
-    ("TOKEN", "00000000000000000000000000000002-4"),
+    ("KEY", "ZEROS1-3"),
+    ("TOKEN", "ZEROS2-4"),
+    ("ZEROS", "0000000000000000000000000000000"),
     ("CMI5", "https://w3id.org/xapi/cmi5/context/categories/cmi5"),
     ("VERB/", "http://adlnet.gov/expapi/verbs/"),
+    ("ADL/", "https://w3id.org/xapi/adl/verbs/"),
     ("ID", "00000000-0000-4000-8000-0000000000"),
 ];
 
-/// A new desk.
-pub(crate) fn founded(alloc: Global) -> Result<Desk<MemDisk>, Fail> {
+// A new desk.
+fn founded(alloc: Global) -> Result<Desk<MemDisk>, Fail> {
     let admin = Text::of(alloc, ADMIN)?;
     let base = Text::of(alloc, "http://127.0.0.1:8080/")?;
     if !is_token(&admin) {
@@ -94,15 +140,26 @@ pub(crate) fn founded(alloc: Global) -> Result<Desk<MemDisk>, Fail> {
 }
 
 /// Fails with the first row that a new desk answers otherwise, and its answer.
-pub(crate) fn check_rows(alloc: Global, rows: &str) -> Result<(), Fail> {
+pub fn check_rows(alloc: Global, rows: &str) -> Result<(), Fail> {
     let mut desk = founded(alloc)?;
     let wrong = wrong_rows(alloc, &mut desk, rows);
     drop(desk);
     verdict(wrong)
 }
 
+/// The same, for rows with words of their own, each of which stands for a text.
+pub fn check_rows_with(alloc: Global, words: &[(&str, &str)], rows: &str) -> Result<(), Fail> {
+    let rows = spelled(alloc, rows, words)?;
+    check_rows(alloc, rows.as_str())
+}
+
+/// The same, for rows that this desk is asked.
+pub fn check_rows_of(alloc: Global, desk: &mut Desk<MemDisk>, rows: &str) -> Result<(), Fail> {
+    verdict(wrong_rows(alloc, desk, rows))
+}
+
 /// The same, for rows over a new desk, and for later ones over what is opened from its disk.
-pub(crate) fn check_reopened(alloc: Global, rows: &str, later: &str) -> Result<(), Fail> {
+pub fn check_reopened(alloc: Global, rows: &str, later: &str) -> Result<(), Fail> {
     let mut desk = founded(alloc)?;
     let wrong = wrong_rows(alloc, &mut desk, rows);
     match desk.close() {
@@ -172,21 +229,29 @@ fn first_wrong(
     desk: &mut Desk<MemDisk>,
     rows: &str,
 ) -> Result<String, Fail> {
-    let mut draw = Draw {
-        name: 80,
-        secret: 5,
-    };
+    let mut draw = usual_draw();
+    let mut now = NOW;
     for row in rows.lines() {
         if let Some(drawn) = row.strip_prefix("draw ") {
             draw = draw_of(drawn)?;
+        } else if let Some(read) = row.strip_prefix("clock ") {
+            now = clock_of(read)?;
         } else {
-            let wrong = wrong_row(alloc, routes, desk, &draw, row)?;
+            let wrong = wrong_row(alloc, routes, desk, &draw, now, row)?;
             if !wrong.is_empty() {
                 return Ok(wrong);
             }
         }
     }
     Ok(String::new(alloc))
+}
+
+// What is drawn where no row says it.
+fn usual_draw() -> Draw {
+    Draw {
+        name: 80,
+        secret: 5,
+    }
 }
 
 fn draw_of(text: &str) -> Result<Draw, Fail> {
@@ -204,20 +269,28 @@ fn number(text: &str) -> Result<u128, Fail> {
     }
 }
 
+fn clock_of(text: &str) -> Result<u64, Fail> {
+    match text.parse::<u64>() {
+        Ok(moment) => Ok(moment),
+        Err(_) => Err(Fail::from("no moment")),
+    }
+}
+
 // What was asked and answered in this row, if something else was expected.
 fn wrong_row(
     alloc: Global,
     routes: &Routes,
     desk: &mut Desk<MemDisk>,
     draw: &Draw,
+    now: u64,
     row: &str,
 ) -> Result<String, Fail> {
     if row.is_empty() || row.starts_with("//") {
         return Ok(String::new(alloc));
     }
-    let row = written_out(alloc, row)?;
+    let row = spelled(alloc, row, &SHORT)?;
     let (asked, expected) = row.as_str().split_once(" => ").ok_or("no answer")?;
-    let found = answered(alloc, routes, desk, draw, asked)?;
+    let found = answered(alloc, routes, desk, draw, now, asked)?;
     if found.as_str() == expected {
         Ok(String::new(alloc))
     } else {
@@ -225,10 +298,10 @@ fn wrong_row(
     }
 }
 
-// The text with all that is short in full.
-fn written_out(alloc: Global, text: &str) -> Result<String, Fail> {
+// The text with what each of these words stands for.
+fn spelled(alloc: Global, text: &str, words: &[(&str, &str)]) -> Result<String, Fail> {
     let mut whole = String::from_str(alloc, text)?;
-    for (short, long) in SHORT.iter() {
+    for (short, long) in words {
         whole = whole.as_str().replace(alloc, *short, *long)?;
     }
     Ok(whole)
@@ -239,12 +312,31 @@ fn first_word(text: &str) -> (&str, &str) {
     text.split_once(' ').unwrap_or((text, ""))
 }
 
+/// What this desk answers to a row that has no reply.
+pub fn replied(alloc: Global, desk: &mut Desk<MemDisk>, asked: &str) -> Result<String, Fail> {
+    let routes = Routes::new(alloc)?;
+    let told = replied_by(alloc, &routes, desk, asked);
+    drop(routes);
+    told
+}
+
+fn replied_by(
+    alloc: Global,
+    routes: &Routes,
+    desk: &mut Desk<MemDisk>,
+    asked: &str,
+) -> Result<String, Fail> {
+    let asked = spelled(alloc, asked, &SHORT)?;
+    answered(alloc, routes, desk, &usual_draw(), NOW, asked.as_str())
+}
+
 // What a desk answers to a request, in short.
 fn answered(
     alloc: Global,
     routes: &Routes,
     desk: &mut Desk<MemDisk>,
     draw: &Draw,
+    now: u64,
     asked: &str,
 ) -> Result<String, Fail> {
     let before = desk.length();
@@ -252,7 +344,7 @@ fn answered(
     let asked = routes.command_of(alloc, request);
     match asked {
         Ok(Asked { caller, command }) => {
-            let (reply, _receipt) = desk.act(caller, command, NOW, draw);
+            let (reply, _receipt) = desk.act(caller, command, now, draw);
             let text = reply_text(alloc, &reply, before, desk.length());
             drop(reply);
             text
