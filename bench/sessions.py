@@ -1,9 +1,10 @@
 #!/usr/bin/env python3
 """Launches a unit for N learners, lets each session say four statements in one batch, and prints how long such a batch
-takes as the store grows, and how long the store takes to open afterwards.
+takes as the store grows, how long a sweep takes, which finds no open session, and how long the store takes to open.
 
   bench/sessions.py PROGRAM FILE N      PROGRAM is the built program; FILE is made anew; N sessions (10000 at most)
 """
+import atexit
 import http.client
 import json
 import os
@@ -26,12 +27,14 @@ def serve(program, store):
     words = [program, "serve", store, f"127.0.0.1:{PORT}", "--workers", "1", "--connections", "10000"]
     start = time.time()
     server = subprocess.Popen(words, stdin=subprocess.DEVNULL, stdout=subprocess.DEVNULL, stderr=subprocess.DEVNULL)
-    while True:
+    atexit.register(server.kill)
+    while server.poll() is None:
         try:
             socket.create_connection(("127.0.0.1", PORT)).close()
             return server, time.time() - start
         except OSError:
             time.sleep(0.01)
+    sys.exit(f"the server ended with status {server.returncode}")
 
 
 class Client:
@@ -40,7 +43,8 @@ class Client:
     def __init__(self):
         self.connection, self.sent = None, PER_CONNECTION
 
-    def post(self, path, body, token="adminadmin"):
+    def ask(self, method, path, body, token):
+        """What the server answers, which is JSON."""
         if self.sent == PER_CONNECTION:
             self.connection, self.sent = http.client.HTTPConnection("127.0.0.1", PORT), 0
         self.sent += 1
@@ -49,18 +53,24 @@ class Client:
             "Authorization": "Basic " + token,
             "Content-Type": "application/json",
         }
-        self.connection.request("POST", path, body=json.dumps(body) if body is not None else "", headers=headers)
+        self.connection.request(method, path, body=json.dumps(body) if body is not None else "", headers=headers)
         response = self.connection.getresponse()
         text = response.read()
         if response.status != 200:
             sys.exit(f"{path}: {response.status} {text}")
         return json.loads(text)
 
+    def post(self, path, body, token="adminadmin"):
+        return self.ask("POST", path, body, token)
 
-def launch(client, actor):
-    """The token of a new session of the actor, and the statements that it says."""
+    def get(self, path, token="adminadmin"):
+        return self.ask("GET", path, None, token)
+
+
+def launch(client, actor, unit=UNIT):
+    """A new registration of the actor, the token of a session of that unit, and the statements that it says."""
     registration = client.post("/desk/registrations", {"course": COURSE, "actor": actor})["registration"]
-    launched = client.post(f"/desk/registrations/{registration}/launches", {"unit": UNIT})
+    launched = client.post(f"/desk/registrations/{registration}/launches", {"unit": unit})
     address = dict(urllib.parse.parse_qsl(launched["url"].split("?", 1)[1]))
     token = client.post("/fetch/" + address["fetch"].split("/fetch/")[1], None)["auth-token"]
 
@@ -72,7 +82,7 @@ def launch(client, actor):
             "context": {
                 "registration": registration,
                 "contextActivities": {
-                    "grouping": [{"id": UNIT}],
+                    "grouping": [{"id": unit}],
                     "category": [{"id": CATEGORIES + name} for name in categories],
                 },
                 "extensions": {SESSION_ID: launched["session"]},
@@ -80,7 +90,7 @@ def launch(client, actor):
         }
         return {**said, "result": result} if result else said
 
-    return token, [
+    return registration, token, [
         statement("initialized", ["cmi5"]),
         statement("completed", ["cmi5", "moveon"], {"completion": True}),
         statement("passed", ["cmi5", "moveon"], {"success": True, "score": {"scaled": 0.9}}),
@@ -97,17 +107,22 @@ def main():
     server, _ = serve(program, store)
     client = Client()
     unit = {"kind": "unit", "id": UNIT, "title": {"en": "A unit"}, "url": "https://au.example/u", "masteryScore": 0.8}
-    client.post("/desk/courses", {"id": COURSE, "title": {"en": "A course"}, "children": [unit]})
+    # one that nobody passes, so that the store says nothing of the course
+    other = {"kind": "unit", "id": UNIT + "2", "title": {"en": "B"}, "url": "https://au.example/v", "moveOn": "Passed"}
+    client.post("/desk/courses", {"id": COURSE, "title": {"en": "A course"}, "children": [unit, other]})
     seconds, batches = 0.0, 0
     for learner in range(1, sessions + 1):
         actor = {"account": {"homePage": "https://p.example", "name": f"k{learner}"}}
-        token, statements = launch(client, actor)
+        _, token, statements = launch(client, actor)
         start = time.time()
         client.post("/xapi/statements", statements, token)
         seconds, batches = seconds + time.time() - start, batches + 1
         if learner % 500 == 0:
             print(f"  over {5 * learner} statements a session's batch of four takes {1000 * seconds / batches:.1f} ms")
             seconds, batches = 0.0, 0
+    start = time.time()
+    client.post("/desk/sweep", {"idle": 0})
+    print(f"  a sweep over {sessions} sessions that ended takes {1000 * (time.time() - start):.1f} ms")
     server.kill()
     server.wait()
     server, opening = serve(program, store)
@@ -115,4 +130,5 @@ def main():
     print(f"  the store ({os.path.getsize(store) / 1e6:.1f} MB) opens in {opening:.1f} s")
 
 
-main()
+if __name__ == "__main__":
+    main()
