@@ -1,5 +1,6 @@
 pub mod Kept
 pub mod Joined
+pub mod Appended
 pub mod Words
 pub mod Counts
 pub mod SameParts

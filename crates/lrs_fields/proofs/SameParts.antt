@@ -1,9 +1,9 @@
 -- Two objects that are the same have the same members, one by one.
 use Rattle.std.proofs.Common.{◌≡◌, ℕ, List, [], ◌∷◌, refl, ap, sym, ◌∙◌}
-use Rattle.lrs_json.specs.Json.{Json, Members, no_members, member, number, object}
+use Rattle.lrs_json.specs.Json.{Json, Members, no_members, member, number, object, string}
 use Rattle.lrs_json.specs.View.{members_of, view}
-use Rattle.lrs_json.specs.declared.tree.Tree.{Tree, Number}
-use Rattle.lrs_json.proofs.Views.{view-Number}
+use Rattle.lrs_json.specs.declared.tree.Tree.{Tree, Number, Words}
+use Rattle.lrs_json.proofs.Views.{view-Number, view-Words}
 
 same_pair : (a p : List ℕ × Json) → a.0 ≡ p.0 → a.1 ≡ p.1 → a ≡ p
 same_pair a p names values = ap (λ name. (name, a.1)) names ∙ ap (λ value. (p.0, value)) values
@@ -47,6 +47,9 @@ four_parts seen a b c d p q r s x y =
 -- the value of a member
 pub value_of_member : (seen : List ℕ × Json) (name : List ℕ) (a b : Json) → seen ≡ (name, a) → seen ≡ (name, b) → a ≡ b
 value_of_member seen name a b x y = ap (λ pair. pair.1) (sym x ∙ y)
+
+pub text_of_member : (seen : List ℕ × Json) (name : List ℕ) (value : Tree) (text : List ℕ) → seen ≡ (name, view value) → value ≡ Words text → seen ≡ (name, string text)
+text_of_member seen name value text is kind = is ∙ ap (λ (j : Json). (name, j)) (ap view kind ∙ view-Words text)
 
 pub spelling_of_member : (seen : List ℕ × Json) (name : List ℕ) (value : Tree) (a b : List ℕ) → seen ≡ (name, view value) → value ≡ Number a → seen ≡ (name, number b) → a ≡ b
 spelling_of_member seen name value a b x is y =

@@ -1,7 +1,8 @@
--- The digits of words and draws are ASCII, and tell them.
-use Rattle.std.proofs.Common.{◌≡◌, ℕ, ◌<◌, ◌^◌, List, [], ◌∷◌, length, take, drop, Result, Ok, Err, MatchResult, Some, IsAscii, IsUtf8, Bool, true, false, nat_lt, ◌&&◌, arith, refl, sym, ap, ◌∙◌, length-append}
-use Rattle.std.specs.Int.{to_be_bytes, w128}
-use Rattle.std.proofs.lemmas.Bool.{false≢true}
+-- The digits of words and draws: that they are ASCII, what is read of them, and that they tell one from another.
+use Rattle.std.proofs.Common.{◌≡◌, ℕ, ◌<◌, ◌^◌, ◌==◌, List, [], ◌∷◌, length, take, drop, Result, Ok, Err, MatchResult, Option, Some, None, option_map, IsAscii, IsUtf8, Bool, true, false, nat_lt, ◌&&◌, arith, refl, sym, ap, ◌∙◌, length-append}
+use Rattle.std.specs.Int.{from_be_bytes, to_be_bytes, w128}
+use Rattle.std.specs.Result.{result_ok}
+use Rattle.std.proofs.lemmas.Bool.{false_from_ne_true, false≢true}
 use Rattle.std.proofs.lemmas.Bool.Decides.{nat_tests}
 use Rattle.std.proofs.Math.Seq.{take-append_seam, drop-append_seam}
 use Rattle.std.proofs.lemmas.Str.{IsUtf8-append, IsUtf8-from_ascii}
@@ -9,9 +10,9 @@ use Rattle.std.proofs.lemmas.Str.Ascii.{IsAscii-cons, IsAscii-nil}
 use Rattle.hex.specs.Hex.{decode_of, decode_sized, encode_lower, lower_digits}
 use Rattle.hex.specs.declared.error.FromHexError.{FromHexError}
 use Rattle.hex.proofs.HexLemmas.{IsAscii-encode_with, decode_of-encode_lower, decode_sized-encode_lower, length-encode_with}
-use Rattle.lrs_names.proofs.WordBytes.{same_word, small_word_bytes}
+use Rattle.lrs_names.proofs.WordBytes.{same_word, small_word_bytes, word_again}
 use Rattle.lrs_names.specs.declared.draw.Draw.{Draw}
-use Rattle.lrs_fields.specs.Digits.{HoldsDraw, draw_text, word_text}
+use Rattle.lrs_fields.specs.Digits.{HoldsDraw, draw_from, draw_of, draw_text, word_of, word_text}
 
 abbrev pub are_small : List ℕ → Bool
 are_small [] = true
@@ -46,14 +47,51 @@ pub length-word_text : (word : ℕ) → length (word_text word) ≡ 32
 unfolding word_text
 length-word_text word = length-encode_with lower_digits (to_be_bytes w128 word)
 
--- What is decoded of a word's digits are the word's bytes.
-pub decoded_word : (digits out : List ℕ) (result : Result (Unit {0}) FromHexError) (word : ℕ) → digits ≡ word_text word
-    → MatchResult (decode_sized digits 16) (λ bytes. (result ≡ Ok tt) × (out ≡ bytes)) (λ e. result ≡ Err e)
-    → (result ≡ Ok tt) × (out ≡ to_be_bytes w128 word)
-unfolding word_text
-decoded_word digits out result word is decodes =
-    let sized : decode_sized digits 16 ≡ Ok (to_be_bytes w128 word) = rw is (decode_sized-encode_lower (to_be_bytes w128 word) 16 refl (small_word_bytes word)) in
-    rw sized at decodes
+-- ---- what is read of digits
+
+word_from : (d : Result (List ℕ) FromHexError) (out : List ℕ) (result : Result (Unit {0}) FromHexError) → MatchResult d (λ bytes. (result ≡ Ok tt) × (out ≡ bytes)) (λ e. result ≡ Err e)
+    → result ≡ Ok tt → Some (from_be_bytes w128 out) ≡ option_map (from_be_bytes w128) (result_ok d)
+word_from (Ok bytes) out result decodes well = ap (λ (b : List ℕ). Some (from_be_bytes w128 b)) decodes.1
+word_from (Err e) out result decodes well = absurd (cc (decodes, well))
+
+none_from : (d : Result (List ℕ) FromHexError) (out : List ℕ) (result : Result (Unit {0}) FromHexError) (refused : FromHexError)
+    → MatchResult d (λ bytes. (result ≡ Ok tt) × (out ≡ bytes)) (λ e. result ≡ Err e) → result ≡ Err refused → None ≡ option_map (from_be_bytes w128) (result_ok d)
+none_from (Ok bytes) out result refused decodes ill = absurd (cc (decodes.0, ill))
+none_from (Err e) out result refused decodes ill = refl
+
+-- what is made of the bytes that are decoded is the word
+pub word_found : (digits out : List ℕ) (result : Result (Unit {0}) FromHexError) → MatchResult (decode_sized digits 16) (λ bytes. (result ≡ Ok tt) × (out ≡ bytes)) (λ e. result ≡ Err e)
+    → result ≡ Ok tt → Some (from_be_bytes w128 out) ≡ word_of digits
+unfolding word_of
+word_found digits out result decodes well = word_from (decode_sized digits 16) out result decodes well
+
+-- there is none where the digits can't be decoded
+pub word_missing : (digits out : List ℕ) (result : Result (Unit {0}) FromHexError) (refused : FromHexError)
+    → MatchResult (decode_sized digits 16) (λ bytes. (result ≡ Ok tt) × (out ≡ bytes)) (λ e. result ≡ Err e) → result ≡ Err refused → None ≡ word_of digits
+unfolding word_of
+word_missing digits out result refused decodes ill = none_from (decode_sized digits 16) out result refused decodes ill
+
+read_word : (word : ℕ) → word < 2 ^ 128 → word_of (word_text word) ≡ Some word
+unfolding word_of word_text
+read_word word small =
+    let sized : decode_sized (encode_lower (to_be_bytes w128 word)) 16 ≡ Ok (to_be_bytes w128 word) = decode_sized-encode_lower (to_be_bytes w128 word) 16 refl (small_word_bytes word) in
+    ap (λ (d : Result (List ℕ) FromHexError). option_map (from_be_bytes w128) (result_ok d)) sized ∙ ap Some (word_again word small)
+
+-- other digits than 64 are no draw's
+pub draw_missing : (digits : List ℕ) → (length digits ≡ 64 → ⊥) → None ≡ draw_of digits
+unfolding draw_of
+draw_missing digits other =
+    let test : (length digits == 64) ≡ false = false_from_ne_true (length digits == 64) (λ same. other (grind (arith, nat_tests, same))) in
+    rw test refl
+
+halves : (digits : List ℕ) → length digits ≡ 64 → draw_of digits ≡ draw_from (word_of (take 32 digits)) (word_of (drop 32 digits))
+unfolding draw_of
+halves digits long = let test : (length digits == 64) ≡ true = rw long refl in rw test refl
+
+-- the draw of the words that are read of the two halves
+pub draw_made : (digits : List ℕ) (name secret : Option ℕ) → length digits ≡ 64 → name ≡ word_of (take 32 digits) → secret ≡ word_of (drop 32 digits) → draw_from name secret ≡ draw_of digits
+draw_made digits name secret long first second =
+    sym (halves digits long ∙ ap (λ (n : Option ℕ). draw_from n (word_of (drop 32 digits))) (sym first) ∙ ap (λ (s : Option ℕ). draw_from name s) (sym second))
 
 pub length-draw_text : (draw : Draw) → length (draw_text draw) ≡ 64
 length-draw_text draw = length-append (word_text draw.name) (word_text draw.secret) ∙ rw (length-word_text draw.name, length-word_text draw.secret) refl
@@ -67,12 +105,11 @@ pub second_half : (draw : Draw) (digits : List ℕ) → digits ≡ draw_text dra
 second_half draw digits is =
     ap (drop 32) is ∙ ap (λ n. drop n (draw_text draw)) (sym (length-word_text draw.name)) ∙ drop-append_seam (word_text draw.name) (word_text draw.secret)
 
-pub same_draw : (draw : Draw) (name secret : ℕ) → Some name ≡ Some draw.name → Some secret ≡ Some draw.secret
-    → Some (record { name = name; secret = secret }) ≡ Some draw
-same_draw draw name secret first second =
-    let one : name ≡ draw.name = cc first in
-    let two : secret ≡ draw.secret = cc second in
-    rw (one, two) refl
+pub read_draw : (draw : Draw) → HoldsDraw draw → draw_of (draw_text draw) ≡ Some draw
+read_draw draw holds =
+    let name : word_of (take 32 (draw_text draw)) ≡ Some draw.name = ap word_of (first_half draw (draw_text draw) refl) ∙ read_word draw.name holds.0 in
+    let secret : word_of (drop 32 (draw_text draw)) ≡ Some draw.secret = ap word_of (second_half draw (draw_text draw) refl) ∙ read_word draw.secret holds.1 in
+    sym (draw_made (draw_text draw) (Some draw.name) (Some draw.secret) (length-draw_text draw) (sym name) (sym secret))
 
 -- ---- the digits tell
 

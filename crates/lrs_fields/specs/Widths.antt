@@ -1,4 +1,4 @@
--- How many members an object has, and whether its values are such as reading gives.
+-- How many members an object has.
 use Rattle.std.specs.Prelude.{ℕ, suc, Option, Some, None}
 use Rattle.lrs_json.specs.Json.{Json, null, boolean, number, string, array, object, Members, no_members, member}
 

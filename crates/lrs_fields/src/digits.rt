@@ -1,10 +1,9 @@
 // The digits of draws, of words and of numbers.
-ghost use Rattle.std.specs.Prelude.{◌≡◌, ◌<◌, ◌^◌, ℕ, Some, length};
+ghost use Rattle.std.specs.Prelude.{◌≡◌, length};
 ghost use Rattle.std.specs.Fmt.{decimal};
 ghost use Rattle.std.specs.Str.{bytes_eq};
-ghost use Rattle.lrs_fields.specs.Digits.{HoldsDraw, draw_text, word_text};
+ghost use Rattle.lrs_fields.specs.Digits.{HoldsDraw, draw_of, draw_text, word_of, word_text};
 ghost use Rattle.lrs_fields.specs.Reading.{number_of};
-ghost use Rattle.lrs_names.specs.declared.draw.Draw.{Draw as SpecDraw};
 
 use hex::{decode_to_slice, encode_to_slice};
 use itoa::Buffer;
@@ -34,9 +33,9 @@ pub fn put_word(word: u128, digits: &mut [u8])
     }
 }
 
-/// The draw of 64 hexadecimal digits.
+/// The draw of 64 hexadecimal digits, in either case.
 pub fn draw_of(digits: &[u8]) -> Option<Draw>
-    ensures { (draw : SpecDraw) → HoldsDraw draw → digits.now ≡ draw_text draw → result ≡ Some draw }
+    ensures { result ≡ draw_of digits.now }
 {
     if digits.len() != 64 {
         return None;
@@ -49,7 +48,7 @@ pub fn draw_of(digits: &[u8]) -> Option<Draw>
 }
 
 fn word_of(digits: &[u8]) -> Option<u128>
-    ensures { (word : ℕ) → word < 2 ^ 128 → digits.now ≡ word_text word → result ≡ Some word }
+    ensures { result ≡ word_of digits.now }
 {
     let mut bytes = [0; 16];
     match decode_to_slice(digits, &mut bytes) {

@@ -27,12 +27,14 @@ pub struct Fields {
     left: VecDeque<Member>,
 }
 
-// Each but the first takes the value of the next field, if it is of that kind.
+// A method named by a kind takes the next field, and gives its value if it is of that kind. One for a name that may be
+// missing takes the next field only if it has that name.
 impl Fields {
     /// The members of the tree, if it is an object.
     pub fn of(tree: Tree) -> Option<Fields>
         requires { Fits (view tree) }
         ensures fit { IfSome result (λ left. AllByRecursion Fits (values_left left)) }
+        ensures found { IfSome result (λ left. view tree ≡ object (members_of (members_left left))) }
         ensures all { (fields : List (List ℕ × Json)) → view tree ≡ object (members_of fields)
             → MatchOption result ⊥ (λ left. members_left left ≡ fields) }
     {
@@ -40,8 +42,8 @@ impl Fields {
         Some(Fields { left })
     }
 
-    /// The value of the next field, whatever it is.
-    pub fn next(&mut self) -> Option<Tree>
+    // The value of the next field, whatever it is.
+    fn next(&mut self) -> Option<Tree>
         requires { AllByRecursion Fits (values_left self.old) }
         ensures first { option_map view result ≡ value_first (values_left self.old) }
         ensures rest { members_left self.new ≡ drop 1 (members_left self.old) }
@@ -107,8 +109,8 @@ impl Fields {
         }
     }
 
-    /// Whether the next field has that name.
-    pub fn is_next(&self, name: &str) -> bool
+    // Whether the next field has that name.
+    fn is_next(&self, name: &str) -> bool
         ensures { result ≡ is_next name.now (members_left self.now) }
     {
         match self.left.front() {

@@ -40,8 +40,8 @@ pub fn put_fields(fields: &[(&str, Lent<'_>)], into: &mut Vec<u8>) -> Result<(),
     ensures kept { Extends into.old.items into.new.items }
     ensures holds { OnOk result (AllByRecursion (λ field. HoldsValue (lent field.1)) fields.now) }
 {
-    for (i, (name, value)) in fields.iter().enumerate() {
-        put_field(i > 0, name, value, into)?;
+    for (i, field) in fields.iter().enumerate() {
+        put_field(i > 0, field.0, &field.1, into)?;
     }
     put(b"}", into)
 }

@@ -58,7 +58,7 @@ fn take_last(members: &mut Vec<Member>) -> Member
 }
 
 /// The members of the tree, if it is an object.
-pub fn members(tree: Tree) -> Option<Vec<Member>>
+pub(crate) fn members(tree: Tree) -> Option<Vec<Member>>
     ensures found { IfSome result (λ members. view tree ≡ object (members_of (map member_view members.items))) }
     ensures all { (n : ℕ) → width (view tree) ≡ Some n → IsSome result }
     ensures length { (n : ℕ) → width (view tree) ≡ Some n → IfSome result (λ members. vec_len members ≡ n) }
@@ -84,7 +84,8 @@ pub fn named(member: Member, name: &str) -> Option<Tree>
 
 /// The text that is the value of the member, if it has that name.
 pub fn text(member: Member, name: &str) -> Option<Text>
-    ensures { (value : List ℕ) → member_view member ≡ (name.now, string value) → result ≡ Some value }
+    ensures found { IfSome result (λ value. member_view member ≡ (name.now, string value)) }
+    ensures all { (value : List ℕ) → member_view member ≡ (name.now, string value) → result ≡ Some value }
 {
     match named(member, name)? {
         Tree::Words(text) => Some(text),

@@ -5,24 +5,19 @@ use Rattle.std.specs.Str.{bytes_eq}
 use Rattle.std.proofs.lemmas.Bool.{cases_Bool, false≢true, and_parts}
 use Rattle.std.proofs.lemmas.Bool.Decides.{nat_tests}
 use Rattle.std.proofs.lemmas.Slice.Eq.{bytes_eq-Decides}
-use Rattle.matchit.specs.Rows.{RowsOf, param_token}
+use Rattle.matchit.specs.Rows.{param_token}
 use Rattle.matchit.specs.Router.{RouteOf}
 use Rattle.matchit.specs.Seek.{first, has_slash}
 use Rattle.lrs_routes.specs.Paths.{Fits, IsPart}
 use Rattle.lrs_routes.specs.Table.{patterns, row_of, routes}
 use Rattle.lrs_routes.specs.declared.table.Route.{Route}
 use Rattle.lrs_routes.specs.declared.table.Route.TheVariants as route
+use Rattle.lrs_routes.proofs.Filling.{Rows, key}
 use Rattle.lrs_routes.proofs.Neat.{Has, Neat}
 use Rattle.lrs_routes.proofs.Sound.{sound}
 use Rattle.lrs_routes.proofs.Complete.{AllNeat, complete, slash_parts}
 
 -- ---- rows with a value each
-
-abbrev Rows : Type 0
-Rows = RowsOf (RouteOf Route)
-
-abbrev key : List ℕ × RouteOf Route → List ℕ × Route
-key row = (row.0, row.1.value)
 
 has_key : (rs : Rows) (t : List ℕ) (e : RouteOf Route) → Has rs t e → Has (map key rs) t e.value
 has_key [] t e h = absurd h

@@ -2,6 +2,7 @@ pub mod Neat
 pub mod Sound
 pub mod Complete
 pub mod Leads
+pub mod Filling
 pub mod Stages
 pub mod OneDocument
 pub mod OneWanted

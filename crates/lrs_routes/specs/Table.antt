@@ -55,16 +55,25 @@ row_of route.MoreStatements =
 row_of route.Statements = row (codes "/xapi/statements") area.Store true
     ((Get, operation.GetStatements) ∷ (Post, operation.PostStatements) ∷ (Put, operation.PutStatement) ∷ [])
 
+-- the routes whose paths are below /desk
+abbrev pub desk_routes : List Route
+desk_routes =
+    route.Providers ∷ route.Courses ∷ route.Launches ∷ route.Waive ∷ route.Registration ∷ route.Registrations
+    ∷ route.Abandon ∷ route.Sweep ∷ []
+
 -- each route, in the order in which the router has their paths: a longer one before its beginning
 abbrev pub routes : List Route
 routes =
-    route.Providers ∷ route.Courses ∷ route.Launches ∷ route.Waive ∷ route.Registration ∷ route.Registrations
-    ∷ route.Abandon ∷ route.Sweep ∷ route.Fetch ∷ route.About ∷ route.ActivityProfiles ∷ route.States
-    ∷ route.AgentProfiles ∷ route.MoreStatements ∷ route.Statements ∷ []
+    desk_routes ++ (route.Fetch ∷ route.About ∷ route.ActivityProfiles ∷ route.States ∷ route.AgentProfiles
+    ∷ route.MoreStatements ∷ route.Statements ∷ [])
+
+-- the patterns of some routes
+abbrev pub patterns_of : List Route → List (List ℕ × Route)
+patterns_of those = map (λ route. ((row_of route).pattern, route)) those
 
 -- the routes' patterns, as the router has them
 abbrev pub patterns : List (List ℕ × Route)
-patterns = map (λ route. ((row_of route).pattern, route)) routes
+patterns = patterns_of routes
 
 -- ---- methods
 

@@ -1,9 +1,9 @@
 ghost use Rattle.std.specs.Prelude.{◌≡◌, Some, IfOk};
-ghost use Rattle.lrs_bodies.specs.Bodies.{BodyBreaks, IsInBody, OfBody, document_body, launch_body, waiver_body};
+ghost use Rattle.lrs_bodies.specs.Bodies.{BodyBreaks, IsInBody, OfBody, course_body, document_body, enrolment_body, launch_body, statement_body, statements_body, sweep_body, waiver_body};
 ghost use Rattle.lrs_bodies.specs.Looks.{Finds};
 ghost use Rattle.lrs_routes.specs.Forms.{looks_at, parameters_of};
 ghost use Rattle.lrs_routes.specs.Looks.{IsInParameters, IsNoRefusal, OnlyParameters, Reads};
-ghost use Rattle.lrs_routes.specs.Operations.{OfParameters, command_of, dropping, form_of, parameters_of_document, written};
+ghost use Rattle.lrs_routes.specs.Operations.{OfParameters, command_of, dropping, form_of, parameters_of_document, parameters_of_put, written};
 ghost use Rattle.lrs_routes.specs.Parts.{OfPart, part_of};
 ghost use Rattle.lrs_routes.specs.declared.operation.Operation.TheVariants as operation;
 ghost use Rattle.lrs_routes.specs.declared.values.ParameterValue.TheVariants as parameter;
@@ -246,18 +246,9 @@ impl Operation {
             }
             Operation::PostStatements => {
                 drop(query);
-                match body {
-                    BodyValue::Statements(statements) => Command::Write(Write::Post { statements }),
-                    _ => unreachable!(),
-                }
+                posted(body)
             }
-            Operation::PutStatement => match query {
-                ParameterValue::Id(id) => match body {
-                    BodyValue::Statement(statement) => Command::Write(Write::Put { id, statement }),
-                    _ => unreachable!(),
-                },
-                _ => unreachable!(),
-            },
+            Operation::PutStatement => put(query, body),
             Operation::GetDocuments => {
                 drop(body);
                 match query {
@@ -281,38 +272,19 @@ impl Operation {
             }
             Operation::MakeProvider => {
                 drop(query);
-                match body {
-                    BodyValue::Strings(strings) => {
-                        let mut texts = strings.into_vec();
-                        let name = first(&mut texts);
-                        Command::Write(Write::Provider { name })
-                    }
-                    _ => unreachable!(),
-                }
+                made(body)
             }
             Operation::TakeCourse => {
                 drop(query);
-                match body {
-                    BodyValue::Course(tree) => Command::Write(Write::Course { tree }),
-                    _ => unreachable!(),
-                }
+                taken(body)
             }
             Operation::EnrolLearner => {
                 drop(query);
-                match body {
-                    BodyValue::Enrolment { course, actor } => Command::Write(Write::Enrol {
-                        course,
-                        actor,
-                    }),
-                    _ => unreachable!(),
-                }
+                enrolled(body)
             }
             Operation::SweepSessions => {
                 drop(query);
-                match body {
-                    BodyValue::Sweep { idle } => Command::Write(Write::Sweep { idle }),
-                    _ => unreachable!(),
-                }
+                swept(body)
             }
             Operation::LaunchUnit
             | Operation::FetchToken
@@ -320,6 +292,82 @@ impl Operation {
             | Operation::WaiveUnit
             | Operation::AbandonSession => unreachable!(),
         }
+    }
+}
+
+// Each of these is the write of one operation, of what its row asks for.
+
+fn posted(body: BodyValue) -> Command
+    requires { OfBody statements_body body }
+    ensures is { command_of operation.PostStatements parameter.Nothing part.Nothing body ≡ Some result }
+    ensures plain { IsNoRefusal result }
+{
+    match body {
+        BodyValue::Statements(statements) => Command::Write(Write::Post { statements }),
+        _ => unreachable!(),
+    }
+}
+
+fn put(query: ParameterValue, body: BodyValue) -> Command
+    requires query { OfParameters parameters_of_put query }
+    requires body { OfBody statement_body body }
+    ensures is { command_of operation.PutStatement query part.Nothing body ≡ Some result }
+    ensures plain { IsNoRefusal result }
+{
+    match query {
+        ParameterValue::Id(id) => match body {
+            BodyValue::Statement(statement) => Command::Write(Write::Put { id, statement }),
+            _ => unreachable!(),
+        },
+        _ => unreachable!(),
+    }
+}
+
+fn made(body: BodyValue) -> Command
+    requires { OfBody (form_of operation.MakeProvider).body body }
+    ensures is { command_of operation.MakeProvider parameter.Nothing part.Nothing body ≡ Some result }
+    ensures plain { IsNoRefusal result }
+{
+    match body {
+        BodyValue::Strings(strings) => {
+            let mut texts = strings.into_vec();
+            let name = first(&mut texts);
+            Command::Write(Write::Provider { name })
+        }
+        _ => unreachable!(),
+    }
+}
+
+fn taken(body: BodyValue) -> Command
+    requires { OfBody course_body body }
+    ensures is { command_of operation.TakeCourse parameter.Nothing part.Nothing body ≡ Some result }
+    ensures plain { IsNoRefusal result }
+{
+    match body {
+        BodyValue::Course(tree) => Command::Write(Write::Course { tree }),
+        _ => unreachable!(),
+    }
+}
+
+fn enrolled(body: BodyValue) -> Command
+    requires { OfBody enrolment_body body }
+    ensures is { command_of operation.EnrolLearner parameter.Nothing part.Nothing body ≡ Some result }
+    ensures plain { IsNoRefusal result }
+{
+    match body {
+        BodyValue::Enrolment { course, actor } => Command::Write(Write::Enrol { course, actor }),
+        _ => unreachable!(),
+    }
+}
+
+fn swept(body: BodyValue) -> Command
+    requires { OfBody sweep_body body }
+    ensures is { command_of operation.SweepSessions parameter.Nothing part.Nothing body ≡ Some result }
+    ensures plain { IsNoRefusal result }
+{
+    match body {
+        BodyValue::Sweep { idle } => Command::Write(Write::Sweep { idle }),
+        _ => unreachable!(),
     }
 }
 

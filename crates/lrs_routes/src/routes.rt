@@ -4,7 +4,7 @@ ghost use Rattle.lrs_record.specs.Entries.{IsLawfulCaller};
 ghost use Rattle.lrs_routes.specs.Asked.{Agree, IsAsked, IsCommandOf, IsRouteRefused, IsRouted, IsRoutedAs};
 ghost use Rattle.lrs_routes.specs.Looks.{HasFormRule};
 ghost use Rattle.lrs_routes.specs.Paths.{Fits};
-ghost use Rattle.lrs_routes.specs.Table.{patterns, row_of};
+ghost use Rattle.lrs_routes.specs.Table.{desk_routes, patterns, patterns_of, row_of};
 ghost use Rattle.lrs_routes.specs.declared.asked.Asked.{Asked as SpecAsked};
 ghost use Rattle.lrs_routes.specs.declared.asked.RouteRefused.{RouteRefused as SpecRefused};
 ghost use Rattle.lrs_routes.specs.declared.table.Route.{Route as SpecRoute};
@@ -159,6 +159,14 @@ fn fill(router: &mut Router<Route>) -> Result<(), InsertError>
     requires { router.old ≡ [] }
     ensures { OnOk result (map (λ row. (row.0, row.1.value)) router.new ≡ patterns) }
 {
+    fill_desk(router)?;
+    fill_others(router)
+}
+
+fn fill_desk(router: &mut Router<Route>) -> Result<(), InsertError>
+    requires { router.old ≡ [] }
+    ensures { OnOk result (map (λ row. (row.0, row.1.value)) router.new ≡ patterns_of desk_routes) }
+{
     router.insert("/desk/callers", Route::Providers)?;
     router.insert("/desk/courses", Route::Courses)?;
     router.insert("/desk/registrations", Route::Registrations)?;
@@ -167,6 +175,13 @@ fn fill(router: &mut Router<Route>) -> Result<(), InsertError>
     router.insert("/desk/registrations/{r}/waive", Route::Waive)?;
     router.insert("/desk/sessions/{s}/abandon", Route::Abandon)?;
     router.insert("/desk/sweep", Route::Sweep)?;
+    Ok(())
+}
+
+fn fill_others(router: &mut Router<Route>) -> Result<(), InsertError>
+    requires { map (λ row. (row.0, row.1.value)) router.old ≡ patterns_of desk_routes }
+    ensures { OnOk result (map (λ row. (row.0, row.1.value)) router.new ≡ patterns) }
+{
     router.insert("/fetch/{key}", Route::Fetch)?;
     router.insert("/xapi/about", Route::About)?;
     router.insert("/xapi/activities/profile", Route::ActivityProfiles)?;

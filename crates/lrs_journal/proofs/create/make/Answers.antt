@@ -1,8 +1,15 @@
-use Rattle.std.proofs.Common.{ℕ, List, Option, arith, refl, subst}
+use Rattle.std.proofs.Common.{ℕ, List, Option, arith, refl, subst, sym, ◌∙◌}
 use Rattle.lrs_journal.specs.Journal.{TellsAlike}
+use Rattle.lrs_journal.proofs.Creating.{open_blank}
 use Rattle.lrs_journal.proofs.Told.{alike_same}
 use Rattle.lrs_journal.proofs.Untouched.{made_then, untouched_made}
 use Rattle.lrs_journal.proofs.create.make.Goals as goal
+
+pub build-requires-clause-blank : goal.build-requires-clause-blank
+build-requires-clause-blank g c b told_b = open_blank b (c.in_ok-size.ensures.free refl b (sym c.inspect.ensures.untouched.0 ∙ told_b))
+
+pub build-requires-clause-size : goal.build-requires-clause-size
+build-requires-clause-size g c b told_b = c.in_ok-size.ensures.size b (sym c.inspect.ensures.untouched.0 ∙ told_b)
 
 pub returns-in_err-size-clause-any_moment : goal.returns-in_err-size-clause-any_moment
 returns-in_err-size-clause-any_moment g c synced x told_x none =
