@@ -18,13 +18,14 @@ pub fn is_cmi5_defined(statement: &Tree) -> bool
 }
 
 /// Whether it is such a statement of that verb.
-pub fn says(verb: &str, statement: &Tree) -> bool
+pub(crate) fn says(verb: &str, statement: &Tree) -> bool
     ensures { result ≡ says verb.now (view statement.now) }
 {
     verb_of(statement) == verb && is_cmi5_defined(statement)
 }
 
-fn is_of_session(session: &Id, authority: &Authority) -> bool
+/// Whether a statement under that authority is the session's own.
+pub fn is_of_session(session: &Id, authority: &Authority) -> bool
     ensures { result ≡ is_of_session session.now authority.now }
 {
     match authority {
@@ -33,7 +34,8 @@ fn is_of_session(session: &Id, authority: &Authority) -> bool
     }
 }
 
-fn is_own(session: &Id, verb: &str, statement: &StoredStatement) -> bool
+/// Whether a statement is the session's own, of that verb and as cmi5 defines it.
+pub fn is_own(session: &Id, verb: &str, statement: &StoredStatement) -> bool
     ensures { result ≡ is_own session.now verb.now statement.now }
 {
     is_of_session(session, statement.authority()) && says(verb, statement.received())

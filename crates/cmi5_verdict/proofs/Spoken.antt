@@ -1,5 +1,5 @@
 -- What statements say of nodes, one statement after another.
-use Rattle.std.proofs.Common.{◌≡◌, ◌∙◌, ◌&&◌, ◌||◌, ◌==◌, ◌+◌, ◌^◌, ◌<◌, ◌≤◌, ℕ, Bool, true, false, not, List, [], ◌∷◌, ◌++◌, length, map, drop, Option, Some, None, inl, inr, refl, sym, ap, subst, arith, ⊎_elim}
+use Rattle.std.proofs.Common.{◌≡◌, ◌∙◌, ◌&&◌, ◌||◌, ◌==◌, ◌+◌, ◌-◌, ◌^◌, ◌<◌, ◌≤◌, ℕ, Bool, true, false, not, List, [], ◌∷◌, ◌++◌, length, map, drop, Option, Some, None, inl, inr, refl, sym, ap, subst, arith, ⊎_elim}
 use Rattle.std.specs.Prelude.{if◌then◌else◌, replicate, slice_get, slice_set}
 use Rattle.std.specs.List.{range_with_len}
 use Rattle.std.specs.Option.{option_map_or}
@@ -36,7 +36,7 @@ either_unsaid a =
     same_said (a.waived || false) (a.completed || false) (a.passed || false) (a.satisfied || false) a.waived a.completed a.passed a.satisfied
     (or_false a.waived) (or_false a.completed) (or_false a.passed) (or_false a.satisfied)
 
-unsaid_either : (a : Said) → either unsaid a ≡ a
+pub unsaid_either : (a : Said) → either unsaid a ≡ a
 unfolding either
 unsaid_either a = same_said a.waived a.completed a.passed a.satisfied a.waived a.completed a.passed a.satisfied refl refl refl refl
 
@@ -87,7 +87,7 @@ module _ (e : SeenEnrolment) (all : List StoredStatement) (place : ℕ) where
 
 -- ---- what is said of one node more
 
-pub added : (said : List Said) (here place : ℕ) (more : Said) → place < length said → said_of (slice_set said here (either (said_of said here) more)) place ≡ either (said_of said place) (if here == place then more else unsaid)
+added : (said : List Said) (here place : ℕ) (more : Said) → place < length said → said_of (slice_set said here (either (said_of said here) more)) place ≡ either (said_of said place) (if here == place then more else unsaid)
 added said here place more lt = ⊎_elim there elsewhere (cases_eq here place)
   where
     there : here ≡ place → said_of (slice_set said here (either (said_of said here) more)) place ≡ either (said_of said place) (if here == place then more else unsaid)
@@ -99,6 +99,25 @@ added said here place more lt = ⊎_elim there elsewhere (cases_eq here place)
     elsewhere never =
         get_or-set_other said here place (either (said_of said here) more) unsaid (λ e. never (sym e))
         ∙ sym (ap (λ b. either (said_of said place) (if b then more else unsaid)) (ne_eqb here place never) ∙ either_unsaid (said_of said place))
+
+-- where those from the first on are told of
+
+same_place : (first here k : ℕ) → first ≤ here → ((here - first) == k) ≡ (here == (first + k))
+same_place first here k le = ⊎_elim there elsewhere (cases_eq (here - first) k)
+  where
+    there : here - first ≡ k → ((here - first) == k) ≡ (here == (first + k))
+    there e = eq-eqb (here - first) k e ∙ sym (eq-eqb here (first + k) (omega arith))
+
+    elsewhere : (here - first ≡ k → ⊥) → ((here - first) == k) ≡ (here == (first + k))
+    elsewhere never = ne_eqb (here - first) k never ∙ sym (ne_eqb here (first + k) (λ e. never (omega arith)))
+
+pub added_from : (said : List Said) (first here k : ℕ) (more : Said) → k < length said → first ≤ here
+    → said_of (slice_set said (here - first) (either (said_of said (here - first)) more)) k ≡ either (said_of said k) (if here == (first + k) then more else unsaid)
+added_from said first here k more lt le =
+    added said (here - first) k more lt ∙ ap (λ b. either (said_of said k) (if b then more else unsaid)) (same_place first here k le)
+
+pub before_first : (first here k : ℕ) → here < first → (here == (first + k)) ≡ false
+before_first first here k lt = ne_eqb here (first + k) (λ e. omega arith)
 
 -- ---- what one statement says
 

@@ -5,7 +5,7 @@ use Rattle.std.specs.List.{range_with_len}
 use Rattle.std.specs.Option.{option_map_or}
 use Rattle.std.proofs.lemmas.List.{get_or-replicate, length-replicate}
 use Rattle.std.proofs.lemmas.List.FromFn.{fill_by_all, get_or-map-range_with_len}
-use Rattle.cmi5_verdict.specs.Marks.{is_due, is_marked, is_met_by, is_satisfied_by}
+use Rattle.cmi5_verdict.specs.Marks.{is_marked, is_met_by, is_owed_by, is_satisfied_by}
 use Rattle.cmi5_verdict.specs.Nodes.{is_met_at, is_owed, is_satisfied, is_under, is_unit_in, places, SeenEnrolment, unit_in, verdicts}
 use Rattle.cmi5_verdict.specs.Said.{meets, said_among, said_in, said_of, unsaid}
 use Rattle.cmi5_verdict.specs.declared.said.Said.{Said}
@@ -39,10 +39,10 @@ module _ (e : SeenEnrolment) (statements : List StoredStatement) (said : List Sa
 
   -- ---- what is owed
 
-  pub due_by : (told : List Bool) → told ≡ verdicts e statements → filter (is_due e.nodes told said) (places e.nodes) ≡ filter (is_owed e statements) (places e.nodes)
+  pub owed_by : (told : List Bool) → told ≡ verdicts e statements → filter (is_owed_by e.nodes told said) (places e.nodes) ≡ filter (is_owed e statements) (places e.nodes)
   unfolding said_among
-  due_by told is =
-      filter_alike (is_due e.nodes told said) (is_owed e statements) 0 (length e.nodes)
+  owed_by told is =
+      filter_alike (is_owed_by e.nodes told said) (is_owed e statements) 0 (length e.nodes)
       (λ k lt. ap (λ b. not (is_unit_in e.nodes k) && b && not (said_of said k).satisfied)
       (ap (λ ms. is_marked ms k) is ∙ get_or-map-range_with_len (is_satisfied e statements) 0 (length e.nodes) k k false (omega arith) (omega arith))
       ∙ ap (λ (s : Said). not (is_unit_in e.nodes k) && is_satisfied e statements k && not s.satisfied) (said_there k (omega arith)))

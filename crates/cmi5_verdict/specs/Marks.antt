@@ -23,6 +23,6 @@ abbrev pub is_satisfied_by : List Node → List Said → ℕ → Bool
 is_satisfied_by nodes said holder = list_all (is_met_or_elsewhere nodes said holder) (places nodes)
 
 -- no unit, satisfied, and not said yet
-abbrev pub is_due : List Node → List Bool → List Said → ℕ → Bool
-is_due nodes is_satisfied said place =
+abbrev pub is_owed_by : List Node → List Bool → List Said → ℕ → Bool
+is_owed_by nodes is_satisfied said place =
     not (is_unit_in nodes place) && is_marked is_satisfied place && not (said_of said place).satisfied

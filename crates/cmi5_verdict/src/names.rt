@@ -1,15 +1,62 @@
-// Which node of a course an activity is, by its id. The id is compared piece by piece, and never built.
-ghost use Rattle.std.specs.Prelude.{◌≡◌, ◌<◌, ◌^◌, ◌++◌, ℕ, List, MatchOption};
+// Which node of a course a statement is about: by the id of its object, which is compared piece by piece, and never
+// built.
+ghost use Rattle.std.specs.Prelude.{◌≡◌, ◌<◌, ◌^◌, ◌++◌, ◌&&◌, ℕ, List, MatchOption};
 ghost use Rattle.std.specs.Fmt.{decimal};
 ghost use Rattle.std.specs.Str.{bytes_eq};
 ghost use Rattle.cmi5_launch.specs.Activities.{activity_text};
+ghost use Rattle.cmi5_session.specs.Own.{is_cmi5_defined};
+ghost use Rattle.cmi5_verdict.specs.Nodes.{activity_at, seen};
 ghost use Rattle.cmi5_verdict.specs.Places.{is_place};
+ghost use Rattle.lrs_json.specs.View.{view};
+ghost use Rattle.xapi_index.specs.Statements.{is_that_id};
+ghost use Rattle.xapi_statement.specs.Statement.{activity_of, registration_of};
 
+use crate::Enrolment;
+use cmi5_session::{is_cmi5_defined, is_that_id};
 use itoa::Buffer;
+use lrs_json::Tree;
+use lrs_names::Id;
+use xapi_statement::{StoredStatement, activity_of, registration_of};
 
-/// The number of the node that is known under that id in the course of that number. `base` is the address that the
-/// store's own names begin with.
-pub(crate) fn place_named(base: &str, course: u32, id: &str) -> Option<usize>
+/// The number of the node that a statement is about, if it names that registration and cmi5 defines what it means.
+pub(crate) fn place_meant(enrolment: &Enrolment<'_>, statement: &StoredStatement) -> Option<usize>
+    ensures { (place : ℕ) → place < 2 ^ 64 → is_place place result
+        ≡ is_that_id enrolment.now.registration.now (registration_of (view statement.now.received))
+        && is_cmi5_defined (view statement.now.received)
+        && is_that_id (activity_at (seen enrolment.now) place) (activity_of (view statement.now.received)) }
+{
+    let received = statement.received();
+    if !is_meant(enrolment.registration, received) {
+        return None;
+    }
+    place_about(enrolment, received)
+}
+
+fn is_meant(registration: &Id, statement: &Tree) -> bool
+    ensures { result ≡ is_that_id registration.now (registration_of (view statement.now))
+        && is_cmi5_defined (view statement.now) }
+{
+    is_that_id(registration, registration_of(statement)) && is_cmi5_defined(statement)
+}
+
+// The number of the node that is its object.
+fn place_about(enrolment: &Enrolment<'_>, statement: &Tree) -> Option<usize>
+    ensures { (place : ℕ) → place < 2 ^ 64 → is_place place result
+        ≡ is_that_id (activity_at (seen enrolment.now) place) (activity_of (view statement.now)) }
+{
+    match activity_of(statement) {
+        Some(id) => place_named(
+            enrolment.base.text().as_str(),
+            enrolment.course,
+            id.as_str(),
+        ),
+        None => None,
+    }
+}
+
+// The number of the node that is known under that id in the course of that number. `base` is the address that the
+// store's own names begin with.
+fn place_named(base: &str, course: u32, id: &str) -> Option<usize>
     ensures { (place : ℕ) → place < 2 ^ 64 → is_place place result
         ≡ bytes_eq id.now (activity_text base.now course place) }
 {

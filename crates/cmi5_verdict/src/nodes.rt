@@ -3,7 +3,7 @@ ghost use Rattle.std.specs.Prelude.{◌≡◌, ◌&&◌, not, option_map};
 ghost use Rattle.cmi5_verdict.specs.Nodes.{depth_of, is_met_at, is_satisfied, is_under, parent_of, seen, unit_in};
 ghost use Rattle.cmi5_verdict.specs.Statements.{all_of};
 
-use crate::counting::is_met;
+use crate::units::is_met;
 use crate::{Enrolment, Statements};
 use cmi5_course::{Node, Unit};
 

@@ -1,12 +1,13 @@
 // Of which nodes it is still to be said that they are satisfied.
-ghost use Rattle.std.specs.Prelude.{◌≡◌, ◌≤◌, ◌++◌, ◌∷◌, [], if◌then◌else◌, ℕ, nat_le, true, IfOk, OnOk, filter, length};
+ghost use Rattle.std.specs.Prelude.{◌≡◌, ◌≤◌, ◌++◌, ℕ, nat_le, true, IfOk, OnOk, filter, length};
 ghost use Rattle.std.specs.List.{list_all};
-ghost use Rattle.cmi5_verdict.specs.Marks.{is_due};
+ghost use Rattle.cmi5_verdict.specs.Marks.{is_owed_by};
 ghost use Rattle.cmi5_verdict.specs.Nodes.{at_depth, deeper_first, depth_of, owed, places, seen};
 ghost use Rattle.cmi5_verdict.specs.Statements.{all_of};
 
 use crate::marking::{is_marked, satisfied_each};
 use crate::nodes::{depth_of, unit_in};
+use crate::numbers::push_if;
 use crate::said::{Said, said_of, said_of_each};
 use crate::{Enrolment, Statements};
 use cmi5_course::Node;
@@ -25,36 +26,42 @@ pub fn owed(
 {
     let said = said_of_each(alloc, statements, enrolment)?;
     let satisfied = satisfied_each(alloc, enrolment.nodes, said.as_slice())?;
-    let due = due(
+    let found = owed_by(
         alloc,
         enrolment.nodes,
         satisfied.as_slice(),
         said.as_slice(),
     )?;
-    deeper_first(alloc, enrolment.nodes, due.as_slice())
+    deeper_first(alloc, enrolment.nodes, found.as_slice())
 }
 
-// Those that are satisfied, in the order of the text. A course has no more nodes than 32 bits number.
-fn due(alloc: Global, nodes: &[Node], satisfied: &[bool], said: &[Said]) -> Result<Vec<u32>, Memory>
-    ensures { IfOk result (λ due. due.items ≡ filter (is_due nodes.now satisfied.now said.now)
+// The same by what was said of each, in the order of the text. A course has no more nodes than 32 bits number.
+fn owed_by(
+    alloc: Global,
+    nodes: &[Node],
+    satisfied: &[bool],
+    said: &[Said],
+) -> Result<Vec<u32>, Memory>
+    ensures { IfOk result (λ found. found.items ≡ filter (is_owed_by nodes.now satisfied.now said.now)
         (places nodes.now)) }
 {
     let Ok(count) = u32::try_from(nodes.len()) else {
         return Err(Memory);
     };
-    let mut due = Vec::new(alloc);
+    let mut found = Vec::new(alloc);
     for place in 0..count {
         push_if(
-            &mut due,
+            &mut found,
             place,
-            is_due(nodes, satisfied, said, place as usize),
+            is_owed_by(nodes, satisfied, said, place as usize),
         )?;
     }
-    Ok(due)
+    Ok(found)
 }
 
-fn is_due(nodes: &[Node], satisfied: &[bool], said: &[Said], place: usize) -> bool
-    ensures { result ≡ is_due nodes.now satisfied.now said.now place }
+// No unit, satisfied, and not said yet.
+fn is_owed_by(nodes: &[Node], satisfied: &[bool], said: &[Said], place: usize) -> bool
+    ensures { result ≡ is_owed_by nodes.now satisfied.now said.now place }
 {
     unit_in(nodes, place).is_none()
         && is_marked(satisfied, place)
@@ -103,15 +110,6 @@ fn push_at(
 {
     for place in places {
         push_if(ordered, *place, depth_of(nodes, *place as usize) == depth)?;
-    }
-    Ok(())
-}
-
-fn push_if(list: &mut Vec<u32>, place: u32, passes: bool) -> Result<(), Memory>
-    ensures { OnOk result (list.new.items ≡ list.old.items ++ (if passes then place ∷ [] else [])) }
-{
-    if passes {
-        list.push(place)?;
     }
     Ok(())
 }

@@ -1,16 +1,17 @@
 // What the statements say of the nodes of a course. Each statement is looked at once.
-ghost use Rattle.std.specs.Prelude.{◌≡◌, ◌<◌, ◌^◌, ◌&&◌, ◌||◌, ℕ, IfOk, length, map, not, replicate};
-ghost use Rattle.std.specs.Prelude.{slice_get, slice_set};
+ghost use Rattle.std.specs.Prelude.{◌≡◌, ◌<◌, ◌+◌, ◌^◌, ◌==◌, ◌&&◌, ◌||◌, ℕ, IfOk, if◌then◌else◌, length, map, not};
+ghost use Rattle.std.specs.Prelude.{replicate, slice_get, slice_set};
 ghost use Rattle.std.specs.Option.{option_map_or};
 ghost use Rattle.std.specs.Str.{bytes_eq};
 ghost use Rattle.cmi5_verdict.specs.Nodes.{places, seen};
 ghost use Rattle.cmi5_verdict.specs.Said.{either, meets, said_among, said_by, said_in, said_of, said_with, unsaid};
 ghost use Rattle.cmi5_verdict.specs.Statements.{all_of};
+ghost use Rattle.cmi5_verdict.specs.Units.{moves_on};
 ghost use Rattle.lrs_json.specs.View.{view};
 ghost use Rattle.xapi_index.specs.Statements.{is_voided};
 ghost use Rattle.xapi_statement.specs.Statement.{verb_of};
 
-use crate::counting::{moves_on, place_meant};
+use crate::names::place_meant;
 use crate::{Enrolment, Statements};
 use cmi5_course::MoveOn;
 use cmi5_launch::names::{COMPLETED, PASSED, SATISFIED, WAIVED};
@@ -65,6 +66,21 @@ fn one_holds(a: bool, b: bool) -> bool
     a || b
 }
 
+// What a unit asks for, by whether it was completed and whether it was passed.
+fn moves_on(asked: MoveOn, completed: bool, passed: bool) -> bool
+    ensures { result ≡ moves_on asked completed passed }
+{
+    match asked {
+        MoveOn::NotApplicable => true,
+        MoveOn::Passed => passed,
+        MoveOn::Completed => completed,
+        MoveOn::CompletedAndPassed => completed && passed,
+        MoveOn::CompletedOrPassed => completed || passed,
+    }
+}
+
+// ---- of all nodes, or of one
+
 /// What the statements say of each node, in the order of the text.
 pub(crate) fn said_of_each(
     alloc: Global,
@@ -75,7 +91,7 @@ pub(crate) fn said_of_each(
         (places enrolment.now.nodes.now)) }
 {
     let mut said = nothing_of_each(alloc, enrolment.nodes.len())?;
-    note_all(statements, enrolment, said.as_mut_slice());
+    note_all(statements, enrolment, 0, said.as_mut_slice());
     Ok(said)
 }
 
@@ -83,6 +99,15 @@ fn nothing_of_each(alloc: Global, count: usize) -> Result<Vec<Said>, Memory>
     ensures { IfOk result (λ said. said.items ≡ replicate count unsaid) }
 {
     Ok(vec![in alloc; Said::nothing(); count]?)
+}
+
+/// What the statements say of the node of that number. Takes no memory.
+pub(crate) fn said_at(statements: &Statements<'_>, enrolment: &Enrolment<'_>, place: usize) -> Said
+    ensures { result ≡ said_in (seen enrolment.now) (all_of statements.now) place }
+{
+    let mut said = [Said::nothing()];
+    note_all(statements, enrolment, place, &mut said);
+    said_of(&said, 0)
 }
 
 /// What was said of the node of that number.
@@ -95,37 +120,50 @@ pub(crate) fn said_of(said: &[Said], place: usize) -> Said
     }
 }
 
-// Adds what all of them say.
-fn note_all(statements: &Statements<'_>, enrolment: &Enrolment<'_>, said: &mut [Said])
+// ---- statement by statement
+
+// Adds what all of them say of the nodes from the first one on.
+fn note_all(statements: &Statements<'_>, enrolment: &Enrolment<'_>, first: usize, said: &mut [Said])
     ensures long { length said.new ≡ length said.old }
-    ensures noted { (place : ℕ) → place < length said.old → place < 2 ^ 64 → said_of said.new place
-        ≡ either (said_of said.old place) (said_in (seen enrolment.now) (all_of statements.now) place) }
+    ensures noted { (k : ℕ) → k < length said.old → first + k < 2 ^ 64 → said_of said.new k
+        ≡ either (said_of said.old k) (said_in (seen enrolment.now) (all_of statements.now) (first + k)) }
 {
-    note_held(statements, enrolment, said);
-    note_each(statements, enrolment, statements.new, said);
+    note_held(statements, enrolment, first, said);
+    note_each(statements, enrolment, statements.new, first, said);
 }
 
 // Adds what those say that are held.
-fn note_held(statements: &Statements<'_>, enrolment: &Enrolment<'_>, said: &mut [Said])
+fn note_held(
+    statements: &Statements<'_>,
+    enrolment: &Enrolment<'_>,
+    first: usize,
+    said: &mut [Said],
+)
     ensures long { length said.new ≡ length said.old }
-    ensures noted { (place : ℕ) → place < length said.old → place < 2 ^ 64 → said_of said.new place
-        ≡ either (said_of said.old place)
-        (said_among (seen enrolment.now) (all_of statements.now) place statements.now.held.now.held) }
+    ensures noted { (k : ℕ) → k < length said.old → first + k < 2 ^ 64 → said_of said.new k
+        ≡ either (said_of said.old k)
+        (said_among (seen enrolment.now) (all_of statements.now) (first + k) statements.now.held.now.held) }
 {
     for at in 0..statements.held.len() {
-        note_at(statements, enrolment, at, said);
+        note_at(statements, enrolment, at, first, said);
     }
 }
 
-fn note_at(statements: &Statements<'_>, enrolment: &Enrolment<'_>, at: usize, said: &mut [Said])
+fn note_at(
+    statements: &Statements<'_>,
+    enrolment: &Enrolment<'_>,
+    at: usize,
+    first: usize,
+    said: &mut [Said],
+)
     ensures long { length said.new ≡ length said.old }
-    ensures noted { (place : ℕ) → place < length said.old → place < 2 ^ 64 → said_of said.new place
-        ≡ either (said_of said.old place) (option_map_or
-        (said_by (seen enrolment.now) (all_of statements.now) place) (slice_get statements.now.held.now.held at)
-        unsaid) }
+    ensures noted { (k : ℕ) → k < length said.old → first + k < 2 ^ 64 → said_of said.new k
+        ≡ either (said_of said.old k) (option_map_or
+        (said_by (seen enrolment.now) (all_of statements.now) (first + k))
+        (slice_get statements.now.held.now.held at) unsaid) }
 {
     if let Some(statement) = statements.held.get(at) {
-        note(statements, enrolment, statement, said);
+        note(statements, enrolment, statement, first, said);
     }
 }
 
@@ -134,73 +172,98 @@ fn note_each(
     statements: &Statements<'_>,
     enrolment: &Enrolment<'_>,
     those: &[StoredStatement],
+    first: usize,
     said: &mut [Said],
 )
     ensures long { length said.new ≡ length said.old }
-    ensures noted { (place : ℕ) → place < length said.old → place < 2 ^ 64 → said_of said.new place
-        ≡ either (said_of said.old place)
-        (said_among (seen enrolment.now) (all_of statements.now) place those.now) }
+    ensures noted { (k : ℕ) → k < length said.old → first + k < 2 ^ 64 → said_of said.new k
+        ≡ either (said_of said.old k)
+        (said_among (seen enrolment.now) (all_of statements.now) (first + k) those.now) }
 {
     for statement in those {
-        note(statements, enrolment, statement, said);
+        note(statements, enrolment, statement, first, said);
     }
 }
 
-// Adds what a statement says, if it is about a node.
+// Adds what a statement says, if it is about one of the nodes.
 fn note(
     statements: &Statements<'_>,
     enrolment: &Enrolment<'_>,
     statement: &StoredStatement,
+    first: usize,
     said: &mut [Said],
 )
     ensures long { length said.new ≡ length said.old }
-    ensures noted { (place : ℕ) → place < length said.old → place < 2 ^ 64 → said_of said.new place
-        ≡ either (said_of said.old place)
-        (said_by (seen enrolment.now) (all_of statements.now) place statement.now) }
+    ensures noted { (k : ℕ) → k < length said.old → first + k < 2 ^ 64 → said_of said.new k
+        ≡ either (said_of said.old k)
+        (said_by (seen enrolment.now) (all_of statements.now) (first + k) statement.now) }
 {
     if let Some(place) = place_meant(enrolment, statement) {
-        add(said, place, said_with(statements, statement));
+        add(said, first, place, told_by(statements, statement));
     }
 }
 
-fn add(said: &mut [Said], place: usize, more: Said)
-    ensures { said.new ≡ slice_set said.old place (either (said_of said.old place) more) }
+// Adds what is said of the node of that number, if it isn't before the first.
+fn add(said: &mut [Said], first: usize, place: usize, more: Said)
+    ensures long { length said.new ≡ length said.old }
+    ensures added { (k : ℕ) → k < length said.old → said_of said.new k
+        ≡ either (said_of said.old k) (if place == (first + k) then more else unsaid) }
 {
-    let both = said_of(said, place).joined(more);
-    set(said, place, both);
+    if place < first {
+        return;
+    }
+    add_at(said, place - first, more);
 }
 
-fn set(said: &mut [Said], place: usize, told: Said)
-    ensures { said.new ≡ slice_set said.old place told }
+fn add_at(said: &mut [Said], at: usize, more: Said)
+    ensures { said.new ≡ slice_set said.old at (either (said_of said.old at) more) }
 {
-    if place < said.len() {
-        said[place] = told;
+    let both = said_of(said, at).joined(more);
+    set(said, at, both);
+}
+
+fn set(said: &mut [Said], at: usize, told: Said)
+    ensures { said.new ≡ slice_set said.old at told }
+{
+    if at < said.len() {
+        said[at] = told;
     }
 }
 
 // What a statement says of the node that it is about.
-fn said_with(statements: &Statements<'_>, statement: &StoredStatement) -> Said
+fn told_by(statements: &Statements<'_>, statement: &StoredStatement) -> Said
     ensures { result
         ≡ said_with (verb_of (view statement.now.received)) (is_voided (all_of statements.now) statement.now) }
 {
+    said_with(verb_of(statement.received()), statements, statement)
+}
+
+fn said_with(verb: &str, statements: &Statements<'_>, statement: &StoredStatement) -> Said
+    ensures { result ≡ said_with verb.now (is_voided (all_of statements.now) statement.now) }
+{
     Said {
-        waived: is_standing(statements, statement, WAIVED),
-        completed: is_standing(statements, statement, COMPLETED),
-        passed: is_standing(statements, statement, PASSED),
-        satisfied: has_verb(statement, SATISFIED),
+        waived: says_still(verb, WAIVED, statements, statement),
+        completed: says_still(verb, COMPLETED, statements, statement),
+        passed: says_still(verb, PASSED, statements, statement),
+        satisfied: is_that_verb(verb, SATISFIED),
     }
 }
 
-// Whether it has that verb, and isn't voided.
-fn is_standing(statements: &Statements<'_>, statement: &StoredStatement, verb: &str) -> bool
-    ensures { result ≡ bytes_eq (verb_of (view statement.now.received)) verb.now
-        && not (is_voided (all_of statements.now) statement.now) }
+// Whether the verb is that one, and its statement isn't voided. Only if it is that one, the new statements are gone
+// through.
+fn says_still(
+    verb: &str,
+    asked: &str,
+    statements: &Statements<'_>,
+    statement: &StoredStatement,
+) -> bool
+    ensures { result ≡ bytes_eq verb.now asked.now && not (is_voided (all_of statements.now) statement.now) }
 {
-    has_verb(statement, verb) && !statements.is_voided(statement)
+    is_that_verb(verb, asked) && !statements.is_voided(statement)
 }
 
-fn has_verb(statement: &StoredStatement, verb: &str) -> bool
-    ensures { result ≡ bytes_eq (verb_of (view statement.now.received)) verb.now }
+fn is_that_verb(verb: &str, asked: &str) -> bool
+    ensures { result ≡ bytes_eq verb.now asked.now }
 {
-    verb_of(statement.received()) == verb
+    verb == asked
 }

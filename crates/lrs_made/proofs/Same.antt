@@ -28,3 +28,7 @@ behind_same supply other xs same = record { same = λ k. ap (λ (s : Supply). le
 pub behind_mapped : {A B : Type 0} (f : A → B) (supply : Supply) (xs : List A) → left_behind supply (map f xs) ≡ left_behind supply xs
 behind_mapped f supply [] = refl
 behind_mapped f supply (x ∷ xs) = behind_mapped f (rest_of supply) xs
+
+pub behind_made : (supply other : Supply) (moment : ℕ) (js : List Json) → left_behind supply (made_under other moment js) ≡ left_behind supply js
+behind_made supply other moment [] = refl
+behind_made supply other moment (j ∷ js) = behind_made (rest_of supply) (rest_of other) moment js

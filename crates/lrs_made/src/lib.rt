@@ -1,7 +1,8 @@
 //! What the store says of its own, over the parts of a store in memory: that a unit was waived, that blocks and courses
 //! are satisfied (cmi5 Quartz, sections 9.3.7 and 9.3.9), and under which ids. A function has the name of the
 //! definition in `lrs_history` that it equals, or cites it in its contract. Begin with `waivers` and `owing`, then
-//! `making`. `targets` finds the unit of which a statement speaks, `enrolments` a registration with its course.
+//! `saying` and `making`. `targets` finds the unit of which a statement speaks, `enrolments` a registration with its
+//! course.
 #![tactic(auto)]
 
 mod enrolments;
@@ -13,7 +14,8 @@ mod targets;
 mod waivers;
 
 pub use enrolments::{LentEnrolled, enrolled, enrolled_as, verdicts_of};
-pub use making::make_under;
+pub use making::{make_one, make_under};
 pub use owing::add_owed;
+pub use saying::statement_of;
 pub use targets::{LentTarget, target};
 pub use waivers::{is_waived, waived_statement};

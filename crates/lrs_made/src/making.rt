@@ -1,12 +1,12 @@
 // The ids under which the statements go that the store makes.
-ghost use Rattle.std.specs.Prelude.{◌≡◌, ◌++◌, ◌∷◌, [], OnOk, map};
+ghost use Rattle.std.specs.Prelude.{◌≡◌, ◌++◌, ◌∷◌, [], OnOk};
 ghost use Rattle.lrs_history.specs.Made.{left_behind, made_under};
 ghost use Rattle.lrs_ids.specs.IdSupply.{GiveSame, left_of};
 ghost use Rattle.lrs_ids.specs.Ids.{rest_of};
 ghost use Rattle.lrs_json.specs.View.{view};
+ghost use Rattle.lrs_made.specs.Said.{jsons_of};
 ghost use Rattle.lrs_parts.specs.Parts.{state_of};
 ghost use Rattle.lrs_parts.specs.State.{used_in};
-ghost use Rattle.xapi_statement.specs.declared.statement.Statement.{Statement as SpecStatement};
 
 use lrs_ids::IdSupply;
 use lrs_json::Memory;
@@ -25,8 +25,7 @@ pub fn make_under(
 ) -> Result<(), Memory>
     ensures made { OnOk result (made.new.items
         ≡ made.old.items
-        ++ made_under (left_of (used_in (state_of parts.now)) supply.old) moment
-        (map (λ (s : SpecStatement). view s.tree) said.items)) }
+        ++ made_under (left_of (used_in (state_of parts.now)) supply.old) moment (jsons_of said.items)) }
     ensures left { OnOk result (GiveSame (left_of (used_in (state_of parts.now)) supply.new)
         (left_behind (left_of (used_in (state_of parts.now)) supply.old) said.items)) }
 {
@@ -36,8 +35,8 @@ pub fn make_under(
     Ok(())
 }
 
-// The same of one statement.
-fn make_one(
+/// The same of one statement.
+pub fn make_one(
     parts: &Parts,
     supply: &mut IdSupply,
     moment: Moment,

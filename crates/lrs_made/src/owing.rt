@@ -1,14 +1,14 @@
 // That blocks and courses are satisfied.
-ghost use Rattle.std.specs.Prelude.{◌≡◌, ◌++◌, ◌∷◌, [], IfOk, OnOk, filter_map, map, option_map};
+ghost use Rattle.std.specs.Prelude.{◌≡◌, ◌++◌, ◌∷◌, [], IfOk, OnOk, filter_map, option_map};
 ghost use Rattle.std.specs.Option.{option_copied};
 ghost use Rattle.lrs_history.specs.Enrolments.{owed_behind};
-ghost use Rattle.lrs_history.specs.Made.{made_under, owed_jsons, owed_made, satisfied_at, satisfied_json};
-ghost use Rattle.lrs_ids.specs.IdSupply.{left_of};
+ghost use Rattle.lrs_history.specs.Made.{left_behind, made_under, owed_jsons, owed_made, satisfied_at, satisfied_json};
+ghost use Rattle.lrs_ids.specs.IdSupply.{GiveSame, left_of};
 ghost use Rattle.lrs_json.specs.View.{view};
 ghost use Rattle.lrs_made.specs.Lent.{seen_enrolled};
+ghost use Rattle.lrs_made.specs.Said.{jsons_of};
 ghost use Rattle.lrs_parts.specs.Parts.{state_of};
 ghost use Rattle.lrs_parts.specs.State.{used_in};
-ghost use Rattle.xapi_statement.specs.declared.statement.Statement.{Statement as SpecStatement};
 
 use crate::enrolments::LentEnrolled;
 use crate::making::make_under;
@@ -25,7 +25,7 @@ use std::alloc::Global;
 use xapi_statement::{Statement, StoredStatement};
 
 /// Puts behind the statements that were made what the store says of its own behind them, in that session: which nodes
-/// of a registration are satisfied. Nothing is said where there is no registration.
+/// of a registration are satisfied. Nothing is said where there is no registration. The rest of the supply is left.
 pub fn add_owed(
     alloc: Global,
     parts: &Parts,
@@ -35,10 +35,14 @@ pub fn add_owed(
     supply: &mut IdSupply,
     made: &mut Vec<StoredStatement>,
 ) -> Result<(), Memory>
-    ensures { OnOk result (made.new.items
+    ensures made { OnOk result (made.new.items
         ≡ made.old.items
         ++ owed_made (state_of parts.now) session.now (left_of (used_in (state_of parts.now)) supply.old) moment
         made.old.items (option_map seen_enrolled (option_copied enrolled.entry))) }
+    ensures left { OnOk result (GiveSame (left_of (used_in (state_of parts.now)) supply.new)
+        (left_behind (left_of (used_in (state_of parts.now)) supply.old)
+        (owed_made (state_of parts.now) session.now (left_of (used_in (state_of parts.now)) supply.old) moment
+        made.old.items (option_map seen_enrolled (option_copied enrolled.entry))))) }
 {
     match enrolled {
         Some(enrolled) => add_owed_in(alloc, parts, enrolled, session, moment, supply, made),
@@ -56,10 +60,13 @@ fn add_owed_in(
     supply: &mut IdSupply,
     made: &mut Vec<StoredStatement>,
 ) -> Result<(), Memory>
-    ensures { OnOk result (made.new.items
+    ensures made { OnOk result (made.new.items
         ≡ made.old.items
         ++ made_under (left_of (used_in (state_of parts.now)) supply.old) moment
         (owed_jsons (state_of parts.now) session.now made.old.items (seen_enrolled enrolled.now))) }
+    ensures left { OnOk result (GiveSame (left_of (used_in (state_of parts.now)) supply.new)
+        (left_behind (left_of (used_in (state_of parts.now)) supply.old)
+        (owed_jsons (state_of parts.now) session.now made.old.items (seen_enrolled enrolled.now)))) }
 {
     let said = owed_statements(alloc, parts, made.as_slice(), enrolled, session)?;
     make_under(parts, supply, moment, said, made)
@@ -73,7 +80,7 @@ fn owed_statements(
     enrolled: &LentEnrolled<'_>,
     session: &Id,
 ) -> Result<Vec<Statement>, Memory>
-    ensures { IfOk result (λ said. map (λ (s : SpecStatement). view s.tree) said.items
+    ensures { IfOk result (λ said. jsons_of said.items
         ≡ owed_jsons (state_of parts.now) session.now new.now (seen_enrolled enrolled.now)) }
 {
     let places = owed_places(alloc, parts, new, enrolled)?;
@@ -104,7 +111,7 @@ fn satisfied_statements(
     session: &Id,
     places: &[u32],
 ) -> Result<Vec<Statement>, Memory>
-    ensures { IfOk result (λ said. map (λ (s : SpecStatement). view s.tree) said.items
+    ensures { IfOk result (λ said. jsons_of said.items
         ≡ filter_map (satisfied_at (seen_enrolled enrolled.now) session.now) places.now) }
 {
     let mut said = Vec::with_capacity(alloc, places.len())?;
@@ -122,8 +129,7 @@ fn push_satisfied(
     place: u32,
     said: &mut Vec<Statement>,
 ) -> Result<(), Memory>
-    ensures { OnOk result (map (λ (s : SpecStatement). view s.tree) said.new.items
-        ≡ map (λ (s : SpecStatement). view s.tree) said.old.items
+    ensures { OnOk result (jsons_of said.new.items ≡ jsons_of said.old.items
         ++ filter_map (satisfied_at (seen_enrolled enrolled.now) session.now) (place ∷ [])) }
 {
     let course = enrolled.course;
@@ -141,8 +147,7 @@ fn push_of_node(
     node: &Node,
     said: &mut Vec<Statement>,
 ) -> Result<(), Memory>
-    ensures { OnOk result (map (λ (s : SpecStatement). view s.tree) said.new.items
-        ≡ map (λ (s : SpecStatement). view s.tree) said.old.items
+    ensures { OnOk result (jsons_of said.new.items ≡ jsons_of said.old.items
         ++ satisfied_json (seen_enrolled enrolled.now) session.now place node.now ∷ []) }
 {
     let statement = satisfied_statement(alloc, enrolled, session, place, node)?;

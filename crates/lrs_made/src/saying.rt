@@ -11,7 +11,7 @@ use std::alloc::Global;
 use xapi_statement::Statement;
 
 /// The statement of that kind, on that Activity, to which its publisher gave the other id, in that session.
-pub(crate) fn statement_of(
+pub fn statement_of(
     alloc: Global,
     made: &Made<'_>,
     registration: &HeldRegistration,

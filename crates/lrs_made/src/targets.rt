@@ -6,7 +6,7 @@ ghost use Rattle.lrs_made.specs.Lent.{seen_target};
 ghost use Rattle.lrs_parts.specs.Parts.{state_of};
 ghost use Rattle.lrs_parts.specs.declared.founding.Founding.{Founding as SpecFounding};
 
-use cmi5_course::Unit;
+use cmi5_course::{Course, Unit};
 use cmi5_launch::activity_id;
 use lrs_json::Memory;
 use lrs_names::{Id, Iri};
@@ -19,6 +19,7 @@ use std::alloc::Global;
 pub struct LentTarget<'a> {
     pub base: &'a Iri,
     pub registration: &'a HeldRegistration,
+    pub course: &'a Course,
     pub place: u32,
     /// The id that its publisher gave it.
     pub publisher: &'a Iri,
@@ -76,6 +77,7 @@ fn target_under<'a>(
     Some(LentTarget {
         base,
         registration,
+        course,
         place,
         publisher,
         unit,

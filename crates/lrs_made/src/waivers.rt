@@ -6,13 +6,13 @@ ghost use Rattle.lrs_json.specs.View.{view};
 ghost use Rattle.lrs_made.specs.Lent.{seen_target};
 ghost use Rattle.lrs_parts.specs.Parts.{state_of};
 
+use crate::enrolments::LentEnrolled;
 use crate::held::held_alone;
 use crate::saying::statement_of;
 use crate::targets::LentTarget;
 use cmi5_course::Reason;
 use cmi5_launch::Made;
-use cmi5_launch::names::WAIVED;
-use cmi5_verdict::{Enrolment, stands};
+use cmi5_verdict::waived;
 use lrs_json::Memory;
 use lrs_names::Id;
 use lrs_parts::Parts;
@@ -23,15 +23,12 @@ use xapi_statement::Statement;
 pub fn is_waived(parts: &Parts, target: &LentTarget<'_>) -> bool
     ensures { result ≡ is_waived (state_of parts.now) (seen_target target.now) }
 {
-    let registration = target.registration;
-    // Of a node only its number is looked at.
-    let enrolment = Enrolment {
-        registration: &registration.id,
+    let enrolled = LentEnrolled {
         base: target.base,
-        course: registration.course,
-        nodes: &[],
+        registration: target.registration,
+        course: target.course,
     };
-    stands(&held_alone(parts), &enrolment, target.place, WAIVED)
+    waived(&held_alone(parts), &enrolled.enrolment(), target.place)
 }
 
 /// The statement that the unit was waived, in that session (cmi5 Quartz, section 9.3.7).

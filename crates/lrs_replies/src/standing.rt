@@ -11,6 +11,9 @@ use lrs_json::{Memory, Text};
 use lrs_names::{Id, Iri};
 use std::alloc::Global;
 
+/// What a node takes in the body, if its id is of middle length.
+const NODE_ROOM: usize = 96;
+
 /// The body that tells which nodes of its course are satisfied in a registration. The verdicts are those of the
 /// nodes, in their order.
 pub fn standing_text(
@@ -24,6 +27,7 @@ pub fn standing_text(
         ≡ standing_body registration.now course.now (nodes_of nodes.now verdicts.now)) }
 {
     let mut body = heading(alloc, registration, course)?;
+    make_room(nodes.len(), &mut body)?;
     put_verdict(is_course_satisfied(nodes, verdicts), &mut body)?;
     put_nodes(nodes, verdicts, &mut body)?;
     Ok(body)
@@ -39,6 +43,14 @@ fn heading(alloc: Global, registration: &Id, course: &Text) -> Result<Vec<u8>, M
     body.extend_from_slice(b"\",\"course\":")?;
     put_quoted(course.as_str(), &mut body)?;
     Ok(body)
+}
+
+// Makes room for so many nodes at once.
+fn make_room(nodes: usize, body: &mut Vec<u8>) -> Result<(), Memory>
+    ensures { body.new.items ≡ body.old.items }
+{
+    body.reserve(nodes.saturating_mul(NODE_ROOM))?;
+    Ok(())
 }
 
 fn is_course_satisfied(nodes: &[Node], verdicts: &[bool]) -> bool

@@ -2,20 +2,12 @@
 use Rattle.std.proofs.Common.{◌≡◌, ℕ, List, [], ◌∷◌, ◌++◌, Option, Some, None, option_map, sym, ap, ◌∙◌, append-nil}
 use Rattle.std.specs.List.{cons_option}
 use Rattle.cmi5_course.specs.declared.launch.Launch.{Launch}
-use Rattle.cmi5_launch.specs.Made.{said_abandoned, saying_json}
-use Rattle.lrs_agents.specs.declared.agents.Agent.{Agent}
 use Rattle.lrs_history.specs.Endings.{abandoned_at, abandoned_from, abandoned_json, abandoned_jsons, lasted}
-use Rattle.lrs_history.specs.Launches.{Target, activity_at, target}
+use Rattle.lrs_history.specs.Launches.{Target, target}
 use Rattle.lrs_json.specs.Json.{Json}
 use Rattle.lrs_parts.specs.State.{State}
 
 -- ---- of one session
-
-pub abandoned_is : (launch : Launch) (t : Target) (ms : ℕ) (actor : Agent) (activity : List ℕ) (j : Json) → j ≡ saying_json (said_abandoned ms) actor activity t.publisher t.registration.id launch.session
-    → actor ≡ t.registration.actor → activity ≡ activity_at t → j ≡ abandoned_json launch t ms
-abandoned_is launch t ms actor activity j made learner there =
-    made ∙ (ap (λ (a : Agent). saying_json (said_abandoned ms) a activity t.publisher t.registration.id launch.session) learner
-    ∙ ap (λ (a : List ℕ). saying_json (said_abandoned ms) t.registration.actor a t.publisher t.registration.id launch.session) there)
 
 pub abandoned_there : (st : State) (launch : Launch) (began : ℕ) (t : Target) (ms : ℕ) (j : Json) → Some t ≡ target st launch.registration launch.publisher → ms ≡ lasted launch.session st.statements began
     → j ≡ abandoned_json launch t ms → Some j ≡ abandoned_from st launch began

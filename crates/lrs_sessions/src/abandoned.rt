@@ -4,14 +4,14 @@ ghost use Rattle.lrs_history.specs.Endings.{abandoned_at, abandoned_from, abando
 ghost use Rattle.lrs_history.specs.Endings.{abandoned_of};
 ghost use Rattle.lrs_json.specs.View.{view};
 ghost use Rattle.lrs_made.specs.Lent.{seen_target};
+ghost use Rattle.lrs_made.specs.Said.{json_given, jsons_of};
 ghost use Rattle.lrs_parts.specs.Parts.{state_of};
-ghost use Rattle.lrs_sessions.specs.Said.{json_given, jsons_of};
 
 use crate::moments::{began_at, lasted};
 use cmi5_course::Launch;
-use cmi5_launch::{Made, made_statement};
+use cmi5_launch::Made;
 use lrs_json::Memory;
-use lrs_made::{LentTarget, target};
+use lrs_made::{LentTarget, statement_of, target};
 use lrs_parts::Parts;
 use lrs_time::Moment;
 use std::alloc::Global;
@@ -97,17 +97,17 @@ fn abandoned_statement(
 ) -> Result<Statement, Memory>
     ensures { IfOk result (λ said. view said.tree ≡ abandoned_json launch.now (seen_target target.now) ms) }
 {
+    let made = Made::Abandoned {
+        ms,
+        unit: target.unit,
+    };
     let activity = target.activity(alloc)?;
-    made_statement(
+    statement_of(
         alloc,
-        &Made::Abandoned {
-            ms,
-            unit: target.unit,
-        },
-        target.registration.actor.agent(),
+        &made,
+        target.registration,
         &activity,
         target.publisher,
-        &target.registration.id,
         &launch.session,
     )
 }

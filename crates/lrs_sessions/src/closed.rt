@@ -4,10 +4,11 @@ ghost use Rattle.lrs_history.specs.Endings.{is_launch_of, is_number_of, is_open,
 ghost use Rattle.lrs_history.specs.Sessions.{is_closed, is_terminated};
 ghost use Rattle.lrs_parts.specs.Parts.{state_of};
 
-use crate::numbers::{launch_count, push_if};
+use crate::numbers::launch_count;
 use cmi5_course::Launch;
 use cmi5_launch::names::TERMINATED;
 use cmi5_session::has_own;
+use cmi5_verdict::push_if;
 use lrs_json::Memory;
 use lrs_names::{Id, Iri};
 use lrs_parts::Parts;

@@ -5,7 +5,8 @@ ghost use Rattle.lrs_parts.specs.Parts.{state_of};
 
 use crate::closed::is_open;
 use crate::moments::last_own;
-use crate::numbers::{launch_count, push_if};
+use crate::numbers::launch_count;
+use cmi5_verdict::push_if;
 use lrs_json::Memory;
 use lrs_names::Id;
 use lrs_parts::Parts;

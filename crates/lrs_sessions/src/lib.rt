@@ -1,7 +1,7 @@
 //! Sessions of launches, over the parts of a store in memory: which are closed, which are open, which are idle, and
 //! what the store says of those that it abandons. A function has the name of the definition in `lrs_history` that it
-//! equals. Begin with `closed`, `idle` and `abandoned`. `own` and `moments` tell what a session said and when, and
-//! `numbers` goes from the numbers of launches to the ids of their sessions.
+//! equals. Begin with `closed`, `idle` and `abandoned`. `moments` tells when a session said something, and `numbers`
+//! counts launches and goes from their numbers to the ids of their sessions.
 #![tactic(auto)]
 
 mod abandoned;
@@ -9,9 +9,8 @@ mod closed;
 mod idle;
 mod moments;
 mod numbers;
-mod own;
 
 pub use abandoned::abandoned_statements;
 pub use closed::{is_closed, is_open, open_of};
 pub use idle::idle_ones;
-pub use numbers::sessions_at;
+pub use numbers::{launch_count, sessions_at};

@@ -3,8 +3,8 @@ ghost use Rattle.std.specs.Prelude.{◌≡◌, option_and_then, slice_get};
 ghost use Rattle.lrs_history.specs.Endings.{began_at, last_own, lasted};
 ghost use Rattle.lrs_sessions.specs.Moments.{beginning, own_moment};
 
-use crate::own::{is_of_session, is_own};
 use cmi5_launch::names::INITIALIZED;
+use cmi5_session::{is_of_session, is_own};
 use lrs_names::Id;
 use lrs_time::Moment;
 use xapi_index::Index;

@@ -1,5 +1,5 @@
 // Numbers of launches, which are counted from 0.
-ghost use Rattle.std.specs.Prelude.{◌≡◌, ◌∷◌, ◌++◌, [], if◌then◌else◌, length, IfOk, OnOk};
+ghost use Rattle.std.specs.Prelude.{◌≡◌, ◌∷◌, ◌++◌, [], length, IfOk, OnOk};
 ghost use Rattle.lrs_history.specs.Endings.{sessions_at};
 ghost use Rattle.lrs_parts.specs.Parts.{state_of};
 
@@ -8,24 +8,14 @@ use lrs_names::Id;
 use lrs_parts::Parts;
 use std::alloc::Global;
 
-/// How many launches there are: never more than 32 bits count.
-pub(crate) fn launch_count(parts: &Parts) -> Result<u32, Memory>
-    ensures { IfOk result (λ count. count ≡ length parts.now.learning.launches.held) }
+/// How many launches there are, which is also the number of the next. There are never more than 32 bits count.
+pub fn launch_count(parts: &Parts) -> Result<u32, Memory>
+    ensures { IfOk result (λ count. count ≡ length (state_of parts.now).launches) }
 {
     match u32::try_from(parts.learning.launches.len()) {
         Ok(count) => Ok(count),
         Err(_) => Err(Memory),
     }
-}
-
-/// One number more, if it passes.
-pub(crate) fn push_if(list: &mut Vec<u32>, number: u32, passes: bool) -> Result<(), Memory>
-    ensures { OnOk result (list.new.items ≡ list.old.items ++ (if passes then number ∷ [] else [])) }
-{
-    if passes {
-        list.push(number)?;
-    }
-    Ok(())
 }
 
 /// The ids of the sessions of the launches of these numbers.

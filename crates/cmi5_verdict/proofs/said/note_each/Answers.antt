@@ -1,4 +1,4 @@
-use Rattle.std.proofs.Common.{◌<◌, ◌∙◌, sym, subst, arith}
+use Rattle.std.proofs.Common.{◌<◌, ◌∙◌, ◌+◌, sym, subst, arith}
 use Rattle.lrs_ids.proofs.Turns.{turn}
 use Rattle.cmi5_verdict.specs.Nodes.{seen}
 use Rattle.cmi5_verdict.specs.Said.{said_of}
@@ -14,12 +14,12 @@ loop-statement-preserved c =
     let next = turn those at.statement-index x (omega arith) c.statement-item.is in
     record {
       long = c.note.ensures.long ∙ at.invariant.long;
-      noted = λ place lt small.
-          said_next (seen c.args.enrolment.now) (all_of c.args.statements.now) place those at.statement-index x (said_of at.said place) (said_of c.note.new.said place) _ next
-          (c.note.ensures.noted place (subst (λ n. place < n) (sym at.invariant.long) lt) small) (at.invariant.noted place lt small);
+      noted = λ k lt small.
+          said_next (seen c.args.enrolment.now) (all_of c.args.statements.now) (c.args.first + k) those at.statement-index x (said_of at.said k) (said_of c.note.new.said k) _ next
+          (c.note.ensures.noted k (subst (λ n. k < n) (sym at.invariant.long) lt) small) (at.invariant.noted k lt small);
     }
 
 pub returns-clause-noted : goal.returns-clause-noted
-returns-clause-noted c = λ place lt small.
+returns-clause-noted c = λ k lt small.
     let at = c.loop-statement in
-    said_end (seen c.args.enrolment.now) (all_of c.args.statements.now) place c.args.those.now at.statement-index (said_of at.said place) _ (omega arith) (at.invariant.noted place lt small)
+    said_end (seen c.args.enrolment.now) (all_of c.args.statements.now) (c.args.first + k) c.args.those.now at.statement-index (said_of at.said k) _ (omega arith) (at.invariant.noted k lt small)

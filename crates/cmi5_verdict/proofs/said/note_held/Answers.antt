@@ -1,4 +1,4 @@
-use Rattle.std.proofs.Common.{◌<◌, ◌∙◌, sym, subst, arith}
+use Rattle.std.proofs.Common.{◌<◌, ◌∙◌, ◌+◌, sym, subst, arith}
 use Rattle.cmi5_verdict.specs.Nodes.{seen}
 use Rattle.cmi5_verdict.specs.Said.{said_of}
 use Rattle.cmi5_verdict.specs.Statements.{all_of}
@@ -10,12 +10,12 @@ loop-at-preserved c =
     let at = c.loop-at in
     record {
       long = c.note_at.ensures.long ∙ at.invariant.long;
-      noted = λ place lt small.
-          said_at (seen c.args.enrolment.now) (all_of c.args.statements.now) place c.args.statements.now.held.now.held at.at (said_of at.said place) (said_of c.note_at.new.said place) _ (omega arith)
-          (c.note_at.ensures.noted place (subst (λ n. place < n) (sym at.invariant.long) lt) small) (at.invariant.noted place lt small);
+      noted = λ k lt small.
+          said_at (seen c.args.enrolment.now) (all_of c.args.statements.now) (c.args.first + k) c.args.statements.now.held.now.held at.at (said_of at.said k) (said_of c.note_at.new.said k) _ (omega arith)
+          (c.note_at.ensures.noted k (subst (λ n. k < n) (sym at.invariant.long) lt) small) (at.invariant.noted k lt small);
     }
 
 pub returns-clause-noted : goal.returns-clause-noted
-returns-clause-noted c = λ place lt small.
+returns-clause-noted c = λ k lt small.
     let at = c.loop-at in
-    said_end (seen c.args.enrolment.now) (all_of c.args.statements.now) place c.args.statements.now.held.now.held at.at (said_of at.said place) _ (omega arith) (at.invariant.noted place lt small)
+    said_end (seen c.args.enrolment.now) (all_of c.args.statements.now) (c.args.first + k) c.args.statements.now.held.now.held at.at (said_of at.said k) _ (omega arith) (at.invariant.noted k lt small)

@@ -1,4 +1,4 @@
-use Rattle.std.proofs.Common.{◌≡◌, ◌<◌, ◌^◌, ℕ, length, drop}
+use Rattle.std.proofs.Common.{◌≡◌, ◌<◌, ◌+◌, ◌^◌, ℕ, length, drop}
 use Rattle.cmi5_verdict.specs.Nodes.{seen}
 use Rattle.cmi5_verdict.specs.Said.{either, said_among, said_of}
 use Rattle.cmi5_verdict.specs.Statements.{all_of}
@@ -8,7 +8,7 @@ use Rattle.cmi5_verdict.proofs.said.note_held.Given as goal
 abbrev pub invariant-loop-at : goal.invariant-loop-at
 invariant-loop-at l = record {
   long : length l.said ≡ length l.fn.said;
-  noted : (place : ℕ) → place < length l.fn.said → place < 2 ^ 64
-      → either (said_of l.said place) (said_among (seen l.enrolment) (all_of l.statements) place (drop l.at l.statements.held.now.held))
-      ≡ either (said_of l.fn.said place) (said_among (seen l.enrolment) (all_of l.statements) place l.statements.held.now.held);
+  noted : (k : ℕ) → k < length l.fn.said → l.first + k < 2 ^ 64
+      → either (said_of l.said k) (said_among (seen l.enrolment) (all_of l.statements) (l.first + k) (drop l.at l.statements.held.now.held))
+      ≡ either (said_of l.fn.said k) (said_among (seen l.enrolment) (all_of l.statements) (l.first + k) l.statements.held.now.held);
 }

@@ -4,4 +4,4 @@ use Rattle.cmi5_verdict.proofs.said.said_with.Goals as goal
 
 pub returns : goal.returns
 unfolding said_with
-returns c = same_said _ _ _ _ _ _ _ _ c.is_standing.ensures c.is_standing-2.ensures c.is_standing-3.ensures c.has_verb.ensures
+returns c = same_said _ _ _ _ _ _ _ _ c.says_still.ensures c.says_still-2.ensures c.says_still-3.ensures c.is_that_verb.ensures

@@ -1,11 +1,12 @@
-use Rattle.std.proofs.lemmas.Result.{IfOk-weaker}
+use Rattle.std.proofs.Common.{◌≡◌, ℕ, List, IfOk, subst}
+use Rattle.cmi5_launch.specs.Made.{said_abandoned, saying_json}
 use Rattle.lrs_json.specs.View.{view}
 use Rattle.lrs_made.specs.Lent.{seen_target}
-use Rattle.lrs_sessions.proofs.Told.{abandoned_is}
 use Rattle.lrs_sessions.proofs.abandoned.abandoned_statement.Goals as goal
 
 pub returns : goal.returns
 returns c =
-    IfOk-weaker c.made_statement.result _ _
-    (λ said is. abandoned_is c.args.launch.now (seen_target c.args.target.now) c.args.ms c.agent.result.now c.in_ok-activity.activity (view said.tree) is c.agent.ensures.lent c.in_ok-activity.ensures)
-    c.made_statement.ensures
+    let t = seen_target c.args.target.now in
+    subst (λ (activity : List ℕ). IfOk c.statement_of.result (λ s. view s.tree
+    ≡ saying_json (said_abandoned c.args.ms) t.registration.actor activity t.publisher t.registration.id c.args.launch.now.session))
+    c.in_ok-activity.ensures c.statement_of.ensures

@@ -1,4 +1,4 @@
-use Rattle.std.proofs.Common.{◌≡◌, ◌&&◌, ◌∙◌, ℕ, length, ap, arith}
+use Rattle.std.proofs.Common.{◌≡◌, ◌&&◌, ◌∙◌, ℕ, ap, arith}
 use Rattle.std.specs.Prelude.{filter}
 use Rattle.std.specs.List.{range_with_len}
 use Rattle.lrs_history.specs.Endings.{is_idle, is_open}
@@ -20,5 +20,5 @@ pub returns : goal.returns
 returns c =
     let st = state_of c.args.parts.now in
     let at = c.loop-number in
-    let all : at.number ≡ length c.args.parts.now.learning.launches.held = omega (arith, c.in_ok-count.ensures) in
-    at.invariant ∙ ap (λ n. filter (λ (k : ℕ). is_idle st c.args.seconds c.args.moment k && is_open st k) (range_with_len 0 n)) all
+    let over : at.number ≡ c.in_ok-count.count = omega arith in
+    at.invariant ∙ ap (λ n. filter (λ (k : ℕ). is_idle st c.args.seconds c.args.moment k && is_open st k) (range_with_len 0 n)) (over ∙ c.in_ok-count.ensures)

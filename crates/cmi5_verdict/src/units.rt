@@ -1,0 +1,45 @@
+// Whether a unit is met, and whether it was waived. Takes no memory.
+ghost use Rattle.std.specs.Prelude.{◌≡◌};
+ghost use Rattle.cmi5_launch.specs.Names.{waived};
+ghost use Rattle.cmi5_verdict.specs.Nodes.{activity_at, seen};
+ghost use Rattle.cmi5_verdict.specs.Statements.{all_of};
+ghost use Rattle.cmi5_verdict.specs.Units.{is_met, stands};
+
+use crate::said::said_at;
+use crate::{Enrolment, Statements};
+use cmi5_course::MoveOn;
+
+/// Whether the unit of that number, which asks for this, is met: it was waived, or what it asks for was reached. Each
+/// call goes through the statements; for more than a few units `verdicts` does so once.
+pub fn met(
+    statements: &Statements<'_>,
+    enrolment: &Enrolment<'_>,
+    place: u32,
+    asked: MoveOn,
+) -> bool
+    ensures { result ≡ is_met (all_of statements.now) enrolment.now.registration.now
+        (activity_at (seen enrolment.now) place) asked }
+{
+    is_met(statements, enrolment, place as usize, asked)
+}
+
+/// The same of a node whose number has any size.
+pub(crate) fn is_met(
+    statements: &Statements<'_>,
+    enrolment: &Enrolment<'_>,
+    place: usize,
+    asked: MoveOn,
+) -> bool
+    ensures { result ≡ is_met (all_of statements.now) enrolment.now.registration.now
+        (activity_at (seen enrolment.now) place) asked }
+{
+    said_at(statements, enrolment, place).meets(asked)
+}
+
+/// Whether a statement that isn't voided says that the unit of that number was waived.
+pub fn waived(statements: &Statements<'_>, enrolment: &Enrolment<'_>, place: u32) -> bool
+    ensures { result ≡ stands (all_of statements.now) enrolment.now.registration.now
+        (activity_at (seen enrolment.now) place) waived }
+{
+    said_at(statements, enrolment, place as usize).waived
+}
