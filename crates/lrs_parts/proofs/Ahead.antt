@@ -15,7 +15,7 @@ use Rattle.lrs_parts.specs.declared.parts.Parts.{Parts}
 use Rattle.lrs_register.proofs.Ahead.{made_and_back}
 use Rattle.lrs_register.specs.Register.{Registered, is_key_of}
 use Rattle.lrs_register.specs.declared.change.Change.{Change}
-use Rattle.std.proofs.Common.{ℕ, List}
+use Rattle.std.proofs.Common.{ℕ, List, inr, refl}
 
 -- ---- one register
 
@@ -39,7 +39,6 @@ pub none_more : (parts : Parts) → AddsNoPlaces parts parts
 none_more parts = record {
   providers = λ k has. has;
   learning = record { courses = λ k has. has; registrations = λ k has. has; launches = λ k has. has; made_sessions = λ k has. has; keys = λ k has. has; tokens = λ k has. has };
-  ids = λ k has. has;
-  targets = λ k has. has;
+  statements = inr refl;
   documents = λ k has. has;
 }

@@ -1,5 +1,5 @@
 -- The parts in memory, as the definitions see them, and room for an effect in each.
-use Rattle.std.specs.Prelude.{◌+◌, ◌<◌, ◌^◌}
+use Rattle.std.specs.Prelude.{◌≡◌, ◌⊎◌, ◌+◌, ◌<◌, ◌^◌}
 use Rattle.std.specs.Cmp.Lexicographic.{slice_cmp}
 use Rattle.std.specs.Ordering.{nat_cmp}
 use Rattle.lrs_parts.specs.Counted.{AddsNone, HasRoomToCount, MakesPlaceFor}
@@ -8,11 +8,9 @@ use Rattle.lrs_parts.specs.Providers.{token_of}
 use Rattle.lrs_parts.specs.State.{State}
 use Rattle.lrs_parts.specs.declared.effect.Effect.{Effect}
 use Rattle.lrs_parts.specs.declared.parts.Parts.{Parts}
-use Rattle.lrs_register.specs.Places.{AddsNoPlace, MakesPlaces}
 use Rattle.xapi_docs.specs.Docs as docs
 use Rattle.xapi_docs.specs.Docs.{HasRoomForDocuments, documents_in, is_written}
-use Rattle.xapi_index.specs.Index.{IsIndexReadyFor}
-use Rattle.xapi_index.specs.Statements.{is_held, is_target}
+use Rattle.xapi_index.specs.Index.{HoldsNothingAhead, IsIndexReadyFor}
 
 abbrev pub state_of : Parts → State
 state_of parts = record {
@@ -41,19 +39,16 @@ pub record IsReadyFor (parts : Parts) (effect : Effect) : Type 0 where
 
 -- ---- places that are made ahead
 
--- places were made for what an effect brings, and for nothing else
+-- Places were made for what an effect brings, and for nothing else. Of the statements nothing needs to be said: all
+-- that stands ahead is taken back.
 pub record MakesPlacesFor (old new : Parts) (effect : Effect) : Type 0 where
   pub providers : MakesPlaceFor (slice_cmp nat_cmp) token_of effect.providers old.providers new.providers
-  pub ids : MakesPlaces (slice_cmp nat_cmp) (λ k. is_held k effect.statements) old.statements.ids new.statements.ids
-  pub targets : MakesPlaces (slice_cmp nat_cmp) (λ k. is_target k effect.statements) old.statements.targets
-      new.statements.targets
   pub documents : docs.MakesPlaces (is_written effect.documents) old.documents new.documents
   pub learning : MakesLearningPlaces old.learning new.learning effect
 
--- no part has a place that it hadn't
+-- No part has a place that it hadn't. The statements are as they were, or hold nothing ahead.
 pub record AddsNoPlaces (old new : Parts) : Type 0 where
   pub providers : AddsNone (slice_cmp nat_cmp) old.providers new.providers
-  pub ids : AddsNoPlace (slice_cmp nat_cmp) old.statements.ids new.statements.ids
-  pub targets : AddsNoPlace (slice_cmp nat_cmp) old.statements.targets new.statements.targets
+  pub statements : HoldsNothingAhead new.statements ⊎ (new.statements ≡ old.statements)
   pub documents : docs.AddsNoPlace old.documents new.documents
   pub learning : AddsNoLearningPlaces old.learning new.learning

@@ -66,7 +66,7 @@ impl Parts {
             → AddsNoPlaces before self.new }
     {
         self.providers.release(&effect.providers);
-        self.statements.release(effect.statements.as_slice());
+        self.statements.release();
         self.documents.release_change(&effect.documents);
         self.learning.release(effect);
     }

@@ -1,7 +1,8 @@
 -- Statements that are added: those that are held already change nothing.
-use Rattle.std.proofs.Common.{◌≡◌, List, ℕ, [], ◌∷◌, ◌++◌, refl, sym, ◌∙◌, ap, Some, Bool, true, false}
+use Rattle.std.proofs.Common.{◌≡◌, ◌+◌, ◌<◌, List, ℕ, [], ◌∷◌, ◌++◌, length, get_or, take, append_assoc, append-nil, refl, sym, ◌∙◌, ap, Some, Bool, true, false}
 use Rattle.std.specs.Prelude.{is_some, find, cond, if◌then◌else◌}
 use Rattle.std.specs.Str.{bytes_eq}
+use Rattle.std.proofs.lemmas.List.{take_more}
 use Rattle.xapi_statement.specs.Stored.{StoredStatement}
 use Rattle.xapi_index.specs.Statements.{add, add_each, is_held, new_ones}
 
@@ -44,3 +45,26 @@ each_new held more (x ∷ xs) keeps =
 -- those that are held needn't be looked at
 pub add_each-new : (held xs : List StoredStatement) → add_each held (new_ones held xs) ≡ add_each held xs
 add_each-new held xs = each_new held held xs (λ id is. is)
+
+-- ---- one after the other
+
+add_each-append : (held xs ys : List StoredStatement) → add_each held (xs ++ ys) ≡ add_each (add_each held xs) ys
+add_each-append held [] ys = refl
+add_each-append held (x ∷ xs) ys = add_each-append (add held x) xs ys
+
+pub add_each-more : (held xs : List StoredStatement) (i : ℕ) (x : StoredStatement) → i < length xs → x ≡ get_or xs i x → add_each held (take (i + 1) xs) ≡ add (add_each held (take i xs)) x
+add_each-more held xs i x less is =
+    ap (λ ys. add_each held ys) (take_more xs i x less) ∙ (add_each-append held (take i xs) (get_or xs i x ∷ []) ∙ ap (λ y. add (add_each held (take i xs)) y) (sym is))
+
+-- the list begins with that one
+abbrev BeginsWith : List StoredStatement → List StoredStatement → Type 0
+BeginsWith front all = (more : List StoredStatement) × (all ≡ front ++ more)
+
+-- what is added stands behind the others
+pub extends : (held xs : List StoredStatement) → BeginsWith held (add_each held xs)
+extends held [] = ([], sym (append-nil held))
+extends held (x ∷ xs) = by_test (is_held x.id held) (extends held xs) (extends (held ++ x ∷ []) xs)
+  where
+    by_test : (b : Bool) → BeginsWith held (add_each held xs) → BeginsWith (held ++ x ∷ []) (add_each (held ++ x ∷ []) xs) → BeginsWith held (add_each (if b then held else held ++ x ∷ []) xs)
+    by_test true old new = old
+    by_test false old new = (x ∷ new.0, new.1 ∙ append_assoc held (x ∷ []) new.0)

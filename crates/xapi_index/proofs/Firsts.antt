@@ -25,7 +25,7 @@ lt_yes k n lt = grind (arith, nat_tests)
 pub lt_no : (k n : ℕ) → n ≤ k → nat_lt k n ≡ false
 lt_no k n le = grind (arith, nat_tests)
 
-from_suc : {A : Type 0} (p : A → Bool) (i : ℕ) (xs : List A) → position_from p (suc i) xs ≡ option_map suc (position_from p i xs)
+pub from_suc : {A : Type 0} (p : A → Bool) (i : ℕ) (xs : List A) → position_from p (suc i) xs ≡ option_map suc (position_from p i xs)
 from_suc p i [] = refl
 from_suc p i (x ∷ xs) = by_test (p x) (from_suc p (i + 1) xs)
   where

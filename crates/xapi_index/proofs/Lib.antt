@@ -1,5 +1,10 @@
 pub mod Adding
-pub mod Rooms
 pub mod Supplies
 pub mod Firsts
-pub mod Taken
+pub mod Found
+pub mod Keyed
+pub mod Changing
+pub mod Standing
+pub mod Coming
+pub mod Rising
+pub mod Succeeding

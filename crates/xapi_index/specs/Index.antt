@@ -1,52 +1,60 @@
--- What is seen of the statements in memory, and for which ones there is room.
-use Rattle.std.specs.Prelude.{◌≡◌, ◌≤◌, ℕ, List, length, position, Option, Some, None, if◌then◌else◌}
-use Rattle.std.specs.Option.{option_or}
-use Rattle.std.specs.List.{AllByRecursion}
-use Rattle.std.specs.Cmp.Lexicographic.{slice_cmp}
-use Rattle.std.specs.Ordering.{nat_cmp}
-use Rattle.std.specs.Str.{bytes_eq}
-use Rattle.lrs_register.specs.Places.{HasPlace, place_of}
+-- What is seen of the statements in memory, and when statements that are to come are ready.
+use Rattle.std.specs.Prelude.{◌≡◌, ◌≤◌, ◌+◌, ◌<◌, ℕ, Bool, true, false, List, [], length, map, slice_get, Some}
+use Rattle.std.specs.List.{AllByRecursion, list_any}
+use Rattle.xapi_index.specs.Statements.{add_each}
+use Rattle.xapi_postings.specs.Ascending.{IsAscending, below, positions_with}
+use Rattle.xapi_postings.specs.Postings.{posting_of}
 use Rattle.xapi_statement.specs.Stored.{StoredStatement}
-use Rattle.xapi_index.specs.Statements.{is_that_id, voided_by, voids}
+use Rattle.xapi_statement_keys.specs.Keys.{has_key, is_among}
+use Rattle.xapi_statement_keys.specs.declared.key.Key.{Key}
+use Rattle.xapi_statement_keys.specs.declared.keys.Keys.{Keys}
 
--- Their list, the places by id and by the id of what is voided, and for how many more there is room in the list.
+-- Their list, the positions under each key, the keys of those that are to come, and for how many more there is room in
+-- the list. Positions that aren't below the length of the list are of statements that are to come.
 pub record Indexed : Type 0 where
   pub held : List StoredStatement
-  pub ids : List (List ℕ × Option ℕ)
-  pub targets : List (List ℕ × Option ℕ)
+  pub postings : List (Key × List ℕ)
+  pub coming : List (List Key)
   pub spare : ℕ
 
--- each id has the position of its statement
-abbrev pub FindsIds : List (List ℕ × Option ℕ) → List StoredStatement → Type 0
-FindsIds ids held = (k : List ℕ) → place_of (slice_cmp nat_cmp) ids k ≡ position (λ s. bytes_eq s.id k) held
+-- the keys in each of them
+abbrev pub lists_of : List Keys → List (List Key)
+lists_of each = map (λ (keys : Keys). keys.items.items) each
 
--- each id has the position of the first statement that voids it
-abbrev pub FindsTargets : List (List ℕ × Option ℕ) → List StoredStatement → Type 0
-FindsTargets targets held = (k : List ℕ) → place_of (slice_cmp nat_cmp) targets k ≡ position (voids k) held
+-- it is a key of one that is to come
+abbrev pub is_coming : Key → List (List Key) → Bool
+is_coming key coming = list_any (λ keys. is_among key keys) coming
 
-pub record IsIndex (ids targets : List (List ℕ × Option ℕ)) (held : List StoredStatement) : Type 0 where
-  pub found : FindsIds ids held
-  pub voided : FindsTargets targets held
+-- Of the positions under a key, those below the length are of the statements with that key.
+pub record IsPosting (held : List StoredStatement) (coming : ℕ) (key : Key) (positions : List ℕ) : Type 0 where
+  pub visible : below (length held) positions ≡ positions_with (has_key key) held
+  pub ascending : IsAscending positions
+  pub bounded : AllByRecursion (λ k. k < length held + coming) positions
 
--- the target, if any, gets that position if it has none
-abbrev pub FillsTarget : Option (List ℕ) → ℕ → List (List ℕ × Option ℕ) → List (List ℕ × Option ℕ) → Type 0
-FillsTarget target position old new =
-    (k : List ℕ) → place_of (slice_cmp nat_cmp) new k ≡ option_or (place_of (slice_cmp nat_cmp) old k)
-    (if is_that_id k target then Some position else None)
+-- the positions under a key are those of the statements with that key, and no more
+abbrev pub ArePosted : List StoredStatement → List (Key × List ℕ) → Type 0
+ArePosted held postings = (key : Key) → posting_of key postings ≡ positions_with (has_key key) held
 
--- ---- room
+-- no statement is older than one before it
+abbrev pub IsRising : List StoredStatement → Type 0
+IsRising held = (i j : ℕ) → (s t : StoredStatement) → i ≤ j → slice_get held i ≡ Some s → slice_get held j ≡ Some t
+    → s.stored ≤ t.stored
 
--- a place was made for the id, if any
-abbrev pub HasPlaceFor : List (List ℕ × Option ℕ) → Option (List ℕ) → Type 0
-HasPlaceFor places None = Unit {0}
-HasPlaceFor places (Some id) = HasPlace (slice_cmp nat_cmp) places id
+pub record IsIndex (held : List StoredStatement) (postings : List (Key × List ℕ)) (coming : List (List Key))
+    (rises : Bool) : Type 0 where
+  pub posted : (key : Key) → IsPosting held (length coming) key (posting_of key postings)
+  pub others : (key : Key) → is_coming key coming ≡ false
+      → posting_of key postings ≡ positions_with (has_key key) held
+  pub rising : rises ≡ true → IsRising held
 
--- places were made for a statement's id and for that of the one that it voids, if any
-pub record HasPlaces (ids targets : List (List ℕ × Option ℕ)) (s : StoredStatement) : Type 0 where
-  pub id : HasPlace (slice_cmp nat_cmp) ids s.id
-  pub target : HasPlaceFor targets (voided_by s)
+-- ---- what is to come
 
--- there is room for these statements
+-- the index holds nothing of statements that are to come
+pub record HoldsNothingAhead (index : Indexed) : Type 0 where
+  pub posted : ArePosted index.held index.postings
+  pub coming : index.coming ≡ []
+
+-- These statements are ready: they stand under their keys, and there is room for them in the list.
 pub record IsIndexReadyFor (index : Indexed) (statements : List StoredStatement) : Type 0 where
-  pub places : AllByRecursion (HasPlaces index.ids index.targets) statements
+  pub posted : ArePosted (add_each index.held statements) index.postings
   pub spare : length statements ≤ index.spare

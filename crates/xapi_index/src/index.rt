@@ -1,38 +1,46 @@
-// The statements by id, with room made ahead.
-ghost use Rattle.std.specs.Prelude.{◌≡◌, OnOk, [], ◌≤◌, ◌<◌, ◌+◌, ◌-◌, position, length, slice_get, take, vec_len, vec_capacity};
-ghost use Rattle.std.specs.List.{AllByRecursion};
-ghost use Rattle.std.specs.Option.{option_copied};
+// The statements by position and by key, with what is to come written ahead.
+ghost use Rattle.std.specs.Prelude.{◌≡◌, OnOk, [], ◌≤◌, ◌<◌, Some, false, position, length, slice_get, take, IfSome};
+ghost use Rattle.std.specs.Option.{option_copied, option_map_or};
 ghost use Rattle.std.specs.Str.{bytes_eq};
-ghost use Rattle.std.specs.Cmp.Lexicographic.{slice_cmp};
-ghost use Rattle.std.specs.Ordering.{nat_cmp};
-ghost use Rattle.lrs_register.specs.Places.{AddsOnly, KeepsPlaces, MakesPlaces, SamePlaces, TakesPlacesBack};
-ghost use Rattle.xapi_statement.specs.Stored.{StoredStatement as SpecStatement};
-ghost use Rattle.xapi_index.specs.Statements.{add, add_each, held_under, is_held, is_target, is_that_id, is_voided};
-ghost use Rattle.xapi_index.specs.Statements.{voided_by, voids};
+ghost use Rattle.xapi_index.specs.Index.{HoldsNothingAhead, IsIndexReadyFor, IsPosting};
+ghost use Rattle.xapi_index.specs.Statements.{add_each, held_under, is_held, is_target, is_voided, voids};
 ghost use Rattle.xapi_index.specs.Statements.{position_referred, referred_at};
-ghost use Rattle.xapi_index.specs.Index.{FillsTarget, FindsIds, FindsTargets, HasPlaceFor, HasPlaces, IsIndexReadyFor};
+ghost use Rattle.xapi_index.specs.Times.{AreLaterFrom};
+ghost use Rattle.xapi_statement.specs.Stored.{StoredStatement as SpecStatement};
+ghost use Rattle.xapi_statement_keys.specs.Keys.{has_key};
 
+use crate::ahead::{cut_each, ready_each};
+use crate::held::HeldStatement;
+use crate::installing::install_each;
+use crate::positions::first_below;
+use crate::times::later_in;
 use lrs_ids::UsedIds;
 use lrs_json::Memory;
 use lrs_names::Id;
-use lrs_register::Places;
+use lrs_time::Instant;
 use std::alloc::Global;
 use std::marker::Model;
+use xapi_postings::Postings;
 use xapi_statement::StoredStatement;
+use xapi_statement_keys::{Key, Keys};
 
-/// The statements in their order, found by id; and of each id the first voiding statement that has it as its target.
+/// The statements in their order, and the positions under each of their keys.
 #[derive(Drop)]
 pub struct Index {
-    ids: Places<Id>,
-    targets: Places<Id>,
-    held: Vec<StoredStatement>,
+    held: Vec<HeldStatement>,
+    // Also the positions of statements that are to come, which aren't below the length.
+    postings: Postings,
+    // The keys of the statements that are to come.
+    coming: Vec<Keys>,
+    // Whether no statement is older than one before it.
+    rising: bool,
 }
 
 impl Model for Index {
     ghost use Rattle.std.specs.Prelude.{vec_len, vec_capacity, ◌-◌};
     ghost use Rattle.std.specs.Coded.{codes};
     ghost use Rattle.lrs_json.specs.contracts.tree.Tree as tree;
-    ghost use Rattle.xapi_index.specs.Index.{Indexed, IsIndex};
+    ghost use Rattle.xapi_index.specs.Index.{Indexed, IsIndex, lists_of};
 
     ghost Value = { Indexed };
 
@@ -40,23 +48,27 @@ impl Model for Index {
 
     ghost view = { λ i. record {
       held = i.held.items;
-      ids = i.ids;
-      targets = i.targets;
+      postings = i.postings;
+      coming = lists_of i.coming.items;
       spare = vec_capacity i.held -
           vec_len i.held;
     } };
 
-    ghost invariant = { λ i. IsIndex i.ids i.targets i.held.items };
+    ghost invariant = { λ i. IsIndex i.held.items i.postings (lists_of i.coming.items) i.rising };
 }
 
 impl Index {
     pub fn new(alloc: Global) -> Index
         ensures { result.held ≡ [] }
     {
+        let held = Vec::new(alloc);
+        let postings = Postings::new(alloc);
+        let coming = Vec::new(alloc);
         Index {
-            ids: Places::new(alloc),
-            targets: Places::new(alloc),
-            held: Vec::new(alloc),
+            held,
+            postings,
+            coming,
+            rising: true,
         }
     }
 
@@ -71,7 +83,17 @@ impl Index {
     fn position_of(&self, id: &Id) -> Option<usize>
         ensures { result ≡ position (λ s. bytes_eq s.id id.now) self.now.held }
     {
-        self.ids.get(id)
+        let key = Key::Statement(*id);
+        let first = self.first_with(&key);
+        drop(key);
+        first
+    }
+
+    // The position of the first statement with a key.
+    fn first_with(&self, key: &Key) -> Option<usize>
+        ensures { result ≡ position (has_key key.now) self.now.held }
+    {
+        first_below(self.posting(key), self.len())
     }
 
     /// The statement that is held under an id.
@@ -95,7 +117,10 @@ impl Index {
     pub fn get(&self, at: usize) -> Option<&StoredStatement>
         ensures { option_copied result ≡ slice_get self.now.held at }
     {
-        self.held.get(at)
+        match self.held.get(at) {
+            Some(held) => Some(held.statement()),
+            None => None,
+        }
     }
 
     // The position of the statement under an id among the first n.
@@ -114,25 +139,30 @@ impl Index {
         ensures { result ≡ referred_at (take n self.now.held) at }
     {
         match self.held.get(at) {
-            Some(statement) => self.position_referred(n, statement),
+            Some(held) => self.position_referred(n, held),
             None => None,
         }
     }
 
-    fn position_referred(&self, n: usize, statement: &StoredStatement) -> Option<usize>
-        ensures { result ≡ position_referred (take n self.now.held) statement.now }
+    fn position_referred(&self, n: usize, held: &HeldStatement) -> Option<usize>
+        ensures { result ≡ position_referred (take n self.now.held) held.now }
     {
-        match statement.target() {
+        match held.target() {
             Some(id) => self.position_in(n, &id),
             None => None,
         }
     }
 
+    // ---- voiding
+
     // The position of the first voiding statement that has that id as its target.
     fn voiding(&self, id: &Id) -> Option<usize>
         ensures { result ≡ position (voids id.now) self.now.held }
     {
-        self.targets.get(id)
+        let key = Key::Voiding(*id);
+        let first = self.first_with(&key);
+        drop(key);
+        first
     }
 
     /// Whether a statement is voided by one that is held.
@@ -156,6 +186,22 @@ impl Index {
         !statement.is_voiding() && self.is_target_in(n, &statement.id())
     }
 
+    /// Whether the statement at a position is voided by one of the first n.
+    pub fn is_voided_at(&self, n: usize, at: usize) -> bool
+        ensures { result ≡ option_map_or (is_voided (take n self.now.held)) (slice_get self.now.held at) false }
+    {
+        match self.held.get(at) {
+            Some(held) => self.is_held_voided(n, held),
+            None => false,
+        }
+    }
+
+    fn is_held_voided(&self, n: usize, held: &HeldStatement) -> bool
+        ensures { result ≡ is_voided (take n self.now.held) held.now }
+    {
+        !held.is_voiding() && self.is_target_in(n, &held.id())
+    }
+
     // Whether one of the first n that void has that id as its target.
     fn is_target_in(&self, n: usize, id: &Id) -> bool
         ensures { result ≡ is_target id.now (take n self.now.held) }
@@ -166,35 +212,79 @@ impl Index {
         }
     }
 
-    /// Makes room for these statements.
+    // ---- lists of positions
+
+    /// The positions of the statements with a key, in their order. Those that aren't below the length are of statements
+    /// that are to come.
+    pub fn posting(&self, key: &Key) -> &[u32]
+        ensures { IsPosting self.now.held (length self.now.coming) key.now result.now }
+    {
+        self.postings.get(key)
+    }
+
+    /// The positions of the statements that refer to the one at a position.
+    pub fn referring_to(&self, at: usize) -> &[u32]
+        ensures { (s : SpecStatement) → slice_get self.now.held at ≡ Some s
+            → IsPosting self.now.held (length self.now.coming) (Key.Reference s.id) result.now }
+    {
+        match self.get(at) {
+            Some(statement) => self.referring(statement.id()),
+            None => &[],
+        }
+    }
+
+    fn referring(&self, id: Id) -> &[u32]
+        ensures { IsPosting self.now.held (length self.now.coming) (Key.Reference id) result.now }
+    {
+        let key = Key::Reference(id);
+        let positions = self.posting(&key);
+        drop(key);
+        positions
+    }
+
+    /// The position from which on the first n statements were stored later than an instant. None is told if one is
+    /// older than one before it.
+    pub fn later_than(&self, n: usize, instant: Instant) -> Option<usize>
+        requires { n ≤ length self.now.held }
+        ensures { IfSome result (AreLaterFrom self.now.held n instant) }
+    {
+        later_in(self.held.as_slice(), self.rising, n, instant)
+    }
+
+    // ---- what is to come
+
+    /// Makes room for these statements, and writes their positions ahead. What was written before is taken back.
     pub fn ready(&mut self, statements: &[StoredStatement]) -> Result<(), Memory>
         ensures held { self.new.held ≡ self.old.held }
         ensures ready { OnOk result (IsIndexReadyFor self.new statements.now) }
-        ensures ids { MakesPlaces (slice_cmp nat_cmp) (λ k. is_held k statements.now) self.old.ids self.new.ids }
-        ensures targets { MakesPlaces (slice_cmp nat_cmp) (λ k. is_target k statements.now)
-            self.old.targets self.new.targets }
     {
-        self.held.reserve(statements.len())?;
-        make_places(&mut self.ids, &mut self.targets, statements)
+        self.release();
+        ready_each(
+            &mut self.held,
+            &mut self.postings,
+            &mut self.coming,
+            statements,
+        )
     }
 
-    /// Takes back the places that were made for statements which didn't come.
-    pub fn release(&mut self, statements: &[StoredStatement])
+    /// Takes back what was written ahead for statements that don't come. It takes no memory.
+    pub fn release(&mut self)
         ensures held { self.new.held ≡ self.old.held }
-        ensures ids { TakesPlacesBack (slice_cmp nat_cmp) (λ k. is_held k statements.now) self.old.ids self.new.ids }
-        ensures targets { TakesPlacesBack (slice_cmp nat_cmp) (λ k. is_target k statements.now)
-            self.old.targets self.new.targets }
+        ensures nothing { HoldsNothingAhead self.new }
     {
-        release_ids(&mut self.ids, statements);
-        release_targets(&mut self.targets, statements);
+        let held = self.held.len();
+        cut_each(&mut self.postings, self.coming.as_slice(), held);
+        self.coming.clear();
     }
 
-    /// Takes statements in for which there is room, each but for one whose id is held. It takes no memory.
+    /// Takes statements in that are ready, each but for one whose id is held. It takes no memory.
     pub fn install(&mut self, statements: Vec<StoredStatement>)
         requires { IsIndexReadyFor self.old statements.items }
-        ensures { self.new.held ≡ add_each self.old.held statements.items }
+        ensures held { self.new.held ≡ add_each self.old.held statements.items }
+        ensures nothing { HoldsNothingAhead self.new }
     {
-        install_each(&mut self.ids, &mut self.targets, &mut self.held, statements);
+        install_each(&self.postings, &mut self.held, &mut self.rising, statements);
+        self.coming.clear();
     }
 }
 
@@ -213,130 +303,5 @@ impl UsedIds for Index {
     #[tactic(auto, using(crate::proofs::Supplies::held_counted))]
     fn count(&self) -> u128 {
         self.held.len() as u128
-    }
-}
-
-// Makes places for statements that are to come.
-fn make_places(
-    ids: &mut Places<Id>,
-    targets: &mut Places<Id>,
-    statements: &[StoredStatement],
-) -> Result<(), Memory>
-    ensures ids { SamePlaces (slice_cmp nat_cmp) ids.old ids.new }
-    ensures targets { SamePlaces (slice_cmp nat_cmp) targets.old targets.new }
-    ensures ready { OnOk result (AllByRecursion (HasPlaces ids.new targets.new) statements.now) }
-    ensures only_ids { AddsOnly (slice_cmp nat_cmp) (λ k. is_held k statements.now) ids.old ids.new }
-    ensures only_targets { AddsOnly (slice_cmp nat_cmp) (λ k. is_target k statements.now) targets.old targets.new }
-{
-    for statement in statements {
-        ids.make(statement.id())?;
-        make_target(targets, voided_by(statement))?;
-    }
-    Ok(())
-}
-
-fn make_target(targets: &mut Places<Id>, target: Option<Id>) -> Result<(), Memory>
-    ensures same { SamePlaces (slice_cmp nat_cmp) targets.old targets.new }
-    ensures there { OnOk result (HasPlaceFor targets.new target) }
-    ensures kept { KeepsPlaces (slice_cmp nat_cmp) targets.old targets.new }
-    ensures only { AddsOnly (slice_cmp nat_cmp) (λ k. is_that_id k target) targets.old targets.new }
-{
-    match target {
-        Some(target) => Ok(targets.make(target)?),
-        None => Ok(()),
-    }
-}
-
-// Takes back the places of the ids of these statements, where they are empty.
-fn release_ids(ids: &mut Places<Id>, statements: &[StoredStatement])
-    ensures { TakesPlacesBack (slice_cmp nat_cmp) (λ k. is_held k statements.now) ids.old ids.new }
-{
-    for statement in statements {
-        ids.release(&statement.id());
-    }
-}
-
-// Takes back the places of what these statements void, where they are empty.
-fn release_targets(targets: &mut Places<Id>, statements: &[StoredStatement])
-    ensures { TakesPlacesBack (slice_cmp nat_cmp) (λ k. is_target k statements.now) targets.old targets.new }
-{
-    for statement in statements {
-        release_target(targets, voided_by(statement));
-    }
-}
-
-fn release_target(targets: &mut Places<Id>, target: Option<Id>)
-    ensures { TakesPlacesBack (slice_cmp nat_cmp) (λ k. is_that_id k target) targets.old targets.new }
-{
-    if let Some(target) = target {
-        targets.release(&target);
-    }
-}
-
-fn install_each(
-    ids: &mut Places<Id>,
-    targets: &mut Places<Id>,
-    held: &mut Vec<StoredStatement>,
-    statements: Vec<StoredStatement>,
-)
-    requires places { AllByRecursion (HasPlaces ids.old targets.old) statements.items }
-    requires spare { length statements.items ≤ vec_capacity held.old - vec_len held.old }
-    requires found { FindsIds ids.old held.old.items }
-    requires voided { FindsTargets targets.old held.old.items }
-    ensures held { held.new.items ≡ add_each held.old.items statements.items }
-    ensures found { FindsIds ids.new held.new.items }
-    ensures voided { FindsTargets targets.new held.new.items }
-{
-    for statement in statements {
-        install_one(ids, targets, held, statement);
-    }
-}
-
-fn install_one(
-    ids: &mut Places<Id>,
-    targets: &mut Places<Id>,
-    held: &mut Vec<StoredStatement>,
-    statement: StoredStatement,
-)
-    requires places { HasPlaces ids.old targets.old statement }
-    requires spare { 1 ≤ vec_capacity held.old - vec_len held.old }
-    requires found { FindsIds ids.old held.old.items }
-    requires voided { FindsTargets targets.old held.old.items }
-    ensures held { held.new.items ≡ add held.old.items statement }
-    ensures found { FindsIds ids.new held.new.items }
-    ensures voided { FindsTargets targets.new held.new.items }
-    ensures kept { (s : SpecStatement) → HasPlaces ids.old targets.old s → HasPlaces ids.new targets.new s }
-    ensures spare { (vec_capacity held.new ≡ vec_capacity held.old) × (vec_len held.new ≤ vec_len held.old + 1) }
-{
-    let id = statement.id();
-    match ids.get(&id) {
-        Some(_) => drop(statement),
-        None => {
-            fill_target(targets, voided_by(&statement), held.len());
-            ids.fill(&id, held.len());
-            held.push_reserved(statement);
-        }
-    }
-}
-
-// Fills the place of what a statement at that position voids, if no earlier one voids it.
-fn fill_target(targets: &mut Places<Id>, target: Option<Id>, position: usize)
-    requires { HasPlaceFor targets.old target }
-    ensures filled { FillsTarget target position targets.old targets.new }
-    ensures kept { KeepsPlaces (slice_cmp nat_cmp) targets.old targets.new }
-{
-    if let Some(target) = target {
-        targets.fill(&target, position);
-    }
-}
-
-// The id of the statement that this one voids.
-fn voided_by(statement: &StoredStatement) -> Option<Id>
-    ensures { result ≡ voided_by statement.now }
-{
-    if statement.is_voiding() {
-        statement.target()
-    } else {
-        None
     }
 }

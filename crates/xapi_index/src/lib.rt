@@ -1,9 +1,14 @@
-//! The list of statements that a store holds: which one an id names, which are voided, which one refers to which, and
-//! the ids under which new ones go. Nothing here knows who asks or what is listed.
+//! The list of statements that a store holds: which one an id names, which are voided, which one refers to which, which
+//! stand under a key, and the ids under which new ones go. Nothing here knows who asks or what is listed.
 #![tactic(auto)]
 
+mod ahead;
+mod held;
 mod index;
+mod installing;
 mod naming;
+mod positions;
+mod times;
 
 pub use index::Index;
 pub use naming::{batch_ids, given_ids, have_distinct_ids, take_ids};

@@ -1,18 +1,23 @@
-use Rattle.std.proofs.Common.{sym}
-use Rattle.std.specs.Cmp.Lexicographic.{slice_cmp}
-use Rattle.std.specs.Ordering.{nat_cmp}
-use Rattle.lrs_register.proofs.Ahead.{none_made}
-use Rattle.xapi_index.specs.Statements.{is_held, is_target}
+use Rattle.std.proofs.Common.{◌∙◌, ap, subst, sym}
+use Rattle.xapi_index.specs.Index.{ArePosted, Indexed, IsIndex, lists_of}
+use Rattle.xapi_index.proofs.Standing.{with_rising}
+use Rattle.xapi_index.proofs.Succeeding.{both_ok}
 use Rattle.xapi_index.proofs.index.Index.ready.Goals as goal
 
-pub returns-in_err-reserve-clause-ids : goal.returns-in_err-reserve-clause-ids
-returns-in_err-reserve-clause-ids c = rw (sym c.self.view_is) (none_made (slice_cmp nat_cmp) (λ k. is_held k c.args.statements.now) c.self.inside.ids)
+pub ready_each-requires-clause-posted : goal.ready_each-requires-clause-posted
+ready_each-requires-clause-posted c = subst (λ (v : Indexed). ArePosted v.held v.postings) (sym c.self.view_is) c.release.ensures.nothing.posted
 
-pub returns-in_err-reserve-clause-targets : goal.returns-in_err-reserve-clause-targets
-returns-in_err-reserve-clause-targets c = rw (sym c.self.view_is) (none_made (slice_cmp nat_cmp) (λ k. is_target k c.args.statements.now) c.self.inside.targets)
+pub ready_each-requires-clause-nothing : goal.ready_each-requires-clause-nothing
+ready_each-requires-clause-nothing c = ap (λ (v : Indexed). v.coming) c.self.view_is ∙ c.release.ensures.nothing.coming
 
-pub returns-clause-ids : goal.returns-clause-ids
-returns-clause-ids c = rw (sym c.self.view_is) (record { same = c.make_places.ensures.ids; only = c.make_places.ensures.only_ids })
+pub invariant_of-self : goal.invariant_of-self
+invariant_of-self c =
+    let new = c.ready_each.new in
+    subst (λ xs. IsIndex xs new.postings (lists_of new.coming.items) c.self.inside.rising) (sym c.ready_each.ensures.held)
+    (with_rising c.self.inside.held.items new.postings (lists_of new.coming.items) c.self.inside.rising c.ready_each.ensures.index c.self.invariant.rising)
 
-pub returns-clause-targets : goal.returns-clause-targets
-returns-clause-targets c = rw (sym c.self.view_is) (record { same = c.make_places.ensures.targets; only = c.make_places.ensures.only_targets })
+pub returns-clause-held : goal.returns-clause-held
+returns-clause-held c = c.ready_each.ensures.held ∙ (ap (λ (v : Indexed). v.held) c.self.view_is ∙ c.release.ensures.held)
+
+pub returns-clause-ready : goal.returns-clause-ready
+returns-clause-ready c = both_ok c.ready_each.result c.ready_each.ensures.posted c.ready_each.ensures.spare (λ posted spare. record { posted = posted; spare = spare })

@@ -1,0 +1,120 @@
+-- The first item that passes and its place, and the first number of a list of places.
+use Rattle.std.proofs.Common.{◌≡◌, ◌==◌, ◌<◌, ◌≤◌, ◌+◌, suc, ℕ, List, [], ◌∷◌, ◌++◌, length, refl, sym, ◌∙◌, ap, append_assoc, arith, eq-eqb, true≢false, Option, Some, None, Bool, true, false, cond, slice_get}
+use Rattle.std.specs.Prelude.{option_and_then, option_map, position, find, is_some}
+use Rattle.std.specs.List.{AllByRecursion, position_from}
+use Rattle.std.specs.Option.{option_map_or, option_or}
+use Rattle.std.proofs.lemmas.Bool.Decides.{nat_tests}
+use Rattle.std.proofs.lemmas.Iterator.Adapters.{position_from-zero}
+use Rattle.std.proofs.lemmas.Option.{none-some, same_Some}
+use Rattle.xapi_index.proofs.Firsts.{from_suc, lt_no, lt_yes}
+use Rattle.xapi_postings.specs.Ascending.{IsAscending, below}
+
+-- ---- by place
+
+item_from : {A : Type 0} (p : A → Bool) (xs : List A) → option_and_then (λ k. slice_get xs k) (position_from p 0 xs) ≡ find p xs
+item_from p [] = refl
+item_from p (x ∷ xs) = by_test (p x) (item_from p xs)
+  where
+    behind : (o : Option ℕ) → option_and_then (λ k. slice_get (x ∷ xs) k) (option_map suc o) ≡ option_and_then (λ k. slice_get xs k) o
+    behind None = refl
+    behind (Some k) = refl
+
+    by_test : (b : Bool) → option_and_then (λ k. slice_get xs k) (position_from p 0 xs) ≡ find p xs
+        → option_and_then (λ k. slice_get (x ∷ xs) k) (cond b (Some 0) (position_from p 1 xs)) ≡ cond b (Some x) (find p xs)
+    by_test true more = refl
+    by_test false more = ap (λ o. option_and_then (λ k. slice_get (x ∷ xs) k) o) (from_suc p 0 xs) ∙ (behind (position_from p 0 xs) ∙ more)
+
+-- what stands at the place of the first item that passes, and that there is none
+pub item_at : {A : Type 0} (p : A → Bool) (xs : List A) (o : Option ℕ) (k : ℕ) → o ≡ Some k → o ≡ position p xs → slice_get xs k ≡ find p xs
+item_at p xs o k at place = ap (λ q. option_and_then (λ i. slice_get xs i) q) (sym at ∙ (place ∙ position_from-zero p xs)) ∙ item_from p xs
+
+pub item_none : {A : Type 0} (p : A → Bool) (xs : List A) (o : Option ℕ) → o ≡ None → o ≡ position p xs → None ≡ find p xs
+item_none p xs o none place = ap (λ q. option_and_then (λ i. slice_get xs i) q) (sym none ∙ (place ∙ position_from-zero p xs)) ∙ item_from p xs
+
+-- ---- found or not
+
+found_from : {A : Type 0} (p : A → Bool) (i : ℕ) (xs : List A) → is_some (position_from p i xs) ≡ is_some (find p xs)
+found_from p i [] = refl
+found_from p i (x ∷ xs) = by_test (p x) (found_from p (i + 1) xs)
+  where
+    by_test : (b : Bool) → is_some (position_from p (i + 1) xs) ≡ is_some (find p xs) → is_some (cond b (Some i) (position_from p (i + 1) xs)) ≡ is_some (cond b (Some x) (find p xs))
+    by_test true more = refl
+    by_test false more = more
+
+-- something is found exactly where it has a place
+pub found_at : {A : Type 0} (p : A → Bool) (xs : List A) (o : Option ℕ) → o ≡ position p xs → is_some o ≡ is_some (find p xs)
+found_at p xs o is = ap (λ q. is_some q) (is ∙ position_from-zero p xs) ∙ found_from p 0 xs
+
+no_value : (o : Option ℕ) → is_some o ≡ false → o ≡ None
+no_value None is = refl
+no_value (Some k) is = absurd (true≢false is)
+
+-- the place of what is found lies within the list
+found_within : {A : Type 0} (p : A → Bool) (i : ℕ) (xs : List A) → is_some (find p xs) ≡ true → (k : ℕ) × (position_from p i xs ≡ Some k) × (k < i + length xs)
+found_within p i [] is = absurd (true≢false (sym is))
+found_within p i (x ∷ xs) is = by_test (p x) (λ rest. found_within p (i + 1) xs rest) is
+  where
+    by_test : (b : Bool) → (is_some (find p xs) ≡ true → ((k : ℕ) × (position_from p (i + 1) xs ≡ Some k) × (k < i + 1 + length xs)))
+        → is_some (cond b (Some x) (find p xs)) ≡ true → ((k : ℕ) × (cond b (Some i) (position_from p (i + 1) xs) ≡ Some k) × (k < i + length (x ∷ xs)))
+    by_test true more is = (i, refl, omega arith)
+    by_test false more is = let rest = more is in (rest.0, rest.1, omega (arith, rest.2))
+
+-- ---- in two lists, one behind the other
+
+from_append : {A : Type 0} (p : A → Bool) (i : ℕ) (xs ys : List A) → position_from p i (xs ++ ys) ≡ option_or (position_from p i xs) (position_from p (i + length xs) ys)
+from_append p i [] ys = ap (λ k. position_from p k ys) (omega arith)
+from_append p i (x ∷ xs) ys = by_test (p x) (from_append p (i + 1) xs ys)
+  where
+    by_test : (b : Bool) → position_from p (i + 1) (xs ++ ys) ≡ option_or (position_from p (i + 1) xs) (position_from p (i + 1 + length xs) ys)
+        → cond b (Some i) (position_from p (i + 1) (xs ++ ys)) ≡ option_or (cond b (Some i) (position_from p (i + 1) xs)) (position_from p (i + length (x ∷ xs)) ys)
+    by_test true more = refl
+    by_test false more = more ∙ ap (λ k. option_or (position_from p (i + 1) xs) (position_from p k ys)) (omega arith)
+
+not_it : (k n : ℕ) → k < n → (k == n) ≡ false
+not_it k n less = grind (arith, nat_tests)
+
+-- What is found in the first list doesn't stand first behind it.
+pub stands_before : {A : Type 0} (p : A → Bool) (xs ys : List A) → is_some (find p xs) ≡ true → option_map_or (λ k. k == length xs) (position_from p 0 (xs ++ ys)) false ≡ false
+stands_before p xs ys is =
+    let at = found_within p 0 xs is in
+    ap (λ o. option_map_or (λ k. k == length xs) o false) (from_append p 0 xs ys ∙ ap (λ o. option_or o (position_from p (0 + length xs) ys)) at.1)
+    ∙ not_it at.0 (length xs) (omega (arith, at.2))
+
+-- What isn't found in the first list stands first behind it.
+pub stands_next : {A : Type 0} (p : A → Bool) (xs : List A) (y : A) (ys : List A) → is_some (find p xs) ≡ false → p y ≡ true
+    → option_map_or (λ k. k == length xs) (position_from p 0 ((xs ++ y ∷ []) ++ ys)) false ≡ true
+stands_next p xs y ys none is =
+    ap (λ o. option_map_or (λ k. k == length xs) o false)
+    (ap (λ zs. position_from p 0 zs) (append_assoc xs (y ∷ []) ys)
+    ∙ (from_append p 0 xs (y ∷ ys)
+    ∙ (ap (λ o. option_or o (position_from p (0 + length xs) (y ∷ ys))) (no_value (position_from p 0 xs) (found_from p 0 xs ∙ none))
+    ∙ ap (λ b. cond b (Some (0 + length xs)) (position_from p (0 + length xs + 1) ys)) is)))
+    ∙ eq-eqb (0 + length xs) (length xs) (omega arith)
+
+-- ---- the first of a list of places that is below a bound
+
+-- what holds of each holds of each still
+pub each_still : {A : Type 0} (P Q : A → Type 0) → ((x : A) → P x → Q x) → (xs : List A) → AllByRecursion P xs → AllByRecursion Q xs
+each_still P Q still [] each = tt
+each_still P Q still (x ∷ xs) each = (still x each.0, each_still P Q still xs each.1)
+
+none_below : (n : ℕ) (ks : List ℕ) → AllByRecursion (λ k. n ≤ k) ks → below n ks ≡ []
+none_below n [] each = refl
+none_below n (k ∷ ks) each = ap (λ b. cond b (k ∷ below n ks) (below n ks)) (lt_no k n each.0) ∙ none_below n ks each.1
+
+pub first_kept : (n : ℕ) (ks : List ℕ) (k : ℕ) → slice_get ks 0 ≡ Some k → k < n → Some k ≡ slice_get (below n ks) 0
+first_kept n [] k at less = absurd (none-some k at)
+first_kept n (j ∷ ks) k at less =
+    let same : j ≡ k = same_Some j k at in
+    sym (ap (λ b. slice_get (cond b (j ∷ below n ks) (below n ks)) 0) (lt_yes j n (omega arith)) ∙ at)
+
+pub first_past : (n : ℕ) (ks : List ℕ) (k : ℕ) → IsAscending ks → slice_get ks 0 ≡ Some k → n ≤ k → None ≡ slice_get (below n ks) 0
+first_past n [] k up at past = refl
+first_past n (j ∷ ks) k up at past =
+    let same : j ≡ k = same_Some j k at in
+    let from : n ≤ j = omega arith in
+    sym (ap (λ xs. slice_get xs 0) (none_below n (j ∷ ks) (from, each_still (λ i. j < i) (λ i. n ≤ i) (λ i less. omega arith) ks up.0)))
+
+pub first_none : (n : ℕ) (ks : List ℕ) → slice_get ks 0 ≡ None → None ≡ slice_get (below n ks) 0
+first_none n [] at = refl
+first_none n (k ∷ ks) at = absurd (none-some k (sym at))

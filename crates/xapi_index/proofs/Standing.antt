@@ -1,0 +1,152 @@
+-- Positions of statements that are to come: what is true of the postings while some stand ahead, and when none does.
+use Rattle.std.proofs.Common.{◌≡◌, ◌⊎◌, ◌+◌, ◌<◌, ◌≤◌, ℕ, List, [], ◌∷◌, ◌++◌, length, append-nil, refl, sym, ◌∙◌, ap, subst, arith, inl, inr, true≢false, Bool, true, false, cond, ◌||◌, nat_lt}
+use Rattle.std.specs.List.{AllByRecursion}
+use Rattle.std.proofs.lemmas.List.{length_push, take-append-le, take_all}
+use Rattle.std.proofs.lemmas.List.Elements.{filter-append}
+use Rattle.std.proofs.lemmas.Option.{none-some}
+use Rattle.xapi_index.specs.Ahead.{ChangesEach, ChangesSome, StandAhead}
+use Rattle.xapi_index.specs.Index.{ArePosted, IsIndex, IsPosting, IsRising, is_coming}
+use Rattle.xapi_index.proofs.Changing.{posted_new}
+use Rattle.xapi_index.proofs.Firsts.{lt_no}
+use Rattle.xapi_index.proofs.Found.{each_still}
+use Rattle.xapi_index.proofs.Keyed.{coming_push}
+use Rattle.xapi_postings.specs.Ascending.{below, positions_with}
+use Rattle.xapi_postings.specs.Postings.{posted, posting_of}
+use Rattle.xapi_postings.proofs.Ascending.{ascending-append, positions-append, positions-ascending, positions-below, positions-bounded}
+use Rattle.xapi_statement.specs.Stored.{StoredStatement}
+use Rattle.xapi_statement_keys.specs.Keys.{has_key, is_among}
+use Rattle.xapi_statement_keys.specs.declared.key.Key.{Key}
+
+each_push : {A : Type 0} (P : A → Type 0) (xs : List A) (y : A) → AllByRecursion P xs → P y → AllByRecursion P (xs ++ y ∷ [])
+each_push P [] y each is = (is, tt)
+each_push P (x ∷ xs) y each is = (each.0, each_push P xs y each.1 is)
+
+left_none : (a b : Bool) → (a || b) ≡ false → a ≡ false
+left_none true b is = is
+left_none false b is = refl
+
+right_none : (a b : Bool) → (a || b) ≡ false → b ≡ false
+right_none true b is = absurd (true≢false is)
+right_none false b is = is
+
+-- ---- one posting
+
+posting_wider : (held : List StoredStatement) (n m : ℕ) (key : Key) (ks : List ℕ) → n ≤ m → IsPosting held n key ks → IsPosting held m key ks
+posting_wider held n m key ks le is = record {
+  visible = is.visible;
+  ascending = is.ascending;
+  bounded = each_still (λ k. k < length held + n) (λ k. k < length held + m) (λ k less. omega arith) ks is.bounded;
+}
+
+-- one position more, behind all others
+posting_more : (held : List StoredStatement) (n : ℕ) (key : Key) (ks : List ℕ) (position : ℕ) → position ≡ length held + n → IsPosting held n key ks → IsPosting held (n + 1) key (ks ++ position ∷ [])
+posting_more held n key ks position at is = record {
+  visible = filter-append (λ k. nat_lt k (length held)) ks (position ∷ [])
+      ∙ (ap (λ b. below (length held) ks ++ cond b (position ∷ []) []) (lt_no position (length held) (omega arith)) ∙ (append-nil (below (length held) ks) ∙ is.visible));
+  ascending = ascending-append ks position is.ascending (each_still (λ k. k < length held + n) (λ k. k < position) (λ k less. omega arith) ks is.bounded);
+  bounded = each_push (λ k. k < length held + (n + 1)) ks position (each_still (λ k. k < length held + n) (λ k. k < length held + (n + 1)) (λ k less. omega arith) ks is.bounded) (omega arith);
+}
+
+posting_ahead : (held all : List StoredStatement) (postings : List (Key × List ℕ)) (coming : List (List Key)) → StandAhead held all postings coming
+    → (key : Key) → IsPosting held (length coming) key (positions_with (has_key key) all)
+posting_ahead held all postings coming stand key = record {
+  visible = positions-below (has_key key) (length held) all ∙ ap (λ xs. positions_with (has_key key) xs) stand.front;
+  ascending = positions-ascending (has_key key) all;
+  bounded = subst (λ n. AllByRecursion (λ k. k < n) (positions_with (has_key key) all)) stand.long (positions-bounded (has_key key) all);
+}
+
+posted_last : (key : Key) (all : List StoredStatement) (position : ℕ) → position ≡ length all → posted position (positions_with (has_key key) all) ≡ positions_with (has_key key) all ++ position ∷ []
+posted_last key all position at =
+    posted_new position (positions_with (has_key key) all) (subst (λ n. AllByRecursion (λ k. k < n) (positions_with (has_key key) all)) (sym at) (positions-bounded (has_key key) all))
+
+-- ---- some stand ahead
+
+pub stand_start : (held : List StoredStatement) (postings : List (Key × List ℕ)) (coming : List (List Key)) → ArePosted held postings → coming ≡ [] → StandAhead held held postings coming
+stand_start held postings coming are nothing = record {
+  posted = are;
+  front = take_all (length held) held (omega arith);
+  long = omega (arith, ap length nothing);
+  others = λ key none. refl;
+}
+
+-- one more that is to come, of which all keys are noted, and its position under each
+pub stand_more : (held all : List StoredStatement) (old new : List (Key × List ℕ)) (coming : List (List Key)) (keys : List Key) (s : StoredStatement) (position : ℕ) → position ≡ length held + length coming
+    → ((k : Key) → is_among k keys ≡ has_key k s) → ChangesEach (λ k. is_among k keys) (posted position) old new → StandAhead held all old coming → StandAhead held (all ++ s ∷ []) new (coming ++ keys ∷ [])
+stand_more held all old new coming keys s position at told each stand = record {
+  posted = λ key.
+      each key
+      ∙ (ap (λ ks. cond (is_among key keys) (posted position ks) ks) (stand.posted key)
+      ∙ (ap (λ b. cond b (posted position (positions_with (has_key key) all)) (positions_with (has_key key) all)) (told key)
+      ∙ (ap (λ ks. cond (has_key key s) ks (positions_with (has_key key) all)) (posted_last key all position last ∙ ap (λ k. positions_with (has_key key) all ++ k ∷ []) last)
+      ∙ sym (positions-append (has_key key) all s))));
+  front = take-append-le (length held) all (s ∷ []) (omega (arith, stand.long)) ∙ stand.front;
+  long = omega (arith, stand.long, length_push all s, length_push coming keys);
+  others = λ key none.
+      positions-append (has_key key) all s
+      ∙ (ap (λ b. cond b (positions_with (has_key key) all ++ length all ∷ []) (positions_with (has_key key) all))
+      (sym (told key) ∙ right_none (is_coming key coming) (is_among key keys) (sym (coming_push key coming keys) ∙ none))
+      ∙ stand.others key (left_none (is_coming key coming) (is_among key keys) (sym (coming_push key coming keys) ∙ none)));
+}
+  where
+    last : position ≡ length all
+    last = at ∙ sym stand.long
+
+-- ---- what is true whatever stands ahead
+
+pub stand_index : (held all : List StoredStatement) (postings : List (Key × List ℕ)) (coming : List (List Key)) → StandAhead held all postings coming → IsIndex held postings coming false
+stand_index held all postings coming stand = record {
+  posted = λ key. subst (λ ks. IsPosting held (length coming) key ks) (sym (stand.posted key)) (posting_ahead held all postings coming stand key);
+  others = λ key none. stand.posted key ∙ stand.others key none;
+  rising = λ is. absurd (true≢false (sym is));
+}
+
+-- The keys of one more are noted, and its position stands under some of them.
+pub part_index : (held all : List StoredStatement) (old new : List (Key × List ℕ)) (coming : List (List Key)) (keys : List Key) (position : ℕ) → position ≡ length held + length coming
+    → ChangesSome (λ k. is_among k keys) (posted position) old new → StandAhead held all old coming → IsIndex held new (coming ++ keys ∷ []) false
+part_index held all old new coming keys position at some stand = record {
+  posted = λ key. by_change key (some key);
+  others = λ key none. by_others key none (some key);
+  rising = λ is. absurd (true≢false (sym is));
+}
+  where
+    by_change : (key : Key) → (posting_of key new ≡ posting_of key old) ⊎ ((is_among key keys ≡ true) × (posting_of key new ≡ posted position (posting_of key old)))
+        → IsPosting held (length (coming ++ keys ∷ [])) key (posting_of key new)
+    by_change key (inl same) =
+        subst (λ ks. IsPosting held (length (coming ++ keys ∷ [])) key ks) (sym (same ∙ stand.posted key))
+        (posting_wider held (length coming) (length (coming ++ keys ∷ [])) key (positions_with (has_key key) all) (omega (arith, length_push coming keys)) (posting_ahead held all old coming stand key))
+    by_change key (inr put) =
+        subst (λ n. IsPosting held n key (posting_of key new)) (sym (length_push coming keys))
+        (subst (λ ks. IsPosting held (length coming + 1) key ks) (sym (put.1 ∙ (ap (λ ks. posted position ks) (stand.posted key) ∙ posted_last key all position (at ∙ sym stand.long))))
+        (posting_more held (length coming) key (positions_with (has_key key) all) position at (posting_ahead held all old coming stand key)))
+
+    by_others : (key : Key) → is_coming key (coming ++ keys ∷ []) ≡ false → (posting_of key new ≡ posting_of key old) ⊎ ((is_among key keys ≡ true) × (posting_of key new ≡ posted position (posting_of key old)))
+        → posting_of key new ≡ positions_with (has_key key) held
+    by_others key none (inl same) =
+        same ∙ (stand.posted key ∙ stand.others key (left_none (is_coming key coming) (is_among key keys) (sym (coming_push key coming keys) ∙ none)))
+    by_others key none (inr put) = absurd (true≢false (sym put.0 ∙ right_none (is_coming key coming) (is_among key keys) (sym (coming_push key coming keys) ∙ none)))
+
+-- ---- nothing stands ahead
+
+pub cut_posted : (held : List StoredStatement) (old new : List (Key × List ℕ)) (coming : List (List Key)) (rises : Bool) (n : ℕ) → IsIndex held old coming rises → n ≡ length held
+    → ChangesEach (λ k. is_coming k coming) (below n) old new → ArePosted held new
+cut_posted held old new coming rises n index at each = λ key. each key ∙ by_test key (is_coming key coming) refl
+  where
+    by_test : (key : Key) (b : Bool) → is_coming key coming ≡ b → cond b (below n (posting_of key old)) (posting_of key old) ≡ positions_with (has_key key) held
+    by_test key true is = ap (λ m. below m (posting_of key old)) at ∙ (index.posted key).visible
+    by_test key false is = index.others key is
+
+pub with_rising : (held : List StoredStatement) (postings : List (Key × List ℕ)) (coming : List (List Key)) (rises : Bool) → IsIndex held postings coming false → (rises ≡ true → IsRising held)
+    → IsIndex held postings coming rises
+with_rising held postings coming rises index up = record { posted = index.posted; others = index.others; rising = up }
+
+pub rest_index : (held : List StoredStatement) (postings : List (Key × List ℕ)) (coming : List (List Key)) (rises : Bool) → ArePosted held postings → coming ≡ [] → (rises ≡ true → IsRising held)
+    → IsIndex held postings coming rises
+rest_index held postings coming rises are nothing up = with_rising held postings coming rises (stand_index held held postings coming (stand_start held postings coming are nothing)) up
+
+pub empty_index : (held : List StoredStatement) (postings : List (Key × List ℕ)) (coming : List (List Key)) (rises : Bool) → held ≡ [] → postings ≡ [] → coming ≡ [] → IsIndex held postings coming rises
+empty_index held postings coming rises no_held no_postings nothing =
+    rest_index held postings coming rises (λ key. ap (λ ps. posting_of key ps) no_postings ∙ sym (ap (λ xs. positions_with (has_key key) xs) no_held)) nothing
+    (λ is. subst (λ xs. IsRising xs) (sym no_held) none_rises)
+  where
+    none_rises : IsRising []
+    none_rises = λ i j s t le at_i at_j. absurd (none-some s at_i)

@@ -1,0 +1,36 @@
+-- How positions are written ahead for statements that are to come, and taken back.
+use Rattle.std.specs.Prelude.{◌≡◌, ◌⊎◌, ◌+◌, ◌==◌, ℕ, Bool, true, false, List, length, slice_get, take, if◌then◌else◌}
+use Rattle.std.specs.Option.{option_map_or}
+use Rattle.xapi_index.specs.Index.{ArePosted, is_coming}
+use Rattle.xapi_postings.specs.Ascending.{positions_with}
+use Rattle.xapi_postings.specs.Postings.{posting_of}
+use Rattle.xapi_statement.specs.Stored.{StoredStatement}
+use Rattle.xapi_statement_keys.specs.Keys.{has_key}
+use Rattle.xapi_statement_keys.specs.declared.key.Key.{Key}
+
+-- ---- changes of many postings
+
+-- the postings of the keys that pass are changed by a function, and no others
+abbrev pub ChangesEach : (Key → Bool) → (List ℕ → List ℕ) → List (Key × List ℕ) → List (Key × List ℕ) → Type 0
+ChangesEach passes change old new = (key : Key) → posting_of key new ≡
+    (if passes key then change (posting_of key old) else posting_of key old)
+
+-- of the postings of the keys that pass some are changed by a function, and no others
+abbrev pub ChangesSome : (Key → Bool) → (List ℕ → List ℕ) → List (Key × List ℕ) → List (Key × List ℕ) → Type 0
+ChangesSome passes change old new = (key : Key) → (posting_of key new ≡ posting_of key old)
+    ⊎ ((passes key ≡ true) × (posting_of key new ≡ change (posting_of key old)))
+
+-- ---- statements that are to come
+
+-- All of a list stand under their keys: first those that are held, then as many as are to come, whose keys are noted.
+pub record StandAhead (held all : List StoredStatement) (postings : List (Key × List ℕ))
+    (coming : List (List Key)) : Type 0 where
+  pub posted : ArePosted all postings
+  pub front : take (length held) all ≡ held
+  pub long : length all ≡ length held + length coming
+  pub others : (key : Key) → is_coming key coming ≡ false
+      → positions_with (has_key key) all ≡ positions_with (has_key key) held
+
+-- the first of these positions is that number
+abbrev pub is_first : ℕ → List ℕ → Bool
+is_first n positions = option_map_or (λ k. k == n) (slice_get positions 0) false

@@ -1,0 +1,155 @@
+// Positions of statements that are to come: written ahead, where memory may run out, and taken back.
+ghost use Rattle.std.specs.Prelude.{◌≡◌, ◌<◌, ◌≤◌, ◌+◌, ◌-◌, [], ◌∷◌, ◌++◌, false, length, List, IfOk, OnOk};
+ghost use Rattle.std.specs.Prelude.{vec_len, vec_capacity};
+ghost use Rattle.xapi_index.specs.Ahead.{ChangesEach, ChangesSome, StandAhead};
+ghost use Rattle.xapi_index.specs.Index.{ArePosted, IsIndex, is_coming, lists_of};
+ghost use Rattle.xapi_index.specs.Statements.{add, add_each};
+ghost use Rattle.xapi_postings.specs.Ascending.{below};
+ghost use Rattle.xapi_postings.specs.Postings.{posted};
+ghost use Rattle.xapi_statement.specs.Stored.{StoredStatement as SpecStatement};
+ghost use Rattle.xapi_statement_keys.specs.Keys.{is_among};
+
+use crate::held::HeldStatement;
+use crate::positions::first_under;
+use lrs_json::Memory;
+use xapi_postings::Postings;
+use xapi_statement::StoredStatement;
+use xapi_statement_keys::{Key, Keys};
+
+// ---- written ahead
+
+/// Makes room for statements in the list, and writes the positions of those that are new. Where memory runs out in the
+/// middle, what was written stays, and its keys are noted.
+pub(crate) fn ready_each(
+    held: &mut Vec<HeldStatement>,
+    postings: &mut Postings,
+    coming: &mut Vec<Keys>,
+    statements: &[StoredStatement],
+) -> Result<(), Memory>
+    requires posted { ArePosted held.old.items postings.old }
+    requires nothing { lists_of coming.old.items ≡ [] }
+    ensures held { held.new.items ≡ held.old.items }
+    ensures index { IsIndex held.old.items postings.new (lists_of coming.new.items) false }
+    ensures posted { OnOk result (ArePosted (add_each held.new.items statements.now) postings.new) }
+    ensures spare { OnOk result (length statements.now ≤ vec_capacity held.new - vec_len held.new) }
+{
+    make_room(held, coming, statements.len())?;
+    write_each(held.as_slice(), postings, coming, statements)
+}
+
+fn make_room(held: &mut Vec<HeldStatement>, coming: &mut Vec<Keys>, n: usize) -> Result<(), Memory>
+    ensures held { held.new.items ≡ held.old.items }
+    ensures coming { coming.new.items ≡ coming.old.items }
+    ensures for_held { OnOk result (n ≤ vec_capacity held.new - vec_len held.new) }
+    ensures for_coming { OnOk result (n ≤ vec_capacity coming.new - vec_len coming.new) }
+{
+    held.reserve(n)?;
+    coming.reserve(n)?;
+    Ok(())
+}
+
+fn write_each(
+    held: &[HeldStatement],
+    postings: &mut Postings,
+    coming: &mut Vec<Keys>,
+    statements: &[StoredStatement],
+) -> Result<(), Memory>
+    requires posted { ArePosted held.now postings.old }
+    requires nothing { lists_of coming.old.items ≡ [] }
+    requires room { length statements.now ≤ vec_capacity coming.old - vec_len coming.old }
+    ensures index { IsIndex held.now postings.new (lists_of coming.new.items) false }
+    ensures posted { OnOk result (ArePosted (add_each held.now statements.now) postings.new) }
+{
+    for statement in statements {
+        write_one(held, postings, coming, statement)?;
+    }
+    Ok(())
+}
+
+// Writes the position of a statement, unless one stands under its id, held or to come.
+fn write_one(
+    held: &[HeldStatement],
+    postings: &mut Postings,
+    coming: &mut Vec<Keys>,
+    statement: &StoredStatement,
+) -> Result<(), Memory>
+    requires { vec_len coming.old < vec_capacity coming.old }
+    ensures stands { OnOk result ((all : List SpecStatement)
+        → StandAhead held.now all postings.old (lists_of coming.old.items)
+        → StandAhead held.now (add all statement.now) postings.new (lists_of coming.new.items)) }
+    ensures index { (all : List SpecStatement) → StandAhead held.now all postings.old (lists_of coming.old.items)
+        → IsIndex held.now postings.new (lists_of coming.new.items) false }
+    ensures capacity { vec_capacity coming.new ≡ vec_capacity coming.old }
+    ensures longer { vec_len coming.new ≤ vec_len coming.old + 1 }
+{
+    match first_under(postings, statement.id()) {
+        Some(_) => Ok(()),
+        None => write_new(held, postings, coming, statement),
+    }
+}
+
+// Writes the position behind all others under each key of a statement. Its keys are noted also if some fail.
+fn write_new(
+    held: &[HeldStatement],
+    postings: &mut Postings,
+    coming: &mut Vec<Keys>,
+    statement: &StoredStatement,
+) -> Result<(), Memory>
+    requires { vec_len coming.old < vec_capacity coming.old }
+    ensures stands { OnOk result ((all : List SpecStatement)
+        → StandAhead held.now all postings.old (lists_of coming.old.items)
+        → StandAhead held.now (all ++ statement.now ∷ []) postings.new (lists_of coming.new.items)) }
+    ensures index { (all : List SpecStatement) → StandAhead held.now all postings.old (lists_of coming.old.items)
+        → IsIndex held.now postings.new (lists_of coming.new.items) false }
+    ensures capacity { vec_capacity coming.new ≡ vec_capacity coming.old }
+    ensures longer { vec_len coming.new ≤ vec_len coming.old + 1 }
+{
+    let position = next_position(held.len(), coming.len())?;
+    let keys = Keys::of(*coming.allocator(), statement)?;
+    let written = post_each(postings, keys.items.as_slice(), position);
+    coming.push_reserved(keys);
+    written
+}
+
+// The position behind so many that are held and so many that are to come. None has more than 32 bits.
+fn next_position(held: usize, coming: usize) -> Result<u32, Memory>
+    ensures { IfOk result (λ position. position ≡ held + coming) }
+{
+    let Some(next) = held.checked_add(coming) else {
+        return Err(Memory);
+    };
+    match u32::try_from(next) {
+        Ok(position) => Ok(position),
+        Err(_) => Err(Memory),
+    }
+}
+
+fn post_each(postings: &mut Postings, keys: &[Key], position: u32) -> Result<(), Memory>
+    ensures some { ChangesSome (λ k. is_among k keys.now) (posted position) postings.old postings.new }
+    ensures each { OnOk result (ChangesEach (λ k. is_among k keys.now) (posted position)
+        postings.old postings.new) }
+{
+    for key in keys {
+        postings.post(key, position)?;
+    }
+    Ok(())
+}
+
+// ---- taken back
+
+/// Leaves under these keys the positions below a bound alone.
+pub(crate) fn cut_each(postings: &mut Postings, coming: &[Keys], n: usize)
+    ensures { ChangesEach (λ k. is_coming k (lists_of coming.now)) (below n) postings.old postings.new }
+{
+    for keys in coming {
+        cut_keys(postings, keys.items.as_slice(), n);
+    }
+}
+
+fn cut_keys(postings: &mut Postings, keys: &[Key], n: usize)
+    ensures { ChangesEach (λ k. is_among k keys.now) (below n) postings.old postings.new }
+{
+    for key in keys {
+        postings.cut(key, n);
+    }
+}

@@ -1,0 +1,4 @@
+pub mod SameKeys
+pub mod Growing
+pub mod Named
+pub mod Whole

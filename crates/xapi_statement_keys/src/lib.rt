@@ -1,0 +1,15 @@
+//! The keys of a statement: all that lists of statements are searched by. Begin with `Keys::of`. Nothing here knows
+//! who asks, or what is listed.
+#![tactic(auto)]
+
+mod activities;
+mod adding;
+mod authority;
+mod key;
+mod keys;
+mod parties;
+mod places;
+mod reading;
+
+pub use key::Key;
+pub use keys::{Keys, law_of_keys};
