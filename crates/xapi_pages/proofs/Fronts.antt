@@ -1,5 +1,5 @@
 -- The positions of a list, and the front of it that a page has.
-use Rattle.std.proofs.Common.{◌≡◌, ◌<◌, ◌≤◌, ◌+◌, ◌-◌, ℕ, zero, suc, List, [], ◌∷◌, ◌++◌, length, take, drop, get_or, drop-cons, add-one, length-append, refl, sym, ◌∙◌, ap, subst, Some, None, Bool, true, false, ◌&&◌, nat_lt, nat_le, min, arith}
+use Rattle.std.proofs.Common.{◌≡◌, ◌<◌, ◌≤◌, ◌+◌, ◌-◌, ℕ, zero, suc, List, [], ◌∷◌, ◌++◌, length, take, drop, get_or, drop-cons, add-one, length-append, refl, sym, ◌∙◌, ap, subst, Option, Some, None, Bool, true, false, ◌&&◌, nat_lt, nat_le, min, arith}
 use Rattle.std.specs.Prelude.{filter, reverse, slice_get, cond}
 use Rattle.std.specs.List.{range_with_len}
 use Rattle.std.proofs.Math.Seq.{take-append_seam}
@@ -8,7 +8,7 @@ use Rattle.std.proofs.lemmas.Grind.{common_steps}
 use Rattle.std.proofs.lemmas.List.{get_or-reverse, length-reverse, take_all}
 use Rattle.std.proofs.lemmas.List.FromFn.{get_or-range_with_len, length-range_with_len}
 use Rattle.std.proofs.lemmas.Option.{get_or_from_slice_get, slice_get-get_or, slice_get_within}
-use Rattle.xapi_pages.specs.Listings.{first_page, last_of, positions_of}
+use Rattle.xapi_pages.specs.Listings.{Page, first_page, last_of, positions_of}
 
 -- ---- positions
 
@@ -30,17 +30,29 @@ pub length-positions : (ascending : Bool) (n : ℕ) → length (positions_of asc
 length-positions true n = length-range_with_len 0 n
 length-positions false n = length-reverse (range_with_len 0 n) ∙ length-range_with_len 0 n
 
-within : (ascending : Bool) (n i k : ℕ) → slice_get (positions_of ascending n) i ≡ Some k → i < n
+pub within : (ascending : Bool) (n i k : ℕ) → slice_get (positions_of ascending n) i ≡ Some k → i < n
 within ascending n i k is = subst (λ m. i < m) (length-positions ascending n) (slice_get_within (positions_of ascending n) i k is)
 
 some_same : (a b : ℕ) → Some a ≡ Some b → a ≡ b
 some_same a b is = cc is
 
+-- which position stands at an index
+pub is_up : (n i k : ℕ) → slice_get (positions_of true n) i ≡ Some k → k ≡ i
+is_up n i k at = some_same k i (sym at ∙ position_up n i (within true n i k at))
+
+pub is_down : (n i k : ℕ) → slice_get (positions_of false n) i ≡ Some k → k ≡ n - 1 - i
+is_down n i k at = some_same k (n - 1 - i) (sym at ∙ position_down n i (within false n i k at))
+
+-- it is one of them
+pub position_within : (ascending : Bool) (n i k : ℕ) → slice_get (positions_of ascending n) i ≡ Some k → k < n
+position_within true n i k at = let lt = within true n i k at in let same = is_up n i k at in omega arith
+position_within false n i k at = let lt = within false n i k at in let same = is_down n i k at in omega arith
+
 -- from an index on the positions come after one of them
 pub behind_up : (n after first most i k : ℕ) → n ≤ most → first ≡ min (after + 1) most → slice_get (positions_of true n) i ≡ Some k → nat_lt after k ≡ nat_le first i
 behind_up n after first most i k le is at =
     let lt : i < n = within true n i k at in
-    let same : k ≡ i = some_same k i (sym at ∙ position_up n i lt) in
+    let same : k ≡ i = is_up n i k at in
     ap (λ m. nat_lt after m) same ∙ by_test (nat_lt after i) refl lt
   where
     by_test : (b : Bool) → nat_lt after i ≡ b → i < n → b ≡ nat_le first i
@@ -50,7 +62,7 @@ behind_up n after first most i k le is at =
 pub behind_down : (n after first i k : ℕ) → first ≡ n - after → slice_get (positions_of false n) i ≡ Some k → nat_lt k after ≡ nat_le first i
 behind_down n after first i k is at =
     let lt : i < n = within false n i k at in
-    let same : k ≡ n - 1 - i = some_same k (n - 1 - i) (sym at ∙ position_down n i lt) in
+    let same : k ≡ n - 1 - i = is_down n i k at in
     ap (λ m. nat_lt m after) same ∙ by_test (nat_lt (n - 1 - i) after) refl lt
   where
     by_test : (b : Bool) → nat_lt (n - 1 - i) after ≡ b → i < n → b ≡ nat_le first i
@@ -103,7 +115,22 @@ skipped b l zero xs out = refl
 skipped b l (suc first) [] out = refl
 skipped b l (suc first) (x ∷ xs) out = skipped b l first xs (λ i y lt at. out (suc i) y (omega arith) at) ∙ sym (given_no b l x xs (ap (λ t. t && l x) (out 0 x (omega arith) refl)))
 
+-- what isn't let pass between two indexes is left out
+pub between : {A : Type 0} (b l : A → Bool) (start i : ℕ) (xs : List A) → start ≤ i → ((j : ℕ) (x : A) → start ≤ j → j < i → slice_get xs j ≡ Some x → b x && l x ≡ false)
+    → filter b (filter l (drop start xs)) ≡ filter b (filter l (drop i xs))
+between b l zero zero xs le out = refl
+between b l zero (suc i) [] le out = refl
+between b l zero (suc i) (x ∷ xs) le out =
+    given_no b l x xs (out 0 x (omega arith) (omega arith) refl) ∙ between b l zero i xs (omega arith) (λ j y from lt at. out (suc j) y (omega arith) (omega arith) at)
+between b l (suc start) zero xs le out = absurd (omega arith)
+between b l (suc start) (suc i) [] le out = refl
+between b l (suc start) (suc i) (x ∷ xs) le out = between b l start i xs (omega arith) (λ j y from lt at. out (suc j) y (omega arith) (omega arith) at)
+
 -- ---- a page
+
+-- as positions and a link
+abbrev pub page_with : List ℕ → Option ℕ → Page
+page_with ks link = record { positions = ks; link = link }
 
 -- it is full, and something follows it
 pub page_full : (size : ℕ) (ks rest : List ℕ) (k : ℕ) → length ks ≡ size → first_page size (ks ++ k ∷ rest) ≡ record { positions = ks; link = last_of ks }
@@ -124,3 +151,10 @@ page_last size ks short =
   where
     is_none : (n : ℕ) → n ≤ size → nat_lt size n ≡ false
     is_none n short = grind (arith, common_steps)
+
+-- the page that is full, and the one that nothing follows, of all that is listed
+pub full_page : (size : ℕ) (ks rest all : List ℕ) (k : ℕ) (link : Option ℕ) → length ks ≡ size → link ≡ last_of ks → ks ++ k ∷ rest ≡ all → page_with ks link ≡ first_page size all
+full_page size ks rest all k link long is whole = ap (λ o. page_with ks o) is ∙ (sym (page_full size ks rest k long) ∙ ap (λ js. first_page size js) whole)
+
+pub last_page : (size : ℕ) (ks all : List ℕ) → length ks ≤ size → ks ≡ all → page_with ks None ≡ first_page size all
+last_page size ks all short whole = sym (page_last size ks short) ∙ ap (λ js. first_page size js) whole

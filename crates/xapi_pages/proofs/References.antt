@@ -1,23 +1,26 @@
 -- Chains of references by the positions of statements: what holds of whether one passes.
-use Rattle.std.proofs.Common.{◌≡◌, ◌<◌, ◌≤◌, ◌&&◌, ◌||◌, ℕ, zero, suc, List, length, take, refl, sym, ◌∙◌, ap, subst, arith, Option, Some, None, Bool, true, false, cond, nat_lt, slice_get}
+use Rattle.std.proofs.Common.{◌≡◌, ◌<◌, ◌≤◌, ◌&&◌, ◌||◌, ℕ, zero, suc, List, [], ◌∷◌, length, take, refl, sym, ◌∙◌, ap, subst, arith, Option, Some, None, Bool, true, false, cond, find, nat_lt, slice_get}
 use Rattle.std.specs.Prelude.{option_and_then, position}
 use Rattle.std.specs.List.{list_any, position_or_len}
 use Rattle.std.specs.Option.{option_map_or}
 use Rattle.std.specs.Str.{bytes_eq}
 use Rattle.std.proofs.lemmas.Grind.{common_steps}
 use Rattle.std.proofs.lemmas.List.{length-take-le}
+use Rattle.std.proofs.lemmas.List.Folds.{find_at}
+use Rattle.std.proofs.lemmas.Option.{slice_get_past}
 use Rattle.lrs_json.specs.View.{view}
 use Rattle.xapi_query.specs.Filters.{direct, sees}
 use Rattle.xapi_query.specs.declared.query.Query.{Query}
 use Rattle.xapi_query.specs.declared.sight.Sight.{Sight}
+use Rattle.xapi_search.specs.Sought.{Tells, passes}
+use Rattle.xapi_search.specs.declared.sought.Sought.{Sought}
 use Rattle.xapi_statement.specs.Stored.{StoredStatement}
 use Rattle.xapi_statement.specs.Statement.{target_of}
 use Rattle.xapi_pages.specs.Listings.{chain_from, referred}
-use Rattle.xapi_index.specs.Statements.{held_under}
-use Rattle.xapi_pages.specs.Chains.{chain_passes, is_among, is_direct_at}
-use Rattle.xapi_index.specs.Statements.{position_referred, referred_at}
-use Rattle.lrs_register.proofs.Firsts.{position-item}
-use Rattle.xapi_pages.proofs.Walks.{enough, none_reached, reach, reaches}
+use Rattle.xapi_index.specs.Statements.{held_under, position_referred, referred_at}
+use Rattle.xapi_index.proofs.Firsts.{get_first}
+use Rattle.xapi_pages.specs.Chains.{chain_passes, is_among, is_direct_at, reaches}
+use Rattle.xapi_pages.proofs.Walks.{alike, enough, none_reached, reach}
 
 -- Positions below n, some of which pass, each with a next one or none; and whether one that passes is met on the way from a position.
 pub record TellsPassing (p : ℕ → Bool) (next : ℕ → Option ℕ) (n : ℕ) (v : ℕ → Bool) : Type 0 where
@@ -28,6 +31,14 @@ pub record TellsPassing (p : ℕ → Bool) (next : ℕ → Option ℕ) (n : ℕ)
       → (w : ℕ) → is_among path w ≡ true → v w ≡ false
   pub within : (k j : ℕ) → next k ≡ Some j → j < n
 
+-- ---- by position
+
+-- what stands at a position that a list has
+pub there : {A : Type 0} (xs : List A) (k : ℕ) → k < length xs → (x : A) × (slice_get xs k ≡ Some x)
+there [] k lt = absurd (omega arith)
+there (x ∷ xs) zero lt = (x, refl)
+there (x ∷ xs) (suc k) lt = there xs k (omega arith)
+
 position-below : {A : Type 0} (q : A → Bool) (xs : List A) (j : ℕ) → position q xs ≡ Some j → j < length xs
 position-below q xs j is = by_test (nat_lt (position_or_len q xs) (length xs)) refl is
   where
@@ -37,6 +48,23 @@ position-below q xs j is = by_test (nat_lt (position_or_len q xs) (length xs)) r
     by_test : (b : Bool) → nat_lt (position_or_len q xs) (length xs) ≡ b → cond b (Some (position_or_len q xs)) None ≡ Some j → j < length xs
     by_test true lt at = let same : position_or_len q xs ≡ j = cc at in subst (λ k. k < length xs) same (below lt)
     by_test false lt at = cc at
+
+-- what stands at the first place that passes is the first item that does
+position-item : {A : Type 0} (q : A → Bool) (xs : List A) → option_and_then (λ k. slice_get xs k) (position q xs) ≡ find q xs
+position-item q xs = by_test (nat_lt (position_or_len q xs) (length xs)) refl
+  where
+    past : nat_lt (position_or_len q xs) (length xs) ≡ false → length xs ≤ position_or_len q xs
+    past is = grind (arith, common_steps)
+
+    by_test : (b : Bool) → nat_lt (position_or_len q xs) (length xs) ≡ b → option_and_then (λ k. slice_get xs k) (cond b (Some (position_or_len q xs)) None) ≡ find q xs
+    by_test true is = sym (find_at q xs)
+    by_test false is = sym (find_at q xs ∙ slice_get_past xs (position_or_len q xs) (past is))
+
+-- ---- references
+
+-- the statement at a position is seen and passes the filters by itself
+abbrev pub is_met_at : Query → Sight → List StoredStatement → ℕ → Bool
+is_met_at query sight statements k = option_map_or (λ s. sees sight s && direct query s) (slice_get statements k) false
 
 module _ (held : List StoredStatement) where
   at_position : (s : StoredStatement) → option_and_then (λ k. slice_get held k) (position_referred held s) ≡ referred held s
@@ -63,7 +91,7 @@ module _ (held : List StoredStatement) where
 
   -- a walk over positions meets what a chain of statements has
   tie : (query : Query) (sight : Sight) (steps : ℕ) (o : Option ℕ)
-      → reaches (is_direct_at query sight held) (referred_at held) steps o ≡ list_any (λ s. sees sight s && direct query s) (chain_from held steps (option_and_then (λ k. slice_get held k) o))
+      → reaches (is_met_at query sight held) (referred_at held) steps o ≡ list_any (λ s. sees sight s && direct query s) (chain_from held steps (option_and_then (λ k. slice_get held k) o))
   tie query sight steps None = refl
   tie query sight zero (Some k) = one (slice_get held k)
     where
@@ -73,34 +101,50 @@ module _ (held : List StoredStatement) where
   tie query sight (suc steps) (Some k) = one (slice_get held k) (tie query sight steps (referred_at held k))
     where
       one : (o : Option StoredStatement)
-          → reaches (is_direct_at query sight held) (referred_at held) steps (option_and_then (position_referred held) o)
+          → reaches (is_met_at query sight held) (referred_at held) steps (option_and_then (position_referred held) o)
           ≡ list_any (λ s. sees sight s && direct query s) (chain_from held steps (option_and_then (λ k. slice_get held k) (option_and_then (position_referred held) o)))
-          → (option_map_or (λ s. sees sight s && direct query s) o false || reaches (is_direct_at query sight held) (referred_at held) steps (option_and_then (position_referred held) o))
+          → (option_map_or (λ s. sees sight s && direct query s) o false || reaches (is_met_at query sight held) (referred_at held) steps (option_and_then (position_referred held) o))
           ≡ list_any (λ s. sees sight s && direct query s) (chain_from held (suc steps) o)
       one None more = refl
       one (Some s) more = ap (λ b. (sees sight s && direct query s) || b) (more ∙ ap (λ o. list_any (λ s. sees sight s && direct query s) (chain_from held steps o)) (at_position s))
 
-  known : (query : Query) (sight : Sight) (k : ℕ) → reaches (is_direct_at query sight held) (referred_at held) (length held) (Some k) ≡ chain_passes query sight held k
-  known query sight k = tie query sight (length held) (Some k)
+  further : (sought : Sought) (k : ℕ) (o : Option ℕ) → k < length held → is_direct_at sought k ≡ false → referred_at held k ≡ o
+      → chain_passes sought held k ≡ reaches (is_direct_at sought) (referred_at held) (length held) o
+  further sought k o lt fails at =
+      sym (enough (is_direct_at sought) (referred_at held) (length held) referred-below k lt)
+      ∙ (ap (λ b. b || reaches (is_direct_at sought) (referred_at held) (length held) (referred_at held k)) fails
+      ∙ ap (λ o. reaches (is_direct_at sought) (referred_at held) (length held) o) at)
 
-  further : (query : Query) (sight : Sight) (k : ℕ) (o : Option ℕ) → k < length held → is_direct_at query sight held k ≡ false → referred_at held k ≡ o
-      → reaches (is_direct_at query sight held) (referred_at held) (length held) (Some k) ≡ reaches (is_direct_at query sight held) (referred_at held) (length held) o
-  further query sight k o lt fails at =
-      sym (enough (is_direct_at query sight held) (referred_at held) (length held) referred-below k lt)
-      ∙ (ap (λ b. b || reaches (is_direct_at query sight held) (referred_at held) (length held) (referred_at held k)) fails
-      ∙ ap (λ o. reaches (is_direct_at query sight held) (referred_at held) (length held) o) at)
-
-  pub passing : (query : Query) (sight : Sight) → TellsPassing (is_direct_at query sight held) (referred_at held) (length held) (chain_passes query sight held)
-  passing query sight = record {
-    here = λ k is. sym (known query sight k) ∙ reach (is_direct_at query sight held) (referred_at held) (length held) 0 k (omega arith) is;
-    on = λ k j lt fails at. sym (known query sight k) ∙ (further query sight k (Some j) lt fails at ∙ known query sight j);
-    ends = λ k lt fails at. sym (known query sight k) ∙ further query sight k None lt fails at;
-    round = λ path fails closed w among. sym (known query sight w) ∙ none_reached (is_direct_at query sight held) (referred_at held) path fails closed (length held) w among;
+  pub passing : (sought : Sought) → TellsPassing (is_direct_at sought) (referred_at held) (length held) (chain_passes sought held)
+  passing sought = record {
+    here = λ k is. reach (is_direct_at sought) (referred_at held) (length held) 0 k (omega arith) is;
+    on = λ k j lt fails at. further sought k (Some j) lt fails at;
+    ends = λ k lt fails at. further sought k None lt fails at;
+    round = λ path fails closed w among. none_reached (is_direct_at sought) (referred_at held) path fails closed (length held) w among;
     within = referred-below;
   }
 
 -- the same of the first n statements
-pub passing_first : (query : Query) (sight : Sight) (held : List StoredStatement) (n : ℕ) → n ≤ length held
-    → TellsPassing (is_direct_at query sight (take n held)) (referred_at (take n held)) n (chain_passes query sight (take n held))
-passing_first query sight held n le =
-    subst (λ m. TellsPassing (is_direct_at query sight (take n held)) (referred_at (take n held)) m (chain_passes query sight (take n held))) (length-take-le n held le) (passing (take n held) query sight)
+pub passing_first : (sought : Sought) (held : List StoredStatement) (n : ℕ) → n ≤ length held
+    → TellsPassing (is_direct_at sought) (referred_at (take n held)) n (chain_passes sought (take n held))
+passing_first sought held n le =
+    subst (λ m. TellsPassing (is_direct_at sought) (referred_at (take n held)) m (chain_passes sought (take n held))) (length-take-le n held le) (passing (take n held) sought)
+
+-- ---- what the lists tell
+
+module _ (query : Query) (sight : Sight) (sought : Sought) (held : List StoredStatement) (n : ℕ) (le : n ≤ length held) (tells : Tells query sight held sought) where
+  told : (k : ℕ) → k < n → is_direct_at sought k ≡ is_met_at query sight (take n held) k
+  told k lt = by_there (there held k (omega (arith, le, lt)))
+    where
+      by_there : ((s : StoredStatement) × (slice_get held k ≡ Some s)) → is_direct_at sought k ≡ is_met_at query sight (take n held) k
+      by_there (s, at) =
+          ap (λ b. b && passes sought k) (tells.seen k s at)
+          ∙ (ap (λ b. sees sight s && b) (tells.passes k s at)
+          ∙ sym (ap (λ o. option_map_or (λ t. sees sight t && direct query t) o false) (get_first n held k lt ∙ at)))
+
+  -- what they tell of the chain of a statement among the first n
+  pub chain_told : (k : ℕ) → k < n
+      → chain_passes sought (take n held) k ≡ list_any (λ s. sees sight s && direct query s) (chain_from (take n held) (length (take n held)) (slice_get (take n held) k))
+  chain_told k lt =
+      alike (is_direct_at sought) (is_met_at query sight (take n held)) (referred_at (take n held)) n told (passing_first sought held n le).within (length (take n held)) k lt
+      ∙ tie (take n held) query sight (length (take n held)) (Some k)

@@ -4,13 +4,7 @@ use Rattle.std.specs.List.{AllByRecursion, IsDistinct, list_any}
 use Rattle.std.proofs.Math.Dec.{eqb}
 use Rattle.std.proofs.lemmas.Bool.{eqb-true}
 use Rattle.std.proofs.lemmas.Map.Steps.{length-le_from_distinct_below}
-use Rattle.xapi_pages.specs.Chains.{is_among}
-
--- one that passes is reached in so many steps
-abbrev pub reaches : (ℕ → Bool) → (ℕ → Option ℕ) → ℕ → Option ℕ → Bool
-reaches p next steps None = false
-reaches p next zero (Some k) = p k
-reaches p next (suc steps) (Some k) = p k || reaches p next steps (next k)
+use Rattle.xapi_pages.specs.Chains.{is_among, reaches}
 
 -- the first that passes is reached after so many steps
 abbrev pub IsFirst : (ℕ → Bool) → (ℕ → Option ℕ) → ℕ → ℕ → Type 0
@@ -137,3 +131,15 @@ module _ (p : ℕ → Bool) (next : ℕ → Option ℕ) where
       by_next : ((j : ℕ) → next w ≡ Some j → reaches p next steps (Some j) ≡ false) → (o : Option ℕ) → next w ≡ o → reaches p next steps (next w) ≡ false
       by_next further None at = ap (λ o. reaches p next steps o) at
       by_next further (Some j) at = ap (λ o. reaches p next steps o) at ∙ further j at
+
+-- tests that agree on the numbers below n reach the same
+pub alike : (p q : ℕ → Bool) (next : ℕ → Option ℕ) (n : ℕ) → ((k : ℕ) → k < n → p k ≡ q k) → ((k j : ℕ) → next k ≡ Some j → j < n)
+    → (steps k : ℕ) → k < n → reaches p next steps (Some k) ≡ reaches q next steps (Some k)
+alike p q next n same within zero k lt = same k lt
+alike p q next n same within (suc steps) k lt =
+    ap (λ b. b || reaches p next steps (next k)) (same k lt)
+    ∙ ap (λ b. q k || b) (by_next (λ j at. alike p q next n same within steps j (within k j at)) (next k) refl)
+  where
+    by_next : ((j : ℕ) → next k ≡ Some j → reaches p next steps (Some j) ≡ reaches q next steps (Some j)) → (o : Option ℕ) → next k ≡ o → reaches p next steps (next k) ≡ reaches q next steps (next k)
+    by_next further None at = ap (λ o. reaches p next steps o) at ∙ sym (ap (λ o. reaches q next steps o) at)
+    by_next further (Some j) at = ap (λ o. reaches p next steps o) at ∙ (further j at ∙ sym (ap (λ o. reaches q next steps o) at))

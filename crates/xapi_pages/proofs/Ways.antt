@@ -1,14 +1,14 @@
 -- A walk along a chain of references, and what it marks.
-use Rattle.std.proofs.Common.{◌≡◌, ◌<◌, ◌+◌, ◌||◌, ◌==◌, ℕ, List, [], ◌∷◌, ◌++◌, length, get_or, refl, sym, ◌∙◌, ap, subst, arith, Option, Some, None, Bool, true, false, cond, drop, if◌then◌else◌}
-use Rattle.std.specs.List.{count_by}
-use Rattle.std.proofs.Math.ListN.{set}
-use Rattle.std.proofs.lemmas.Bool.{eqb-true, eq-eqb}
-use Rattle.std.proofs.lemmas.List.{drop_more, get_or-set_same, get_or-set_other}
+use Rattle.std.proofs.Common.{◌≡◌, ◌<◌, ◌≤◌, ◌+◌, ◌||◌, ◌==◌, ℕ, zero, suc, List, [], ◌∷◌, ◌++◌, length, get_or, refl, sym, ◌∙◌, ap, subst, arith, Option, Some, None, Bool, true, false, cond, drop, if◌then◌else◌, inl, inr, Less, Equal, Greater, is_eq, nat_cmp, unwrap_or}
+use Rattle.std.specs.Prelude.{◌⊎◌}
+use Rattle.std.specs.BTreeMap.{is_at}
+use Rattle.std.specs.Map.{lookup}
+use Rattle.std.proofs.lemmas.Bool.{cases_order, eqb-true, eq-eqb, le-ltb, lt-ltb, ne_eqb}
+use Rattle.std.proofs.lemmas.List.{drop_more}
 use Rattle.std.proofs.lemmas.List.Folds.{list_any-append}
-use Rattle.std.proofs.lemmas.List.Sums.{sum_by-set}
 use Rattle.xapi_pages.specs.declared.chains.Mark.{Mark}
 use Rattle.xapi_pages.specs.declared.chains.Mark.TheVariants.{Unknown, Passes, Fails}
-use Rattle.xapi_pages.specs.Chains.{AreTrue, is_among, known_by, mark_at}
+use Rattle.xapi_pages.specs.Chains.{AreTrue, IsMarked, is_among, known_by, mark_at}
 use Rattle.xapi_pages.proofs.References.{TellsPassing}
 
 -- ---- positions
@@ -40,47 +40,64 @@ not_among path x w is = by_test (is_among path w) refl
 
 -- ---- marks
 
--- what is marked at a position, once one position is marked anew
-same_or_other : {P : Type 0} (marks : List Mark) (position k : ℕ) (mark : Mark) → position < length marks → (k ≡ position → mark_at (set marks position mark) k ≡ mark → P) → (mark_at (set marks position mark) k ≡ mark_at marks k → P) → P
-same_or_other {P} marks position k mark lt same other = by_test (k == position) refl
+-- a position is the one that a map compares with
+same_place : (a b : ℕ) → is_at (nat_cmp a) b ≡ (b == a)
+same_place a b = by_order (cases_order a b)
   where
-    apart : (k == position) ≡ false → k ≡ position → ⊥
-    apart is e = let is_too = eq-eqb k position e in cc (is, is_too)
+    by_order : (a ≡ b) ⊎ ((a < b) ⊎ (b < a)) → is_eq (nat_cmp a b) ≡ (b == a)
+    by_order (inl same) =
+        ap (λ t. is_eq (cond t Less (cond (a == b) Equal Greater))) (le-ltb a b (omega arith))
+        ∙ (ap (λ t. is_eq (cond t Equal Greater)) (eq-eqb a b same) ∙ sym (eq-eqb b a (sym same)))
+    by_order (inr (inl less)) =
+        ap (λ t. is_eq (cond t Less (cond (a == b) Equal Greater))) (lt-ltb a b less) ∙ sym (ne_eqb b a (λ e. omega arith))
+    by_order (inr (inr more)) =
+        ap (λ t. is_eq (cond t Less (cond (a == b) Equal Greater))) (le-ltb a b (omega arith))
+        ∙ (ap (λ t. is_eq (cond t Equal Greater)) (ne_eqb a b (λ e. omega arith)) ∙ sym (ne_eqb b a (λ e. omega arith)))
 
+-- one position is marked anew in a map
+pub marked_anew : (old new : List (ℕ × Mark)) (position : ℕ) (mark : Mark) → ((q : ℕ) → lookup (is_at (nat_cmp q)) new ≡ cond (is_at (nat_cmp position) q) (Some mark) (lookup (is_at (nat_cmp q)) old)) → IsMarked old position mark new
+marked_anew old new position mark updates = λ k.
+    ap (λ o. unwrap_or o Unknown) (updates k)
+    ∙ (here_or_there k (is_at (nat_cmp position) k) ∙ ap (λ b. if b then mark else mark_at old k) (same_place position k))
+  where
+    here_or_there : (k : ℕ) (b : Bool) → unwrap_or (cond b (Some mark) (lookup (is_at (nat_cmp k)) old)) Unknown ≡ (if b then mark else mark_at old k)
+    here_or_there k true = refl
+    here_or_there k false = refl
+
+-- what is marked at a position, once one position is marked anew
+same_or_other : {P : Type 0} (old new : List (ℕ × Mark)) (position k : ℕ) (mark : Mark) → IsMarked old position mark new → (k ≡ position → mark_at new k ≡ mark → P) → (mark_at new k ≡ mark_at old k → P) → P
+same_or_other {P} old new position k mark is same other = by_test (k == position) refl
+  where
     by_test : (b : Bool) → (k == position) ≡ b → P
-    by_test true is =
-        let e = eqb-true k position is in
-        same e (ap (λ i. get_or (set marks position mark) i Unknown) e ∙ get_or-set_same marks position mark Unknown lt)
-    by_test false is = other (get_or-set_other marks position k mark Unknown (apart is))
+    by_test true at = same (eqb-true k position at) (is k ∙ ap (λ b. if b then mark else mark_at old k) at)
+    by_test false at = other (is k ∙ ap (λ b. if b then mark else mark_at old k) at)
 
 -- a position is marked as failing, and is doubtful
-pub doubt : (v : ℕ → Bool) (marks : List Mark) (path : List ℕ) (position : ℕ) → position < length marks → AreTrue v marks path → AreTrue v (set marks position Fails) (path ++ position ∷ [])
-doubt v marks path position lt are = record {
-  passing = λ k is. same_or_other marks position k Fails lt (λ e at. cc (at, is)) (λ at. are.passing k (sym at ∙ is));
-  failing = λ k is out. same_or_other marks position k Fails lt
-      (λ e at. let last = among_last path position k e in cc (last, out))
-      (λ at. are.failing k (sym at ∙ is) (not_among path position k out));
+pub doubt : (v : ℕ → Bool) (old new : List (ℕ × Mark)) (path : List ℕ) (position : ℕ) → IsMarked old position Fails new → AreTrue v old path → AreTrue v new (path ++ position ∷ [])
+doubt v old new path position is are = record {
+  passing = λ k at. same_or_other old new position k Fails is (λ e now. cc (now, at)) (λ now. are.passing k (sym now ∙ at));
+  failing = λ k at out. same_or_other old new position k Fails is
+      (λ e now. let last = among_last path position k e in cc (last, out))
+      (λ now. are.failing k (sym now ∙ at) (not_among path position k out));
 }
 
 -- ---- the walk
 
 -- On the way from a position to another one: no position between passes, each leads to one of them or to the other, and all are alike.
-pub record IsOnWay (p : ℕ → Bool) (next : ℕ → Option ℕ) (n : ℕ) (v : ℕ → Bool) (marks : List Mark) (path : List ℕ) (start position : ℕ) : Type 0 where
+pub record IsOnWay (p : ℕ → Bool) (next : ℕ → Option ℕ) (n : ℕ) (v : ℕ → Bool) (marks : List (ℕ × Mark)) (path : List ℕ) (start position : ℕ) : Type 0 where
   pub marked : AreTrue v marks path
   pub fails : (w : ℕ) → is_among path w ≡ true → p w ≡ false
   pub alike : (w : ℕ) → is_among path w ≡ true → v w ≡ v position
   pub closed : (w j : ℕ) → is_among path w ≡ true → next w ≡ Some j → is_among (path ++ position ∷ []) j ≡ true
-  pub inside : (w : ℕ) → is_among path w ≡ true → w < n
   pub begun : v start ≡ v position
   pub there : position < n
 
-pub way_begun : (p : ℕ → Bool) (next : ℕ → Option ℕ) (n : ℕ) (v : ℕ → Bool) (marks : List Mark) (path : List ℕ) (start : ℕ) → path ≡ [] → start < n → AreTrue v marks [] → IsOnWay p next n v marks path start start
+pub way_begun : (p : ℕ → Bool) (next : ℕ → Option ℕ) (n : ℕ) (v : ℕ → Bool) (marks : List (ℕ × Mark)) (path : List ℕ) (start : ℕ) → path ≡ [] → start < n → AreTrue v marks [] → IsOnWay p next n v marks path start start
 way_begun p next n v marks path start empty lt are = record {
   marked = subst (λ ws. AreTrue v marks ws) (sym empty) are;
   fails = λ w is. none w is;
   alike = λ w is. none w is;
   closed = λ w j is at. none w is;
-  inside = λ w is. none w is;
   begun = refl;
   there = lt;
 }
@@ -95,20 +112,19 @@ unknown Unknown false is = (refl, refl)
 unknown Passes direct is = cc is
 unknown Fails direct is = cc is
 
-module _ (p : ℕ → Bool) (next : ℕ → Option ℕ) (n : ℕ) (v : ℕ → Bool) (marks : List Mark) (path : List ℕ) (start position : ℕ) (is : TellsPassing p next n v) (way : IsOnWay p next n v marks path start position) where
+module _ (p : ℕ → Bool) (next : ℕ → Option ℕ) (n : ℕ) (v : ℕ → Bool) (marks : List (ℕ × Mark)) (path : List ℕ) (start position : ℕ) (is : TellsPassing p next n v) (way : IsOnWay p next n v marks path start position) where
   -- one step further
-  pub way_on : (j : ℕ) → known_by (mark_at marks position) (p position) ≡ None → position < length marks → next position ≡ Some j → IsOnWay p next n v (set marks position Fails) (path ++ position ∷ []) start j
-  way_on j none lt at =
+  pub way_on : (j : ℕ) (new : List (ℕ × Mark)) → known_by (mark_at marks position) (p position) ≡ None → IsMarked marks position Fails new → next position ≡ Some j → IsOnWay p next n v new (path ++ position ∷ []) start j
+  way_on j new none now at =
       let fails = (unknown (mark_at marks position) (p position) none).1 in
       let step : v position ≡ v j = is.on position j way.there fails at in
       record {
-        marked = doubt v marks path position lt way.marked;
+        marked = doubt v marks new path position now way.marked;
         fails = λ w among. among_more path position w among (λ old. way.fails w old) (λ e. ap p e ∙ fails);
         alike = λ w among. among_more path position w among (λ old. way.alike w old ∙ step) (λ e. ap v e ∙ step);
         closed = λ w i among to. among_more path position w among
             (λ old. among_still (path ++ position ∷ []) j i (way.closed w i old to))
             (λ e. let same : i ≡ j = some_same i j (sym to ∙ (ap next e ∙ at)) in among_last (path ++ position ∷ []) j i same);
-        inside = λ w among. among_more path position w among (λ old. way.inside w old) (λ e. subst (λ k. k < n) (sym e) way.there);
         begun = way.begun ∙ step;
         there = is.within position j at;
       }
@@ -141,59 +157,92 @@ module _ (p : ℕ → Bool) (next : ℕ → Option ℕ) (n : ℕ) (v : ℕ → B
   pub alike_more : (w : ℕ) → is_among (path ++ position ∷ []) w ≡ true → v w ≡ v position
   alike_more w among = among_more path position w among (λ old. way.alike w old) (λ e. ap v e)
 
-  pub inside_more : (w : ℕ) → is_among (path ++ position ∷ []) w ≡ true → w < n
-  inside_more w among = among_more path position w among (λ old. way.inside w old) (λ e. subst (λ k. k < n) (sym e) way.there)
-
 -- ---- its end
 
-abbrev pub is_unknown : Mark → Bool
-is_unknown Unknown = true
-is_unknown Passes = false
-is_unknown Fails = false
+-- one for an unknown position
+abbrev pub if_unknown : Mark → ℕ
+if_unknown Unknown = 1
+if_unknown Passes = 0
+if_unknown Fails = 0
+
+-- how many of the first n positions are unknown
+abbrev pub unknown_below : ℕ → List (ℕ × Mark) → ℕ
+unknown_below zero marks = 0
+unknown_below (suc n) marks = if_unknown (mark_at marks n) + unknown_below n marks
+
+-- none is unknown that was known
+no_more : (old new : List (ℕ × Mark)) (position n : ℕ) → IsMarked old position Fails new → unknown_below n new ≤ unknown_below n old
+no_more old new position zero is = omega arith
+no_more old new position (suc n) is = same_or_other old new position n Fails is
+    (λ e now. sum_less (if_unknown (mark_at new n)) (if_unknown (mark_at old n)) (unknown_below n new) (unknown_below n old) (ap if_unknown now) (no_more old new position n is))
+    (λ now. sum_same (if_unknown (mark_at new n)) (if_unknown (mark_at old n)) (unknown_below n new) (unknown_below n old) (ap if_unknown now) (no_more old new position n is))
+  where
+    sum_less : (a b c d : ℕ) → a ≡ 0 → c ≤ d → a + c ≤ b + d
+    sum_less a b c d none le = omega arith
+
+    sum_same : (a b c d : ℕ) → a ≡ b → c ≤ d → a + c ≤ b + d
+    sum_same a b c d same le = omega arith
+
+-- another one that isn't above the last is below it
+apart : (a b : ℕ) → (a == b) ≡ false → b < suc a → b < a
+apart a b differ less = by_order (cases_order b a)
+  where
+    by_order : (b ≡ a) ⊎ ((b < a) ⊎ (a < b)) → b < a
+    by_order (inl same) = let yes = eq-eqb a b (sym same) in cc (differ, yes)
+    by_order (inr (inl below)) = below
+    by_order (inr (inr above)) = absurd (omega arith)
 
 -- each step leaves one unknown position fewer
-pub fewer : (marks : List Mark) (position : ℕ) (direct : Bool) → known_by (mark_at marks position) direct ≡ None → position < length marks → count_by is_unknown (set marks position Fails) < count_by is_unknown marks
-fewer marks position direct none lt =
-    let sums = sum_by-set (λ m. cond (is_unknown m) 1 0) marks position Fails Unknown lt in
-    let one : ◌≡◌ {A = ℕ} (cond (is_unknown (mark_at marks position)) 1 0) 1 = ap (λ m. cond (is_unknown m) 1 0) (unknown (mark_at marks position) direct none).0 in
-    omega (arith, sums, one)
+pub fewer : (n : ℕ) (old new : List (ℕ × Mark)) (position : ℕ) (direct : Bool) → known_by (mark_at old position) direct ≡ None → position < n → IsMarked old position Fails new
+    → unknown_below n new < unknown_below n old
+fewer zero old new position direct none lt is = absurd (omega arith)
+fewer (suc n) old new position direct none lt is = by_test (n == position) refl (λ less. fewer n old new position direct none less is)
+  where
+    now : (b : Bool) → (n == position) ≡ b → mark_at new n ≡ (if b then Fails else mark_at old n)
+    now b at = is n ∙ ap (λ t. if t then Fails else mark_at old n) at
+
+    one_less : (a b c d : ℕ) → a ≡ 0 → b ≡ 1 → c ≤ d → a + c < b + d
+    one_less a b c d none one le = omega arith
+
+    sum_less : (a b c d : ℕ) → a ≡ b → c < d → a + c < b + d
+    sum_less a b c d same less = omega arith
+
+    by_test : (b : Bool) → (n == position) ≡ b → (position < n → unknown_below n new < unknown_below n old) → unknown_below (suc n) new < unknown_below (suc n) old
+    by_test true at further =
+        let was : mark_at old n ≡ Unknown = ap (λ k. mark_at old k) (eqb-true n position at) ∙ (unknown (mark_at old position) direct none).0 in
+        one_less (if_unknown (mark_at new n)) (if_unknown (mark_at old n)) (unknown_below n new) (unknown_below n old) (ap if_unknown (now true at)) (ap if_unknown was) (no_more old new position n is)
+    by_test false at further =
+        sum_less (if_unknown (mark_at new n)) (if_unknown (mark_at old n)) (unknown_below n new) (unknown_below n old) (ap if_unknown (now false at)) (further (apart n position at lt))
 
 -- ---- what passes
 
 -- what the positions that are left make of the marks
-abbrev pub made_of : List ℕ → List Mark → ℕ → Mark
+abbrev pub made_of : List ℕ → List (ℕ × Mark) → ℕ → Mark
 made_of path marks k = if is_among path k then Passes else mark_at marks k
 
-pub mark_next : (marks : List Mark) (x : ℕ) (rest : List ℕ) (k : ℕ) → x < length marks → made_of rest (set marks x Passes) k ≡ made_of (x ∷ rest) marks k
-mark_next marks x rest k lt = same_or_other marks x k Passes lt
-    (λ e at. ap (λ m. if is_among rest k then Passes else m) at ∙ (either (is_among rest k) ∙ ap (λ b. if b || is_among rest k then Passes else mark_at marks k) (sym (eq-eqb k x e))))
-    (λ at. by_test (k == x) refl at)
+mark_next : (old new : List (ℕ × Mark)) (x : ℕ) (rest : List ℕ) (k : ℕ) → IsMarked old x Passes new → made_of rest new k ≡ made_of (x ∷ rest) old k
+mark_next old new x rest k is = by_test (k == x) refl
   where
     either : (b : Bool) → (if b then Passes else Passes) ≡ Passes
     either true = refl
     either false = refl
 
-    by_test : (b : Bool) → (k == x) ≡ b → mark_at (set marks x Passes) k ≡ mark_at marks k → (if is_among rest k then Passes else mark_at (set marks x Passes) k) ≡ (if b || is_among rest k then Passes else mark_at marks k)
-    by_test true is at = ap (λ m. if is_among rest k then Passes else m) (ap (λ i. mark_at (set marks x Passes) i) (eqb-true k x is) ∙ get_or-set_same marks x Passes Unknown lt) ∙ either (is_among rest k)
-    by_test false is at = ap (λ m. if is_among rest k then Passes else m) at
+    now : (b : Bool) → (k == x) ≡ b → made_of rest new k ≡ (if is_among rest k then Passes else (if b then Passes else mark_at old k))
+    now b at = ap (λ m. if is_among rest k then Passes else m) (is k ∙ ap (λ t. if t then Passes else mark_at old k) at)
+
+    made : (b : Bool) → (k == x) ≡ b → made_of (x ∷ rest) old k ≡ (if b || is_among rest k then Passes else mark_at old k)
+    made b at = ap (λ t. if t || is_among rest k then Passes else mark_at old k) at
+
+    by_test : (b : Bool) → (k == x) ≡ b → made_of rest new k ≡ made_of (x ∷ rest) old k
+    by_test true at = now true at ∙ (either (is_among rest k) ∙ sym (made true at))
+    by_test false at = now false at ∙ sym (made false at)
 
 -- the next of the positions, and those after it
-pub next_inside : (n : ℕ) (path : List ℕ) (i : ℕ) → i < length path → ((k : ℕ) → is_among (drop i path) k ≡ true → k < n) → get_or path i 0 < n
-next_inside n path i lt inside = inside (get_or path i 0) (ap (λ ws. is_among ws (get_or path i 0)) (drop_more path i 0 lt) ∙ ap (λ b. b || is_among (drop (i + 1) path) (get_or path i 0)) (eq-eqb (get_or path i 0) (get_or path i 0) refl))
-
-pub rest_inside : (n : ℕ) (path : List ℕ) (i : ℕ) → i < length path → ((k : ℕ) → is_among (drop i path) k ≡ true → k < n) → (k : ℕ) → is_among (drop (i + 1) path) k ≡ true → k < n
-rest_inside n path i lt inside k among =
-    inside k (ap (λ ws. is_among ws k) (drop_more path i 0 lt) ∙ (ap (λ b. (k == get_or path i 0) || b) among ∙ either (k == get_or path i 0)))
-  where
-    either : (b : Bool) → b || true ≡ true
-    either true = refl
-    either false = refl
-
-pub made_next : (marks : List Mark) (path : List ℕ) (i k : ℕ) → i < length path → get_or path i 0 < length marks → made_of (drop (i + 1) path) (set marks (get_or path i 0) Passes) k ≡ made_of (drop i path) marks k
-made_next marks path i k lt there = mark_next marks (get_or path i 0) (drop (i + 1) path) k there ∙ ap (λ ws. made_of ws marks k) (sym (drop_more path i 0 lt))
+pub made_next : (old new : List (ℕ × Mark)) (path : List ℕ) (i k : ℕ) → i < length path → IsMarked old (get_or path i 0) Passes new → made_of (drop (i + 1) path) new k ≡ made_of (drop i path) old k
+made_next old new path i k lt is = mark_next old new (get_or path i 0) (drop (i + 1) path) k is ∙ ap (λ ws. made_of ws old k) (sym (drop_more path i 0 lt))
 
 -- marks are true once the positions of the way are marked as what they are
-pub settled : (v : ℕ → Bool) (marks new : List Mark) (path : List ℕ) → AreTrue v marks path → ((k : ℕ) → is_among path k ≡ true → v k ≡ true) → ((k : ℕ) → mark_at new k ≡ (if is_among path k then Passes else mark_at marks k)) → AreTrue v new []
+pub settled : (v : ℕ → Bool) (marks new : List (ℕ × Mark)) (path : List ℕ) → AreTrue v marks path → ((k : ℕ) → is_among path k ≡ true → v k ≡ true) → ((k : ℕ) → mark_at new k ≡ (if is_among path k then Passes else mark_at marks k)) → AreTrue v new []
 settled v marks new path are pass at = record {
   passing = λ k is. by_passing k (is_among path k) refl (sym (at k) ∙ is);
   failing = λ k is out. by_failing k (is_among path k) refl (sym (at k) ∙ is);
@@ -207,7 +256,7 @@ settled v marks new path are pass at = record {
     by_failing k true among is = cc is
     by_failing k false among is = are.failing k is among
 
-pub settled_failing : (v : ℕ → Bool) (marks : List Mark) (path : List ℕ) → AreTrue v marks path → ((k : ℕ) → is_among path k ≡ true → v k ≡ false) → AreTrue v marks []
+pub settled_failing : (v : ℕ → Bool) (marks : List (ℕ × Mark)) (path : List ℕ) → AreTrue v marks path → ((k : ℕ) → is_among path k ≡ true → v k ≡ false) → AreTrue v marks []
 settled_failing v marks path are fails = record {
   passing = are.passing;
   failing = λ k is out. by_test k (is_among path k) refl is;
@@ -217,14 +266,7 @@ settled_failing v marks path are fails = record {
     by_test k true among is = fails k among
     by_test k false among is = are.failing k is among
 
--- marks that say the same are true alike
-pub same_marks : (v : ℕ → Bool) (marks new : List Mark) (path : List ℕ) → ((k : ℕ) → mark_at new k ≡ mark_at marks k) → AreTrue v marks path → AreTrue v new path
-same_marks v marks new path at are = record {
-  passing = λ k is. are.passing k (sym (at k) ∙ is);
-  failing = λ k is out. are.failing k (sym (at k) ∙ is) out;
-}
-
-pub none_marked : (v : ℕ → Bool) (marks : List Mark) → marks ≡ [] → AreTrue v marks []
+pub none_marked : (v : ℕ → Bool) (marks : List (ℕ × Mark)) → marks ≡ [] → AreTrue v marks []
 none_marked v marks empty = record {
   passing = λ k is. let at = ap (λ ms. mark_at ms k) empty in cc (at, is);
   failing = λ k is out. let at = ap (λ ms. mark_at ms k) empty in cc (at, is);

@@ -1,31 +1,41 @@
 -- Chains of references by the positions of statements, and what is marked of them while a page is found.
-use Rattle.std.specs.Prelude.{◌≡◌, ◌==◌, ◌&&◌, ℕ, Bool, true, false, List, length, get_or, slice_get, Option, Some}
-use Rattle.std.specs.Prelude.{None, if◌then◌else◌}
+use Rattle.std.specs.Prelude.{◌≡◌, ◌==◌, ◌&&◌, ◌||◌, ℕ, zero, suc, Bool, true, false, List, length, Option, Some}
+use Rattle.std.specs.Prelude.{None, if◌then◌else◌, unwrap_or}
+use Rattle.std.specs.BTreeMap.{is_at}
 use Rattle.std.specs.List.{list_any}
-use Rattle.std.specs.Option.{option_map_or}
-use Rattle.xapi_query.specs.Filters.{direct, sees}
-use Rattle.xapi_query.specs.declared.query.Query.{Query}
-use Rattle.xapi_query.specs.declared.sight.Sight.{Sight}
+use Rattle.std.specs.Map.{lookup}
+use Rattle.std.specs.Ordering.{nat_cmp}
+use Rattle.xapi_index.specs.Statements.{referred_at}
+use Rattle.xapi_search.specs.Sought.{is_seen, passes}
+use Rattle.xapi_search.specs.declared.sought.Sought.{Sought}
 use Rattle.xapi_statement.specs.Stored.{StoredStatement}
-use Rattle.xapi_pages.specs.Listings.{chain_from}
 use Rattle.xapi_pages.specs.declared.chains.Mark.{Mark}
 use Rattle.xapi_pages.specs.declared.chains.Mark.TheVariants.{Unknown, Passes, Fails}
 
--- the statement at a position is seen and passes the filters by itself
-abbrev pub is_direct_at : Query → Sight → List StoredStatement → ℕ → Bool
-is_direct_at query sight statements position =
-    option_map_or (λ s. sees sight s && direct query s) (slice_get statements position) false
+-- the statement at a position is seen and passes the filters by itself, as the lists tell
+abbrev pub is_direct_at : Sought → ℕ → Bool
+is_direct_at sought position = is_seen sought.seen position && passes sought position
 
--- a statement of the chain of the one at a position is seen and passes the filters
-abbrev pub chain_passes : Query → Sight → List StoredStatement → ℕ → Bool
-chain_passes query sight statements position = list_any (λ s. sees sight s && direct query s)
-    (chain_from statements (length statements) (slice_get statements position))
+-- From a position on, one that the test lets pass is reached in so many steps at most.
+abbrev pub reaches : (ℕ → Bool) → (ℕ → Option ℕ) → ℕ → Option ℕ → Bool
+reaches p next steps None = false
+reaches p next zero (Some k) = p k
+reaches p next (suc steps) (Some k) = p k || reaches p next steps (next k)
 
--- ---- marks
+-- A statement of the chain of the one at a position is seen and passes the filters, as the lists tell.
+abbrev pub chain_passes : Sought → List StoredStatement → ℕ → Bool
+chain_passes sought statements position =
+    reaches (is_direct_at sought) (referred_at statements) (length statements) (Some position)
+
+-- ---- marks, by position
 
 -- what is marked at a position
-abbrev pub mark_at : List Mark → ℕ → Mark
-mark_at marks position = get_or marks position Unknown
+abbrev pub mark_at : List (ℕ × Mark) → ℕ → Mark
+mark_at marks position = unwrap_or (lookup (is_at (nat_cmp position)) marks) Unknown
+
+-- one position is marked so, and the others as before
+abbrev pub IsMarked : List (ℕ × Mark) → ℕ → Mark → List (ℕ × Mark) → Type 0
+IsMarked old position mark new = (k : ℕ) → mark_at new k ≡ (if k == position then mark else mark_at old k)
 
 abbrev pub is_among : List ℕ → ℕ → Bool
 is_among positions position = list_any (λ k. position == k) positions
@@ -37,6 +47,6 @@ known_by Passes direct = Some true
 known_by Fails direct = Some false
 
 -- Marks tell what is so; but for these positions, where they tell of failing.
-pub record AreTrue (passes : ℕ → Bool) (marks : List Mark) (doubtful : List ℕ) : Type 0 where
-  pub passing : (k : ℕ) → mark_at marks k ≡ Passes → passes k ≡ true
-  pub failing : (k : ℕ) → mark_at marks k ≡ Fails → is_among doubtful k ≡ false → passes k ≡ false
+pub record AreTrue (holds : ℕ → Bool) (marks : List (ℕ × Mark)) (doubtful : List ℕ) : Type 0 where
+  pub passing : (k : ℕ) → mark_at marks k ≡ Passes → holds k ≡ true
+  pub failing : (k : ℕ) → mark_at marks k ≡ Fails → is_among doubtful k ≡ false → holds k ≡ false

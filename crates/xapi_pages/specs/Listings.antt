@@ -11,11 +11,14 @@ use Rattle.lrs_json.specs.Written.{elements_text, written}
 use Rattle.xapi_query.specs.Filters.{direct, in_time, sees}
 use Rattle.xapi_query.specs.Links.{link_text}
 use Rattle.xapi_query.specs.declared.query.Query.{Query}
+use Rattle.xapi_query.specs.declared.query.TheConstants.{MOST_OF_PAGE}
 use Rattle.xapi_query.specs.declared.sight.Sight.{Sight}
+use Rattle.xapi_query.specs.declared.sight.Sight.TheVariants.{All}
 use Rattle.xapi_statement.specs.Stored.{StoredStatement}
 use Rattle.xapi_statement.specs.Shown.{shown_form}
 use Rattle.xapi_statement.specs.Statement.{target_of}
 use Rattle.xapi_format.specs.declared.format.Format.{Format}
+use Rattle.xapi_format.specs.declared.format.Format.TheVariants.{Exact}
 use Rattle.xapi_index.specs.Statements.{held_under, is_voided}
 
 -- ---- references
@@ -112,3 +115,25 @@ list_json format statements more =
 abbrev pub page_body : Query → ℕ → List StoredStatement → Page → List ℕ
 page_body query n statements p =
     written (list_json query.format (statements_at statements p.positions) (more_text query n p.link))
+
+-- ---- all
+
+-- the query that asks nothing
+abbrev pub every : Query
+every = record {
+  agent = None;
+  verb = None;
+  activity = None;
+  registration = None;
+  related_agents = false;
+  related_activities = false;
+  since = None;
+  until = None;
+  page = MOST_OF_PAGE;
+  ascending = false;
+  format = Exact;
+}
+
+-- how many statements it lists to who sees each
+abbrev pub listed_of_all : List StoredStatement → ℕ
+listed_of_all statements = length (listing every All statements)

@@ -1,11 +1,14 @@
 // Chains of references. What is found of one is marked, so that a page goes along each reference once.
 ghost use Rattle.std.specs.Prelude.{◌≡◌, ◌<◌, ◌≤◌, ℕ, IfOk, OnOk, [], length, take, if◌then◌else◌, true};
-ghost use Rattle.xapi_pages.specs.Chains.{AreTrue, chain_passes, is_among, is_direct_at, known_by, mark_at};
+ghost use Rattle.xapi_search.specs.Sought.{AreAscending};
+ghost use Rattle.xapi_pages.specs.Chains.{AreTrue, IsMarked, chain_passes, is_among, is_direct_at, known_by, mark_at};
 
 use lrs_json::Memory;
 use std::alloc::Global;
+use std::collections::BTreeMap;
+use std::marker::Model;
 use xapi_index::Index;
-use xapi_query::{Query, Sight, direct, sees};
+use xapi_search::Sought;
 
 /// What is known of the chain of references of a statement.
 #[derive(Clone, Copy)]
@@ -15,118 +18,134 @@ pub(crate) enum Mark {
     Fails,
 }
 
-/// Whether a statement of the chain of the one at a position is seen and passes the filters, among the first so many.
-/// Marks are made at the first reference that is followed; the same are handed in throughout a page.
+/// What is marked at positions: unknown where nothing was marked. It takes memory for the marked ones alone.
+#[derive(Drop)]
+pub(crate) struct Marks {
+    map: BTreeMap<usize, Mark>,
+}
+
+impl Model for Marks {
+    ghost use Rattle.std.specs.Prelude.{List, ℕ};
+    ghost use Rattle.xapi_pages.specs.declared.chains.Mark.{Mark as SpecMark};
+
+    ghost Value = { List (ℕ × SpecMark) };
+
+    ghost view = { λ m. m.map.entries };
+}
+
+impl Marks {
+    pub(crate) fn new(alloc: Global) -> Marks
+        ensures { result ≡ [] }
+    {
+        Marks {
+            map: BTreeMap::new(alloc),
+        }
+    }
+
+    fn at(&self, position: usize) -> Mark
+        ensures { result ≡ mark_at self.now position }
+    {
+        match self.map.get(&position) {
+            Some(mark) => *mark,
+            None => Mark::Unknown,
+        }
+    }
+
+    fn set(&mut self, position: usize, mark: Mark) -> Result<(), Memory>
+        ensures { OnOk result (IsMarked self.old position mark self.new) }
+    {
+        self.map.insert(position, mark)?;
+        Ok(())
+    }
+}
+
+/// Whether a statement of the chain of the one at a position is seen and passes the filters, among the first so many,
+/// as the lists tell. The same marks are handed in throughout a page.
 pub(crate) fn chain_passes(
     alloc: Global,
     index: &Index,
-    query: &Query,
-    sight: &Sight,
+    sought: &Sought<'_>,
     asof: usize,
-    marks: &mut Vec<Mark>,
+    marks: &mut Marks,
     position: usize,
 ) -> Result<bool, Memory>
     requires asof { asof ≤ length index.now.held }
     requires within { position < asof }
-    requires marks { AreTrue (chain_passes query.now sight.now (take asof index.now.held)) marks.old.items [] }
-    ensures passes { IfOk result (λ passes.
-        passes ≡ chain_passes query.now sight.now (take asof index.now.held) position) }
-    ensures marks { OnOk result (
-        AreTrue (chain_passes query.now sight.now (take asof index.now.held)) marks.new.items []) }
+    requires ascending { AreAscending sought.now }
+    requires marks { AreTrue (chain_passes sought.now (take asof index.now.held)) marks.old [] }
+    ensures passes { IfOk result (λ passes. passes ≡ chain_passes sought.now (take asof index.now.held) position) }
+    ensures marks { OnOk result (AreTrue (chain_passes sought.now (take asof index.now.held)) marks.new []) }
 {
-    if is_direct_at(index, query, sight, asof, position) {
+    if is_direct_at(sought, position) {
         return Ok(true);
     }
     match index.referred_at(asof, position) {
-        Some(next) => {
-            make_marks(alloc, asof, marks)?;
-            follow(alloc, index, query, sight, asof, marks.as_mut_slice(), next)
-        }
+        Some(next) => follow(alloc, index, sought, asof, marks, next),
         None => Ok(false),
     }
 }
 
 // Whether the statement at a position is seen and passes the filters by itself.
-fn is_direct_at(index: &Index, query: &Query, sight: &Sight, asof: usize, position: usize) -> bool
-    requires asof { asof ≤ length index.now.held }
-    requires within { position < asof }
-    ensures { result ≡ is_direct_at query.now sight.now (take asof index.now.held) position }
+fn is_direct_at(sought: &Sought<'_>, position: usize) -> bool
+    requires { AreAscending sought.now }
+    ensures { result ≡ is_direct_at sought.now position }
 {
-    match index.get(position) {
-        Some(statement) => sees(sight, statement) && direct(query, statement),
-        None => false,
-    }
-}
-
-// Marks for so many positions, if there are none.
-fn make_marks(alloc: Global, asof: usize, marks: &mut Vec<Mark>) -> Result<(), Memory>
-    ensures room { OnOk result (asof ≤ length marks.new.items) }
-    ensures known { OnOk result ((k : ℕ) → mark_at marks.new.items k ≡ mark_at marks.old.items k) }
-{
-    if marks.len() < asof {
-        marks.resize(asof, Mark::Unknown)?;
-    }
-    Ok(())
+    sought.sees(position) && sought.passes(position)
 }
 
 // Follows the chain from a position on.
 fn follow(
     alloc: Global,
     index: &Index,
-    query: &Query,
-    sight: &Sight,
+    sought: &Sought<'_>,
     asof: usize,
-    marks: &mut [Mark],
+    marks: &mut Marks,
     start: usize,
 ) -> Result<bool, Memory>
     requires asof { asof ≤ length index.now.held }
-    requires room { asof ≤ length marks.old }
     requires within { start < asof }
-    requires marks { AreTrue (chain_passes query.now sight.now (take asof index.now.held)) marks.old [] }
-    ensures passes { IfOk result (λ passes.
-        passes ≡ chain_passes query.now sight.now (take asof index.now.held) start) }
-    ensures marks { OnOk result (AreTrue (chain_passes query.now sight.now (take asof index.now.held)) marks.new []) }
+    requires ascending { AreAscending sought.now }
+    requires marks { AreTrue (chain_passes sought.now (take asof index.now.held)) marks.old [] }
+    ensures passes { IfOk result (λ passes. passes ≡ chain_passes sought.now (take asof index.now.held) start) }
+    ensures marks { OnOk result (AreTrue (chain_passes sought.now (take asof index.now.held)) marks.new []) }
 {
     let mut path = Vec::new(alloc);
-    let passes = walk(index, query, sight, asof, marks, &mut path, start)?;
-    if passes {
-        mark_passing(marks, path.as_slice());
+    let passes = walk(index, sought, asof, marks, &mut path, start)?;
+    if !passes {
+        return Ok(false);
     }
-    Ok(passes)
+    mark_passing(marks, path.as_slice())?;
+    Ok(true)
 }
 
 // Walks from a position until something is known. The positions after it are marked as failing: so a walk that comes
 // round ends, too, if nothing passes.
 fn walk(
     index: &Index,
-    query: &Query,
-    sight: &Sight,
+    sought: &Sought<'_>,
     asof: usize,
-    marks: &mut [Mark],
+    marks: &mut Marks,
     path: &mut Vec<usize>,
     start: usize,
 ) -> Result<bool, Memory>
     requires asof { asof ≤ length index.now.held }
-    requires room { asof ≤ length marks.old }
     requires within { start < asof }
+    requires ascending { AreAscending sought.now }
     requires path { path.old.items ≡ [] }
-    requires marks { AreTrue (chain_passes query.now sight.now (take asof index.now.held)) marks.old [] }
-    ensures passes { IfOk result (λ passes.
-        passes ≡ chain_passes query.now sight.now (take asof index.now.held) start) }
-    ensures alike { IfOk result (λ passes.
-        (k : ℕ) → is_among path.new.items k ≡ true → chain_passes query.now sight.now (take asof index.now.held) k
-        ≡ passes) }
-    ensures within { (k : ℕ) → is_among path.new.items k ≡ true → k < asof }
+    requires marks { AreTrue (chain_passes sought.now (take asof index.now.held)) marks.old [] }
+    ensures passes { IfOk result (λ passes. passes ≡ chain_passes sought.now (take asof index.now.held) start) }
+    ensures alike { IfOk result (λ passes. (k : ℕ) → is_among path.new.items k ≡ true
+        → chain_passes sought.now (take asof index.now.held) k ≡ passes) }
     ensures marks { OnOk result (
-        AreTrue (chain_passes query.now sight.now (take asof index.now.held)) marks.new path.new.items) }
+        AreTrue (chain_passes sought.now (take asof index.now.held)) marks.new path.new.items) }
 {
     let mut position = start;
-    loop {
-        if let Some(passes) = known_at(index, query, sight, asof, marks, position) {
+    'steps: loop {
+        if let Some(passes) = known_at(sought, marks, position) {
             return Ok(passes);
         }
         path.push(position)?;
-        marks[position] = Mark::Fails;
+        marks.set(position, Mark::Fails)?;
         match index.referred_at(asof, position) {
             Some(next) => position = next,
             None => return Ok(false),
@@ -135,25 +154,15 @@ fn walk(
 }
 
 // What is known at a position without a further step.
-fn known_at(
-    index: &Index,
-    query: &Query,
-    sight: &Sight,
-    asof: usize,
-    marks: &[Mark],
-    position: usize,
-) -> Option<bool>
-    requires asof { asof ≤ length index.now.held }
-    requires room { asof ≤ length marks.now }
-    requires within { position < asof }
-    ensures { result ≡
-        known_by (mark_at marks.now position) (is_direct_at query.now sight.now (take asof index.now.held) position) }
+fn known_at(sought: &Sought<'_>, marks: &Marks, position: usize) -> Option<bool>
+    requires { AreAscending sought.now }
+    ensures { result ≡ known_by (mark_at marks.now position) (is_direct_at sought.now position) }
 {
-    match marks[position] {
+    match marks.at(position) {
         Mark::Passes => Some(true),
         Mark::Fails => Some(false),
         Mark::Unknown => {
-            if is_direct_at(index, query, sight, asof, position) {
+            if is_direct_at(sought, position) {
                 Some(true)
             } else {
                 None
@@ -162,11 +171,12 @@ fn known_at(
     }
 }
 
-fn mark_passing(marks: &mut [Mark], path: &[usize])
-    requires { (k : ℕ) → is_among path.now k ≡ true → k < length marks.old }
-    ensures { (k : ℕ) → mark_at marks.new k ≡ (if is_among path.now k then Mark.Passes else mark_at marks.old k) }
+fn mark_passing(marks: &mut Marks, path: &[usize]) -> Result<(), Memory>
+    ensures { OnOk result ((k : ℕ) →
+        mark_at marks.new k ≡ (if is_among path.now k then Mark.Passes else mark_at marks.old k)) }
 {
     for position in path {
-        marks[*position] = Mark::Passes;
+        marks.set(*position, Mark::Passes)?;
     }
+    Ok(())
 }

@@ -3,7 +3,10 @@
 #![tactic(auto)]
 
 mod chains;
+mod count;
 mod listing;
 mod pages;
+mod searching;
 
+pub use count::count_listed;
 pub use pages::page_text;

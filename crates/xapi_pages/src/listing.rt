@@ -1,16 +1,20 @@
 // The statements that a query asks for, in their order, and their pages.
-ghost use Rattle.std.specs.Prelude.{◌≡◌, ◌<◌, ◌≤◌, ◌&&◌, ℕ, nat_le, not, IfOk, OnOk, Some, [], length, slice_get, take};
-ghost use Rattle.xapi_pages.specs.Listings.{is_behind, is_listed_at, last_of, page_behind, positions_of};
-ghost use Rattle.xapi_index.specs.Statements.{is_voided};
-ghost use Rattle.xapi_query.specs.Filters.{in_time, sees};
+ghost use Rattle.std.specs.Prelude.{◌≡◌, ◌<◌, ◌≤◌, ℕ, false, nat_le, IfNone, IfOk, IfSome, OnOk, Some, [], length};
+ghost use Rattle.std.specs.Prelude.{slice_get, take};
+ghost use Rattle.std.specs.Option.{option_map_or};
+ghost use Rattle.xapi_query.specs.Filters.{in_time};
+ghost use Rattle.xapi_search.specs.Candidates.{ListsAscend};
+ghost use Rattle.xapi_search.specs.Sought.{AreAscending};
 ghost use Rattle.xapi_pages.specs.Chains.{AreTrue, chain_passes};
+ghost use Rattle.xapi_pages.specs.Listings.{is_behind, last_of, positions_of};
+ghost use Rattle.xapi_pages.specs.Searching.{Covers, IsPage, SkipsNone, TellsListed, may_be_listed};
 
-use crate::chains::{Mark, chain_passes};
+use crate::chains::{Marks, chain_passes};
 use lrs_json::Memory;
 use std::alloc::Global;
 use xapi_index::Index;
-use xapi_query::{Query, Sight, in_time, sees};
-use xapi_statement::StoredStatement;
+use xapi_query::{Query, in_time};
+use xapi_search::{Candidates, Sought};
 
 /// The positions of a page, and the last one of them if something follows it.
 #[derive(Drop)]
@@ -19,44 +23,56 @@ pub(crate) struct Page {
     pub(crate) link: Option<usize>,
 }
 
-/// The page after a position, in the list as of the first so many statements. Each of these is looked at once at most.
+/// The page after a position, in the list as of the first so many statements, looked for among the candidates in their
+/// order. None if more than `most_missed` of them weren't listed, and there are further ones.
 pub(crate) fn find_page(
     alloc: Global,
     index: &Index,
     query: &Query,
-    sight: &Sight,
+    sought: &Sought<'_>,
+    candidates: &Candidates<'_>,
     asof: usize,
     after: Option<usize>,
-) -> Result<Page, Memory>
-    requires { asof ≤ length index.now.held }
-    ensures positions { IfOk result (λ page.
-        page.positions.items ≡ (page_behind query.now sight.now (take asof index.now.held) after).positions) }
-    ensures link { IfOk result (λ page.
-        page.link ≡ (page_behind query.now sight.now (take asof index.now.held) after).link) }
+    most_missed: usize,
+) -> Result<Option<Page>, Memory>
+    requires asof { asof ≤ length index.now.held }
+    requires ascending { AreAscending sought.now }
+    requires lists { ListsAscend candidates.now.lists }
+    requires end { candidates.now.end ≤ asof }
+    requires covers { Covers query.now sought.now index.now.held asof candidates.now }
+    ensures page { IfOk result (λ found.
+        IfSome found (λ page. IsPage query.now sought.now index.now.held asof after page)) }
+    ensures enough { IfOk result (λ found. IfNone found (most_missed < asof)) }
 {
     let most = query.page as usize;
     let mut positions = Vec::new(alloc);
-    let mut marks = Vec::new(alloc);
-    let first = first_behind(query.ascending, asof, after);
-    for i in first..asof {
+    let mut marks = Marks::new(alloc);
+    let mut missed = 0;
+    let mut from = first_behind(query.ascending, asof, after);
+    'looks: while let Some(i) = next_index(candidates, query.ascending, asof, from) {
+        if missed > most_missed {
+            return Ok(None);
+        }
+        from = i + 1;
         let position = position_at(query.ascending, asof, i);
-        let listed = is_listed_at(alloc, index, query, sight, asof, &mut marks, position)?;
+        let listed = is_listed_at(alloc, index, query, sought, asof, &mut marks, position)?;
         if !listed {
+            missed += 1;
             continue;
         }
         if positions.len() >= most {
             let link = last_of(positions.as_slice());
-            return Ok(Page { positions, link });
+            return Ok(Some(Page { positions, link }));
         }
         positions.push(position)?;
     }
-    Ok(Page {
+    Ok(Some(Page {
         positions,
         link: None,
-    })
+    }))
 }
 
-// The i-th position of so many statements.
+// The i-th position of so many statements. It is the index of the i-th position, too.
 fn position_at(ascending: bool, n: usize, i: usize) -> usize
     requires { i < n }
     ensures at { slice_get (positions_of ascending n) i ≡ Some result }
@@ -88,47 +104,75 @@ fn first_behind(ascending: bool, asof: usize, after: Option<usize>) -> usize
     }
 }
 
+// The next index from one on at whose position a candidate stands.
+fn next_index(
+    candidates: &Candidates<'_>,
+    ascending: bool,
+    asof: usize,
+    from: usize,
+) -> Option<usize>
+    requires lists { ListsAscend candidates.now.lists }
+    requires end { candidates.now.end ≤ asof }
+    ensures ahead { IfSome result (λ i. from ≤ i) }
+    ensures within { IfSome result (λ i. i < asof) }
+    ensures skips { SkipsNone candidates.now ascending asof from result }
+{
+    if ascending {
+        candidates.first_from(from)
+    } else {
+        match candidates.last_before(asof.saturating_sub(from)) {
+            Some(position) => Some(position_at(false, asof, position)),
+            None => None,
+        }
+    }
+}
+
 // What costs least is asked first.
 fn is_listed_at(
     alloc: Global,
     index: &Index,
     query: &Query,
-    sight: &Sight,
+    sought: &Sought<'_>,
     asof: usize,
-    marks: &mut Vec<Mark>,
+    marks: &mut Marks,
     position: usize,
 ) -> Result<bool, Memory>
     requires asof { asof ≤ length index.now.held }
     requires within { position < asof }
-    requires marks { AreTrue (chain_passes query.now sight.now (take asof index.now.held)) marks.old.items [] }
-    ensures listed { IfOk result (λ listed.
-        listed ≡ is_listed_at query.now sight.now (take asof index.now.held) position) }
-    ensures marks { OnOk result (
-        AreTrue (chain_passes query.now sight.now (take asof index.now.held)) marks.new.items []) }
+    requires ascending { AreAscending sought.now }
+    requires marks { AreTrue (chain_passes sought.now (take asof index.now.held)) marks.old [] }
+    ensures listed { IfOk result (λ listed. TellsListed query.now sought.now index.now.held asof position listed) }
+    ensures marks { OnOk result (AreTrue (chain_passes sought.now (take asof index.now.held)) marks.new []) }
 {
-    match index.get(position) {
-        Some(statement) => {
-            if may_be_listed(index, query, sight, asof, statement) {
-                chain_passes(alloc, index, query, sight, asof, marks, position)
-            } else {
-                Ok(false)
-            }
-        }
-        None => Ok(false),
+    if may_be_listed(index, query, sought, asof, position) {
+        chain_passes(alloc, index, sought, asof, marks, position)
+    } else {
+        Ok(false)
     }
 }
 
-// Whether a statement is listed if one of its chain passes.
+// Whether the statement at a position is listed if one of its chain passes.
 fn may_be_listed(
     index: &Index,
     query: &Query,
-    sight: &Sight,
+    sought: &Sought<'_>,
     asof: usize,
-    statement: &StoredStatement,
+    position: usize,
 ) -> bool
-    ensures { result ≡
-        sees sight.now statement.now && in_time query.now statement.now
-        && not (is_voided (take asof index.now.held) statement.now) }
+    requires { AreAscending sought.now }
+    ensures { result ≡ may_be_listed query.now sought.now index.now.held asof position }
 {
-    sees(sight, statement) && in_time(query, statement) && !index.is_voided_in(asof, statement)
+    sought.sees(position)
+        && is_in_time(index, query, position)
+        && !index.is_voided_at(asof, position)
+}
+
+// Whether the statement at a position was stored within the times.
+fn is_in_time(index: &Index, query: &Query, position: usize) -> bool
+    ensures { result ≡ option_map_or (in_time query.now) (slice_get index.now.held position) false }
+{
+    match index.get(position) {
+        Some(statement) => in_time(query, statement),
+        None => false,
+    }
 }

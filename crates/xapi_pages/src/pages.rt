@@ -1,10 +1,11 @@
 // The bodies of pages.
-ghost use Rattle.std.specs.Prelude.{◌≡◌, ◌≤◌, ◌∷◌, ◌++◌, ℕ, List, false, length, take, IfOk, OnOk};
+ghost use Rattle.std.specs.Prelude.{◌≡◌, ◌≤◌, ◌∷◌, ◌++◌, ℕ, List, false, codes, length, take, IfOk, OnOk};
 ghost use Rattle.lrs_json.specs.Written.{comma_if, quoted};
 ghost use Rattle.xapi_statement.specs.Shown.{shown_text};
 ghost use Rattle.xapi_pages.specs.Listings.{Page as SpecPage, items_text, more_text, page_behind, page_body};
 
-use crate::listing::{Page, find_page};
+use crate::listing::Page;
+use crate::searching::page_of;
 use lrs_json::{Memory, Tree, write};
 use std::alloc::Global;
 use xapi_index::Index;
@@ -25,7 +26,7 @@ pub fn page_text(
         body.items
         ≡ page_body query.now asof index.now.held (page_behind query.now sight.now (take asof index.now.held) after)) }
 {
-    let page = find_page(alloc, index, query, sight, asof, after)?;
+    let page = page_of(alloc, index, query, sight, asof, after)?;
     body_text(alloc, index, query, asof, &page)
 }
 
@@ -41,11 +42,23 @@ fn body_text(
         let shown : SpecPage = record { positions = page.now.positions.items; link = page.now.link } in
         body.items ≡ page_body query.now asof index.now.held shown) }
 {
-    let mut body = b"{\"statements\":[".to_vec(alloc)?;
+    let mut body = begun(alloc, page.positions.len())?;
     put_statements(index, query.format, page.positions.as_slice(), &mut body)?;
     body.extend_from_slice(b",\"more\":")?;
     put_more(alloc, query, asof, page.link, &mut body)?;
     body.push(b'}')?;
+    Ok(body)
+}
+
+// What a statement of a page has room in at first: fewer bytes than most take.
+const STATEMENT_ROOM: usize = 256;
+
+// The beginning of the body of a page of so many statements.
+fn begun(alloc: Global, count: usize) -> Result<Vec<u8>, Memory>
+    ensures { IfOk result (λ body. body.items ≡ codes "{\"statements\":[") }
+{
+    let mut body = Vec::with_capacity(alloc, count.saturating_mul(STATEMENT_ROOM))?;
+    body.extend_from_slice(b"{\"statements\":[")?;
     Ok(body)
 }
 

@@ -1,66 +1,67 @@
-use Rattle.std.proofs.Common.{◌≡◌, ◌<◌, ◌∙◌, true, length, take, sym, subst, arith}
-use Rattle.std.specs.Prelude.{slice_set}
-use Rattle.xapi_pages.specs.declared.chains.Mark.TheVariants.{Fails}
+use Rattle.std.proofs.Common.{◌≡◌, ◌∙◌, true, take, sym, subst}
 use Rattle.xapi_pages.specs.Chains.{AreTrue, chain_passes, is_among, is_direct_at}
 use Rattle.xapi_index.specs.Statements.{referred_at}
 use Rattle.xapi_pages.proofs.References.{passing_first}
-use Rattle.xapi_pages.proofs.Ways.{IsOnWay, alike_more, doubt, way_ends, way_known, way_on}
+use Rattle.xapi_pages.proofs.Ways.{IsOnWay, alike_more, doubt, fewer, way_begun, way_ends, way_known, way_on}
 use Rattle.xapi_pages.proofs.chains.walk.Goals as goal
+
+pub steps-init : goal.steps-init
+steps-init c =
+    let held = take c.args.asof c.args.index.now.held in
+    way_begun (is_direct_at c.args.sought.now) (referred_at held) c.args.asof (chain_passes c.args.sought.now held) c.args.marks.now c.args.path.now.items c.args.start
+    c.requires.path c.requires.within c.requires.marks
 
 pub returns-in-Some-clause-passes : goal.returns-in-Some-clause-passes
 returns-in-Some-clause-passes c =
-    let at = c.loop-passes in
+    let at = c.steps in
     let held = take c.args.asof c.args.index.now.held in
-    sym (way_known (is_direct_at c.args.query.now c.args.sight.now held) (referred_at held) c.args.asof (chain_passes c.args.query.now c.args.sight.now held) at.marks at.path.items c.args.start at.position
-    (passing_first c.args.query.now c.args.sight.now c.args.index.now.held c.args.asof c.requires.asof) at.invariant c.in-Some.passes (sym c.known_at.ensures ∙ c.in-Some.is))
+    sym (way_known (is_direct_at c.args.sought.now) (referred_at held) c.args.asof (chain_passes c.args.sought.now held) at.marks at.path.items c.args.start at.position
+    (passing_first c.args.sought.now c.args.index.now.held c.args.asof c.requires.asof) at.invariant c.in-Some.passes (sym c.known_at.ensures ∙ c.in-Some.is))
     ∙ sym at.invariant.begun
 
 pub returns-in-Some-clause-alike : goal.returns-in-Some-clause-alike
 returns-in-Some-clause-alike c = λ k among.
-    let at = c.loop-passes in
+    let at = c.steps in
     let held = take c.args.asof c.args.index.now.held in
     at.invariant.alike k among
-    ∙ way_known (is_direct_at c.args.query.now c.args.sight.now held) (referred_at held) c.args.asof (chain_passes c.args.query.now c.args.sight.now held) at.marks at.path.items c.args.start at.position
-    (passing_first c.args.query.now c.args.sight.now c.args.index.now.held c.args.asof c.requires.asof) at.invariant c.in-Some.passes (sym c.known_at.ensures ∙ c.in-Some.is)
+    ∙ way_known (is_direct_at c.args.sought.now) (referred_at held) c.args.asof (chain_passes c.args.sought.now held) at.marks at.path.items c.args.start at.position
+    (passing_first c.args.sought.now c.args.index.now.held c.args.asof c.requires.asof) at.invariant c.in-Some.passes (sym c.known_at.ensures ∙ c.in-Some.is)
 
-pub loop-passes-preserved : goal.loop-passes-preserved
-loop-passes-preserved c =
-    let at = c.loop-passes in
+pub steps-smaller : goal.steps-smaller
+steps-smaller c =
+    let at = c.steps in
+    fewer c.args.asof at.marks c.set.new.self at.position (is_direct_at c.args.sought.now at.position) (sym c.known_at.ensures ∙ c.in_default.is) at.invariant.there c.in_ok-set.ensures
+
+pub steps-preserved : goal.steps-preserved
+steps-preserved c =
+    let at = c.steps in
     let held = take c.args.asof c.args.index.now.held in
-    let there = at.invariant.there in
-    let room = c.requires.room in
-    let same = at.auto.marks in
-    let lt : at.position < length at.marks = omega arith in
-    subst (λ ws. IsOnWay (is_direct_at c.args.query.now c.args.sight.now held) (referred_at held) c.args.asof (chain_passes c.args.query.now c.args.sight.now held) (slice_set at.marks at.position Fails) ws c.args.start c.in-Some-referred_at.next)
+    subst (λ ws. IsOnWay (is_direct_at c.args.sought.now) (referred_at held) c.args.asof (chain_passes c.args.sought.now held) c.set.new.self ws c.args.start c.in-Some-referred_at.next)
     (sym c.in_ok-push.ensures.items)
-    (way_on (is_direct_at c.args.query.now c.args.sight.now held) (referred_at held) c.args.asof (chain_passes c.args.query.now c.args.sight.now held) at.marks at.path.items c.args.start at.position
-    (passing_first c.args.query.now c.args.sight.now c.args.index.now.held c.args.asof c.requires.asof) at.invariant c.in-Some-referred_at.next
-    (sym c.known_at.ensures ∙ c.in_default.is) lt (sym c.referred_at.ensures ∙ c.in-Some-referred_at.is))
+    (way_on (is_direct_at c.args.sought.now) (referred_at held) c.args.asof (chain_passes c.args.sought.now held) at.marks at.path.items c.args.start at.position
+    (passing_first c.args.sought.now c.args.index.now.held c.args.asof c.requires.asof) at.invariant c.in-Some-referred_at.next c.set.new.self
+    (sym c.known_at.ensures ∙ c.in_default.is) c.in_ok-set.ensures (sym c.referred_at.ensures ∙ c.in-Some-referred_at.is))
 
 pub returns-in-None-clause-passes : goal.returns-in-None-clause-passes
 returns-in-None-clause-passes c =
-    let at = c.loop-passes in
+    let at = c.steps in
     let held = take c.args.asof c.args.index.now.held in
     sym (at.invariant.begun
-    ∙ way_ends (is_direct_at c.args.query.now c.args.sight.now held) (referred_at held) c.args.asof (chain_passes c.args.query.now c.args.sight.now held) at.marks at.path.items c.args.start at.position
-    (passing_first c.args.query.now c.args.sight.now c.args.index.now.held c.args.asof c.requires.asof) at.invariant (sym c.known_at.ensures ∙ c.in_default.is) (sym c.referred_at.ensures ∙ c.in-None.is))
+    ∙ way_ends (is_direct_at c.args.sought.now) (referred_at held) c.args.asof (chain_passes c.args.sought.now held) at.marks at.path.items c.args.start at.position
+    (passing_first c.args.sought.now c.args.index.now.held c.args.asof c.requires.asof) at.invariant (sym c.known_at.ensures ∙ c.in_default.is) (sym c.referred_at.ensures ∙ c.in-None.is))
 
 pub returns-in-None-clause-alike : goal.returns-in-None-clause-alike
 returns-in-None-clause-alike c = λ k among.
-    let at = c.loop-passes in
+    let at = c.steps in
     let held = take c.args.asof c.args.index.now.held in
-    alike_more (is_direct_at c.args.query.now c.args.sight.now held) (referred_at held) c.args.asof (chain_passes c.args.query.now c.args.sight.now held) at.marks at.path.items c.args.start at.position
-    (passing_first c.args.query.now c.args.sight.now c.args.index.now.held c.args.asof c.requires.asof) at.invariant k (subst (λ ws. is_among ws k ≡ true) c.in_ok-push.ensures.items among)
-    ∙ way_ends (is_direct_at c.args.query.now c.args.sight.now held) (referred_at held) c.args.asof (chain_passes c.args.query.now c.args.sight.now held) at.marks at.path.items c.args.start at.position
-    (passing_first c.args.query.now c.args.sight.now c.args.index.now.held c.args.asof c.requires.asof) at.invariant (sym c.known_at.ensures ∙ c.in_default.is) (sym c.referred_at.ensures ∙ c.in-None.is)
+    alike_more (is_direct_at c.args.sought.now) (referred_at held) c.args.asof (chain_passes c.args.sought.now held) at.marks at.path.items c.args.start at.position
+    (passing_first c.args.sought.now c.args.index.now.held c.args.asof c.requires.asof) at.invariant k (subst (λ ws. is_among ws k ≡ true) c.in_ok-push.ensures.items among)
+    ∙ way_ends (is_direct_at c.args.sought.now) (referred_at held) c.args.asof (chain_passes c.args.sought.now held) at.marks at.path.items c.args.start at.position
+    (passing_first c.args.sought.now c.args.index.now.held c.args.asof c.requires.asof) at.invariant (sym c.known_at.ensures ∙ c.in_default.is) (sym c.referred_at.ensures ∙ c.in-None.is)
 
 pub returns-in-None-clause-marks : goal.returns-in-None-clause-marks
 returns-in-None-clause-marks c =
-    let at = c.loop-passes in
+    let at = c.steps in
     let held = take c.args.asof c.args.index.now.held in
-    let there = at.invariant.there in
-    let room = c.requires.room in
-    let same = at.auto.marks in
-    let lt : at.position < length at.marks = omega arith in
-    subst (λ ws. AreTrue (chain_passes c.args.query.now c.args.sight.now held) (slice_set at.marks at.position Fails) ws) (sym c.in_ok-push.ensures.items)
-    (doubt (chain_passes c.args.query.now c.args.sight.now held) at.marks at.path.items at.position lt at.invariant.marked)
+    subst (λ ws. AreTrue (chain_passes c.args.sought.now held) c.set.new.self ws) (sym c.in_ok-push.ensures.items)
+    (doubt (chain_passes c.args.sought.now held) at.marks c.set.new.self at.path.items at.position c.in_ok-set.ensures at.invariant.marked)

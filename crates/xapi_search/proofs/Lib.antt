@@ -1,0 +1,5 @@
+pub mod Narrowed
+pub mod Asked
+pub mod Cuts
+pub mod Nearest
+pub mod Walked

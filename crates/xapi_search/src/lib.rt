@@ -1,0 +1,13 @@
+//! Where to look for what a query lists: the positions of the statements that its filters ask for, those of what refers
+//! to them, and the times. Nothing here is handed a statement. Begin with `Sought`.
+#![tactic(auto)]
+
+mod candidates;
+mod references;
+mod sought;
+mod times;
+
+pub use candidates::{Candidates, Lists};
+pub use references::reaching;
+pub use sought::{Seen, Sought};
+pub use times::bounds;
