@@ -1,9 +1,5 @@
-pub mod Judged
-pub mod Together
-pub mod Naming
 pub mod Pushed
 pub mod Coming
-pub mod Late
 pub mod Outcomes
 pub mod Puts
 pub mod Founded

@@ -2,8 +2,8 @@
 use Rattle.std.proofs.Common.{◌≡◌, ℕ, List, [], ◌∷◌, ◌++◌, Option, Some, None, slice_get, refl, sym, ap, ◌∙◌, subst, append-nil}
 use Rattle.cmi5_course.specs.declared.launch.Launch.{Launch}
 use Rattle.lrs_command.specs.declared.who.Who.{Who}
-use Rattle.lrs_fold.proofs.Naming.{with_ids_again}
-use Rattle.lrs_fold.specs.Naming.{with_these_ids}
+use Rattle.lrs_refusals.proofs.Naming.{with_ids_again}
+use Rattle.lrs_refusals.specs.Naming.{with_these_ids}
 use Rattle.lrs_fold.specs.Written.{effect_by, speaks_in}
 use Rattle.lrs_history.specs.Effects.{new_by, owed_in_session}
 use Rattle.lrs_history.specs.Enrolments.{enrolled}

@@ -1,7 +1,5 @@
-pub mod Judged
-pub mod Naming
-pub mod Meeting
 pub mod Next
 pub mod Outcomes
 pub mod Own
+pub mod Posted
 pub mod Written

@@ -5,8 +5,6 @@ ghost use Rattle.std.specs.Option.{option_copied};
 ghost use Rattle.std.specs.Vec.Iter.{into_iter_items};
 ghost use Rattle.cmi5_course.specs.Courses.{course_of};
 ghost use Rattle.cmi5_course.specs.Rules.{broken_rule};
-ghost use Rattle.lrs_fold.specs.Judged.{IsJudged, IsJudgedTree};
-ghost use Rattle.lrs_fold.specs.Naming.{with_these_ids};
 ghost use Rattle.lrs_fold.specs.Written.{effect_by};
 ghost use Rattle.lrs_history.specs.DeskEffects.{taking};
 ghost use Rattle.lrs_history.specs.Effects.{document_by, dropping, effect, making, new_by, writing};
@@ -18,10 +16,13 @@ ghost use Rattle.lrs_parts.specs.Founding.{IsBase};
 ghost use Rattle.lrs_parts.specs.Parts.{state_of};
 ghost use Rattle.lrs_parts.specs.declared.acceptance.Acceptance.TheVariants as acceptance;
 ghost use Rattle.lrs_parts.specs.State.{no_change, used_in};
-ghost use Rattle.lrs_replies.specs.Texts.{token_text};
 ghost use Rattle.lrs_record.specs.declared.entry.Write.TheVariants as writes;
+ghost use Rattle.lrs_refusals.specs.Judged.{IsJudged, IsJudgedTree};
+ghost use Rattle.lrs_refusals.specs.Naming.{with_these_ids};
+ghost use Rattle.lrs_replies.specs.Texts.{token_text};
 
 use crate::Fold;
+use crate::authority::authority_of;
 use lrs_agents::Ifi;
 use lrs_command::Who;
 use lrs_ids::IdSupply;
@@ -30,6 +31,7 @@ use lrs_learning::{abandoning_one, enrolling, fetching, launching, sweeping, tak
 use lrs_names::{Draw, Id, Iri};
 use lrs_parts::{Acceptance, Effect, Founding, HeldProvider, ProvidersChange};
 use lrs_record::{Entry, How, Moment, Write};
+use lrs_refusals::who_is;
 use lrs_replies::token_text;
 use std::alloc::Global;
 use std::vec::IntoIter;
@@ -50,7 +52,7 @@ impl Fold {
             moment,
             draw,
         } = entry;
-        let who = self.who(&caller);
+        let who = who_is(&self.parts, &caller);
         drop(caller);
         self.effect_by(alloc, who, moment, &draw, write)
     }
@@ -291,7 +293,7 @@ impl Fold {
         if self.parts.statements.find(id).is_some() {
             return Ok(());
         }
-        if let Some(authority) = self.authority(who)? {
+        if let Some(authority) = authority_of(&self.parts, who)? {
             added.push(Statement::of(statement).complete(*id, moment, authority))?;
         }
         Ok(())

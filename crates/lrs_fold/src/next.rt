@@ -1,6 +1,6 @@
 // Whether an entry comes next, and what it changes then.
 ghost use Rattle.std.specs.Prelude.{◌≡◌, ◌&&◌, is_none, nat_le, nat_lt, IfOk, Ok, true};
-ghost use Rattle.lrs_fold.specs.Judged.{IsJudged};
+ghost use Rattle.lrs_refusals.specs.Judged.{IsJudged};
 ghost use Rattle.lrs_fold.specs.Next.{may_be_next, Changes, Comes};
 ghost use Rattle.lrs_history.specs.History.{founds, is_founding};
 ghost use Rattle.lrs_parts.specs.Parts.{state_of};
@@ -10,6 +10,7 @@ use crate::Fold;
 use lrs_json::Memory;
 use lrs_parts::{Effect, is_base, is_token};
 use lrs_record::{Caller, Entry, Write};
+use lrs_refusals::refusal;
 use std::alloc::Global;
 
 impl Fold {
@@ -60,7 +61,7 @@ impl Fold {
         if first {
             return is_founding(alloc, entry);
         }
-        if self.refusal(alloc, entry)?.is_some() {
+        if refusal(alloc, &self.parts, entry)?.is_some() {
             return Ok(false);
         }
         Ok(self.parts.last.milliseconds() <= entry.moment.milliseconds())

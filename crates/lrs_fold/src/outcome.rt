@@ -1,7 +1,7 @@
 // What becomes of a command.
 ghost use Rattle.std.specs.Prelude.{◌≡◌, max, IfOk, Ok, None};
 ghost use Rattle.lrs_command.specs.Commands.{HasReadTrees};
-ghost use Rattle.lrs_fold.specs.Judged.{IsJudged};
+ghost use Rattle.lrs_refusals.specs.Judged.{IsJudged};
 ghost use Rattle.lrs_fold.specs.Outcomes.{IsOutcome, made_of};
 ghost use Rattle.lrs_history.specs.History.{refused, refused_or, outcome, write_outcome};
 ghost use Rattle.lrs_history.specs.Refusals.{barred, refusal, refused_with};
@@ -17,7 +17,9 @@ use lrs_history::{barred, refused_with};
 use lrs_json::{Items, Memory};
 use lrs_names::Draw;
 use lrs_parts::Effect;
+use lrs_reads::read_answered;
 use lrs_record::{Caller, Entry, Moment, write_entry};
+use lrs_refusals::{refusal, who_is};
 use lrs_replies::Answered;
 use lrs_rules::Rule;
 use std::alloc::Global;
@@ -73,7 +75,7 @@ impl Fold {
                 },
             ),
             Command::Read(read) => {
-                let said = self.read_answered(alloc, &caller, &read);
+                let said = read_answered(alloc, &self.parts, &caller, &read);
                 drop(caller);
                 drop(read);
                 Ok(Outcome::Said(said?))
@@ -92,7 +94,7 @@ impl Fold {
             ≡ refused_or (barred area (who_is (state_of self.now.parts) caller.now))
             (refused (refused_with status rule)) }
     {
-        match barred(area, self.who(caller)) {
+        match barred(area, who_is(&self.parts, caller)) {
             Some(refusal) => Answered::Refused(refusal),
             None => Answered::Refused(refused_with(status, rule)),
         }
@@ -104,7 +106,7 @@ impl Fold {
         requires write { IsLawfulWrite entry.write }
         ensures { IfOk result (IsOutcome (state_of self.now.parts) (write_outcome (state_of self.now.parts) entry)) }
     {
-        match self.refusal(alloc, &entry) {
+        match refusal(alloc, &self.parts, &entry) {
             Ok(None) => self.accepted(alloc, entry),
             Ok(Some(refusal)) => {
                 drop(entry);

@@ -19,6 +19,7 @@ use lrs_json::Memory;
 use lrs_made::{add_owed, enrolled};
 use lrs_names::{Draw, Id};
 use lrs_record::Moment;
+use lrs_refusals::launch_of;
 use std::alloc::Global;
 use xapi_statement::StoredStatement;
 
@@ -67,7 +68,7 @@ impl Fold {
         ensures { option_copied result ≡ speaks_in said.now (launch_of (state_of self.now.parts) who) }
     {
         match said.first() {
-            Some(_) => self.launch_of(who),
+            Some(_) => launch_of(&self.parts, who),
             None => None,
         }
     }

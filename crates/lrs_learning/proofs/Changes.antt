@@ -105,9 +105,9 @@ waiver_is st at why t o is unwaived =
 
 -- ---- launches
 
-abbrev pub launched_with : State → ℕ → Draw → Mode → Option (List ℕ) → Target → List ℕ → List ℕ → List ℕ → List StoredStatement → Effect
-launched_with st moment draw mode return_url t session id numbers made = record (no_change moment) {
-  statements = made ++ launched_at t mode session id moment;
+abbrev pub launched_with : State → ℕ → Draw → Mode → Option (List ℕ) → Target → List ℕ → List ℕ → List StoredStatement → Effect
+launched_with st moment draw mode return_url t session numbers made = record (no_change moment) {
+  statements = made;
   documents = Written (data_key t) (data_at t mode return_url session moment);
   launches = coming (launch_at t mode session);
   sessions = session_begun numbers;
@@ -115,21 +115,23 @@ launched_with st moment draw mode return_url t session id numbers made = record 
   acceptance = acceptance.Launch session t.unit.method (address_at t (token_text st.length draw.secret));
 }
 
-abbrev pub launched_behind : State → ℕ → Draw → Mode → Option (List ℕ) → Target → List ℕ → List Json → Effect
-launched_behind st moment draw mode return_url t numbers said =
-    launched_with st moment draw mode return_url t (supply_at st draw 0) (left_behind (rest_of (supply_at st draw)) said 0) numbers
-    (made_under (rest_of (supply_at st draw)) moment said)
+-- what is said first, and the launched statement of that session behind it
+abbrev pub made_with : State → ℕ → Draw → Mode → Target → List ℕ → List Json → List StoredStatement
+made_with st moment draw mode t session said =
+    made_under (rest_of (supply_at st draw)) moment said ++ launched_at t mode session (left_behind (rest_of (supply_at st draw)) said 0) moment
 
-pub launched_over : (st : State) (by : Who) (moment : ℕ) (draw : Draw) (mode : Mode) (return_url : Option (List ℕ)) (t : Target) (session id numbers : List ℕ) (said : List Json) (made : List StoredStatement) (x : Effect)
-    → session ≡ supply_at st draw 0 → id ≡ left_behind (rest_of (supply_at st draw)) said 0 → made ≡ made_under (rest_of (supply_at st draw)) moment said
-    → numbers ≡ open_of st t.registration.id (activity_at t) → said ≡ abandoned_jsons st numbers → x ≡ launched_with st moment draw mode return_url t session id numbers made
-    → x ≡ launching st (occasion_at st by moment draw) mode return_url (Some t)
-launched_over st by moment draw mode return_url t session id numbers said made x first next under found is built =
-    built ∙ (ap (λ i. launched_with st moment draw mode return_url t i id numbers made) first
-    ∙ (ap (λ i. launched_with st moment draw mode return_url t (supply_at st draw 0) i numbers made) next
-    ∙ (ap (λ m. launched_with st moment draw mode return_url t (supply_at st draw 0) (left_behind (rest_of (supply_at st draw)) said 0) numbers m) under
-    ∙ (ap (λ js. launched_behind st moment draw mode return_url t numbers js) is
-    ∙ ap (λ ns. launched_behind st moment draw mode return_url t ns (abandoned_jsons st ns)) found))))
+abbrev pub launched_behind : State → ℕ → Draw → Mode → Option (List ℕ) → Target → List ℕ → List ℕ → List Json → Effect
+launched_behind st moment draw mode return_url t session numbers said =
+    launched_with st moment draw mode return_url t session numbers (made_with st moment draw mode t session said)
+
+pub launched_over : (st : State) (by : Who) (moment : ℕ) (draw : Draw) (mode : Mode) (return_url : Option (List ℕ)) (t : Target) (session numbers : List ℕ) (said : List Json) (made : List StoredStatement) (x : Effect)
+    → session ≡ supply_at st draw 0 → made ≡ made_with st moment draw mode t session said → numbers ≡ open_of st t.registration.id (activity_at t) → said ≡ abandoned_jsons st numbers
+    → x ≡ launched_with st moment draw mode return_url t session numbers made → x ≡ launching st (occasion_at st by moment draw) mode return_url (Some t)
+launched_over st by moment draw mode return_url t session numbers said made x first under found is built =
+    built ∙ (ap (λ m. launched_with st moment draw mode return_url t session numbers m) under
+    ∙ (ap (λ i. launched_behind st moment draw mode return_url t i numbers said) first
+    ∙ (ap (λ js. launched_behind st moment draw mode return_url t (supply_at st draw 0) numbers js) is
+    ∙ ap (λ ns. launched_behind st moment draw mode return_url t (supply_at st draw 0) ns (abandoned_jsons st ns)) found)))
 
 -- ---- statements under the next ids
 

@@ -12,7 +12,6 @@ ghost use Rattle.lrs_parts.specs.Parts.{state_of};
 ghost use Rattle.lrs_parts.specs.State.{no_change, used_in};
 ghost use Rattle.lrs_parts.specs.declared.acceptance.Acceptance.TheVariants as acceptance;
 
-use crate::courses::place_of_course;
 use crate::ids::first_two;
 use lrs_agents::Agent;
 use lrs_ids::IdSupply;
@@ -21,7 +20,7 @@ use lrs_made::{add_owed, enrolled_as};
 use lrs_names::{Draw, Id, Iri};
 use lrs_parts::{
     Acceptance, Effect, HeldRegistration, Learner, MadeSession, MadeSessionsChange, Parts,
-    RegistrationsChange,
+    RegistrationsChange, place_of_course,
 };
 use lrs_record::Moment;
 use std::alloc::Global;
@@ -41,7 +40,7 @@ pub fn enrolling(
         ≡ enrolling (state_of parts.now) (occasion_at (state_of parts.now) by moment draw.now) actor
         (place_of_course course (state_of parts.now).courses)) }
 {
-    let Some(course) = place_of_course(parts, &course) else {
+    let Some(course) = place_of_course(&parts.learning.courses, &course) else {
         drop(actor);
         return Ok(Effect::no_change(alloc, moment));
     };
@@ -61,17 +60,17 @@ fn enrol_in(
         ≡ enrolling (state_of parts.now) (occasion_at (state_of parts.now) by moment draw.now) actor (Some course)) }
 {
     match first_two(alloc, parts, draw) {
-        Ok(made) => enrol_as(
+        Ok(ids) => enrol_as(
             alloc,
             parts,
             moment,
             HeldRegistration {
-                id: made.0,
+                id: ids.first,
                 course,
                 actor,
             },
-            made.1,
-            made.2,
+            ids.second,
+            ids.left,
         ),
         Err(refused) => {
             drop(actor);

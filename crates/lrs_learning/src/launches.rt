@@ -1,17 +1,17 @@
 // What a launch brings.
-ghost use Rattle.std.specs.Prelude.{◌≡◌, ◌++◌, false, length, map, IfOk, OnOk, Some};
+ghost use Rattle.std.specs.Prelude.{◌≡◌, ◌++◌, false, length, IfOk, OnOk, Some};
 ghost use Rattle.cmi5_launch.specs.Addresses.{IsAddress};
 ghost use Rattle.lrs_command.specs.declared.who.Who.{Who as SpecWho};
 ghost use Rattle.lrs_history.specs.DeskEffects.{session_begun, coming, launching};
 ghost use Rattle.lrs_history.specs.Launches.{activity_at, address_at, data_at, data_key, launch_at, launched_at, target};
+ghost use Rattle.lrs_history.specs.Made.{left_behind, made_under};
 ghost use Rattle.lrs_ids.specs.Ids.{rest_of};
-ghost use Rattle.lrs_json.specs.View.{view};
+ghost use Rattle.lrs_ids.specs.IdSupply.{left_of};
 ghost use Rattle.lrs_learning.specs.Occasions.{occasion_at, supply_at};
 ghost use Rattle.lrs_made.specs.Lent.{seen_target};
-ghost use Rattle.xapi_statement.specs.declared.statement.Statement.{Statement as SpecStatement};
-ghost use Rattle.lrs_history.specs.Made.{left_behind, made_under};
+ghost use Rattle.lrs_made.specs.Said.{jsons_of};
 ghost use Rattle.lrs_parts.specs.Parts.{state_of};
-ghost use Rattle.lrs_parts.specs.State.{no_change};
+ghost use Rattle.lrs_parts.specs.State.{no_change, used_in};
 ghost use Rattle.lrs_parts.specs.declared.acceptance.Acceptance.TheVariants as acceptance;
 ghost use Rattle.lrs_replies.specs.Texts.{token_text};
 ghost use Rattle.xapi_docs.specs.declared.changes.DocumentsChange.TheVariants.{Written};
@@ -19,18 +19,19 @@ ghost use Rattle.xapi_docs.specs.declared.changes.DocumentsChange.TheVariants.{W
 use crate::ids::supply_of;
 use cmi5_course::{Launch, Mode};
 use cmi5_launch::names::LAUNCH_DATA;
-use cmi5_launch::{Made, launch_address, launch_data, made_statement};
+use cmi5_launch::{Made, launch_address, launch_data};
+use lrs_ids::IdSupply;
 use lrs_json::{Items, Memory, Text};
-use lrs_made::{LentTarget, make_under, target};
+use lrs_made::{LentTarget, make_one, make_under, statement_of, target};
 use lrs_names::{Draw, Id, Iri};
 use lrs_parts::{Acceptance, Effect, HeldKey, KeysChange, LaunchesChange, Parts, SessionsChange};
 use lrs_record::Moment;
 use lrs_replies::token_text;
-use lrs_sessions::{abandoned_statements, open_of};
+use lrs_sessions::{abandoned_statements, launch_count, open_of};
 use std::alloc::Global;
 use xapi_docs::{Document, DocumentsChange};
 use xapi_keys::StateKey;
-use xapi_statement::{Authority, Statement, StoredStatement};
+use xapi_statement::{Statement, StoredStatement};
 
 /// Launches the unit of that id in the course of that registration, if both are there. Its open sessions in the
 /// registration are abandoned.
@@ -118,39 +119,60 @@ fn launch_over(
 {
     let numbers = open_of(alloc, parts, &target.registration.id, activity)?;
     let said = abandoned_statements(alloc, parts, numbers.as_slice())?;
-    let begun = begin(alloc, parts, moment, draw, said)?;
+    let begun = begin(alloc, parts, moment, draw, target, activity, mode, said)?;
+    let session = begun.session;
     set_sessions(effect, numbers);
+    set_statements(effect, begun.made);
     launch_as(
-        alloc, parts, moment, draw, target, activity, mode, return_url, begun.0, begun.1, begun.2,
-        effect,
+        alloc, parts, moment, draw, target, activity, mode, return_url, session, effect,
     )?;
     Ok(())
 }
 
-// The ids of the session and of the launched statement, and the statements that are made before that one.
+// The id of a session, and the statements that are made as it begins.
+#[derive(Drop)]
+struct Begun {
+    session: Id,
+    made: Vec<StoredStatement>,
+}
+
+// The launched statement goes behind what is said first.
 fn begin(
     alloc: Global,
     parts: &Parts,
     moment: Moment,
     draw: &Draw,
+    target: &LentTarget<'_>,
+    activity: &Iri,
+    mode: Mode,
     said: Vec<Statement>,
-) -> Result<(Id, Id, Vec<StoredStatement>), Memory>
-    ensures session { IfOk result (λ begun. begun.0 ≡ supply_at (state_of parts.now) draw.now 0) }
-    ensures id { IfOk result (λ begun. begun.1 ≡ left_behind (rest_of (supply_at (state_of parts.now) draw.now))
-        (map (λ (s : SpecStatement). view s.tree) said.items) 0) }
-    ensures made { IfOk result (λ begun. begun.2.items
-        ≡ made_under (rest_of (supply_at (state_of parts.now) draw.now)) moment
-        (map (λ (s : SpecStatement). view s.tree) said.items)) }
+) -> Result<Begun, Memory>
+    requires { activity.now ≡ activity_at (seen_target target.now) }
+    ensures session { IfOk result (λ begun. begun.session ≡ supply_at (state_of parts.now) draw.now 0) }
+    ensures made { IfOk result (λ begun. begun.made.items
+        ≡ made_under (rest_of (supply_at (state_of parts.now) draw.now)) moment (jsons_of said.items)
+        ++ launched_at (seen_target target.now) mode begun.session
+        (left_behind (rest_of (supply_at (state_of parts.now) draw.now)) (jsons_of said.items) 0) moment) }
 {
     let mut supply = supply_of(alloc, parts, draw)?;
     let session = supply.make(parts)?;
     let mut made = Vec::new(alloc);
     make_under(parts, &mut supply, moment, said, &mut made)?;
-    let id = supply.make(parts)?;
-    Ok((session, id, made))
+    push_launched(
+        alloc,
+        parts,
+        target,
+        activity,
+        mode,
+        &session,
+        moment,
+        &mut supply,
+        &mut made,
+    )?;
+    Ok(Begun { session, made })
 }
 
-// The same under these ids, behind the statements that are made before.
+// The key, the document and the launch of a session.
 fn launch_as(
     alloc: Global,
     parts: &Parts,
@@ -161,14 +183,11 @@ fn launch_as(
     mode: Mode,
     return_url: &Option<Iri>,
     session: Id,
-    id: Id,
-    made: Vec<StoredStatement>,
     effect: &mut Effect,
 ) -> Result<(), Memory>
     requires address { IsAddress target.now.unit.now.url }
     requires activity { activity.now ≡ activity_at (seen_target target.now) }
     ensures { OnOk result (effect.new ≡ record effect.old {
-      statements = made.items ++ launched_at (seen_target target.now) mode session id moment;
       documents = Written (data_key (seen_target target.now))
           (data_at (seen_target target.now) mode return_url.now session moment);
       launches = coming (launch_at (seen_target target.now) mode session);
@@ -185,10 +204,7 @@ fn launch_as(
     add_data(
         alloc, target, activity, mode, return_url, session, moment, effect,
     )?;
-    add_launch(target, activity, mode, session, effect)?;
-    add_statement(
-        alloc, target, activity, mode, session, id, moment, made, effect,
-    )
+    add_launch(target, activity, mode, session, effect)
 }
 
 // The key, and the address that tells it.
@@ -213,7 +229,7 @@ fn add_key(
           (address_at (seen_target target.now) (token_text parts.now.length draw.now.secret));
     }) }
 {
-    let launch = next_launch(parts)?;
+    let launch = launch_count(parts)?;
     let key = token_text(alloc, parts.length, draw.secret)?;
     match told(alloc, target, activity, &key, session) {
         Ok(told) => {
@@ -312,40 +328,6 @@ fn add_launch(
     let launch = launch_at(target, activity, mode, session)?;
     set_launch(effect, launch);
     Ok(())
-}
-
-fn add_statement(
-    alloc: Global,
-    target: &LentTarget<'_>,
-    activity: &Iri,
-    mode: Mode,
-    session: Id,
-    id: Id,
-    moment: Moment,
-    made: Vec<StoredStatement>,
-    effect: &mut Effect,
-) -> Result<(), Memory>
-    requires { activity.now ≡ activity_at (seen_target target.now) }
-    ensures { OnOk result (effect.new ≡ record effect.old {
-      statements = made.items ++ launched_at (seen_target target.now) mode session id moment;
-    }) }
-{
-    let mut made = made;
-    push_launched(
-        alloc, target, activity, mode, &session, id, moment, &mut made,
-    )?;
-    set_statements(effect, made);
-    Ok(())
-}
-
-// The number of the next launch. There is none if launches can't be numbered any more.
-fn next_launch(parts: &Parts) -> Result<u32, Memory>
-    ensures { IfOk result (λ number. number ≡ length (state_of parts.now).launches) }
-{
-    match u32::try_from(parts.learning.launches.len()) {
-        Ok(number) => Ok(number),
-        Err(_) => Err(Memory),
-    }
 }
 
 // What its caller is told: where the learner is sent.
@@ -458,33 +440,35 @@ fn mastery_of(target: &LentTarget<'_>) -> Result<Option<Text>, Memory>
     }
 }
 
-// Puts the statement that the store makes of it (cmi5 Quartz, section 9.3.1) behind others.
+// Puts the statement that the store makes of it (cmi5 Quartz, section 9.3.1) behind others, under the next id.
 fn push_launched(
     alloc: Global,
+    parts: &Parts,
     target: &LentTarget<'_>,
     activity: &Iri,
     mode: Mode,
     session: &Id,
-    id: Id,
     moment: Moment,
+    supply: &mut IdSupply,
     made: &mut Vec<StoredStatement>,
 ) -> Result<(), Memory>
     requires { activity.now ≡ activity_at (seen_target target.now) }
     ensures { OnOk result (made.new.items
-        ≡ made.old.items ++ launched_at (seen_target target.now) mode session.now id moment) }
+        ≡ made.old.items
+        ++ launched_at (seen_target target.now) mode session.now
+        (left_of (used_in (state_of parts.now)) supply.old 0) moment) }
 {
-    let said = made_statement(
+    let kind = Made::Launched {
+        mode,
+        unit: target.unit,
+    };
+    let said = statement_of(
         alloc,
-        &Made::Launched {
-            mode,
-            unit: target.unit,
-        },
-        target.registration.actor.agent(),
+        &kind,
+        target.registration,
         activity,
         target.publisher,
-        &target.registration.id,
         session,
     )?;
-    made.push(said.complete(id, moment, Authority::Desk))?;
-    Ok(())
+    make_one(parts, supply, moment, said, made)
 }

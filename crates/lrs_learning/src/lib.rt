@@ -1,13 +1,11 @@
 //! What the launch desk does, over the parts of a store in memory: it takes courses up, enrols learners, launches and
-//! waives units, gives the tokens of sessions away and abandons sessions; and why it doesn't. A function has the name
-//! of the definition in `lrs_history` that it equals. Begin with `courses`, `enrolments`, `launches`, `fetches`,
-//! `waivers` and `abandonments`: what their writes change, and of a course why it isn't taken up. `absent` tells what a
-//! write doesn't find, and `ids` makes the ids. What the store says of its own comes from `lrs_made`, which sessions are
-//! open from `lrs_sessions`.
+//! waives units, gives the tokens of sessions away and abandons sessions. A function has the name of the definition in
+//! `lrs_history` that it equals. Begin with `courses`, `enrolments`, `launches`, `fetches`, `waivers` and
+//! `abandonments`: what their writes change. `ids` makes the ids. What the store says of its own comes from `lrs_made`,
+//! which sessions are open from `lrs_sessions`; why a write is refused stands in `lrs_refusals`.
 #![tactic(auto)]
 
 mod abandonments;
-mod absent;
 mod courses;
 mod enrolments;
 mod fetches;
@@ -16,8 +14,7 @@ mod launches;
 mod waivers;
 
 pub use abandonments::{abandoning_one, sweeping};
-pub use absent::missing;
-pub use courses::{course_conflict, refused_course, taking};
+pub use courses::taking;
 pub use enrolments::enrolling;
 pub use fetches::fetching;
 pub use launches::launching;

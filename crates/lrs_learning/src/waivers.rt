@@ -1,12 +1,12 @@
 // Waivers: a unit counts as met in a registration.
-ghost use Rattle.std.specs.Prelude.{◌≡◌, ◌∷◌, ◌++◌, [], IfOk, OnOk};
+ghost use Rattle.std.specs.Prelude.{◌≡◌, ◌∷◌, ◌++◌, [], IfOk};
 ghost use Rattle.lrs_command.specs.declared.who.Who.{Who as SpecWho};
 ghost use Rattle.lrs_history.specs.DeskEffects.{coming, waiving, waiving_as};
 ghost use Rattle.lrs_history.specs.Enrolments.{enrolled_as};
 ghost use Rattle.lrs_history.specs.Launches.{target};
 ghost use Rattle.lrs_history.specs.Made.{made_under, owed_made, waived_at};
 ghost use Rattle.lrs_ids.specs.Ids.{rest_of};
-ghost use Rattle.lrs_ids.specs.IdSupply.{GiveSame, left_of};
+ghost use Rattle.lrs_ids.specs.IdSupply.{left_of};
 ghost use Rattle.lrs_json.specs.View.{view};
 ghost use Rattle.lrs_learning.specs.Occasions.{occasion_at, supply_at};
 ghost use Rattle.lrs_made.specs.Lent.{seen_target};
@@ -17,9 +17,7 @@ use crate::ids::supply_of;
 use cmi5_course::Reason;
 use lrs_ids::IdSupply;
 use lrs_json::{Items, Memory};
-use lrs_made::{
-    LentTarget, add_owed, enrolled_as, is_waived, make_under, target, waived_statement,
-};
+use lrs_made::{LentTarget, add_owed, enrolled_as, is_waived, make_one, target, waived_statement};
 use lrs_names::{Draw, Id, Iri};
 use lrs_parts::{Effect, MadeSession, MadeSessionsChange, Parts};
 use lrs_record::Moment;
@@ -83,11 +81,13 @@ fn with_owed(
 ) -> Result<Vec<StoredStatement>, Memory>
     ensures { IfOk result (λ made. made.items
         ≡ made_under (left_of (used_in (state_of parts.now)) supply.old) moment (view said.tree ∷ [])
-        ++ owed_made (state_of parts.now) session.now (rest_of (left_of (used_in (state_of parts.now)) supply.old)) moment
+        ++ owed_made (state_of parts.now) session.now
+        (rest_of (left_of (used_in (state_of parts.now)) supply.old)) moment
         (made_under (left_of (used_in (state_of parts.now)) supply.old) moment (view said.tree ∷ []))
         (enrolled_as (state_of parts.now) (seen_target target.now).registration)) }
 {
-    let mut made = alone(alloc, parts, moment, said, supply)?;
+    let mut made = Vec::new(alloc);
+    make_one(parts, supply, moment, said, &mut made)?;
     let enrolled = enrolled_as(parts, target.registration);
     add_owed(
         alloc,
@@ -98,26 +98,6 @@ fn with_owed(
         supply,
         &mut made,
     )?;
-    Ok(made)
-}
-
-// One statement under the next id.
-fn alone(
-    alloc: Global,
-    parts: &Parts,
-    moment: Moment,
-    said: Statement,
-    supply: &mut IdSupply,
-) -> Result<Vec<StoredStatement>, Memory>
-    ensures made { IfOk result (λ made. made.items
-        ≡ made_under (left_of (used_in (state_of parts.now)) supply.old) moment (view said.tree ∷ [])) }
-    ensures left { OnOk result (GiveSame (left_of (used_in (state_of parts.now)) supply.new)
-        (rest_of (left_of (used_in (state_of parts.now)) supply.old))) }
-{
-    let mut one = Vec::new(alloc);
-    one.push(said)?;
-    let mut made = Vec::new(alloc);
-    make_under(parts, supply, moment, one, &mut made)?;
     Ok(made)
 }
 

@@ -1,4 +1,4 @@
-use Rattle.std.proofs.Common.{[], ◌∷◌, ◌∙◌, ap}
+use Rattle.std.proofs.Common.{List, [], ◌∷◌, ◌++◌, ◌∙◌, ap}
 use Rattle.std.specs.Prelude.{option_map}
 use Rattle.lrs_history.specs.Enrolments.{enrolled_as}
 use Rattle.lrs_history.specs.Made.{made_under}
@@ -9,12 +9,15 @@ use Rattle.lrs_learning.proofs.Changes.{owed_behind_waived}
 use Rattle.lrs_made.specs.Lent.{seen_enrolled, seen_target}
 use Rattle.lrs_parts.specs.Parts.{state_of}
 use Rattle.lrs_parts.specs.State.{used_in}
+use Rattle.xapi_statement.specs.Stored.{StoredStatement}
 use Rattle.lrs_learning.proofs.waivers.with_owed.Goals as goal
 
 pub returns : goal.returns
 returns c =
     let st = state_of c.args.parts.now in
     let s = left_of (used_in st) c.args.supply.now in
-    owed_behind_waived st c.args.session.now (left_of (used_in st) c.alone.new.supply) (rest_of s) c.args.moment c.add_owed.new.made.items c.in_ok-made.made.items
-    (made_under s c.args.moment (view c.args.said.tree ∷ [])) _ (enrolled_as st (seen_target c.args.target.now).registration) c.in_ok-made.ensures.made c.in_ok-made.ensures.left
-    (ap (option_map seen_enrolled) c.as_ref.ensures.value ∙ c.enrolled_as-enrolled.ensures) c.in_ok-add_owed.ensures
+    let waived : List StoredStatement = made_under s c.args.moment (view c.args.said.tree ∷ []) in
+    owed_behind_waived st c.args.session.now (left_of (used_in st) c.make_one.new.supply) (rest_of s) c.args.moment c.add_owed.new.made.items c.make_one.new.made.items
+    waived _ (enrolled_as st (seen_target c.args.target.now).registration)
+    (c.in_ok-make_one.ensures.made ∙ ap (λ (xs : List StoredStatement). xs ++ waived) c.new-made.ensures.items) c.in_ok-make_one.ensures.left
+    (ap (option_map seen_enrolled) c.as_ref.ensures.value ∙ c.enrolled_as-enrolled.ensures) c.in_ok-add_owed.ensures.made

@@ -3,7 +3,7 @@ use Rattle.std.proofs.Common.{◌≡◌, sym, ap, subst, ◌∙◌}
 use Rattle.std.proofs.lemmas.Result.{IfOk-weaker}
 use Rattle.lrs_command.specs.declared.who.Who.{Who}
 use Rattle.lrs_fold.proofs.Written.{GivesEffect}
-use Rattle.lrs_fold.specs.Judged.{IsJudged}
+use Rattle.lrs_refusals.specs.Judged.{IsJudged}
 use Rattle.lrs_fold.specs.Written.{effect_by}
 use Rattle.lrs_history.specs.DeskEffects.{abandoning_one, enrolling, fetching, launching, sweeping, waiving}
 use Rattle.lrs_history.specs.Launches.{target}

@@ -13,4 +13,4 @@ returns c =
     let st = state_of c.args.self.now.parts in
     let before = c.args.added.now.items in
     subst (λ (known : Option Enrolled). OnOk c.add_owed.result (c.add_owed.new.made.items ≡ before ++ owed_made st c.args.launch.now.session (left_of (used_in st) c.args.supply.now) c.args.moment before known))
-    (ap (option_map seen_enrolled) c.as_ref.ensures.value ∙ c.enrolled-known.ensures) c.add_owed.ensures
+    (ap (option_map seen_enrolled) c.as_ref.ensures.value ∙ c.enrolled-known.ensures) c.add_owed.ensures.made

@@ -8,4 +8,4 @@ pub returns : goal.returns
 returns c =
     let st = state_of c.args.self.now.parts in
     let e = c.args.entry in
-    subst (λ (by : Who). GivesEffect st by e.moment e.draw c.effect_by.result e.write) c.who-who.ensures c.effect_by.ensures
+    subst (λ (by : Who). GivesEffect st by e.moment e.draw c.effect_by.result e.write) c.who_is-who.ensures c.effect_by.ensures

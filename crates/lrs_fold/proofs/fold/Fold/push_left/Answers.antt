@@ -1,8 +1,8 @@
 use Rattle.std.proofs.Common.{◌≡◌, ◌∷◌, ◌++◌, drop, subst}
 use Rattle.std.specs.List.{AllByRecursion}
 use Rattle.std.specs.Vec.Iter.{into_iter_items}
-use Rattle.lrs_fold.specs.Judged.{IsJudgedTree}
-use Rattle.lrs_fold.specs.Naming.{with_these_ids}
+use Rattle.lrs_refusals.specs.Judged.{IsJudgedTree}
+use Rattle.lrs_refusals.specs.Naming.{with_these_ids}
 use Rattle.lrs_history.specs.Effects.{new_by}
 use Rattle.lrs_ids.proofs.Turns.{turn}
 use Rattle.lrs_parts.specs.Parts.{state_of}

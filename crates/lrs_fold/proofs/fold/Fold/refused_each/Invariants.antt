@@ -1,7 +1,0 @@
-use Rattle.std.proofs.Common.{◌≡◌, drop}
-use Rattle.lrs_fold.specs.Meeting.{refused_each}
-use Rattle.lrs_parts.specs.Parts.{state_of}
-use Rattle.lrs_fold.proofs.fold.Fold.refused_each.Given as goal
-
-abbrev pub invariant-loop-statement : goal.invariant-loop-statement
-invariant-loop-statement l = refused_each (state_of l.self.parts) l.who (drop l.statement-index l.statements) ≡ refused_each (state_of l.self.parts) l.who l.statements

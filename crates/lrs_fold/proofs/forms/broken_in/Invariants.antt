@@ -1,6 +1,0 @@
-use Rattle.std.proofs.Common.{◌≡◌, drop}
-use Rattle.lrs_history.specs.Refusals.{broken_in}
-use Rattle.lrs_fold.proofs.forms.broken_in.Given as goal
-
-abbrev pub invariant-loop-statement : goal.invariant-loop-statement
-invariant-loop-statement l = broken_in (drop l.statement-index l.statements) ≡ broken_in l.statements

@@ -1,0 +1,27 @@
+// What the program posts itself, and how many statements are listed then.
+ghost use Rattle.std.specs.Prelude.{◌≡◌};
+ghost use Rattle.lrs_fold.specs.Posted.{post_of};
+ghost use Rattle.lrs_parts.specs.Parts.{state_of};
+ghost use Rattle.xapi_pages.specs.Listings.{listed_of_all};
+
+use crate::Fold;
+use lrs_command::Command;
+use lrs_json::{Items, Tree};
+use lrs_record::Write;
+use xapi_pages::count_listed;
+
+/// The post of statements.
+pub fn post_of(statements: Items<Tree>) -> Command
+    ensures { result ≡ post_of statements }
+{
+    Command::Write(Write::Post { statements })
+}
+
+impl Fold {
+    /// How many statements a query without filters lists to an admin.
+    pub fn listed(&self) -> u64
+        ensures { result ≡ listed_of_all (state_of self.now.parts).statements }
+    {
+        count_listed(&self.parts.statements)
+    }
+}

@@ -1,0 +1,12 @@
+use Rattle.std.proofs.Common.{◌≡◌, IfOk, Option, ap, subst}
+use Rattle.lrs_history.specs.Answers.{standing_said}
+use Rattle.lrs_history.specs.Enrolments.{Enrolled}
+use Rattle.lrs_parts.specs.Parts.{state_of}
+use Rattle.lrs_reads.proofs.questions.standing_said.Goals as goal
+
+pub returns-in-Some : goal.returns-in-Some
+returns-in-Some c =
+    subst (λ (known : Option Enrolled). IfOk c.standing_of.result (λ said. said ≡ standing_said (state_of c.args.parts.now) known)) c.in-Some.ensures c.standing_of.ensures
+
+pub returns-in-None : goal.returns-in-None
+returns-in-None c = ap (standing_said (state_of c.args.parts.now)) c.in-None.ensures

@@ -1,0 +1,8 @@
+//! What a caller who asks is told, over the parts of a store in memory. A function has the name of the definition in
+//! `lrs_history` that it equals. Begin with `questions`; `sight` tells which statements a caller sees.
+#![tactic(auto)]
+
+mod questions;
+mod sight;
+
+pub use questions::read_answered;

@@ -1,0 +1,23 @@
+// Which statements a caller sees.
+ghost use Rattle.std.specs.Prelude.{◌≡◌};
+ghost use Rattle.lrs_history.specs.Whose.{sight_of};
+ghost use Rattle.lrs_parts.specs.Parts.{state_of};
+
+use lrs_command::Who;
+use lrs_parts::Parts;
+use xapi_query::Sight;
+
+/// What a caller sees of the statements.
+pub(crate) fn sight_of(parts: &Parts, who: Who) -> Sight
+    ensures { result ≡ sight_of (state_of parts.now) who }
+{
+    match who {
+        Who::Unknown => Sight::Nothing,
+        Who::Admin => Sight::All,
+        Who::Provider(number) => Sight::Provider(number),
+        Who::Session(number) => match parts.learning.launches.get(number) {
+            Some(launch) => Sight::Registration(launch.registration),
+            None => Sight::Nothing,
+        },
+    }
+}

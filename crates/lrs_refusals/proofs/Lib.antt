@@ -1,0 +1,4 @@
+pub mod Judged
+pub mod Held
+pub mod Naming
+pub mod Together

@@ -1,0 +1,31 @@
+use Rattle.std.proofs.Common.{ℕ, List, Option, sym, ap, ◌∙◌}
+use Rattle.std.specs.Prelude.{unwrap_or}
+use Rattle.cmi5_session.specs.Rules.{broken_rule}
+use Rattle.cmi5_session.specs.Views.{seen}
+use Rattle.lrs_history.specs.Refusals.{told_forbidden}
+use Rattle.lrs_json.specs.View.{view}
+use Rattle.lrs_parts.specs.Parts.{state_of}
+use Rattle.lrs_refusals.proofs.Held.{held_or_new}
+use Rattle.lrs_refusals.specs.Meeting.{told_if_held}
+use Rattle.lrs_replies.specs.declared.answered.Refusal.{Refusal}
+use Rattle.xapi_statement.specs.Statement.{own_id}
+use Rattle.lrs_refusals.proofs.meeting.refused_of_session.Goals as goal
+
+pub returns-in-Some : goal.returns-in-Some
+returns-in-Some c =
+    let st = state_of c.args.parts.now in
+    let j = view c.args.statement.now in
+    let new = told_forbidden (broken_rule (seen c.args.session.now) j) in
+    sym (held_or_new st new (own_id j) j
+    ∙ ap (λ (told : Option (Option Refusal)). unwrap_or told new)
+    (ap (λ (id : Option (List ℕ)). told_if_held st id j) (sym c.own_id.ensures) ∙ (sym c.told_if_held.ensures ∙ c.in-Some.is)))
+
+pub returns-in-None : goal.returns-in-None
+returns-in-None c =
+    let st = state_of c.args.parts.now in
+    let j = view c.args.statement.now in
+    let new = told_forbidden (broken_rule (seen c.args.session.now) j) in
+    c.forbidden_to.ensures
+    ∙ sym (held_or_new st new (own_id j) j
+    ∙ ap (λ (told : Option (Option Refusal)). unwrap_or told new)
+    (ap (λ (id : Option (List ℕ)). told_if_held st id j) (sym c.own_id.ensures) ∙ (sym c.told_if_held.ensures ∙ c.in-None.is)))

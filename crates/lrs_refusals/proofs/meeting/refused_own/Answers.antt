@@ -1,0 +1,11 @@
+use Rattle.std.proofs.Common.{ℕ, List, Option, ap, ◌∙◌}
+use Rattle.lrs_history.specs.Refusals.{forbidden, refused_under}
+use Rattle.lrs_json.specs.View.{view}
+use Rattle.lrs_parts.specs.Parts.{state_of}
+use Rattle.lrs_refusals.proofs.meeting.refused_own.Goals as goal
+
+pub returns : goal.returns
+returns c =
+    let st = state_of c.args.parts.now in
+    let j = view c.args.statement.now in
+    c.refused_under.ensures ∙ ap (λ (id : Option (List ℕ)). refused_under st (forbidden st c.args.who c.args.parts.now.statements.held j) id j) c.own_id.ensures

@@ -1,0 +1,23 @@
+use Rattle.std.proofs.Common.{Option, sym, ap, ◌∙◌}
+use Rattle.std.specs.Prelude.{unwrap_or}
+use Rattle.lrs_history.specs.Refusals.{forbidden}
+use Rattle.lrs_json.specs.View.{view}
+use Rattle.lrs_parts.specs.Parts.{state_of}
+use Rattle.lrs_refusals.proofs.Held.{held_or_new}
+use Rattle.lrs_replies.specs.declared.answered.Refusal.{Refusal}
+use Rattle.lrs_refusals.proofs.meeting.refused_under.Goals as goal
+
+pub returns-in-Some : goal.returns-in-Some
+returns-in-Some c =
+    let st = state_of c.args.parts.now in
+    let j = view c.args.statement.now in
+    let new = forbidden st c.args.who c.args.parts.now.statements.held j in
+    sym (held_or_new st new c.args.id j ∙ ap (λ (told : Option (Option Refusal)). unwrap_or told new) (sym c.told_if_held.ensures ∙ c.in-Some.is))
+
+pub returns-in-None : goal.returns-in-None
+returns-in-None c =
+    let st = state_of c.args.parts.now in
+    let j = view c.args.statement.now in
+    let new = forbidden st c.args.who c.args.parts.now.statements.held j in
+    c.forbidden.ensures
+    ∙ sym (held_or_new st new c.args.id j ∙ ap (λ (told : Option (Option Refusal)). unwrap_or told new) (sym c.told_if_held.ensures ∙ c.in-None.is))

@@ -1,0 +1,7 @@
+use Rattle.std.proofs.Common.{Bool, true, ap, ◌∙◌}
+use Rattle.cmi5_session.specs.Views.{view_of}
+use Rattle.lrs_refusals.proofs.meeting.session_of.Goals as goal
+
+pub returns : goal.returns
+returns c =
+    c.view_of.ensures ∙ ap (λ (gone : Bool). view_of c.args.launch.now true gone c.args.parts.now.statements.held) c.was_abandoned.ensures

@@ -1,0 +1,17 @@
+use Rattle.std.proofs.Common.{sym, ap, ◌∙◌}
+use Rattle.std.proofs.lemmas.Result.{IfOk-weaker}
+use Rattle.lrs_refusals.proofs.Together.{last_reason}
+use Rattle.lrs_history.specs.Refusals.{barred}
+use Rattle.lrs_refusals.proofs.refusals.refusal_of.Goals as goal
+
+pub returns-clause-refused : goal.returns-clause-refused
+returns-clause-refused c =
+    IfOk-weaker c.conflict.result _ _
+    (λ refused told moment token. told moment token
+    ∙ last_reason _ _ _ _ _ _
+    (sym (c.barred.ensures ∙ ap (λ area. barred area c.args.who) c.area.ensures) ∙ c.in_default.is)
+    (sym c.in_ok-refusal.ensures ∙ c.in_default-2.is)
+    (sym c.bad_role.ensures ∙ c.in_default-bad_role.is)
+    (sym c.missing.ensures ∙ c.in_default-missing.is)
+    (sym c.in_ok-refusal-2.ensures ∙ c.in_default-3.is))
+    c.conflict.ensures

@@ -1,0 +1,238 @@
+// What the statements of a write meet in the store.
+ghost use Rattle.std.specs.Prelude.{◌≡◌, ◌+◌, ◌<◌, ℕ, List, length, not, true, IfOk, MatchResult, None, Some};
+ghost use Rattle.cmi5_session.specs.Rules.{broken_outside, broken_rule};
+ghost use Rattle.cmi5_session.specs.Views.{seen, view_of};
+ghost use Rattle.lrs_history.specs.Refusals.{conflict, forbidden, refused_under, told_forbidden};
+ghost use Rattle.lrs_ids.specs.Choices.{when};
+ghost use Rattle.lrs_json.specs.View.{view};
+ghost use Rattle.lrs_parts.specs.Parts.{state_of};
+ghost use Rattle.lrs_record.specs.declared.entry.Write.TheVariants as write;
+ghost use Rattle.lrs_refusals.specs.Meeting.{occasion_of, refused_behind, refused_each, refused_from, session_behind};
+ghost use Rattle.lrs_refusals.specs.Meeting.{told_if_held, was_abandoned};
+ghost use Rattle.lrs_refusals.specs.Naming.{with_these_ids};
+ghost use Rattle.lrs_replies.specs.declared.answered.Refusal.TheVariants as refusal;
+ghost use Rattle.lrs_rules.specs.declared.rule.Rule.TheVariants as rule;
+ghost use Rattle.xapi_alike.specs.Same.{same};
+ghost use Rattle.xapi_statement.specs.Statement.{own_id};
+
+use crate::whose::{launch_of, was_abandoned};
+use cmi5_course::Launch;
+use cmi5_session::{Forbidden, SessionView, permitted, permitted_outside, view_of};
+use lrs_command::Who;
+use lrs_json::{Memory, Tree};
+use lrs_names::{Draw, Id};
+use lrs_parts::Parts;
+use lrs_replies::Refusal;
+use lrs_rules::Rule;
+use std::alloc::Global;
+use xapi_alike::same_received;
+use xapi_index::batch_ids;
+use xapi_statement::{StoredStatement, own_id};
+
+// ---- a new statement
+
+// Why a statement of a session isn't kept, if it is new.
+fn forbidden_to(session: &SessionView<'_>, statement: &Tree) -> Option<Refusal>
+    ensures { result ≡ told_forbidden (broken_rule (seen session.now) (view statement.now)) }
+{
+    told(permitted(session, statement))
+}
+
+// Why a statement of another caller isn't kept, if it is new.
+fn forbidden_outside(admin: bool, statement: &Tree) -> Option<Refusal>
+    ensures { result ≡ told_forbidden (broken_outside admin (view statement.now)) }
+{
+    told(permitted_outside(admin, statement))
+}
+
+fn told(may: Result<(), Forbidden>) -> Option<Refusal>
+    ensures { MatchResult may (λ u. result ≡ None) (λ f. result ≡ Some (refusal.Forbidden (rule.C f.rule))) }
+{
+    match may {
+        Ok(()) => None,
+        Err(forbidden) => Some(Refusal::Forbidden(Rule::C(forbidden.rule))),
+    }
+}
+
+// The session of a caller, which has that launch, as its next statement finds it. Its token was fetched.
+fn session_of<'a>(parts: &Parts, who: Who, launch: &'a Launch) -> SessionView<'a>
+    ensures { seen result
+        ≡ view_of launch.now true (was_abandoned (state_of parts.now) who) parts.now.statements.held }
+{
+    view_of(&parts.statements, launch, true, was_abandoned(parts, who))
+}
+
+// Why a statement isn't kept, if it is new.
+fn forbidden(parts: &Parts, who: Who, statement: &Tree) -> Option<Refusal>
+    ensures { result ≡ forbidden (state_of parts.now) who parts.now.statements.held (view statement.now) }
+{
+    match who {
+        Who::Admin => forbidden_outside(true, statement),
+        Who::Unknown | Who::Provider(_) => forbidden_outside(false, statement),
+        Who::Session(number) => match parts.learning.launches.get(number) {
+            Some(launch) => forbidden_to(&session_of(parts, who, launch), statement),
+            None => None,
+        },
+    }
+}
+
+// ---- a statement under an id
+
+// Why a statement isn't kept that comes under an id under which that one is held.
+fn refused_beside(id: &Id, statement: &Tree, held: &StoredStatement) -> Option<Refusal>
+    ensures { result ≡ when (not (same (view held.now.received) (view statement.now))) (refusal.Conflict id.now) }
+{
+    if same_received(held.received(), statement) {
+        None
+    } else {
+        Some(Refusal::Conflict(*id))
+    }
+}
+
+// What is told of a statement that comes under the id of one that is held. Of a new one nothing is told here.
+fn told_if_held(parts: &Parts, id: Option<Id>, statement: &Tree) -> Option<Option<Refusal>>
+    ensures { result ≡ told_if_held (state_of parts.now) id (view statement.now) }
+{
+    let Some(id) = id else {
+        return None;
+    };
+    match parts.statements.find(&id) {
+        Some(held) => Some(refused_beside(&id, statement, held)),
+        None => None,
+    }
+}
+
+/// Why a statement isn't kept that comes under that id, or under none.
+pub(crate) fn refused_under(
+    parts: &Parts,
+    who: Who,
+    id: Option<Id>,
+    statement: &Tree,
+) -> Option<Refusal>
+    ensures { result ≡ refused_under (state_of parts.now)
+        (forbidden (state_of parts.now) who parts.now.statements.held (view statement.now))
+        id (view statement.now) }
+{
+    match told_if_held(parts, id, statement) {
+        Some(told) => told,
+        None => forbidden(parts, who, statement),
+    }
+}
+
+// ---- statements that come together
+
+/// Why statements that come together aren't kept: the refusal of the first that is refused.
+pub(crate) fn refused_together(
+    alloc: Global,
+    parts: &Parts,
+    who: Who,
+    draw: &Draw,
+    statements: &[Tree],
+) -> Result<Option<Refusal>, Memory>
+    ensures { IfOk result (λ refused. (moment : ℕ) (token : List ℕ) → refused ≡ conflict (state_of parts.now)
+        (occasion_of (state_of parts.now) who draw.now (write.Post statements.now) moment token)
+        (write.Post statements.now)) }
+{
+    match launch_of(parts, who) {
+        Some(launch) => {
+            let ids = batch_ids(alloc, parts, statements, draw)?;
+            let session = session_of(parts, who, launch);
+            Ok(refused_behind(parts, session, ids.as_slice(), statements))
+        }
+        None => Ok(refused_each(parts, who, statements)),
+    }
+}
+
+// ---- of a caller whose statements are looked at one by one
+
+fn refused_own(parts: &Parts, who: Who, statement: &Tree) -> Option<Refusal>
+    ensures { result ≡ refused_under (state_of parts.now)
+        (forbidden (state_of parts.now) who parts.now.statements.held (view statement.now))
+        (own_id (view statement.now)) (view statement.now) }
+{
+    refused_under(parts, who, own_id(statement), statement)
+}
+
+fn refused_each(parts: &Parts, who: Who, statements: &[Tree]) -> Option<Refusal>
+    ensures { result ≡ refused_each (state_of parts.now) who statements.now }
+{
+    for statement in statements {
+        if let Some(refusal) = refused_own(parts, who, statement) {
+            return Some(refusal);
+        }
+    }
+    None
+}
+
+// ---- of a session
+
+fn refused_behind(
+    parts: &Parts,
+    session: SessionView<'_>,
+    ids: &[Id],
+    statements: &[Tree],
+) -> Option<Refusal>
+    ensures { result ≡ refused_behind (state_of parts.now) (seen session.entry)
+        (with_these_ids ids.now statements.now) }
+{
+    let mut session = session;
+    for at in 0..statements.len() {
+        match behind_next(parts, session, ids, statements, at) {
+            Ok(next) => session = next,
+            Err(told) => return told,
+        }
+    }
+    None
+}
+
+// The session behind the statement at that place, if that isn't refused; else what all from there on are told.
+#[tactic(auto, using(crate::proofs::Naming::next_with_id, crate::proofs::Naming::no_ids_left))]
+fn behind_next<'a>(
+    parts: &Parts,
+    session: SessionView<'a>,
+    ids: &[Id],
+    statements: &[Tree],
+    at: usize,
+) -> Result<SessionView<'a>, Option<Refusal>>
+    requires { at < length statements.now }
+    ensures { MatchResult result
+        (λ next. refused_from (state_of parts.now) (seen session.entry) ids.now statements.now at
+        ≡ refused_from (state_of parts.now) (seen next) ids.now statements.now (at + 1))
+        (λ told. refused_from (state_of parts.now) (seen session.entry) ids.now statements.now at ≡ told) }
+{
+    let (Some(id), Some(statement)) = (ids.get(at), statements.get(at)) else {
+        return Err(None);
+    };
+    match refused_of_session(parts, &session, statement) {
+        Some(refusal) => Err(Some(refusal)),
+        None => Ok(session_behind(parts, session, id, statement)),
+    }
+}
+
+// Why the next statement of a session isn't kept, under its own id or a made one.
+fn refused_of_session(parts: &Parts, session: &SessionView<'_>, statement: &Tree) -> Option<Refusal>
+    ensures { result ≡ refused_under (state_of parts.now)
+        (told_forbidden (broken_rule (seen session.now) (view statement.now)))
+        (own_id (view statement.now)) (view statement.now) }
+{
+    match told_if_held(parts, own_id(statement), statement) {
+        Some(told) => told,
+        None => forbidden_to(session, statement),
+    }
+}
+
+// The session behind a statement that comes under that id.
+fn session_behind<'a>(
+    parts: &Parts,
+    session: SessionView<'a>,
+    id: &Id,
+    statement: &Tree,
+) -> SessionView<'a>
+    ensures { seen result ≡ session_behind (state_of parts.now) (seen session.entry)
+        (record { id = id.now; tree = statement.now }) }
+{
+    if parts.statements.is_held(id) {
+        return session;
+    }
+    session.behind(statement, parts.statements.is_target(id))
+}

@@ -1,0 +1,161 @@
+// Why a write is refused.
+ghost use Rattle.std.specs.Prelude.{◌≡◌, ℕ, List, IfOk, Ok, None};
+ghost use Rattle.std.specs.Option.{option_copied};
+ghost use Rattle.lrs_history.specs.Refusals.{bad_form, conflict, refusal, refusal_at, unmergeable, unmergeable_with};
+ghost use Rattle.lrs_parts.specs.Parts.{state_of};
+ghost use Rattle.lrs_record.specs.Entries.{IsLawfulWrite};
+ghost use Rattle.lrs_refusals.specs.Judged.{IsJudged};
+ghost use Rattle.lrs_refusals.specs.Meeting.{occasion_of};
+
+use crate::absent::missing;
+use crate::courses::{course_conflict, refused_course};
+use crate::forms::{refused_batch, refused_form};
+use crate::meeting::{refused_together, refused_under};
+use crate::whose::{bad_role, who_is};
+use lrs_command::Who;
+use lrs_history::{
+    barred, refused_actor, refused_agent, refused_document, refused_idle, refused_name,
+};
+use lrs_json::{Memory, Text};
+use lrs_media::is_json;
+use lrs_names::Draw;
+use lrs_parts::Parts;
+use lrs_record::{Entry, How, Write};
+use lrs_replies::Refusal;
+use lrs_rules::Rule;
+use std::alloc::Global;
+use xapi_docs::{Document, MergeRefused, merge};
+
+/// Why an entry's write is refused whatever room there is. What isn't refused breaks no rule on statements and courses.
+pub fn refusal(alloc: Global, parts: &Parts, entry: &Entry) -> Result<Option<Refusal>, Memory>
+    requires { IsLawfulWrite entry.now.write }
+    ensures refused { IfOk result (λ refused. refused ≡ refusal (state_of parts.now) entry.now) }
+    ensures judged { result ≡ Ok None → IsJudged entry.now.write }
+{
+    refusal_of(
+        alloc,
+        parts,
+        who_is(parts, &entry.caller),
+        &entry.draw,
+        &entry.write,
+    )
+}
+
+#[tactic(auto, using(crate::proofs::Judged::judged_form))]
+fn refusal_of(
+    alloc: Global,
+    parts: &Parts,
+    who: Who,
+    draw: &Draw,
+    write: &Write,
+) -> Result<Option<Refusal>, Memory>
+    requires { IsLawfulWrite write.now }
+    ensures refused { IfOk result (λ refused. (moment : ℕ) (token : List ℕ) → refused
+        ≡ refusal_at (state_of parts.now)
+        (occasion_of (state_of parts.now) who draw.now write.now moment token) write.now) }
+    ensures judged { result ≡ Ok None → IsJudged write.now }
+{
+    if let Some(refusal) = barred(write.area(), who) {
+        return Ok(Some(refusal));
+    }
+    if let Some(refusal) = bad_form(alloc, write)? {
+        return Ok(Some(refusal));
+    }
+    if let Some(refusal) = bad_role(parts, who, write) {
+        return Ok(Some(refusal));
+    }
+    if let Some(refusal) = missing(parts, write) {
+        return Ok(Some(refusal));
+    }
+    if let Some(refusal) = unmergeable(alloc, parts, write)? {
+        return Ok(Some(refusal));
+    }
+    conflict(alloc, parts, who, draw, write)
+}
+
+// Why a write isn't looked at, whatever the store holds.
+fn bad_form(alloc: Global, write: &Write) -> Result<Option<Refusal>, Memory>
+    ensures { IfOk result (λ refused. refused ≡ bad_form write.now) }
+{
+    match write {
+        Write::Found { .. } => Ok(Some(Refusal::NotFound)),
+        Write::Provider { name } => Ok(refused_name(name)),
+        Write::Put { id, statement } => refused_form(alloc, id, statement),
+        Write::Post { statements } => refused_batch(alloc, statements.as_slice()),
+        Write::State {
+            how: _,
+            key,
+            media,
+            bytes,
+        } => Ok(refused_document(&key.agent, media, bytes.as_slice())),
+        Write::Drop { agent, .. } => Ok(refused_agent(agent)),
+        Write::Course { tree } => refused_course(alloc, tree),
+        Write::Enrol { actor, .. } => Ok(refused_actor(actor)),
+        Write::Sweep { idle } => Ok(refused_idle(*idle)),
+        Write::Launch { .. } | Write::Fetch { .. } | Write::Waive { .. } | Write::Abandon { .. } =>
+            Ok(None),
+    }
+}
+
+// Why a document isn't merged into the one that is held.
+fn unmergeable(alloc: Global, parts: &Parts, write: &Write) -> Result<Option<Refusal>, Memory>
+    ensures { IfOk result (λ refused. refused ≡ unmergeable (state_of parts.now) write.now) }
+{
+    match write {
+        Write::State {
+            how: How::Post,
+            key,
+            media,
+            bytes,
+        } => unmergeable_with(alloc, media, bytes.as_slice(), parts.documents.get(key)),
+        _ => Ok(None),
+    }
+}
+
+// Why what is posted isn't merged into the document that is held.
+fn unmergeable_with(
+    alloc: Global,
+    media: &Text,
+    bytes: &[u8],
+    held: Option<&Document>,
+) -> Result<Option<Refusal>, Memory>
+    ensures { IfOk result (λ refused. refused ≡ unmergeable_with media.now bytes.now (option_copied held.entry)) }
+{
+    let Some(held) = held else {
+        return Ok(None);
+    };
+    if !is_json(held.media.as_str()) || !is_json(media.as_str()) {
+        return Ok(Some(Refusal::Broken(Rule::T(1))));
+    }
+    match merge(alloc, held.bytes.as_slice(), bytes) {
+        Ok(merged) => {
+            drop(merged);
+            Ok(None)
+        }
+        Err(MergeRefused::NotObjects) => Ok(Some(Refusal::Broken(Rule::T(2)))),
+        Err(MergeRefused::Memory) => Err(Memory),
+    }
+}
+
+// What a write meets in the store.
+fn conflict(
+    alloc: Global,
+    parts: &Parts,
+    who: Who,
+    draw: &Draw,
+    write: &Write,
+) -> Result<Option<Refusal>, Memory>
+    requires { IsLawfulWrite write.now }
+    ensures { IfOk result (λ refused. (moment : ℕ) (token : List ℕ) → refused
+        ≡ conflict (state_of parts.now)
+        (occasion_of (state_of parts.now) who draw.now write.now moment token) write.now) }
+{
+    match write {
+        Write::Put { id, statement } => Ok(refused_under(parts, who, Some(*id), statement)),
+        Write::Post { statements } => {
+            refused_together(alloc, parts, who, draw, statements.as_slice())
+        }
+        Write::Course { tree } => course_conflict(alloc, parts, tree),
+        _ => Ok(None),
+    }
+}

@@ -1,0 +1,99 @@
+// Who a caller is, which launch a session has, and what a caller does with documents.
+ghost use Rattle.std.specs.Prelude.{◌≡◌};
+ghost use Rattle.std.specs.Option.{option_copied};
+ghost use Rattle.lrs_history.specs.Refusals.{bad_role};
+ghost use Rattle.lrs_history.specs.Whose.{known_as, launch_of, who_is, who_presents};
+ghost use Rattle.lrs_parts.specs.Launches.{launch_of_token};
+ghost use Rattle.lrs_parts.specs.Parts.{state_of};
+ghost use Rattle.lrs_refusals.specs.Meeting.{was_abandoned};
+
+use cmi5_course::Launch;
+use lrs_command::Who;
+use lrs_history::overstepped;
+use lrs_json::Text;
+use lrs_parts::{Parts, is_admin};
+use lrs_record::{Caller, Write};
+use lrs_replies::Refusal;
+
+/// What the entries so far make of a caller.
+pub fn who_is(parts: &Parts, caller: &Caller) -> Who
+    ensures { result ≡ who_is (state_of parts.now) caller.now }
+{
+    match caller {
+        Caller::Nobody => Who::Unknown,
+        Caller::Operator => Who::Admin,
+        Caller::Token(token) => who_presents(parts, token),
+    }
+}
+
+fn who_presents(parts: &Parts, token: &Text) -> Who
+    ensures { result ≡ who_presents (state_of parts.now) token.now }
+{
+    if is_admin(&parts.founding, token) {
+        return Who::Admin;
+    }
+    known_as(parts.providers.place(token), launch_of_token(parts, token))
+}
+
+// The number of the launch whose session a token opens.
+fn launch_of_token(parts: &Parts, token: &Text) -> Option<u32>
+    ensures { result ≡ launch_of_token token.now (state_of parts.now).tokens }
+{
+    match parts.learning.tokens.find(token) {
+        Some(held) => Some(held.launch),
+        None => None,
+    }
+}
+
+// The provider of that place, or the session of that launch.
+fn known_as(provider: Option<u32>, launch: Option<u32>) -> Who
+    ensures { result ≡ known_as provider launch }
+{
+    match (provider, launch) {
+        (Some(provider), _) => Who::Provider(provider),
+        (None, Some(launch)) => Who::Session(launch),
+        (None, None) => Who::Unknown,
+    }
+}
+
+/// The launch of a caller who is a session.
+pub fn launch_of(parts: &Parts, who: Who) -> Option<&Launch>
+    ensures { option_copied result ≡ launch_of (state_of parts.now) who }
+{
+    match who {
+        Who::Session(number) => parts.learning.launches.get(number),
+        Who::Unknown | Who::Admin | Who::Provider(_) => None,
+    }
+}
+
+/// Whether a caller is a session that was abandoned.
+pub(crate) fn was_abandoned(parts: &Parts, who: Who) -> bool
+    ensures { result ≡ was_abandoned (state_of parts.now) who }
+{
+    match who {
+        Who::Session(number) => parts.learning.sessions.is_abandoned(number),
+        Who::Unknown | Who::Admin | Who::Provider(_) => false,
+    }
+}
+
+/// Why a caller doesn't do that to documents.
+pub(crate) fn bad_role(parts: &Parts, who: Who, write: &Write) -> Option<Refusal>
+    ensures { result ≡ bad_role (state_of parts.now) who write.now }
+{
+    let launch = launch_of(parts, who);
+    match write {
+        Write::State { key, .. } => overstepped(
+            launch,
+            &key.agent,
+            &key.registration,
+            Some(&key.state),
+        ),
+        Write::Drop {
+            agent,
+            registration,
+            state,
+            ..
+        } => overstepped(launch, agent, registration, state.as_ref()),
+        _ => None,
+    }
+}
