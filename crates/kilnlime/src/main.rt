@@ -19,6 +19,7 @@ const NO_COMMAND: u8 = 1;
 const USAGE: &str = "usage: kilnlime init FILE --admin TOKEN [--base URL] [--limit BYTES]
        kilnlime intake FILE < STATEMENT
        kilnlime serve FILE ADDRESS --workers 1 --connections N
+       kilnlime load FILE SEED N
 see `bin/kilnlime --help`, or docs/FORMATS.md, section \"Words and statuses\"";
 
 // The words after the program's name. One that is no UTF-8 makes them no command.

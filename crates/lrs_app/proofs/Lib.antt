@@ -3,4 +3,8 @@ pub mod NotFounded
 pub mod Openings
 pub mod Opened
 pub mod Taking
+pub mod Readable
+pub mod Batches
+pub mod Loading
+pub mod Loads
 pub mod Serving

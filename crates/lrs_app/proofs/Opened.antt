@@ -52,7 +52,7 @@ module _ (a : Answer) (receipt : Receipt) (old new : List Record) (settled : in_
   none_landed : receipt.landed ≡ None
   none_landed = landed ∙ ap (λ (b : Bool). place_where (b && not (in_doubt new && not (is_some receipt.entry))) (receipt.point - 1)) settled
 
-  unchanged : receipt.entry ≡ None → entries new ≡ entries old
+  pub unchanged : receipt.entry ≡ None → entries new ≡ entries old
   unchanged none = ap entries (line ∙ by_none receipt.entry receipt.landed (old ++ record_of (made_by a receipt) receipt ∷ []) old none none_landed)
 
   added : (place : ℕ) (e : Entry) → receipt.entry ≡ Some place → a.entry ≡ Some e → entries new ≡ entries old ++ e ∷ []
@@ -62,14 +62,14 @@ module _ (a : Answer) (receipt : Receipt) (old new : List Record) (settled : in_
       ap entries (line ∙ ap (λ (o : Option ℕ). if is_some o || is_some receipt.landed then old ++ r ∷ [] else old) own) ∙ entries_append old (r ∷ [])
       ∙ ap (λ (l : List Entry). entries old ++ l) (entries_one r ∙ ap one_of made)
 
-  kept : receipt.entry ≡ place_where (is_some a.entry) receipt.point → entries new ≡ with_entry (entries old) a.entry
+  pub kept : receipt.entry ≡ place_where (is_some a.entry) receipt.point → entries new ≡ with_entry (entries old) a.entry
   kept own = by_entry a.entry refl own
     where
       by_entry : (o : Option Entry) → a.entry ≡ o → receipt.entry ≡ place_where (is_some o) receipt.point → entries new ≡ with_entry (entries old) o
       by_entry None is own = unchanged own
       by_entry (Some e) is own = added receipt.point e own is
 
-  doubtful_one : (place : ℕ) → receipt.entry ≡ Some place → IsSome a.entry → (e : Entry) × (a.entry ≡ Some e) × (entries new ≡ entries old ++ e ∷ [])
+  pub doubtful_one : (place : ℕ) → receipt.entry ≡ Some place → IsSome a.entry → (e : Entry) × (a.entry ≡ Some e) × (entries new ≡ entries old ++ e ∷ [])
   doubtful_one place own some = by_entry a.entry refl some
     where
       by_entry : (o : Option Entry) → a.entry ≡ o → IsSome o → (e : Entry) × (a.entry ≡ Some e) × (entries new ≡ entries old ++ e ∷ [])
@@ -116,6 +116,7 @@ submits_kept id a h final s end says same is = by_end end (subst (λ (x : Answer
     by_end (ending.Kept k) says calm = (says, is)
     by_end ending.Usage says calm = (says, is)
     by_end (ending.Served responses) says calm = (says, is)
+    by_end (ending.Loaded statements listed) says calm = (says, is)
     by_end ending.LobbyFault says calm = (says, is)
     by_end ending.NotAStore says calm = (says, is)
     by_end (ending.Damaged k) says calm = (says, is)
@@ -178,6 +179,7 @@ module _ (limit : ℕ) (h : List Entry) (clock : ℕ) (draw : Draw) where
   taken id t final (ending.Kept k) input asks s = (with_id id t, asks, s.0, s.1)
   taken id t final ending.Usage input asks s = (with_id id t, asks, s.0, s.1)
   taken id t final (ending.Served responses) input asks s = (with_id id t, asks, s.0, s.1)
+  taken id t final (ending.Loaded statements listed) input asks s = (with_id id t, asks, s.0, s.1)
   taken id t final ending.LobbyFault input asks s = (with_id id t, asks, s.0, s.1)
   taken id t final ending.NotAStore input asks s = (with_id id t, asks, s.0, s.1)
   taken id t final (ending.Damaged k) input asks s = (with_id id t, asks, s.0, s.1)
@@ -201,6 +203,7 @@ module _ (limit : ℕ) (h : List Entry) (clock : ℕ) (draw : Draw) where
   not_taken (ending.Kept k) input before now (kind, is, over) cause = let o = over limit h clock draw in (kind, is, o.0, ap (with_entry h) (sym o.1))
   not_taken ending.Usage input before now (kind, is, over) cause = let o = over limit h clock draw in (kind, is, o.0, ap (with_entry h) (sym o.1))
   not_taken (ending.Served responses) input before now (kind, is, over) cause = let o = over limit h clock draw in (kind, is, o.0, ap (with_entry h) (sym o.1))
+  not_taken (ending.Loaded statements listed) input before now (kind, is, over) cause = let o = over limit h clock draw in (kind, is, o.0, ap (with_entry h) (sym o.1))
   not_taken ending.LobbyFault input before now (kind, is, over) cause = let o = over limit h clock draw in (kind, is, o.0, ap (with_entry h) (sym o.1))
   not_taken ending.NotAStore input before now (kind, is, over) cause = let o = over limit h clock draw in (kind, is, o.0, ap (with_entry h) (sym o.1))
   not_taken (ending.Damaged k) input before now (kind, is, over) cause = let o = over limit h clock draw in (kind, is, o.0, ap (with_entry h) (sym o.1))
@@ -233,7 +236,7 @@ map_snoc : (h : List Entry) (e : Entry) → map written_entry (h ++ e ∷ []) �
 map_snoc [] e = refl
 map_snoc (k ∷ h) e = ap (λ r. written_entry k ∷ r) (map_snoc h e)
 
-doubtful : (told : Option (List ℕ)) (limit : ℕ) (h : List Entry) (e : Entry) → HoldsIn true told limit (h ++ e ∷ [])
+pub doubtful : (told : Option (List ℕ)) (limit : ℕ) (h : List Entry) (e : Entry) → HoldsIn true told limit (h ++ e ∷ [])
     → Holds told limit h ⊎ Holds told limit (h ++ e ∷ [])
 doubtful told limit h e (bytes, tells, (before, last, split, stands)) =
     let fronts : map written_entry h ≡ before = front_of (map written_entry h) before (written_entry e) last (sym (map_snoc h e) ∙ split) in

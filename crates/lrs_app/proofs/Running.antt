@@ -1,5 +1,5 @@
 -- From the steps of a command to what a run says.
-use Rattle.std.proofs.Common.{◌≡◌, ℕ, List, [], Option, Some, MatchOption, Result, Ok, Err, IfOk, ap, refl, sym, ◌∙◌, subst}
+use Rattle.std.proofs.Common.{◌≡◌, append-nil, ℕ, List, [], Option, Some, None, MatchOption, Result, Ok, Err, IfOk, ap, refl, sym, ◌∙◌, subst}
 use Rattle.lrs_disk.specs.Door.{DoorState}
 use Rattle.lrs_disk.specs.Faults.{HasCause}
 use Rattle.lrs_disk.specs.Lobby.{DoorsAsked}
@@ -12,8 +12,9 @@ use Rattle.lrs_disk.specs.declared.streams.Sink as sinks
 use Rattle.lrs_disk.specs.declared.streams.Source as sources
 use Rattle.lrs_names.specs.declared.draw.Draw.{Draw}
 use Rattle.lrs_record.specs.declared.entry.Entry.{Entry}
-use Rattle.lrs_hall.specs.Draws.{draw_at, start_of}
-use Rattle.lrs_command_line.specs.CommandLine.{CommandLine, init, intake, serve, IsInRange, base_of}
+use Rattle.lrs_hall.specs.Draws.{Draws, draw_at, start_of}
+use Rattle.lrs_hall.specs.Serving.{AddsReadings}
+use Rattle.lrs_command_line.specs.CommandLine.{CommandLine, init, intake, serve, load, IsInRange, base_of, seed_of}
 use Rattle.lrs_command_line.specs.Shapes.{Denotes}
 use Rattle.lrs_command_line.specs.declared.words.ProgramCommand.{ProgramCommand}
 use Rattle.lrs_command_line.specs.declared.words.ProgramCommand.TheVariants as words
@@ -22,13 +23,13 @@ use Rattle.lrs_fold.specs.Own.{founding_entry}
 use Rattle.lrs_parts.specs.Founding.{IsBase}
 use Rattle.lrs_hall.specs.Talks.{Talk}
 use Rattle.lrs_app.specs.Disks.{Taken, taken_now}
-use Rattle.lrs_app.specs.Doing.{InitDoes, IntakeDoes, ServeDoes}
+use Rattle.lrs_app.specs.Doing.{InitDoes, IntakeDoes, LoadDoes, ServeDoes}
 use Rattle.lrs_app.specs.Service.{CountsOn, Doors, responses_of}
 use Rattle.lrs_app.specs.declared.program.Done as doing
 use Rattle.lrs_app.specs.declared.program.Ended as program
 use Rattle.lrs_app.specs.declared.program.Report.{Report}
 use Rattle.lrs_app.specs.Steps.{DenotesInRange}
-use Rattle.lrs_app.specs.Run.{Outside, HasEndingCause, IntakeEnds, IntakeLeaves, IntakeRuns, InitLeaves, InitOnDisk, InitRuns, IsOneStep, PrintsEnding, ReadsOnce, SparesDoors, SparesInput, ServeLeaves, ServeRuns, ServesDisk, TakesFile, CommandRuns, outside, taken_from}
+use Rattle.lrs_app.specs.Run.{Outside, HasEndingCause, IntakeEnds, IntakeLeaves, IntakeRuns, InitLeaves, InitOnDisk, InitRuns, IsOneStep, LoadEnds, LoadLeaves, LoadRuns, PrintsEnding, ReadsOnce, SparesDoors, SparesInput, ServeLeaves, ServeRuns, ServesDisk, TakesFile, CommandRuns, outside, taken_from}
 
 -- what a lobby tells of its doors is the same
 pub same_doors : {a b : Option (List DoorsAsked)} {c d : Option (List DoorState)} {m n : ℕ} → a ≡ b → c ≡ d → m ≡ n
@@ -58,6 +59,14 @@ module _ {D : Type 0} (d : disks.Ghosts D) (disk : D) (taken : Taken) (n : ℕ) 
   intake_leaves old left clock draw input_count input_now same ends cause = (
     subst (λ (t : Taken). IntakeEnds d t disk left clock draw n end) same ends,
     subst (λ (t : Taken). HasEndingCause t.mark.faults (d.fault_count disk) input_count input_now end) same cause,
+  )
+
+  pub load_leaves : (old : D) (seed count : ℕ) (draws : Draws) (clocks : List ℕ) → taken_now d old ≡ taken
+      → LoadEnds d (taken_now d old) disk seed count draws clocks n end → HasEndingCause (d.fault_count old) (d.fault_count disk) 0 0 end
+      → LoadEnds d taken disk seed count draws clocks n end × HasEndingCause taken.mark.faults (d.fault_count disk) 0 0 end
+  load_leaves old seed count draws clocks same ends cause = (
+    subst (λ (t : Taken). LoadEnds d t disk seed count draws clocks n end) same ends,
+    subst (λ (t : Taken). HasEndingCause t.mark.faults (d.fault_count disk) 0 0 end) same cause,
   )
 
   pub init_leaves : (old : D) (limit : ℕ) (first : Entry) → taken_now d old ≡ taken
@@ -98,6 +107,13 @@ is_taken d before after taken same told begins starts cause =
 abbrev pub IsQuiet : {D : Type 0} → doing.Done D → Type 0
 IsQuiet done = (done.report.talks ≡ []) × (done.report.responses ≡ 0)
 
+-- the clock wasn't read
+reads_none : (old new : Option (List ℕ)) → new ≡ old → AddsReadings old new []
+reads_none old new same = subst (λ (x : Option (List ℕ)). AddsReadings old x []) (sym same) (still old) where
+  still : (x : Option (List ℕ)) → AddsReadings x x []
+  still None = tt
+  still (Some a) = sym (append-nil a)
+
 -- what a command did with the file's disk, or without it, is what it leaves
 module _ {S D B E L I O : Type 0} (d : disks.Ghosts D) (s : shelves.Ghosts S D) (b : lobbies.Ghosts B E L) (i : sources.Ghosts I) (o : sinks.Ghosts O)
     (shelf shelf_now : S) (lobby lobby_now : B) (input input_now : I) (out out_now : O) (file : List ℕ) (done : doing.Done D) where
@@ -133,6 +149,25 @@ module _ {S D B E L I O : Type 0} (d : disks.Ghosts D) (s : shelves.Ghosts S D) 
   intake_left (Err failed) clock draw from does = (
     subst (λ (o : Option D). IntakeLeaves d file clock draw before after o done.report.length done.ending) (sym does.0.disk)
         ((does.0.ended, from.cause.failed refl, does.0.length), record { left = does.1; faults = does.2 }),
+    (does.0.talks, does.0.responses),
+  )
+
+  load_left : (taken : Result D Failed) (seed count : ℕ) (draws : Draws) → IsTakenFrom d before after file taken → LoadDoes d b taken seed count draws lobby lobby_now done
+      → (clocks : List ℕ) × AddsReadings before.readings after.readings clocks
+      × LoadLeaves d file seed count draws clocks before after done.disk done.report.length done.ending × IsQuiet done
+  load_left (Ok old) seed count draws from does = (
+    does.2,
+    does.3,
+    subst (λ (o : Option D). LoadLeaves d file seed count draws does.2 before after o done.report.length done.ending) (sym does.1.back)
+        (load_leaves d does.0 (taken_from before file) done.report.length done.ending old seed count draws does.2
+        (same_taken (d.told old) (d.fault_count old) (d.time old) before.holds before.begins before.starts {name = file} {file = file} refl from.told from.begins from.starts) does.4 does.5),
+    (does.1.talks, does.1.responses),
+  )
+  load_left (Err failed) seed count draws from does = (
+    [],
+    reads_none (b.readings lobby) (b.readings lobby_now) does.1,
+    subst (λ (o : Option D). LoadLeaves d file seed count draws [] before after o done.report.length done.ending) (sym does.0.disk)
+        ((does.0.ended, from.cause.failed refl, does.0.length), refl),
     (does.0.talks, does.0.responses),
   )
 
@@ -189,6 +224,22 @@ module _ {S D B E L I O : Type 0} (d : disks.Ghosts D) (s : shelves.Ghosts S D) 
               (subst (λ (r : Report). IntakeLeaves d file clock draw before after done.disk r.length done.ending) (sym same_report) left.0),
         )
 
+    pub load_runs : (taken : Result D Failed) (seed count : ℕ) (draws : Draws) → SparesDoors before after
+        → IsTakenFrom d before after file taken → LoadDoes d b taken seed count draws lobby lobby_now done
+        → LoadRuns d file seed count draws before after ended
+    load_runs taken seed count draws doors from does =
+        let left = load_left taken seed count draws from does in (
+          left.0,
+          done.ending,
+          left.1,
+          takes,
+          doors,
+          (ap (λ (r : Report). r.talks) same_report ∙ left.3.0, ap (λ (r : Report). r.responses) same_report ∙ left.3.1),
+          subst (λ (x : Option D). LoadLeaves d file seed count draws left.0 before after x ended.report.length done.ending) (sym same_disk)
+              (subst (λ (r : Report). LoadLeaves d file seed count draws left.0 before after done.disk r.length done.ending) (sym same_report) left.2),
+          prints,
+        )
+
     pub serve_runs : (taken : Result D Failed) (address : List ℕ) (connections : ℕ) (seed : List ℕ) → after.readings ≡ before.readings
         → IsTakenFrom d before after file taken → ServeDoes d b taken address connections seed lobby lobby_now done
         → ServeRuns d file address connections seed before after ended
@@ -214,6 +265,7 @@ does_init d c read file admin base limit seed before after o is_read means spare
   meant : (c : CommandLine) → Denotes (words.Init file admin base limit) c → CommandRuns d c seed before after o
   meant (intake name) means = absurd means
   meant (serve w) means = absurd means
+  meant (load w) means = absurd means
   meant (init w) means =
       let named : InitRuns d w.file admin base limit before after o = subst (λ (f : List ℕ). InitRuns d f admin base limit before after o) means.0 run in
       let known : InitRuns d w.file w.admin base limit before after o = subst (λ (a : List ℕ). InitRuns d w.file a base limit before after o) means.1 named in
@@ -226,6 +278,7 @@ meant_base read file admin base limit is_read meant = ranged meant.0 meant.1 (su
   ranged : (c : CommandLine) → IsInRange c → Denotes (words.Init file admin base limit) c → IsBase base
   ranged (intake name) range means = absurd means
   ranged (serve w) range means = absurd means
+  ranged (load w) range means = absurd means
   ranged (init w) range means = subst (λ (b : List ℕ). IsBase b) (sym means.2) range.base
 
 -- the same of intake
@@ -235,6 +288,7 @@ does_intake d c read file seed drawn before after o is_read is_drawn means run =
   meant : (c : CommandLine) → Denotes (words.Intake file) c → CommandRuns d c seed before after o
   meant (init w) means = absurd means
   meant (serve w) means = absurd means
+  meant (load w) means = absurd means
   meant (intake name) means =
       subst (λ (f : List ℕ). IntakeRuns d f (draw_at (start_of seed 0)) before after o) means (subst (λ (w : Draw). IntakeRuns d file w before after o) is_drawn run)
 
@@ -246,7 +300,22 @@ does_serve d c read file address connections seed before after o is_read means s
   meant : (c : CommandLine) → Denotes (words.Serve file address connections) c → CommandRuns d c seed before after o
   meant (intake name) means = absurd means
   meant (init w) means = absurd means
+  meant (load w) means = absurd means
   meant (serve w) means =
       let named : ServeRuns d w.file address connections seed before after o = subst (λ (f : List ℕ). ServeRuns d f address connections seed before after o) means.0 run in
       let known : ServeRuns d w.file w.address connections seed before after o = subst (λ (a : List ℕ). ServeRuns d w.file a connections seed before after o) means.1 named in
       (spares, subst (λ (n : ℕ). ServeRuns d w.file w.address n seed before after o) means.2 known)
+
+-- the same of load
+pub does_load : {D : Type 0} (d : disks.Ghosts D) (c : CommandLine) (read : ProgramCommand) (file : List ℕ) (number count : ℕ) (seed : List ℕ) (draws : Draws) (before after : Outside) (o : program.Ended D)
+    → read ≡ words.Load file number count → draws ≡ start_of seed 0 → Denotes read c → SparesInput before after → LoadRuns d file number count draws before after o → CommandRuns d c seed before after o
+does_load d c read file number count seed draws before after o is_read is_start means spares run = meant c (subst (λ (r : ProgramCommand). Denotes r c) is_read means) where
+  meant : (c : CommandLine) → Denotes (words.Load file number count) c → CommandRuns d c seed before after o
+  meant (intake name) means = absurd means
+  meant (init w) means = absurd means
+  meant (serve w) means = absurd means
+  meant (load w) means =
+      let drawn : LoadRuns d file number count (start_of seed 0) before after o = subst (λ (p : Draws). LoadRuns d file number count p before after o) is_start run in
+      let named : LoadRuns d w.file number count (start_of seed 0) before after o = subst (λ (f : List ℕ). LoadRuns d f number count (start_of seed 0) before after o) means.0 drawn in
+      let seeded : LoadRuns d w.file (seed_of w) count (start_of seed 0) before after o = subst (λ (n : ℕ). LoadRuns d w.file n count (start_of seed 0) before after o) means.1 named in
+      (spares, subst (λ (n : ℕ). LoadRuns d w.file (seed_of w) n (start_of seed 0) before after o) means.2 seeded)

@@ -95,3 +95,19 @@ pub record LeavesFinal {D : Type 0} (d : disks.Ghosts D) (taken : Taken) (disk :
   -- after a good closing a stop leaves all of it
   pub closed : end ≢ ending.DiskFault
       → ForSome taken.held (λ _. StopNowLeaves d disk (λ image. IsStoreOf image limit final))
+
+-- The same of a store that batches were posted to. `kept` is the history that the batches gave which went well.
+pub record LeavesLoaded {D : Type 0} (d : disks.Ghosts D) (taken : Taken) (disk : D) (limit : ℕ)
+    (opened kept final : List Entry) (n : ℕ) (end : Ending) : Type 0 where
+  -- it can have come about
+  pub legal : IsLegal limit final
+  pub counts : n ≡ length final
+  pub later : taken.mark.moment ≤ d.time disk
+  -- The disk holds it. Only if the disk failed, it may lack the entry of the batch that it failed.
+  pub holds : ForSome taken.held
+      (λ _. Holds (d.told disk) limit final ⊎ ((end ≡ ending.DiskFault) × Holds (d.told disk) limit kept))
+  -- a stop at any moment leaves its first entries, at least those at the opening
+  pub stops : ForSome taken.held (λ _. AnyStopLeaves d taken disk (HoldsPrefix limit (length opened) final))
+  -- after a good closing a stop leaves all of it
+  pub closed : end ≢ ending.DiskFault
+      → ForSome taken.held (λ _. StopNowLeaves d disk (λ image. IsStoreOf image limit final))

@@ -7,7 +7,9 @@ use Rattle.lrs_disk.specs.declared.streams.Source as sources
 use Rattle.lrs_names.specs.declared.draw.Draw.{Draw}
 use Rattle.lrs_record.specs.declared.entry.Entry.{Entry}
 use Rattle.lrs_app.specs.Disks.{taken_now}
-use Rattle.lrs_app.specs.Run.{HasEndingCause, InitOnDisk, IntakeEnds, ServesDisk}
+use Rattle.lrs_hall.specs.Draws.{Draws}
+use Rattle.lrs_hall.specs.Serving.{AddsReadings}
+use Rattle.lrs_app.specs.Run.{HasEndingCause, InitOnDisk, IntakeEnds, LoadEnds, ServesDisk}
 use Rattle.lrs_app.specs.Service.{CountsOn, doors, responses_of}
 use Rattle.lrs_app.specs.declared.program.Done as program
 use Rattle.lrs_console.specs.declared.ending.Ending.{Ending}
@@ -43,6 +45,16 @@ IntakeDoes {D} d i (Ok taken) clock draw input input_now done = (disk : D) × Gi
     done.ending
 IntakeDoes d i (Err failed) clock draw input input_now done = IsUndone ending.DiskFault done
     × (i.left input_now ≡ i.left input) × (i.fault_count input_now ≡ i.fault_count input)
+
+-- load, over the lobby before and after it
+abbrev pub LoadDoes : {D B E L : Type 0} → disks.Ghosts D → lobbies.Ghosts B E L → Result D Failed → ℕ → ℕ → Draws → B
+    → B → program.Done D → Type 0
+LoadDoes {D} d b (Ok taken) seed count draws lobby lobby_now done = (disk : D) × GivesBackDisk disk done
+    × (clocks : List ℕ) × AddsReadings (b.readings lobby) (b.readings lobby_now) clocks
+    × LoadEnds d (taken_now d taken) disk seed count draws clocks done.report.length done.ending
+    × HasEndingCause (d.fault_count taken) (d.fault_count disk) 0 0 done.ending
+LoadDoes d b (Err failed) seed count draws lobby lobby_now done = IsUndone ending.DiskFault done
+    × (b.readings lobby_now ≡ b.readings lobby)
 
 -- serve, over the lobby before and after it
 abbrev pub ServeDoes : {D B E L : Type 0} → disks.Ghosts D → lobbies.Ghosts B E L → Result D Failed → List ℕ → ℕ

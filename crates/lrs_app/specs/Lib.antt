@@ -1,6 +1,8 @@
 pub mod ClosingSteps
 pub mod Disks
 pub mod Doing
+pub mod Load
+pub mod LoadSteps
 pub mod Run
 pub mod Steps
 pub mod Service

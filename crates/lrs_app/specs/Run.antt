@@ -16,13 +16,17 @@ use Rattle.lrs_record.specs.declared.entry.Entry.{Entry}
 use Rattle.lrs_history.specs.History.{IsLegal, with_entry}
 use Rattle.lrs_fold.specs.Own.{founding_entry}
 use Rattle.lrs_machine.specs.Desk.{IsStoreOf}
-use Rattle.lrs_hall.specs.Draws.{draw_at, start_of}
+use Rattle.lrs_generator.specs.Generated.{batch_count}
+use Rattle.lrs_hall.specs.Draws.{Draws, draw_at, start_of}
+use Rattle.lrs_hall.specs.Serving.{AddsReadings}
 use Rattle.lrs_hall.specs.Talks.{Talk}
-use Rattle.lrs_app.specs.Disks.{AnyStopLeaves, Holds, LeavesFinal, LeavesUnopened, StopNowLeaves, Taken}
+use Rattle.lrs_app.specs.Disks.{AnyStopLeaves, Holds, LeavesFinal, LeavesLoaded, LeavesUnopened, StopNowLeaves}
+use Rattle.lrs_app.specs.Disks.{Taken}
+use Rattle.lrs_app.specs.Load.{LoadsFrom}
 use Rattle.lrs_app.specs.Service.{Doors, doors, HasNoDoor, ServesDoor, HoldsServed, CountsOn, responses_of}
 use Rattle.lrs_app.specs.declared.program.Ended as program
-use Rattle.lrs_command_line.specs.CommandLine.{CommandLine, init, intake, serve, IsCommandLine, base_of, limit_of}
-use Rattle.lrs_command_line.specs.CommandLine.{connections_of}
+use Rattle.lrs_command_line.specs.CommandLine.{CommandLine, init, intake, serve, load, IsCommandLine, base_of, limit_of}
+use Rattle.lrs_command_line.specs.CommandLine.{connections_of, count_of, seed_of}
 use Rattle.lrs_console.specs.Endings.{ending_status, ending_line}
 use Rattle.lrs_console.specs.Printing.{Prints}
 use Rattle.lrs_console.specs.Reading.{AreOfInput}
@@ -154,6 +158,33 @@ IntakeLeaves d file clock draw before after (Some disk) n end =
     IntakeEnds d (taken_from before file) disk before.left clock draw n end
     × HasEndingCause (before.begins file) (d.fault_count disk) before.input_faults after.input_faults end
 
+-- ---- load
+
+-- A store was opened, and the batches of a seed were posted to it.
+pub record LoadOpened {D : Type 0} (d : disks.Ghosts D) (taken : Taken) (disk : D) (seed count : ℕ) (draws : Draws)
+    (clocks : List ℕ) (n : ℕ) (end : Ending) : Type 0 where
+  pub limit : ℕ
+  pub opened : List Entry
+  -- what the batches gave that went well
+  pub kept : List Entry
+  pub final : List Entry
+  pub store : IfSome taken.held (λ bytes. IsStoreOf bytes limit opened)
+  pub ends : LoadsFrom limit seed count 0 draws (batch_count count) clocks opened kept final end
+  pub leaves : LeavesLoaded d taken disk limit opened kept final n end
+
+-- What load does over a disk, at these readings of the clock, with the draws from here on.
+abbrev pub LoadEnds : {D : Type 0} → disks.Ghosts D → Taken → D → ℕ → ℕ → Draws → List ℕ → ℕ → Ending → Type 0
+LoadEnds d taken disk seed count draws clocks n end = (LeavesUnopened d taken disk n end × (clocks ≡ []))
+    ⊎ LoadOpened d taken disk seed count draws clocks n end
+
+-- what load leaves, with the disk that it took or without one
+abbrev pub LoadLeaves : {D : Type 0} → disks.Ghosts D → List ℕ → ℕ → ℕ → Draws → List ℕ → Outside → Outside → Option D
+    → ℕ → Ending → Type 0
+LoadLeaves d file seed count draws clocks before after None n end = HasNoDisk before after n end × (clocks ≡ [])
+LoadLeaves d file seed count draws clocks before after (Some disk) n end =
+    LoadEnds d (taken_from before file) disk seed count draws clocks n end
+    × HasEndingCause (before.begins file) (d.fault_count disk) 0 0 end
+
 -- ---- init
 
 -- What the ending of init tells of the store that is made with this first entry, or isn't.
@@ -281,6 +312,17 @@ abbrev pub InitRuns : {D : Type 0} → disks.Ghosts D → List ℕ → List ℕ 
 InitRuns d file admin base limit before after o = (clock : ℕ) × (end : Ending) × IsOneStep file before after o clock end
     × InitLeaves d file admin base limit clock before after o.disk o.report.length end
 
+-- load reads the clock once for each batch
+abbrev pub LoadRuns : {D : Type 0} → disks.Ghosts D → List ℕ → ℕ → ℕ → Draws → Outside → Outside → program.Ended D
+    → Type 0
+LoadRuns d file seed count draws before after o = (clocks : List ℕ) × (end : Ending)
+    × AddsReadings before.readings after.readings clocks
+    × TakesFile file before after
+    × SparesDoors before after
+    × IsSilent o
+    × LoadLeaves d file seed count draws clocks before after o.disk o.report.length end
+    × PrintsEnding end before after o.status
+
 -- serve reads no clock but that of its door
 abbrev pub ServeRuns : {D : Type 0} → disks.Ghosts D → List ℕ → List ℕ → ℕ → List ℕ → Outside → Outside
     → program.Ended D → Type 0
@@ -290,7 +332,7 @@ ServeRuns d file address connections seed before after o = (end : Ending) × (af
     × ServeLeaves d file address connections seed before after o.disk o.report.talks o.report.length end
     × PrintsEnding end before after o.status
 
--- the one draw of intake is the first of stream 0
+-- the one draw of intake is the first of stream 0, and those of load are the first ones
 abbrev pub CommandRuns : {D : Type 0} → disks.Ghosts D → CommandLine → List ℕ → Outside → Outside → program.Ended D
     → Type 0
 CommandRuns d (intake file) seed before after o = IntakeRuns d file (draw_at (start_of seed 0)) before after o
@@ -298,6 +340,8 @@ CommandRuns d (init w) seed before after o = SparesInput before after
     × InitRuns d w.file w.admin (base_of w) (limit_of w) before after o
 CommandRuns d (serve w) seed before after o =
     SparesInput before after × ServeRuns d w.file w.address (connections_of w) seed before after o
+CommandRuns d (load w) seed before after o =
+    SparesInput before after × LoadRuns d w.file (seed_of w) (count_of w) (start_of seed 0) before after o
 
 -- Nothing but the output was used.
 pub record IsIdle {D : Type 0} (before after : Outside) (o : program.Ended D) : Type 0 where

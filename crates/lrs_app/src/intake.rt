@@ -72,7 +72,8 @@ fn submit<D: Disk>(desk: &mut Desk<D>, id: &Id, statement: Tree, clock: u64, dra
     }
 }
 
-fn troubled(trouble: Trouble) -> Ending
+/// How a command ends that meets trouble.
+pub(crate) fn troubled(trouble: Trouble) -> Ending
     ensures { result ≡ ending_of_trouble trouble }
 {
     match trouble {

@@ -3,11 +3,13 @@ ghost use Rattle.lrs_fold.specs.Own.{founding_entry};
 ghost use Rattle.lrs_journal.specs.Journal.{IsSynced};
 ghost use Rattle.lrs_journal.specs.Store.{IsLimit};
 ghost use Rattle.lrs_parts.specs.Founding.{IsToken, IsBase};
-ghost use Rattle.lrs_app.specs.Doing.{InitDoes, IntakeDoes, IsUndone, ServeDoes};
+ghost use Rattle.lrs_app.specs.Doing.{InitDoes, IntakeDoes, IsUndone, LoadDoes, ServeDoes};
+ghost use Rattle.lrs_app.specs.Service.{doors};
 ghost use Rattle.lrs_app.specs.Run.{PrintsLine, Runs, outside};
 
 use crate::init::init_disk;
 use crate::intake::intake_disk;
+use crate::load::load_disk;
 use crate::serve::{count_responses, serve_disk};
 use lrs_command_line::{ProgramCommand, read_words};
 use lrs_console::{Ending, finish};
@@ -112,6 +114,32 @@ fn intake<D: Disk, I: Source>(
     }
 }
 
+// Loads the statements of a seed over the file's disk.
+fn load<D: Disk, B: Lobby>(
+    alloc: Global,
+    taken: Result<D, Failed>,
+    lobby: &mut B,
+    seed: u64,
+    count: u32,
+    draws: &mut Draws,
+) -> Done<D>
+    requires { IfOk taken (λ disk. IsSynced D.told D.image disk) }
+    ensures loads { LoadDoes D.Disk B.Lobby taken seed count draws.old lobby.old lobby.new result }
+    ensures doors { doors B.Lobby lobby.new ≡ doors B.Lobby lobby.old }
+{
+    match taken {
+        Ok(disk) => {
+            let (ending, disk, length) = load_disk(alloc, disk, lobby, seed, count, draws);
+            Done {
+                ending,
+                disk: Some(disk),
+                report: silent(alloc, length),
+            }
+        }
+        Err(_) => undone(alloc, Ending::DiskFault),
+    }
+}
+
 // Makes a store on the file's disk.
 fn init<D: Disk>(
     alloc: Global,
@@ -174,9 +202,11 @@ fn serve<D: Disk, B: Lobby>(
 /// The program: all that it does with its words, over the outside.
 ///
 /// `words` are the arguments after the program's name. `init FILE --admin TOKEN [--base URL] [--limit BYTES]` makes a
-/// store. `intake FILE` keeps one statement of the input and prints its id. `serve FILE ADDRESS --workers 1
-/// --connections N` serves N connections over HTTP and prints the number of their responses. Every line is printed to
-/// `out`. The one draw of an intake is the first of stream 0 under the seed; serving has those of stream 1.
+/// store. `intake FILE` keeps one statement of the input and prints its id. `load FILE SEED N` makes N statements of a
+/// number, posts them in batches of 100, and prints N and how many statements the store lists then. `serve FILE ADDRESS
+/// --workers 1 --connections N` serves N connections over HTTP and prints the number of their responses. Every line is
+/// printed to `out`. The one draw of an intake is the first of stream 0 under the seed, those of a load are the first
+/// ones; serving has those of stream 1.
 ///
 /// It may be stopped at any moment. Then the file holds the first entries of the final history: at least those from
 /// before the run, and whatever a response without trouble promised. A stopped `init` leaves no store or the new one,
@@ -222,6 +252,15 @@ pub fn run<S: Shelf, B: Lobby, I: Source, O: Sink>(
         } => {
             let taken = shelf.take(file.as_str());
             end_run(out, serve(alloc, taken, lobby, &address, connections, seed))
+        }
+        ProgramCommand::Load {
+            file,
+            seed: number,
+            count,
+        } => {
+            let taken = shelf.take(file.as_str());
+            let mut draws = Draws::new(seed, 0);
+            end_run(out, load(alloc, taken, lobby, number, count, &mut draws))
         }
     }
 }

@@ -1,12 +1,13 @@
-// What `init` and `intake` print and leave, as texts of rows: commands over one file, one after the other.
+// What `init`, `intake` and `load` print and leave, as texts of rows: commands over one file, one after the other.
 //
 //   FILE FAULT WORDS <INPUT => STATUS ENTRIES LINE
 //
 // FILE is what the file holds before: `none`, `header`, `letter` or `store`, or `last`, what the row before left. FAULT
 // is the call that fails, as `disk:0` or `input:0`, or `room:` and how many bytes the output takes, or `-`. INPUT is
-// `statement`, `other` or `unnamed`, or is given as it is. After a LINE that is cut off stands `..`, and `changed` after
-// the line if the file isn't as it was, with a status by which it has to be.
-use lrs_app_runs::{Around, Ran, STATEMENT, run_over, store, stored};
+// `statement`, `other` or `unnamed`, or is given as it is. A second line stands after a comma. After a LINE that is cut
+// off stands `..`, and `changed` after the line if the file isn't as it was, with a status by which it has to be if no
+// batch of a load went well.
+use lrs_app_runs::{Around, Ran, STATEMENT, run_over, store, stored, wrong_at};
 use std::alloc::Global;
 use std::slice::from_ref;
 use std::test::Fail;
@@ -85,7 +86,12 @@ fn told(alloc: Global, ran: &Ran, before: &[u8]) -> Result<String, Fail> {
     let line = printed.strip_suffix('\n').unwrap_or(printed);
     let (status, length) = (ran.status, ran.length);
     let mark = mark(ran, before);
-    Ok(format!(in alloc; "{status} {length} {line}{mark}")?)
+    match line.split_once('\n') {
+        Some((first, second)) => {
+            Ok(format!(in alloc; "{status} {length} {first}, {second}{mark}")?)
+        }
+        None => Ok(format!(in alloc; "{status} {length} {line}{mark}")?),
+    }
 }
 
 // A word, and what follows the space after it.
@@ -194,6 +200,90 @@ none room:3 init s --admin adminadmin <statement => 7 1 fou..
 store room:3 init s --admin adminadmin <statement => 4 0 alr..
 "#,
     )
+}
+
+#[test]
+fn a_seed_is_loaded_once(rt: HostRuntime) -> Result<(), Fail> {
+    check_rows(
+        rt.alloc(),
+        r#"none - load s 7 100 < => 2 0 not a store
+store - load s 7 100 < => 0 2 loaded 100, listed 98
+last - load s 7 100 < => 0 2 loaded 100, listed 98
+last - load s 7 150 < => 0 3 loaded 150, listed 147
+store - load s 7 1 < => 0 2 loaded 1, listed 1
+last - load s 18446744073709551615 00000000000000000101 < => 0 4 loaded 101, listed 100
+letter - load s 7 1 < => 2 0 not a store
+header - load s 7 1 < => 3 0 damaged 0
+"#,
+    )
+}
+
+// Statements 3 and 103 of seed 7 have these ids, and are others.
+#[test]
+fn a_load_ends_at_a_conflict(rt: HostRuntime) -> Result<(), Fail> {
+    check_rows(
+        rt.alloc(),
+        r#"store - intake s <{"id":"00000000-0000-4000-8000-000700000003","actor":{"mbox":"mailto:a@b"},"verb":{"id":"http://v/1"},"object":{"id":"http://a/1"}} => 0 2 00000000-0000-4000-8000-000700000003
+last - load s 7 100 < => 10 2 conflict 00000000-0000-4000-8000-000700000003
+last - load s 7 3 < => 0 3 loaded 3, listed 4
+store - intake s <{"id":"00000000-0000-4000-8000-000700000067","actor":{"mbox":"mailto:a@b"},"verb":{"id":"http://v/1"},"object":{"id":"http://a/1"}} => 0 2 00000000-0000-4000-8000-000700000067
+last - load s 7 150 < => 10 3 conflict 00000000-0000-4000-8000-000700000067 changed
+last - load s 7 150 < => 10 3 conflict 00000000-0000-4000-8000-000700000067
+"#,
+    )
+}
+
+#[test]
+fn a_load_ends_where_there_is_no_room(rt: HostRuntime) -> Result<(), Fail> {
+    check_rows(
+        rt.alloc(),
+        r#"none - init s --admin adminadmin --limit 19282 < => 0 1 founded
+last - load s 7 150 < => 12 1 full 19283 19282
+none - init s --admin adminadmin --limit 28892 < => 0 1 founded
+last - load s 7 150 < => 12 2 full 28893 28892 changed
+none - init s --admin adminadmin --limit 28893 < => 0 1 founded
+last - load s 7 150 < => 0 3 loaded 150, listed 147
+"#,
+    )
+}
+
+#[test]
+fn a_load_is_told_as_far_as_the_output_goes(rt: HostRuntime) -> Result<(), Fail> {
+    check_rows(
+        rt.alloc(),
+        r#"store room:5 load s 7 100 < => 7 2 loade..
+store room:12 load s 7 100 < => 7 2 loaded 100, l..
+store disk:0 load s 7 100 < => 5 0 disk fault
+store - load t 7 100 < => 5 0 disk fault
+"#,
+    )
+}
+
+// Whether a load ends well or by the disk's fault if this call of the disk fails, and then goes on over what is left.
+fn is_loaded_again(alloc: Global, call: u64) -> Result<bool, Fail> {
+    let failing = with_fault(Around::calm(stored(), "", &[]), "disk", &call);
+    let first = run_over(alloc, "load s 7 101", &failing)?;
+    let told = matches!(first.status, 0 | 5);
+    let left = first.copy(alloc)?;
+    drop(first);
+    let again = run_over(
+        alloc,
+        "load s 7 101",
+        &Around::calm(left.as_slice(), "", &[]),
+    )?;
+    let ends = again.ends(0, "loaded 101\nlisted 99\n") && again.length == 3;
+    drop(again);
+    Ok(told && ends)
+}
+
+#[test]
+fn a_disk_that_fails_at_a_batch_keeps_the_earlier_ones(rt: HostRuntime) -> Result<(), Fail> {
+    for call in 0..16 {
+        if !is_loaded_again(rt.alloc(), call)? {
+            return wrong_at(rt.alloc(), call);
+        }
+    }
+    Ok(())
 }
 
 #[test]

@@ -1,4 +1,4 @@
-//! `init` and `intake` over real files.
+//! `init`, `intake` and `load` over real files.
 use lrs_app::run;
 use lrs_app_runs::{STATEMENT, words_of, wrong_at};
 use lrs_edge::{FileShelf, StdSource, TcpLobby};
@@ -169,6 +169,25 @@ fn check_refusals(rt: HostRuntime, file: &str) -> Result<(), Fail> {
 fn intake_names_the_least_broken_rule(rt: HostRuntime) -> Result<(), Fail> {
     let path = path_of(rt, "rules")?;
     check_refusals(rt, path.as_str())?;
+    fs::remove_file(&rt, path.as_str())?;
+    Ok(())
+}
+
+// So many that a list which compares each of them with all others would take long.
+fn check_load(rt: HostRuntime, file: &str) -> Result<(), Fail> {
+    founded(rt, file)?;
+    let line = format!(in rt.alloc(); "load {file} 7 20000")?;
+    if printed(rt, line.as_str(), "")?.as_slice() == b"loaded 20000\nlisted 19600\n".as_slice() {
+        Ok(())
+    } else {
+        Err(Fail::from("another end"))
+    }
+}
+
+#[test]
+fn twenty_thousand_statements_are_loaded_and_listed(rt: HostRuntime) -> Result<(), Fail> {
+    let path = path_of(rt, "load")?;
+    check_load(rt, path.as_str())?;
     fs::remove_file(&rt, path.as_str())?;
     Ok(())
 }

@@ -36,6 +36,25 @@ serve s a t --workers 1 --connections 1
 intake --help
 --help
 serve s
+load
+load s 7
+load s 7 1 1
+load s 7 1 --help
+load s 7 0
+load s 7 100001
+load s 7 000000000000000000001
+load s 7 +1
+load s 7 -1
+load s 7 ''
+load s 7 1x
+load s -7 1
+load s +7 1
+load s 7. 1
+load s 000000000000000000007 1
+load s 18446744073709551616 1
+load -s 7 1
+load s 7 --count 1
+load s --seed=7 1
 serve s a --workers 1
 serve s a --workers 1 --connections 0
 serve s a --workers 1 --connections 10001

@@ -6,8 +6,8 @@ use Rattle.clap.specs.Walk.{Row, Text}
 use Rattle.clap.specs.Simple.{subcommand_of}
 use Rattle.clap.specs.Faults.{fault_of}
 use Rattle.lrs_json.specs.Names.{is_among}
-use Rattle.lrs_command_line.specs.CommandLine.{Part, CommandLine, init, intake, serve, IsLineOf, IsPlain, IsNamed, IsCommandLine, IsTaken, ArePartsOf, Gives, words_of, value_of, is_name, options_of, program, whole_line}
-use Rattle.lrs_command_line.specs.Shapes.{IsReadAs, Denotes, is_plain, alone, value_behind, said_by, init_with, intake_with, serve_with, init_in, intake_in, serve_in, command_in, is_faulty, is_nonempty, taken, named}
+use Rattle.lrs_command_line.specs.CommandLine.{Part, CommandLine, init, intake, serve, load, IsLineOf, IsPlain, IsNamed, IsCommandLine, IsTaken, ArePartsOf, Gives, words_of, value_of, is_name, options_of, program, whole_line}
+use Rattle.lrs_command_line.specs.Shapes.{IsReadAs, Denotes, is_plain, alone, value_behind, said_by, init_with, intake_with, serve_with, load_with, init_in, intake_in, serve_in, load_in, command_in, is_faulty, is_nonempty, taken, named}
 use Rattle.lrs_command_line.specs.declared.words.ProgramCommand.{ProgramCommand}
 use Rattle.lrs_command_line.proofs.Plain.{AreOptions, same, plain_line, parts_of, alone_of, value_found}
 
@@ -48,12 +48,14 @@ said_as parts words is =
     by (name ∷ []) = refl
     by (name ∷ file ∷ []) = rw (found (codes "--admin") parts words refl is, found (codes "--base") parts words refl is, found (codes "--limit") parts words refl is) refl
     by (name ∷ file ∷ address ∷ []) = rw (found (codes "--workers") parts words refl is, found (codes "--connections") parts words refl is) refl
-    by (name ∷ file ∷ address ∷ more ∷ rest) = refl
+    by (name ∷ file ∷ seed ∷ count ∷ []) = refl
+    by (name ∷ file ∷ seed ∷ count ∷ more ∷ rest) = refl
 
 said : (parts : List Part) (c : CommandLine) → ArePartsOf parts c → said_by (words_of parts) (λ name. value_of name parts) ≡ Some c
 said parts (init w) is = rw (is.0, is.1, is.2, is.3) refl
 said parts (intake file) is = rw is refl
 said parts (serve w) is = rw (is.0, is.1, is.2) refl
+said parts (load w) is = rw is refl
 
 init_is : (file : List ℕ) (admin base limit : Option (List ℕ)) (c : CommandLine) → init_with (Some file) admin base limit ≡ Some c
     → (a : List ℕ) × (admin ≡ Some a) × (init (record { file = file; admin = a; base = base; limit = limit }) ≡ c)
@@ -85,12 +87,20 @@ says parts c e = by (words_of parts) refl e where
       subst (ArePartsOf parts) i.4 (is ∙ ap (λ n. n ∷ file ∷ address ∷ []) (same name (codes "serve") x), i.2, i.3)
   with_address name file address is false x e = cc
 
+  with_seed : (name file seed count : List ℕ) → words_of parts ≡ name ∷ file ∷ seed ∷ count ∷ [] → (a : Bool) → bytes_eq name (codes "load") ≡ a
+      → cond a (Some (load (record { file = file; seed = seed; count = count }))) None ≡ Some c → ArePartsOf parts c
+  with_seed name file seed count is true x e =
+      let c_is : load (record { file = file; seed = seed; count = count }) ≡ c = cc in
+      subst (ArePartsOf parts) c_is (is ∙ ap (λ n. n ∷ file ∷ seed ∷ count ∷ []) (same name (codes "load") x))
+  with_seed name file seed count is false x e = cc
+
   by : (ws : List (List ℕ)) → words_of parts ≡ ws → said_by ws (λ name. value_of name parts) ≡ Some c → ArePartsOf parts c
   by [] is e = cc
   by (name ∷ []) is e = cc
   by (name ∷ file ∷ []) is e = with_file name file is (bytes_eq name (codes "init")) (bytes_eq name (codes "intake")) refl refl e
   by (name ∷ file ∷ address ∷ []) is e = with_address name file address is (bytes_eq name (codes "serve")) refl e
-  by (name ∷ file ∷ address ∷ more ∷ rest) is e = cc
+  by (name ∷ file ∷ seed ∷ count ∷ []) is e = with_seed name file seed count is (bytes_eq name (codes "load")) refl e
+  by (name ∷ file ∷ seed ∷ count ∷ more ∷ rest) is e = cc
 
 -- ---- what clap gives
 
@@ -99,6 +109,7 @@ given None c is = absurd is
 given (Some f) (init w) is = rw (is.0, is.1, is.2, is.3, is.4) refl
 given (Some f) (intake file) is = rw (is.0, is.1) refl
 given (Some f) (serve w) is = rw (is.0, is.1, is.2, is.3, is.4) refl
+given (Some f) (load w) is = rw (is.0, is.1, is.2, is.3) refl
 
 init_found : (file admin base limit : Option (List ℕ)) (c : CommandLine) → init_with file admin base limit ≡ Some c
     → (f : List ℕ) × (a : List ℕ) × (file ≡ Some f) × (admin ≡ Some a) × (init (record { file = f; admin = a; base = base; limit = limit }) ≡ c)
@@ -119,18 +130,28 @@ serve_found (Some f) (Some a) None connections c e = cc
 serve_found (Some f) (Some a) (Some w) None c e = cc
 serve_found (Some f) (Some a) (Some w) (Some n) c e = (f, a, w, n, refl, refl, refl, refl, cc)
 
+load_found : (file seed count : Option (List ℕ)) (c : CommandLine) → load_with file seed count ≡ Some c
+    → (f : List ℕ) × (s : List ℕ) × (n : List ℕ) × (file ≡ Some f) × (seed ≡ Some s) × (count ≡ Some n) × (load (record { file = f; seed = s; count = n }) ≡ c)
+load_found None seed count c e = cc
+load_found (Some f) None count c e = cc
+load_found (Some f) (Some s) None c e = cc
+load_found (Some f) (Some s) (Some n) c e = (f, s, n, refl, refl, refl, cc)
+
 gives : (m : Option (Text × List Row)) (c : CommandLine) → option_and_then command_in m ≡ Some c → Gives m c
 gives None c e = cc
-gives (Some f) c e = by (bytes_eq f.0 (codes "init")) (bytes_eq f.0 (codes "intake")) (bytes_eq f.0 (codes "serve")) refl refl refl e where
-  by : (x y z : Bool) → bytes_eq f.0 (codes "init") ≡ x → bytes_eq f.0 (codes "intake") ≡ y → bytes_eq f.0 (codes "serve") ≡ z
-      → cond x (init_in f.1) (cond y (intake_in f.1) (cond z (serve_in f.1) None)) ≡ Some c → Gives (Some f) c
-  by true y z p q r e =
-      let i = init_found _ _ _ _ c e in subst (Gives (Some f)) i.4 (same f.0 (codes "init") p, i.2, i.3, refl, refl)
-  by false true z p q r e =
-      let i = intake_found _ c e in subst (Gives (Some f)) i.2 (same f.0 (codes "intake") q, i.1)
-  by false false true p q r e =
-      let i = serve_found _ _ _ _ c e in subst (Gives (Some f)) i.8 (same f.0 (codes "serve") r, i.4, i.5, i.6, i.7)
-  by false false false p q r e = cc
+gives (Some f) c e =
+    by (bytes_eq f.0 (codes "init")) (bytes_eq f.0 (codes "intake")) (bytes_eq f.0 (codes "serve")) (bytes_eq f.0 (codes "load")) refl refl refl refl e where
+      by : (x y z u : Bool) → bytes_eq f.0 (codes "init") ≡ x → bytes_eq f.0 (codes "intake") ≡ y → bytes_eq f.0 (codes "serve") ≡ z → bytes_eq f.0 (codes "load") ≡ u
+          → cond x (init_in f.1) (cond y (intake_in f.1) (cond z (serve_in f.1) (cond u (load_in f.1) None))) ≡ Some c → Gives (Some f) c
+      by true y z u p q r s e =
+          let i = init_found _ _ _ _ c e in subst (Gives (Some f)) i.4 (same f.0 (codes "init") p, i.2, i.3, refl, refl)
+      by false true z u p q r s e =
+          let i = intake_found _ c e in subst (Gives (Some f)) i.2 (same f.0 (codes "intake") q, i.1)
+      by false false true u p q r s e =
+          let i = serve_found _ _ _ _ c e in subst (Gives (Some f)) i.8 (same f.0 (codes "serve") r, i.4, i.5, i.6, i.7)
+      by false false false true p q r s e =
+          let i = load_found _ _ _ c e in subst (Gives (Some f)) i.6 (same f.0 (codes "load") s, i.3, i.4, i.5)
+      by false false false false p q r s e = cc
 
 -- ---- the whole
 

@@ -1,7 +1,8 @@
--- The words of the command line: `init FILE --admin TOKEN [--base URL] [--limit BYTES]`, `intake FILE` and
--- `serve FILE ADDRESS --workers W --connections N`, each option with its value at any place after the command's name.
-use Rattle.std.specs.Prelude.{◌≡◌, ◌<◌, ◌≤◌, ◌⊎◌, ◌==◌, ⊤, not, ℕ, Bool, true, false, List, [], ◌∷◌, length, Option}
-use Rattle.std.specs.Prelude.{Some, None, IfSome, if◌then◌else◌, unwrap_or, codes}
+-- The words of the command line: `init FILE --admin TOKEN [--base URL] [--limit BYTES]`, `intake FILE`,
+-- `serve FILE ADDRESS --workers W --connections N` and `load FILE SEED N`, each option with its value at any place
+-- after the command's name.
+use Rattle.std.specs.Prelude.{◌≡◌, ◌<◌, ◌≤◌, ◌⊎◌, ◌==◌, ◌-◌, ◌^◌, ⊤, not, ℕ, Bool, true, false, List, [], ◌∷◌, length}
+use Rattle.std.specs.Prelude.{Option, Some, None, IfSome, if◌then◌else◌, unwrap_or, codes}
 use Rattle.std.specs.Option.{option_map_or}
 use Rattle.std.specs.Char.{is_ascii_digit}
 use Rattle.std.specs.List.{list_all}
@@ -14,7 +15,7 @@ use Rattle.lrs_json.specs.Names.{is_among}
 use Rattle.lrs_parts.specs.Founding.{IsToken, IsBase}
 use Rattle.lrs_journal.specs.declared.sizes.TheConstants.{LEAST_BYTES, MOST_BYTES}
 use Rattle.lrs_command_line.specs.declared.words.TheConstants.{DEFAULT_BASE, DEFAULT_LIMIT, MOST_CONNECTIONS}
-use Rattle.lrs_command_line.specs.declared.words.TheConstants.{MOST_DIGITS, MOST_WORKERS}
+use Rattle.lrs_command_line.specs.declared.words.TheConstants.{MOST_DIGITS, MOST_STATEMENTS, MOST_WORKERS}
 
 -- ---- plain lines
 
@@ -89,11 +90,18 @@ pub record ServeWords : Type 0 where
   pub workers : List ℕ
   pub connections : List ℕ
 
+-- what the words of `load` name
+pub record LoadWords : Type 0 where
+  pub file : List ℕ
+  pub seed : List ℕ
+  pub count : List ℕ
+
 -- a command, as its words name it
 pub data CommandLine : Type 0 where
   init : InitWords → CommandLine
   intake : List ℕ → CommandLine
   serve : ServeWords → CommandLine
+  load : LoadWords → CommandLine
 
 -- The parts of a plain line are this command's: its words and the options that it requires all stand there, and no word
 -- too many.
@@ -105,6 +113,7 @@ ArePartsOf parts (intake file) = words_of parts ≡ codes "intake" ∷ file ∷ 
 ArePartsOf parts (serve w) = (words_of parts ≡ codes "serve" ∷ w.file ∷ w.address ∷ [])
     × (value_of (codes "--workers") parts ≡ Some w.workers)
     × (value_of (codes "--connections") parts ≡ Some w.connections)
+ArePartsOf parts (load w) = words_of parts ≡ codes "load" ∷ w.file ∷ w.seed ∷ w.count ∷ []
 
 -- ---- other lines, as clap takes them
 
@@ -130,9 +139,17 @@ serve_app = with_rule
     (with_rule (with_rule (with_rule (new_app (codes "serve")) (required (codes "file"))) (required (codes "address")))
     (needed (codes "workers"))) (needed (codes "connections"))
 
+abbrev pub load_app : App
+load_app = with_rule
+    (with_rule (with_rule (new_app (codes "load")) (required (codes "file"))) (required (codes "seed")))
+    (required (codes "count"))
+
 abbrev pub program : App
-program = with_subcommand (with_subcommand (with_subcommand (new_app (codes "kilnlime")) init_app.top) intake_app.top)
-    serve_app.top
+program = with_subcommand
+    (with_subcommand
+    (with_subcommand (with_subcommand (new_app (codes "kilnlime")) init_app.top) intake_app.top)
+    serve_app.top)
+    load_app.top
 
 -- the words with the program's name before them
 abbrev pub whole_line : List Text → List Text
@@ -149,6 +166,9 @@ Gives (Some found) (serve w) = (found.0 ≡ codes "serve") × (first_of (codes "
     × (first_of (codes "address") found.1 ≡ Some w.address)
     × (first_of (codes "workers") found.1 ≡ Some w.workers)
     × (first_of (codes "connections") found.1 ≡ Some w.connections)
+Gives (Some found) (load w) = (found.0 ≡ codes "load") × (first_of (codes "file") found.1 ≡ Some w.file)
+    × (first_of (codes "seed") found.1 ≡ Some w.seed)
+    × (first_of (codes "count") found.1 ≡ Some w.count)
 
 -- clap refuses the words for no cause, and gives the command
 pub record IsTaken (words : List (List ℕ)) (c : CommandLine) : Type 0 where
@@ -192,10 +212,22 @@ pub record IsServeInRange (w : ServeWords) : Type 0 where
 abbrev pub connections_of : ServeWords → ℕ
 connections_of w = digits_value 10 w.connections
 
+-- the seed is a number of 64 bits
+pub record IsLoadInRange (w : LoadWords) : Type 0 where
+  pub seed : IsNumberIn 0 (2 ^ 64 - 1) w.seed
+  pub count : IsNumberIn 1 MOST_STATEMENTS w.count
+
+abbrev pub seed_of : LoadWords → ℕ
+seed_of w = digits_value 10 w.seed
+
+abbrev pub count_of : LoadWords → ℕ
+count_of w = digits_value 10 w.count
+
 abbrev pub IsInRange : CommandLine → Type 0
 IsInRange (init w) = IsInitInRange w
 IsInRange (intake file) = ⊤
 IsInRange (serve w) = IsServeInRange w
+IsInRange (load w) = IsLoadInRange w
 
 -- a plain line is a command's by its parts, and any other line as clap takes it
 abbrev pub IsNamed : List (List ℕ) → CommandLine → Type 0

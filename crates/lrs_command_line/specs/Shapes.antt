@@ -9,8 +9,9 @@ use Rattle.clap.specs.declared.builder.command.Command.{Command as ClapCommand}
 use Rattle.clap.specs.declared.builder.command.Command.TheViews.{out-Command as fields_of}
 use Rattle.clap.specs.Faults.{fault_of}
 use Rattle.lrs_json.specs.Names.{is_among}
-use Rattle.lrs_command_line.specs.CommandLine.{CommandLine, init, intake, serve, IsInRange, base_of, limit_of}
-use Rattle.lrs_command_line.specs.CommandLine.{connections_of, is_name, options_of, program, whole_line}
+use Rattle.lrs_command_line.specs.CommandLine.{CommandLine, init, intake, serve, load, IsInRange, base_of, limit_of}
+use Rattle.lrs_command_line.specs.CommandLine.{connections_of, count_of, is_name, options_of, program, seed_of}
+use Rattle.lrs_command_line.specs.CommandLine.{whole_line}
 use Rattle.lrs_command_line.specs.declared.words.CommandLine as code
 use Rattle.lrs_command_line.specs.declared.words.CommandLine.TheVariants as line
 use Rattle.lrs_command_line.specs.declared.words.ProgramCommand.{ProgramCommand}
@@ -22,6 +23,7 @@ command_of (line.Init file admin base limit) =
 command_of (line.Intake file) = intake file.now
 command_of (line.Serve file address workers connections) =
     serve (record { file = file.now; address = address.now; workers = workers.now; connections = connections.now })
+command_of (line.Load file seed count) = load (record { file = file.now; seed = seed.now; count = count.now })
 
 -- the words as they were read mean this command
 abbrev pub Denotes : ProgramCommand → CommandLine → Type 0
@@ -30,6 +32,7 @@ Denotes (words.Init file admin base limit) (init w) = (file ≡ w.file) × (admi
 Denotes (words.Intake file) (intake name) = file ≡ name
 Denotes (words.Serve file address connections) (serve w) = (file ≡ w.file) × (address ≡ w.address)
     × (connections ≡ connections_of w)
+Denotes (words.Load file seed count) (load w) = (file ≡ w.file) × (seed ≡ seed_of w) × (count ≡ count_of w)
 Denotes other command = ⊥
 
 -- the words were read as this command, or refused for a value out of its range, if they name it
@@ -77,6 +80,15 @@ serve_with (Some file) (Some address) (Some workers) (Some connections) =
     Some (serve (record { file = file; address = address; workers = workers; connections = connections }))
 serve_with file address workers connections = None
 
+abbrev pub load_with : Option (List ℕ) → Option (List ℕ) → Option (List ℕ) → Option CommandLine
+load_with (Some file) (Some seed) (Some count) = Some (load (record { file = file; seed = seed; count = count }))
+load_with file seed count = None
+
+-- three words after this name
+abbrev pub load_said : List ℕ → List ℕ → List ℕ → List ℕ → Option CommandLine
+load_said name file seed count = if bytes_eq name (codes "load")
+    then Some (load (record { file = file; seed = seed; count = count })) else None
+
 abbrev pub said_by : List (List ℕ) → (List ℕ → Option (List ℕ)) → Option CommandLine
 said_by (name ∷ file ∷ []) value =
     if bytes_eq name (codes "init")
@@ -85,6 +97,7 @@ said_by (name ∷ file ∷ []) value =
 said_by (name ∷ file ∷ address ∷ []) value =
     if bytes_eq name (codes "serve")
     then serve_with (Some file) (Some address) (value (codes "--workers")) (value (codes "--connections")) else None
+said_by (name ∷ file ∷ seed ∷ count ∷ []) value = load_said name file seed count
 said_by words value = None
 
 -- ---- what clap takes
@@ -104,11 +117,15 @@ abbrev pub serve_in : List Row → Option CommandLine
 serve_in rows = serve_with (first_of (codes "file") rows) (first_of (codes "address") rows)
     (first_of (codes "workers") rows) (first_of (codes "connections") rows)
 
+abbrev pub load_in : List Row → Option CommandLine
+load_in rows = load_with (first_of (codes "file") rows) (first_of (codes "seed") rows) (first_of (codes "count") rows)
+
 abbrev pub command_in : Text × List Row → Option CommandLine
 command_in found =
     if bytes_eq found.0 (codes "init") then init_in found.1
     else (if bytes_eq found.0 (codes "intake") then intake_in found.1
-    else (if bytes_eq found.0 (codes "serve") then serve_in found.1 else None))
+    else (if bytes_eq found.0 (codes "serve") then serve_in found.1
+    else (if bytes_eq found.0 (codes "load") then load_in found.1 else None)))
 
 abbrev pub is_nonempty : {X : Type 0} → List X → Bool
 is_nonempty [] = false

@@ -4,7 +4,7 @@ ghost use Rattle.std.specs.List.{list_all};
 ghost use Rattle.std.specs.Option.{SomeIff, option_copied, option_map_or};
 ghost use Rattle.std.specs.Str.Parse.{digits_value};
 ghost use Rattle.lrs_parts.specs.Founding.{IsToken, IsBase};
-ghost use Rattle.lrs_command_line.specs.CommandLine.{CommandLine as SpecCommandLine, init, serve, InitWords, ServeWords, IsCommandLine, IsInRange, IsInitInRange, IsServeInRange, IsNumber, IsNumberIn, IsLimit};
+ghost use Rattle.lrs_command_line.specs.CommandLine.{CommandLine as SpecCommandLine, init, serve, load, InitWords, ServeWords, LoadWords, IsCommandLine, IsInRange, IsInitInRange, IsServeInRange, IsLoadInRange, IsNumber, IsNumberIn, IsLimit};
 ghost use Rattle.lrs_command_line.specs.Shapes.{IsReadAs, Denotes, command_of, named};
 
 mod plain;
@@ -32,6 +32,9 @@ const MOST_WORKERS: u64 = 1;
 /// How many connections a worker may be asked to serve.
 const MOST_CONNECTIONS: u64 = 10_000;
 
+/// How many statements may be loaded.
+const MOST_STATEMENTS: u64 = 100_000;
+
 /// A command of the program with what its words name.
 #[derive(Drop)]
 pub enum ProgramCommand {
@@ -48,6 +51,11 @@ pub enum ProgramCommand {
         file: Text,
         address: Text,
         connections: u32,
+    },
+    Load {
+        file: Text,
+        seed: u64,
+        count: u32,
     },
 }
 
@@ -68,6 +76,11 @@ enum CommandLine<'a> {
         address: &'a str,
         workers: &'a str,
         connections: &'a str,
+    },
+    Load {
+        file: &'a str,
+        seed: &'a str,
+        count: &'a str,
     },
 }
 
@@ -199,6 +212,33 @@ fn test_serve(
     }
 }
 
+// The words of `load`, with its values tested.
+fn test_load(
+    alloc: Global,
+    file: &str,
+    seed: &str,
+    count: &str,
+) -> Result<Option<ProgramCommand>, Memory>
+    ensures { IfOk result (λ found. let w : LoadWords = record {
+      file = file.now;
+      seed = seed.now;
+      count = count.now;
+    } in
+        MatchOption found (IsLoadInRange w → ⊥) (λ words. IsLoadInRange w × Denotes words (load w))) }
+{
+    let Some(seed) = read_number(seed, 0, u64::MAX) else {
+        return Ok(None);
+    };
+    match read_number(count, 1, MOST_STATEMENTS) {
+        Some(count) => Ok(Some(ProgramCommand::Load {
+            file: Text::of(alloc, file)?,
+            seed,
+            count: count as u32,
+        })),
+        None => Ok(None),
+    }
+}
+
 // The words of a command, with its values tested.
 fn test_values(alloc: Global, shape: CommandLine<'_>) -> Result<Option<ProgramCommand>, Memory>
     ensures { IfOk result (λ found. MatchOption found (IsInRange (command_of shape.entry) → ⊥)
@@ -220,6 +260,7 @@ fn test_values(alloc: Global, shape: CommandLine<'_>) -> Result<Option<ProgramCo
             workers,
             connections,
         } => test_serve(alloc, file, address, workers, connections),
+        CommandLine::Load { file, seed, count } => test_load(alloc, file, seed, count),
     }
 }
 

@@ -4,7 +4,7 @@ use std::alloc::Global;
 use std::test::Fail;
 
 // Lines of words, and after `=>` the command that each is with its values, or `usage`. `''` is the empty word. From the
-// ninth to the fifteenth they aren't plain.
+// ninth to the fifteenth, and where a `--` stands, they aren't plain.
 const COMMANDS: &str = r#"intake s => intake s
 init s --admin adminadmin => init s adminadmin http://127.0.0.1:8080/ 268435456
 init --admin adminadmin s => init s adminadmin http://127.0.0.1:8080/ 268435456
@@ -26,6 +26,19 @@ init s --admin adminadmin --limit 00000000001073741824 => init s adminadmin http
 init s --admin adminadmin --limit 000000000001073741824 => usage
 init s --admin adminadmin --limit 512 => init s adminadmin http://127.0.0.1:8080/ 512
 init s --admin adminadmin --limit 511 => usage
+load s 7 100 => load s 7 100
+load s 0 1 => load s 0 1
+load s 00000000000000000007 00000000000000100000 => load s 7 100000
+load s 18446744073709551615 100000 => load s 18446744073709551615 100000
+load -- -s 7 100 => load -s 7 100
+load s -- 7 100 => load s 7 100
+load s 18446744073709551616 100 => usage
+load s 000000000000000000007 100 => usage
+load s 7 0 => usage
+load s 7 100001 => usage
+load s 7 000000000000000000100 => usage
+load s 7 => usage
+load s 7 100 1 => usage
 "#;
 
 // The words of a line.
@@ -70,6 +83,10 @@ fn told(alloc: Global, read: &Option<ProgramCommand>) -> Result<String, Fail> {
         ) => {
             let (file, address) = (file.as_str(), address.as_str());
             format!(in alloc; "serve {file} {address} {connections}")?
+        }
+        Some(ProgramCommand::Load { file, seed, count }) => {
+            let file = file.as_str();
+            format!(in alloc; "load {file} {seed} {count}")?
         }
     })
 }

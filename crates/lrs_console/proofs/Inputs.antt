@@ -19,6 +19,7 @@ not_read input ending.Founded few breaks = absurd breaks
 not_read input (ending.Kept id) few breaks = absurd breaks
 not_read input ending.Usage few breaks = absurd breaks
 not_read input (ending.Served responses) few breaks = absurd breaks
+not_read input (ending.Loaded statements listed) few breaks = absurd breaks
 not_read input ending.LobbyFault few breaks = absurd breaks
 not_read input ending.NotAStore few breaks = absurd breaks
 not_read input (ending.Damaged k) few breaks = absurd breaks

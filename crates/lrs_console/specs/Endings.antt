@@ -1,4 +1,4 @@
--- How a command ends: its status, and the line that it prints.
+-- How a command ends: its status, and the line that it prints, or the two lines of `load`.
 use Rattle.std.specs.Prelude.{ℕ, List, ◌++◌, codes}
 use Rattle.std.specs.Fmt.{decimal}
 use Rattle.lrs_names.specs.Ids.{id_text}
@@ -10,6 +10,7 @@ abbrev pub ending_status : Ending → ℕ
 ending_status ending.Founded = 0
 ending_status (ending.Kept id) = 0
 ending_status (ending.Served responses) = 0
+ending_status (ending.Loaded statements listed) = 0
 ending_status ending.Usage = 1
 ending_status ending.NotAStore = 2
 ending_status (ending.Damaged k) = 3
@@ -28,6 +29,8 @@ abbrev pub ending_text : Ending → List ℕ
 ending_text ending.Founded = codes "founded"
 ending_text (ending.Kept id) = id_text id
 ending_text (ending.Served responses) = codes "served " ++ decimal responses
+ending_text (ending.Loaded statements listed) =
+    codes "loaded " ++ decimal statements ++ codes "\nlisted " ++ decimal listed
 ending_text ending.Usage = codes "usage"
 ending_text ending.NotAStore = codes "not a store"
 ending_text (ending.Damaged k) = codes "damaged " ++ decimal k

@@ -10,7 +10,7 @@ use itoa::Buffer;
 use lrs_names::Id;
 use lrs_rules::Rule;
 
-/// How a command ends. Each ending has its status and its line.
+/// How a command ends. Each ending has its status and its line, `Loaded` has two.
 #[derive(Clone, Copy, PartialEq, Eq)]
 pub enum Ending {
     /// The store is made.
@@ -19,6 +19,8 @@ pub enum Ending {
     Kept(Id),
     /// The connections are served, with this number of responses.
     Served(u64),
+    /// This number of statements is loaded, and the store lists so many.
+    Loaded { statements: u32, listed: u64 },
     /// The words are no command.
     Usage,
     /// The file is no store.
@@ -47,7 +49,7 @@ pub enum Ending {
     Full { need: u64, limit: u64 },
 }
 
-/// A line of the program's output: the longest has 47 bytes.
+/// What the program prints, with its line feeds: at most 56 bytes.
 pub(crate) type Line = ArrayVec<u8, 64>;
 
 fn put(line: &mut Line, text: &[u8])
@@ -75,7 +77,7 @@ impl Ending {
         ensures { result ≡ ending_status self.now }
     {
         match self {
-            Ending::Founded | Ending::Kept(_) | Ending::Served(_) => 0,
+            Ending::Founded | Ending::Kept(_) | Ending::Served(_) | Ending::Loaded { .. } => 0,
             Ending::Usage => 1,
             Ending::NotAStore => 2,
             Ending::Damaged { .. } => 3,
@@ -89,7 +91,7 @@ impl Ending {
         }
     }
 
-    /// The line that the program prints, with its line feed.
+    /// The line that the program prints, or the two, with the last line feed.
     pub(crate) fn line(&self) -> Line
         ensures { result.items ≡ ending_line self.now }
     {
@@ -100,12 +102,13 @@ impl Ending {
 
     fn text(&self) -> Line
         ensures text { result.items ≡ ending_text self.now }
-        ensures short { array_vec_len result ≤ 47 }
+        ensures short { array_vec_len result ≤ 55 }
     {
         match self {
             Ending::Founded => word(b"founded"),
             Ending::Kept(id) => word(&id.text()),
             Ending::Served(responses) => with_number(b"served ", *responses),
+            Ending::Loaded { statements, listed } => loaded(*statements, *listed),
             Ending::Usage => word(b"usage"),
             Ending::NotAStore => word(b"not a store"),
             Ending::Damaged { k } => with_number(b"damaged ", *k),
@@ -140,6 +143,17 @@ fn with_number(text: &[u8], number: u64) -> Line
 {
     let mut line = word(text);
     put_number(&mut line, number);
+    line
+}
+
+fn loaded(statements: u32, listed: u64) -> Line
+    ensures text { result.items
+        ≡ codes "loaded " ++ decimal statements ++ codes "\nlisted " ++ decimal listed }
+    ensures short { array_vec_len result ≤ 55 }
+{
+    let mut line = with_number(b"loaded ", u64::from(statements));
+    put(&mut line, b"\nlisted ");
+    put_number(&mut line, listed);
     line
 }
 

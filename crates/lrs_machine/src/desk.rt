@@ -7,13 +7,15 @@ ghost use Rattle.lrs_journal.specs.Journal.{TellsAlike};
 ghost use Rattle.lrs_journal.specs.Store.{Stands};
 ghost use Rattle.lrs_record.specs.declared.entry.Caller.TheVariants.{Operator};
 ghost use Rattle.lrs_command.specs.Commands.{HasReadTrees};
-ghost use Rattle.lrs_record.specs.Entries.{IsLawfulCaller, IsLawfulTree, written_entry};
+ghost use Rattle.lrs_record.specs.Entries.{AreLawfulTrees, IsLawfulCaller, IsLawfulTree, written_entry};
 ghost use Rattle.lrs_json.specs.View.{view};
-ghost use Rattle.lrs_history.specs.History.{answer, IsLegal};
+ghost use Rattle.lrs_history.specs.History.{answer, state, IsLegal};
 ghost use Rattle.lrs_replies.specs.Replies.{Says, status_in};
 ghost use Rattle.lrs_replies.specs.declared.answered.Answered.{Answered};
 ghost use Rattle.lrs_replies.specs.declared.reply.Trouble.{Trouble};
 ghost use Rattle.lrs_fold.specs.Own.{put_of, IsOfPut, IsPut};
+ghost use Rattle.lrs_fold.specs.Posted.{post_of};
+ghost use Rattle.xapi_pages.specs.Listings.{listed_of_all};
 ghost use Rattle.lrs_machine.specs.Line.{in_doubt, sure};
 ghost use Rattle.lrs_machine.specs.Acts.{Acts, HasDiskCause};
 ghost use Rattle.lrs_machine.specs.Desk.{history, HoldsPrefix, IsOnDisk, KeepsLine, LeavesNoPlace, LeavesStore, StopsWithin, lets_in, receipt_of};
@@ -23,13 +25,14 @@ use crate::acting::{Done, act};
 use crate::{Receipt, Record};
 use lrs_command::{Area, Command};
 use lrs_disk::{Disk, Failed};
-use lrs_fold::{Fold, put_of};
+use lrs_fold::{Fold, post_of, put_of};
 use lrs_history::barred;
 use lrs_journal::Journal;
-use lrs_json::Tree;
+use lrs_json::{Items, Tree};
 use lrs_names::{Draw, Id};
 use lrs_noted::Noted;
 use lrs_record::{Caller, Entry};
+use lrs_refusals::who_is;
 use lrs_replies::{Answered, Reply, Trouble, reply_to, status_in};
 use std::alloc::Global;
 use std::marker::Model;
@@ -136,7 +139,7 @@ impl<D: Disk> Desk<D> {
     pub fn lets_in(&self, caller: &Caller, area: Area) -> bool
         ensures { result ≡ lets_in (history self.now) caller.now area }
     {
-        barred(area, self.fold.who(caller)).is_none()
+        barred(area, who_is(&self.fold.parts, caller)).is_none()
     }
 
     fn answer(
@@ -235,6 +238,40 @@ impl<D: Disk> Desk<D> {
         let (said, landed) = self.answer(Caller::Operator, put_of(id, statement), clock, draw);
         let receipt = self.receipt(status_in(&said), point, landed, clock, was);
         (said, receipt)
+    }
+
+    /// Keeps statements together as the operator, the program itself, each under the id that it gives itself or one
+    /// that is made: the answer as a value, and its receipt. The rest is as for `put`.
+    pub fn post(
+        &mut self,
+        statements: Items<Tree>,
+        clock: u64,
+        draw: &Draw,
+    ) -> (Result<Answered, Trouble>, Receipt)
+        requires { AreLawfulTrees statements }
+        ensures acts { Acts (answer self.old.limit (history self.old) Operator (post_of statements) clock draw.now)
+            result.0 result.1 self.old.line self.new.line }
+        ensures same { (self.new.limit ≡ self.old.limit) × (self.new.opened ≡ self.old.opened)
+            × (self.new.opened_at ≡ self.old.opened_at) }
+        ensures tells { TellsAlike (D.told self.old.disk) (D.told self.new.disk) }
+        ensures later { D.time self.old.disk ≤ D.time self.new.disk }
+        ensures stops { StopsWithin D.told D.time D.image_since self.old self.new }
+        ensures places { LeavesNoPlace self.old self.new }
+        ensures durable { IsOnDisk D.told D.image D.time D.image_since self.new }
+        ensures receipt { result.1 ≡ receipt_of D.time D.fault_count self.old self.new (status_in result.0) clock }
+    {
+        let was = self.faults();
+        let point = self.length();
+        let (said, landed) = self.answer(Caller::Operator, post_of(statements), clock, draw);
+        let receipt = self.receipt(status_in(&said), point, landed, clock, was);
+        (said, receipt)
+    }
+
+    /// How many statements a query without filters lists to an admin. An entry in doubt counts.
+    pub fn listed(&self) -> u64
+        ensures { result ≡ listed_of_all (state (history self.now)).statements }
+    {
+        self.fold.listed()
     }
 
     /// Answers a command, with its receipt.

@@ -4,7 +4,7 @@ ghost use Rattle.std.specs.Prelude.{◌≡◌, ◌≤◌, ◌∷◌, [], true, f
 ghost use Rattle.std.specs.Option.{option_copied};
 ghost use Rattle.lrs_json.specs.Names.{is_among};
 ghost use Rattle.lrs_command_line.specs.CommandLine.{is_name, options_of_command, options_of};
-ghost use Rattle.lrs_command_line.specs.Shapes.{alone, command_of, init_with, is_option, is_plain, said_by, serve_with, value_behind};
+ghost use Rattle.lrs_command_line.specs.Shapes.{alone, command_of, init_with, is_option, is_plain, load_said, said_by, serve_with, value_behind};
 
 use crate::words::CommandLine;
 use lrs_json::Text;
@@ -182,17 +182,40 @@ fn plain_with_address<'a>(
     }
 }
 
+// A plain line with three words after the command's name.
+fn plain_with_seed<'a>(
+    command: &str,
+    file: &'a str,
+    seed: &'a str,
+    count: &'a str,
+) -> Option<CommandLine<'a>>
+    ensures { option_map command_of result ≡ load_said command.now file.now seed.now count.now }
+{
+    match command {
+        "load" => Some(CommandLine::Load { file, seed, count }),
+        _ => None,
+    }
+}
+
 /// The command that a plain line names.
 pub(super) fn read_plain(words: &[Text]) -> Option<CommandLine<'_>>
     ensures { option_map command_of result ≡ said_by (alone false words.now) (λ name. value_behind name words.now) }
 {
     let (command, rest) = next_alone(words)?;
     let (file, rest) = next_alone(rest)?;
-    let Some((address, rest)) = next_alone(rest) else {
+    let Some((second, rest)) = next_alone(rest) else {
         return plain_with_file(command.as_str(), file.as_str(), words);
     };
+    let Some((third, rest)) = next_alone(rest) else {
+        return plain_with_address(command.as_str(), file.as_str(), second.as_str(), words);
+    };
     match next_alone(rest) {
-        None => plain_with_address(command.as_str(), file.as_str(), address.as_str(), words),
+        None => plain_with_seed(
+            command.as_str(),
+            file.as_str(),
+            second.as_str(),
+            third.as_str(),
+        ),
         Some(_) => None,
     }
 }

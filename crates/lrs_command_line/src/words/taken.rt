@@ -3,8 +3,8 @@
 ghost use Rattle.std.specs.Prelude.{◌≡◌, true, false, map, IfOk, MatchOption, option_map, option_and_then};
 ghost use Rattle.std.specs.Option.{option_copied};
 ghost use Rattle.clap.specs.Words.{App, app_of, first_of, found_of, rows_of, rule_of, subcommand_of, subcommand_rows_of, with_rule, with_subcommand};
-ghost use Rattle.lrs_command_line.specs.CommandLine.{required, needed, optional, init_app, intake_app, serve_app, program, whole_line};
-ghost use Rattle.lrs_command_line.specs.Shapes.{IsOf, IsReadAs, command_in, command_of, init_in, intake_in, is_faulty, serve_in, taken};
+ghost use Rattle.lrs_command_line.specs.CommandLine.{required, needed, optional, init_app, intake_app, load_app, serve_app, program, whole_line};
+ghost use Rattle.lrs_command_line.specs.Shapes.{IsOf, IsReadAs, command_in, command_of, init_in, intake_in, is_faulty, load_in, serve_in, taken};
 
 use crate::words::{CommandLine, ProgramCommand, test_named};
 use clap::error::ErrorKind;
@@ -77,6 +77,15 @@ fn serve_command<'a>(alloc: Global) -> Result<Command<'a>, Memory>
     with_argument(command, needed(alloc, "connections"))
 }
 
+fn load_command<'a>(alloc: Global) -> Result<Command<'a>, Memory>
+    ensures { IfOk result (IsOf load_app) }
+{
+    let command = Ok(Command::new(alloc, "load"));
+    let command = with_argument(command, required(alloc, "file"));
+    let command = with_argument(command, required(alloc, "seed"));
+    with_argument(command, required(alloc, "count"))
+}
+
 // The program with one command more.
 fn with_command<'a>(
     program: Command<'a>,
@@ -101,7 +110,8 @@ fn program<'a>(alloc: Global) -> Result<Command<'a>, Memory>
     let program = Command::new(alloc, "kilnlime");
     let program = with_command(program, init_command(alloc))?;
     let program = with_command(program, intake_command(alloc))?;
-    with_command(program, serve_command(alloc))
+    let program = with_command(program, serve_command(alloc))?;
+    with_command(program, load_command(alloc))
 }
 
 // A value of what was given.
@@ -141,6 +151,16 @@ fn taken_serve<'a>(given: &ArgMatches<'a>) -> Option<CommandLine<'a>>
     })
 }
 
+fn taken_load<'a>(given: &ArgMatches<'a>) -> Option<CommandLine<'a>>
+    ensures { option_map command_of result ≡ load_in (rows_of (found_of given.now)) }
+{
+    Some(CommandLine::Load {
+        file: text_of(given, "file")?,
+        seed: text_of(given, "seed")?,
+        count: text_of(given, "count")?,
+    })
+}
+
 // The command of a name, with what was given to it.
 fn taken_as<'a>(name: &str, given: &ArgMatches<'a>) -> Option<CommandLine<'a>>
     ensures { option_map command_of result ≡ command_in (name.now, rows_of (found_of given.now)) }
@@ -149,6 +169,7 @@ fn taken_as<'a>(name: &str, given: &ArgMatches<'a>) -> Option<CommandLine<'a>>
         "init" => taken_init(given),
         "intake" => taken_intake(given),
         "serve" => taken_serve(given),
+        "load" => taken_load(given),
         _ => None,
     }
 }

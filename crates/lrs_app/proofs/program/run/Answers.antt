@@ -1,6 +1,6 @@
 use Rattle.std.proofs.Common.{ap, inl, refl, ◌∙◌}
 use Rattle.lrs_hall.specs.Draws.{draw_at}
-use Rattle.lrs_app.proofs.Running.{does_init, does_intake, does_serve, found_one, init_runs, intake_runs, is_taken, meant_base, same_doors, serve_runs, takes_file}
+use Rattle.lrs_app.proofs.Running.{does_init, does_intake, does_load, does_serve, found_one, init_runs, intake_runs, is_taken, load_runs, meant_base, same_doors, serve_runs, takes_file}
 use Rattle.lrs_app.proofs.program.run.Goals as goal
 
 pub returns-in-Init : goal.returns-in-Init
@@ -58,6 +58,24 @@ returns-in-Serve g c =
           taken.result c.in-Serve.address c.in-Serve.connections c.args.seed c.serve.ensures.readings
           (is_taken g.S.Disk.Disk _ _ taken.result c.as_str-in-Serve.ensures.lent taken.ensures.told taken.ensures.begins taken.ensures.starts taken.ensures.cause)
           c.serve.ensures.serves),
+    )
+
+pub returns-in-Load : goal.returns-in-Load
+returns-in-Load g c =
+    let line = found_one _ _ c.in-Ok-Some.field-0 c.in-Ok-Some.command c.in-Ok-Some.field-0-is c.in-Ok-Some.ensures in
+    let taken = c.take-taken-in-Load in
+    let o = c.end_run-in-Load in
+    inl (
+      line.0,
+      line.1,
+      does_load g.S.Disk.Disk line.0 c.in-Ok-Some.command c.in-Load.file c.in-Load.number c.in-Load.count c.args.seed c.new-draws.result _ _ o.result
+          c.in-Load.is c.new-draws.ensures line.2 (record { left = refl; faults = refl })
+          (load_runs g.S.Disk.Disk g.S.Shelf g.B.Lobby g.I.Source g.O.Sink c.args.shelf.now taken.new.self c.args.lobby.now c.load.new.lobby c.args.input.now c.args.input.now c.args.out.now o.new.out
+          c.in-Load.file c.load.result o.result o.ensures.disk o.ensures.report
+          (takes_file (g.S.Shelf.taken c.args.shelf.now) (g.S.Shelf.taken taken.new.self) c.as_str-in-Load.ensures.lent taken.ensures.taken) o.ensures.printed
+          taken.result c.in-Load.number c.in-Load.count c.new-draws.result c.load.ensures.doors
+          (is_taken g.S.Disk.Disk _ _ taken.result c.as_str-in-Load.ensures.lent taken.ensures.told taken.ensures.begins taken.ensures.starts taken.ensures.cause)
+          c.load.ensures.loads),
     )
 
 pub init-requires-clause-base : goal.init-requires-clause-base

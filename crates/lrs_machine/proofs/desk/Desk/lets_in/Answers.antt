@@ -14,4 +14,4 @@ pub returns : goal.returns
 returns g c =
     rw (sym c.self.view_is)
     (by_none c.is_none.result c.barred.result c.is_none.ensures
-    ∙ ap is_none (c.barred.ensures ∙ ap (λ by. barred c.args.area by) (c.who.ensures ∙ ap (λ st. who_is st c.args.caller.now) c.self.invariant.0.folded)))
+    ∙ ap is_none (c.barred.ensures ∙ ap (λ by. barred c.args.area by) (c.who_is.ensures ∙ ap (λ st. who_is st c.args.caller.now) c.self.invariant.0.folded)))

@@ -1,0 +1,5 @@
+//! The tests of lrs_generator.
+#![tactic(auto)]
+
+#[cfg(test)]
+mod tests;
