@@ -4,7 +4,8 @@ the journal, for measuring and for holding the program against it.
 
     make_store.py FILE N [--limit BYTES] [--table ROWS] [--documents M]
 
-ROWS is a second file: the same statements as rows of a table, each a place, a verb and a text, parted by tabs.
+ROWS is a second file: the same statements as rows of a table, each a place, a verb, the name of its agent, a registration
+and a text, parted by tabs.
 Statement i has the id 00000000-0000-4000-8000-<i in twelve hexadecimal digits>. M state documents of 1,024 bytes come
 after the statements: document i is s<i mod 10> of the agent u<i / 10>."""
 import argparse
@@ -74,7 +75,10 @@ def main():
     if words.table is not None:
         with open(words.table, "wb") as out:
             for i in range(words.number):
-                out.write(b"%d\t%s\t%s\n" % (i, statement(i)["verb"]["id"].encode(), written(statement(i))))
+                made = statement(i)
+                verb, agent = made["verb"]["id"], made["actor"]["account"]["name"]
+                row = f"{i}\t{verb}\t{agent}\t{made['context']['registration']}\t"
+                out.write(row.encode() + written(made) + b"\n")
 
 
 main()
