@@ -1,7 +1,7 @@
 -- The escapes of a run of bytes that stand for themselves, and of the byte after it.
-use Rattle.std.proofs.Common.{◌≡◌, ℕ, ◌+◌, suc, List, [], ◌∷◌, ◌++◌, take, drop, Bool, true, false, refl, sym, ap, arith, append_assoc}
+use Rattle.std.proofs.Common.{◌≡◌, ℕ, ◌+◌, ◌-◌, ◌≤◌, ◌&&◌, length, suc, drop-drop, length-drop, zero, List, [], ◌∷◌, ◌++◌, take, drop, Bool, true, false, refl, sym, ap, ◌∙◌, subst, arith, append_assoc}
 use Rattle.std.proofs.lemmas.Grind.{common_steps}
-use Rattle.std.specs.List.{flat_map, prefix_len}
+use Rattle.std.specs.List.{flat_map, list_all, prefix_len}
 use Rattle.lrs_json.specs.Written.{is_plain}
 use Rattle.lrs_json.specs.Written.{escaped}
 
@@ -27,3 +27,25 @@ run_put old bytes run behind mid n is is_run is_behind put =
 
 pub byte_put : (mid behind new left : List ℕ) (b : ℕ) → behind ≡ b ∷ left → new ≡ mid ++ escaped b → new ++ flat_map escaped left ≡ mid ++ flat_map escaped behind
 byte_put mid behind new left b is put = rw (put, is) (append_assoc mid (escaped b) (flat_map escaped left))
+
+abbrev PassedBy : ℕ → List ℕ → Type 0
+PassedBy n ys = prefix_len is_plain ys ≡ n + prefix_len is_plain (drop n ys)
+
+passed_next : (n b : ℕ) (ys : List ℕ) (plain : Bool) → is_plain b ≡ plain → (list_all is_plain (take n ys) ≡ true → PassedBy n ys) → (plain && list_all is_plain (take n ys)) ≡ true → PassedBy (suc n) (b ∷ ys)
+passed_next n b ys true p rest all = rw (p, rest all) (omega arith)
+passed_next n b ys false p rest all = grind (arith, common_steps)
+
+-- a block of bytes that all stand for themselves belongs to the run
+pub passed_by : (n : ℕ) (ys : List ℕ) → n ≤ length ys → list_all is_plain (take n ys) ≡ true → PassedBy n ys
+passed_by zero ys long all = omega arith
+passed_by (suc n) [] long all = omega arith
+passed_by (suc n) (b ∷ ys) long all = passed_next n b ys (is_plain b) refl (passed_by n ys (omega arith)) all
+
+-- and so does one that begins behind a run
+pub block_passed : (bytes : List ℕ) (at n : ℕ) → PassedBy at bytes → n ≤ length bytes - at → (tested : Bool) → tested ≡ list_all is_plain (take (at + n - at) (drop at bytes)) → tested ≡ true → PassedBy (at + n) bytes
+block_passed bytes at n before long tested is holds =
+    let fits : n ≤ length (drop at bytes) = rw (length-drop at bytes) long in
+    let wide : at + n - at ≡ n = omega arith in
+    let all : list_all is_plain (take n (drop at bytes)) ≡ true = subst (λ m. list_all is_plain (take m (drop at bytes)) ≡ true) wide (sym is ∙ holds) in
+    let more = passed_by n (drop at bytes) fits all in
+    rw (before, more, drop-drop n at bytes) (omega arith)

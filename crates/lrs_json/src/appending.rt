@@ -1,7 +1,7 @@
 //! Appending the parts of a JSON text, for the layers that write one around trees. Each call leaves what stood before
 //! if memory runs out in the middle.
 ghost use Rattle.std.specs.Prelude.{◌≡◌, [], ◌∷◌, ◌++◌, ◌<◌, ◌≤◌, length, IfOk, OnOk};
-ghost use Rattle.std.specs.List.{flat_map, prefix_len};
+ghost use Rattle.std.specs.List.{flat_map, list_all, prefix_len};
 ghost use Rattle.lrs_json.specs.Json.{string};
 ghost use Rattle.lrs_json.specs.Texts.{name_text, member_text};
 ghost use Rattle.lrs_json.specs.Written.{Extends, comma_if, escaped, hex_digit_of, is_plain, quoted};
@@ -95,17 +95,48 @@ fn put_escaped(text: &str, into: &mut Vec<u8>) -> Result<(), Memory>
     Ok(())
 }
 
+// So many bytes are looked at in one step, since a branch for each takes longer.
+const BLOCK: usize = 8;
+
 /// How many bytes at the beginning stand for themselves in a string.
 pub fn plain_len(bytes: &[u8]) -> usize
     ensures bound { result ≤ length bytes.now }
     ensures value { result ≡ prefix_len is_plain bytes.now }
 {
+    let mut at = 0;
+    while bytes.len() - at >= BLOCK && are_plain(&bytes[at..at + BLOCK]) {
+        at += BLOCK;
+    }
+    at + plain_len_by_bytes(&bytes[at..])
+}
+
+fn are_plain(block: &[u8]) -> bool
+    ensures { result ≡ list_all is_plain block.now }
+{
+    let mut plain = true;
+    for byte in block {
+        plain &= is_plain(*byte);
+    }
+    plain
+}
+
+fn plain_len_by_bytes(bytes: &[u8]) -> usize
+    ensures bound { result ≤ length bytes.now }
+    ensures value { result ≡ prefix_len is_plain bytes.now }
+{
     for (i, byte) in bytes.iter().enumerate() {
-        if *byte < 32 || *byte == b'"' || *byte == b'\\' {
+        if !is_plain(*byte) {
             return i;
         }
     }
     bytes.len()
+}
+
+// Whether a byte stands for itself in a string.
+fn is_plain(byte: u8) -> bool
+    ensures { result ≡ is_plain byte }
+{
+    (byte >= 32) & (byte != b'"') & (byte != b'\\')
 }
 
 // The bytes at the beginning that stand for themselves, copied at once, and the escape of the byte after them. What is

@@ -1,7 +1,10 @@
-use Rattle.std.proofs.Common.{◌≡◌, ◌+◌, drop}
+use Rattle.std.proofs.Common.{◌≡◌, ◌+◌, ◌-◌, ◌≤◌, drop, length}
 use Rattle.std.specs.List.{prefix_len}
 use Rattle.lrs_json.specs.Written.{is_plain}
 use Rattle.lrs_json.proofs.appending.plain_len.Given as goal
 
-abbrev pub invariant-loop-i : goal.invariant-loop-i
-invariant-loop-i l = prefix_len is_plain l.bytes ≡ l.i + prefix_len is_plain (drop l.i l.bytes)
+abbrev pub invariant-loop-at : goal.invariant-loop-at
+invariant-loop-at l = l.at ≤ length l.bytes × (prefix_len is_plain l.bytes ≡ l.at + prefix_len is_plain (drop l.at l.bytes))
+
+abbrev pub decreases-loop-at : goal.decreases-loop-at
+decreases-loop-at l = length l.bytes - l.at
