@@ -124,6 +124,27 @@ fn inspect<D: Disk>(disk: &mut D) -> Result<u64, CreateRefused>
     Ok(size)
 }
 
+// Looks whether a store of one frame may be made on a disk and has room in the limit, and answers the number of its bytes.
+fn ready<D: Disk>(disk: &mut D, limit: u64, first: &[u8]) -> Result<u64, CreateRefused>
+    requires first { length first.now < 2 ^ 32 }
+    ensures size { IfOk result (λ size. ForSome (D.told disk.old) (λ bytes. size ≡ length bytes)) }
+    ensures free { IsOk result → ForSome (D.told disk.old) IsOpenTo }
+    ensures room { IsOk result → need_of_first first.now ≤ limit }
+    ensures refused { IfErr result (λ e. ForSome (D.told disk.old) (λ bytes. IsCreateRefused bytes e)) }
+    ensures full { (need most : ℕ) → IsErrOf result (CreateRefused.Full need most)
+        → (need ≡ need_of_first first.now) × (most ≡ limit) × (limit < need) }
+    ensures untouched { IsUntouched D.told D.image D.time D.image_since disk.old disk.new }
+    ensures cause { HasCount (D.fault_count disk.old) (D.fault_count disk.new) (IsErrOf result CreateRefused.Failed)
+        (IsOk result) }
+{
+    let size = inspect(disk)?;
+    let need = HEADER + FRAME_HEAD + 1 + first.len() as u64;
+    if need > limit {
+        return Err(CreateRefused::Full { need, limit });
+    }
+    Ok(size)
+}
+
 // Makes a store of one frame on a disk, if there may be one.
 fn make<D: Disk>(disk: &mut D, limit: u64, first: &[u8]) -> Result<(), CreateRefused>
     requires limit { IsLimit limit }
@@ -145,11 +166,7 @@ fn make<D: Disk>(disk: &mut D, limit: u64, first: &[u8]) -> Result<(), CreateRef
     ensures cause { HasCount (D.fault_count disk.old) (D.fault_count disk.new) (IsErrOf result CreateRefused.Failed)
         (IsOk result) }
 {
-    let size = inspect(disk)?;
-    let need = HEADER + FRAME_HEAD + 1 + first.len() as u64;
-    if need > limit {
-        return Err(CreateRefused::Full { need, limit });
-    }
+    let size = ready(disk, limit, first)?;
     build(disk, size, limit, first)?;
     Ok(())
 }

@@ -1,5 +1,5 @@
 // The writes of statements and of documents: how their fields are lent, and read back.
-ghost use Rattle.std.specs.Prelude.{◌≡◌, ◌++◌, drop, false, IfOk, IfSome, OnOk};
+ghost use Rattle.std.specs.Prelude.{◌≡◌, ◌++◌, drop, false, IfOk, IfSome, None, OnOk, Some};
 ghost use Rattle.std.specs.List.{AllByRecursion};
 ghost use Rattle.lrs_fields.specs.Reading.{members_left, read_first, values_left};
 ghost use Rattle.lrs_fields.specs.Values.{members_for};
@@ -71,21 +71,51 @@ pub fn put_drop(
     ensures kept { Extends into.old.items into.new.items }
     ensures holds { OnOk result (HoldsWrite (write.Drop activity.now agent.now registration.now state.now)) }
 {
+    match registration {
+        Some(registration) => put_drop_in(activity, agent, registration, state, into),
+        None => put_drop_anywhere(activity, agent, state, into),
+    }
+}
+
+// The same of documents in a registration.
+fn put_drop_in(
+    activity: &Iri,
+    agent: &Ifi,
+    registration: &Id,
+    state: &Option<Text>,
+    into: &mut Vec<u8>,
+) -> Result<(), Memory>
+    ensures ok { OnOk result (into.new.items ≡ into.old.items ++ members_text false (members_of (members_for
+        (write_fields (write.Drop activity.now agent.now (Some registration.now) state.now))))) }
+    ensures kept { Extends into.old.items into.new.items }
+    ensures holds { OnOk result (HoldsWrite (write.Drop activity.now agent.now (Some registration.now) state.now)) }
+{
     let first = ("activity", Lent::Iri(activity));
     let second = ("agent", Lent::Agent(agent));
-    match (registration, state) {
-        (None, None) => put_fields(&[first, second], into),
-        (Some(id), None) => put_fields(&[first, second, ("registration", Lent::Id(id))], into),
-        (None, Some(text)) => put_fields(&[first, second, ("state", Lent::Text(text))], into),
-        (Some(id), Some(text)) => put_fields(
-            &[
-                first,
-                second,
-                ("registration", Lent::Id(id)),
-                ("state", Lent::Text(text)),
-            ],
-            into,
-        ),
+    let third = ("registration", Lent::Id(registration));
+    match state {
+        Some(text) => put_fields(&[first, second, third, ("state", Lent::Text(text))], into),
+        None => put_fields(&[first, second, third], into),
+    }
+}
+
+// The same of documents in any registration, or in none.
+fn put_drop_anywhere(
+    activity: &Iri,
+    agent: &Ifi,
+    state: &Option<Text>,
+    into: &mut Vec<u8>,
+) -> Result<(), Memory>
+    ensures ok { OnOk result (into.new.items ≡ into.old.items ++ members_text false (members_of (members_for
+        (write_fields (write.Drop activity.now agent.now None state.now))))) }
+    ensures kept { Extends into.old.items into.new.items }
+    ensures holds { OnOk result (HoldsWrite (write.Drop activity.now agent.now None state.now)) }
+{
+    let first = ("activity", Lent::Iri(activity));
+    let second = ("agent", Lent::Agent(agent));
+    match state {
+        Some(text) => put_fields(&[first, second, ("state", Lent::Text(text))], into),
+        None => put_fields(&[first, second], into),
     }
 }
 
