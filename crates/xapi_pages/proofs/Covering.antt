@@ -1,5 +1,5 @@
 -- What is listed stands where a page is looked for.
-use Rattle.std.proofs.Common.{◌≡◌, ◌<◌, ◌≤◌, ◌+◌, ◌&&◌, ◌||◌, ℕ, zero, suc, List, [], length, take, drop, refl, sym, ◌∙◌, ap, subst, arith, Option, Some, None, IfSome, is_some, Bool, true, false, not, nat_le, nat_lt, slice_get, inl, inr}
+use Rattle.std.proofs.Common.{◌≡◌, ◌<◌, ◌≤◌, ◌+◌, ◌&&◌, ◌||◌, ℕ, zero, suc, List, [], length, take, drop, refl, sym, ◌∙◌, ap, subst, arith, Option, Some, None, IfNone, IfSome, is_some, Bool, true, false, not, nat_le, nat_lt, slice_get, inl, inr}
 use Rattle.std.specs.Prelude.{◌⊎◌, filter, option_and_then, position}
 use Rattle.std.specs.List.{list_any}
 use Rattle.std.specs.Option.{option_map_or}
@@ -16,7 +16,7 @@ use Rattle.xapi_query.specs.Filters.{direct, in_time, sees}
 use Rattle.xapi_query.specs.declared.query.Query.{Query}
 use Rattle.xapi_query.specs.declared.sight.Sight.{Sight}
 use Rattle.xapi_search.specs.Candidates.{Bounds, Reaches, is_candidate, stands_in}
-use Rattle.xapi_search.specs.Sought.{Tells, is_seen, passes}
+use Rattle.xapi_search.specs.Sought.{AreDirect, Tells, is_seen, passes}
 use Rattle.xapi_search.specs.declared.candidates.Candidates.{Candidates}
 use Rattle.xapi_search.specs.declared.candidates.Lists.{Lists}
 use Rattle.xapi_search.specs.declared.sought.Sought.{Sought}
@@ -27,7 +27,7 @@ use Rattle.xapi_statement_keys.specs.declared.key.Key.{Key}
 use Rattle.xapi_statement_keys.specs.declared.key.Key.TheVariants as key
 use Rattle.xapi_pages.specs.Chains.{chain_passes, is_direct_at, reaches}
 use Rattle.xapi_pages.specs.Listings.{chain_from, is_listed, is_listed_at, positions_of}
-use Rattle.xapi_pages.specs.Searching.{Covers, HaveAll, SkipsNone, may_be_listed}
+use Rattle.xapi_pages.specs.Searching.{Covers, HasDirect, HaveAll, SkipsNone, may_be_listed}
 use Rattle.xapi_pages.proofs.Fronts.{between, position_within}
 use Rattle.xapi_pages.proofs.References.{chain_told, passing_first, there}
 
@@ -35,6 +35,11 @@ use Rattle.xapi_pages.proofs.References.{chain_told, passing_first, there}
 pub at_some : {A : Type 0} (o : Option A) (x : A) (P : A → Type 0) → o ≡ Some x → IfSome o P → P x
 at_some None x P is said = cc is
 at_some (Some y) x P is said = let same : y ≡ x = cc is in subst (λ z. P z) same said
+
+-- what is said where there is none
+pub if_none : {A : Type 0} {P Q : Type 0} (o : Option A) → (P → Q) → IfNone o P → IfNone o Q
+if_none None more is = more is
+if_none (Some x) more is = tt
 
 -- ---- between candidates
 
@@ -144,6 +149,13 @@ in_posting held coming one ks posting k s at has =
     (sym (is_in-below (length held) ks k)
     ∙ (ap (λ js. is_in js k) posting.visible ∙ (is_in-positions (has_key one) held k ∙ (ap (λ o. option_map_or (has_key one) o false) at ∙ has))))).1
 
+-- a list of all that passes, and one of all that is seen and passes
+pub has_passing : (sought : Sought) (n : ℕ) (list : List ℕ) → ((k : ℕ) → passes sought k ≡ true → is_in list k ≡ true) → HasDirect sought n list
+has_passing sought n list has = λ k lt direct. has k (and_parts (is_seen sought.seen k) (passes sought k) direct).1
+
+pub has_direct : (sought : Sought) (n : ℕ) (list : List ℕ) → AreDirect sought n list → HasDirect sought n list
+has_direct sought n list are = λ k lt direct. are.those k ∙ and_from (nat_lt k n) (is_direct_at sought k) (lt-ltb k n lt) direct
+
 -- what refers to one of the first n refers to one at all
 has_target : (first : List StoredStatement) (o : Option (List ℕ)) (j : ℕ) → option_and_then (λ id. position (λ (t : StoredStatement). bytes_eq t.id id) first) o ≡ Some j → is_some o ≡ true
 has_target first None j is = cc is
@@ -160,7 +172,7 @@ module _ (sought : Sought) (held : List StoredStatement) (n : ℕ) (le : n ≤ l
           in_posting held coming key.AnyReference refer posting k s at target
 
   -- If one of a chain passes, the first one does by itself, or it refers to another one.
-  pub passes_or_refers : (coming : ℕ) (list refer : List ℕ) → IsPosting held coming key.AnyReference refer → ((k : ℕ) → passes sought k ≡ true → is_in list k ≡ true)
+  pub passes_or_refers : (coming : ℕ) (list refer : List ℕ) → IsPosting held coming key.AnyReference refer → HasDirect sought n list
       → (k : ℕ) → k < n → chain_passes sought (take n held) k ≡ true → is_in list k || is_in refer k ≡ true
   passes_or_refers coming list refer posting has k lt chain = by_direct (is_direct_at sought k) refl
     where
@@ -169,12 +181,12 @@ module _ (sought : Sought) (held : List StoredStatement) (n : ℕ) (le : n ≤ l
       by_next fails (Some j) at = refers coming refer posting k j lt at
 
       by_direct : (b : Bool) → is_direct_at sought k ≡ b → is_in list k || is_in refer k ≡ true
-      by_direct true direct = or_left (is_in list k) (is_in refer k) (has k (and_parts (is_seen sought.seen k) (passes sought k) direct).1)
+      by_direct true direct = or_left (is_in list k) (is_in refer k) (has k lt direct)
       by_direct false fails = or_right (is_in list k) (is_in refer k) (by_next fails (referred_at (take n held) k) refl)
 
-  module _ (ends found : List ℕ) (is : Reaches held n ends found) (has : (k : ℕ) → passes sought k ≡ true → is_in ends k ≡ true) where
+  module _ (ends found : List ℕ) (is : Reaches held n ends found) (has : HasDirect sought n ends) where
     here : (k : ℕ) → k < n → is_direct_at sought k ≡ true → is_in found k ≡ true
-    here k lt direct = is.ends k lt (has k (and_parts (is_seen sought.seen k) (passes sought k) direct).1)
+    here k lt direct = is.ends k lt (has k lt direct)
 
     along : (steps k : ℕ) → k < n → reaches (is_direct_at sought) (referred_at (take n held)) steps (Some k) ≡ true → is_in found k ≡ true
     along zero k lt passing = here k lt passing

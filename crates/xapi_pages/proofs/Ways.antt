@@ -8,7 +8,7 @@ use Rattle.std.proofs.lemmas.List.{drop_more}
 use Rattle.std.proofs.lemmas.List.Folds.{list_any-append}
 use Rattle.xapi_pages.specs.declared.chains.Mark.{Mark}
 use Rattle.xapi_pages.specs.declared.chains.Mark.TheVariants.{Unknown, Passes, Fails}
-use Rattle.xapi_pages.specs.Chains.{AreTrue, IsMarked, is_among, known_by, mark_at}
+use Rattle.xapi_pages.specs.Chains.{AreTrue, IsMarked, if_unknown, is_among, known_by, mark_at, unknown_below}
 use Rattle.xapi_pages.proofs.References.{TellsPassing}
 
 -- ---- positions
@@ -106,11 +106,22 @@ way_begun p next n v marks path start empty lt are = record {
     none w is = let out : is_among path w ≡ false = ap (λ ws. is_among ws w) empty in cc (out, is)
 
 -- nothing is known at a position
-unknown : (mark : Mark) (direct : Bool) → known_by mark direct ≡ None → (mark ≡ Unknown) × (direct ≡ false)
+pub unknown : (mark : Mark) (direct : Bool) → known_by mark direct ≡ None → (mark ≡ Unknown) × (direct ≡ false)
 unknown Unknown true is = cc is
 unknown Unknown false is = (refl, refl)
 unknown Passes direct is = cc is
 unknown Fails direct is = cc is
+
+-- what is known at a position while no mark is doubtful
+pub known_now : (p : ℕ → Bool) (next : ℕ → Option ℕ) (n : ℕ) (v : ℕ → Bool) (marks : List (ℕ × Mark)) (position : ℕ) → TellsPassing p next n v → AreTrue v marks []
+    → (b : Bool) → known_by (mark_at marks position) (p position) ≡ Some b → v position ≡ b
+known_now p next n v marks position is are b known = by_mark (mark_at marks position) (p position) refl refl known
+  where
+    by_mark : (mark : Mark) (direct : Bool) → mark_at marks position ≡ mark → p position ≡ direct → known_by mark direct ≡ Some b → v position ≡ b
+    by_mark Unknown true at here e = is.here position here ∙ cc e
+    by_mark Unknown false at here e = cc e
+    by_mark Passes direct at here e = are.passing position at ∙ cc e
+    by_mark Fails direct at here e = are.failing position at refl ∙ cc e
 
 module _ (p : ℕ → Bool) (next : ℕ → Option ℕ) (n : ℕ) (v : ℕ → Bool) (marks : List (ℕ × Mark)) (path : List ℕ) (start position : ℕ) (is : TellsPassing p next n v) (way : IsOnWay p next n v marks path start position) where
   -- one step further
@@ -159,16 +170,15 @@ module _ (p : ℕ → Bool) (next : ℕ → Option ℕ) (n : ℕ) (v : ℕ → B
 
 -- ---- its end
 
--- one for an unknown position
-abbrev pub if_unknown : Mark → ℕ
-if_unknown Unknown = 1
-if_unknown Passes = 0
-if_unknown Fails = 0
-
--- how many of the first n positions are unknown
-abbrev pub unknown_below : ℕ → List (ℕ × Mark) → ℕ
-unknown_below zero marks = 0
-unknown_below (suc n) marks = if_unknown (mark_at marks n) + unknown_below n marks
+-- no more are unknown than there are
+pub unknown_most : (marks : List (ℕ × Mark)) (n : ℕ) → unknown_below n marks ≤ n
+unknown_most marks zero = omega arith
+unknown_most marks (suc n) = one_more (mark_at marks n) (unknown_below n marks) (unknown_most marks n)
+  where
+    one_more : (mark : Mark) (below : ℕ) → below ≤ n → if_unknown mark + below ≤ suc n
+    one_more Unknown below le = let is : if_unknown Unknown ≡ 1 = refl in omega arith
+    one_more Passes below le = let is : if_unknown Passes ≡ 0 = refl in omega arith
+    one_more Fails below le = let is : if_unknown Fails ≡ 0 = refl in omega arith
 
 -- none is unknown that was known
 no_more : (old new : List (ℕ × Mark)) (position n : ℕ) → IsMarked old position Fails new → unknown_below n new ≤ unknown_below n old
@@ -213,6 +223,31 @@ fewer (suc n) old new position direct none lt is = by_test (n == position) refl 
         one_less (if_unknown (mark_at new n)) (if_unknown (mark_at old n)) (unknown_below n new) (unknown_below n old) (ap if_unknown (now true at)) (ap if_unknown was) (no_more old new position n is)
     by_test false at further =
         sum_less (if_unknown (mark_at new n)) (if_unknown (mark_at old n)) (unknown_below n new) (unknown_below n old) (ap if_unknown (now false at)) (further (apart n position at lt))
+
+-- no more are unknown once those of a way are marked as passing
+pub passed_fewer : (old new : List (ℕ × Mark)) (path : List ℕ) (n : ℕ) → ((k : ℕ) → mark_at new k ≡ (if is_among path k then Passes else mark_at old k)) → unknown_below n new ≤ unknown_below n old
+passed_fewer old new path zero at = omega arith
+passed_fewer old new path (suc n) at = by_test (is_among path n) refl (passed_fewer old new path n at)
+  where
+    now : (b : Bool) → is_among path n ≡ b → mark_at new n ≡ (if b then Passes else mark_at old n)
+    now b is = at n ∙ ap (λ t. if t then Passes else mark_at old n) is
+
+    sum_less : (a b c d : ℕ) → a ≡ 0 → c ≤ d → a + c ≤ b + d
+    sum_less a b c d none le = omega arith
+
+    sum_same : (a b c d : ℕ) → a ≡ b → c ≤ d → a + c ≤ b + d
+    sum_same a b c d same le = omega arith
+
+    by_test : (b : Bool) → is_among path n ≡ b → unknown_below n new ≤ unknown_below n old → unknown_below (suc n) new ≤ unknown_below (suc n) old
+    by_test true is le = sum_less (if_unknown (mark_at new n)) (if_unknown (mark_at old n)) (unknown_below n new) (unknown_below n old) (ap if_unknown (now true is)) le
+    by_test false is le = sum_same (if_unknown (mark_at new n)) (if_unknown (mark_at old n)) (unknown_below n new) (unknown_below n old) (ap if_unknown (now false is)) le
+
+-- a step more is counted, and one position fewer is unknown
+pub step_counted : (n : ℕ) (old new : List (ℕ × Mark)) (position walked taken : ℕ) (direct : Bool) → known_by (mark_at old position) direct ≡ None → position < n → IsMarked old position Fails new
+    → taken ≤ walked + 1 → walked + unknown_below n old ≤ n → taken + unknown_below n new ≤ n
+step_counted n old new position walked taken direct none lt is more counted =
+    let less = fewer n old new position direct none lt is in
+    omega (arith, less, more, counted)
 
 -- ---- what passes
 

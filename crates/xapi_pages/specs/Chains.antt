@@ -1,20 +1,16 @@
 -- Chains of references by the positions of statements, and what is marked of them while a page is found.
-use Rattle.std.specs.Prelude.{◌≡◌, ◌==◌, ◌&&◌, ◌||◌, ℕ, zero, suc, Bool, true, false, List, length, Option, Some}
+use Rattle.std.specs.Prelude.{◌≡◌, ◌==◌, ◌+◌, ◌||◌, ℕ, zero, suc, Bool, true, false, List, length, Option, Some}
 use Rattle.std.specs.Prelude.{None, if◌then◌else◌, unwrap_or}
 use Rattle.std.specs.BTreeMap.{is_at}
 use Rattle.std.specs.List.{list_any}
 use Rattle.std.specs.Map.{lookup}
 use Rattle.std.specs.Ordering.{nat_cmp}
 use Rattle.xapi_index.specs.Statements.{referred_at}
-use Rattle.xapi_search.specs.Sought.{is_seen, passes}
+pub use Rattle.xapi_search.specs.Sought.{is_direct_at}
 use Rattle.xapi_search.specs.declared.sought.Sought.{Sought}
 use Rattle.xapi_statement.specs.Stored.{StoredStatement}
 use Rattle.xapi_pages.specs.declared.chains.Mark.{Mark}
 use Rattle.xapi_pages.specs.declared.chains.Mark.TheVariants.{Unknown, Passes, Fails}
-
--- the statement at a position is seen and passes the filters by itself, as the lists tell
-abbrev pub is_direct_at : Sought → ℕ → Bool
-is_direct_at sought position = is_seen sought.seen position && passes sought position
 
 -- From a position on, one that the test lets pass is reached in so many steps at most.
 abbrev pub reaches : (ℕ → Bool) → (ℕ → Option ℕ) → ℕ → Option ℕ → Bool
@@ -50,3 +46,16 @@ known_by Fails direct = Some false
 pub record AreTrue (holds : ℕ → Bool) (marks : List (ℕ × Mark)) (doubtful : List ℕ) : Type 0 where
   pub passing : (k : ℕ) → mark_at marks k ≡ Passes → holds k ≡ true
   pub failing : (k : ℕ) → mark_at marks k ≡ Fails → is_among doubtful k ≡ false → holds k ≡ false
+
+-- ---- how far walks can go
+
+-- one for an unknown position
+abbrev pub if_unknown : Mark → ℕ
+if_unknown Unknown = 1
+if_unknown Passes = 0
+if_unknown Fails = 0
+
+-- how many of the first n positions are unknown
+abbrev pub unknown_below : ℕ → List (ℕ × Mark) → ℕ
+unknown_below zero marks = 0
+unknown_below (suc n) marks = if_unknown (mark_at marks n) + unknown_below n marks

@@ -2,11 +2,12 @@
 use Rattle.std.specs.Prelude.{◌≡◌, ◌<◌, ◌≤◌, ◌&&◌, ℕ, Bool, true, false, not, List, slice_get, take, Option, Some}
 use Rattle.std.specs.Option.{option_map_or}
 use Rattle.xapi_index.specs.Statements.{is_voided}
+use Rattle.xapi_postings.specs.Ascending.{is_in}
 use Rattle.xapi_query.specs.Filters.{in_time}
 use Rattle.xapi_query.specs.declared.query.Query.{Query}
 use Rattle.xapi_query.specs.declared.sight.Sight.{Sight}
 use Rattle.xapi_search.specs.Candidates.{is_before, is_candidate, stands_in}
-use Rattle.xapi_search.specs.Sought.{Tells, is_seen}
+use Rattle.xapi_search.specs.Sought.{Tells, is_direct_at, is_seen}
 use Rattle.xapi_search.specs.declared.candidates.Candidates.{Candidates}
 use Rattle.xapi_search.specs.declared.candidates.Lists.{Lists}
 use Rattle.xapi_search.specs.declared.sought.Sought.{Sought}
@@ -49,6 +50,10 @@ Covers query sought held n candidates = (sight : Sight) → Tells query sight he
 abbrev pub HaveAll : Sought → List StoredStatement → ℕ → Lists → Type 0
 HaveAll sought held n lists = (k : ℕ) → k < n → is_seen sought.seen k ≡ true
     → chain_passes sought (take n held) k ≡ true → stands_in lists k ≡ true
+
+-- Of the first n positions, the list has each that is seen and passes by itself.
+abbrev pub HasDirect : Sought → ℕ → List ℕ → Type 0
+HasDirect sought n list = (k : ℕ) → k < n → is_direct_at sought k ≡ true → is_in list k ≡ true
 
 -- In the order of so many positions none that stands from an index on, and before the one that was found, is a
 -- candidate.

@@ -1,14 +1,15 @@
 // Chains of references. What is found of one is marked, so that a page goes along each reference once.
-ghost use Rattle.std.specs.Prelude.{◌≡◌, ◌<◌, ◌≤◌, ℕ, IfOk, OnOk, [], length, take, if◌then◌else◌, true};
+ghost use Rattle.std.specs.Prelude.{◌≡◌, ◌<◌, ◌≤◌, ◌+◌, ℕ, IfOk, OnOk, [], length, take, if◌then◌else◌, true};
 ghost use Rattle.xapi_search.specs.Sought.{AreAscending};
 ghost use Rattle.xapi_pages.specs.Chains.{AreTrue, IsMarked, chain_passes, is_among, is_direct_at, known_by, mark_at};
+ghost use Rattle.xapi_pages.specs.Chains.{unknown_below};
 
 use lrs_json::Memory;
 use std::alloc::Global;
 use std::collections::BTreeMap;
 use std::marker::Model;
 use xapi_index::Index;
-use xapi_search::Sought;
+use xapi_search::{Sought, is_direct_at};
 
 /// What is known of the chain of references of a statement.
 #[derive(Clone, Copy)]
@@ -60,7 +61,8 @@ impl Marks {
 }
 
 /// Whether a statement of the chain of the one at a position is seen and passes the filters, among the first so many,
-/// as the lists tell. The same marks are handed in throughout a page.
+/// as the lists tell. The same marks and the same count of steps are handed in throughout a page. The answer and the
+/// marks hold while no more than `most` steps were walked.
 pub(crate) fn chain_passes(
     alloc: Global,
     index: &Index,
@@ -68,29 +70,27 @@ pub(crate) fn chain_passes(
     asof: usize,
     marks: &mut Marks,
     position: usize,
+    most: usize,
+    walked: &mut usize,
 ) -> Result<bool, Memory>
     requires asof { asof ≤ length index.now.held }
     requires within { position < asof }
     requires ascending { AreAscending sought.now }
     requires marks { AreTrue (chain_passes sought.now (take asof index.now.held)) marks.old [] }
-    ensures passes { IfOk result (λ passes. passes ≡ chain_passes sought.now (take asof index.now.held) position) }
-    ensures marks { OnOk result (AreTrue (chain_passes sought.now (take asof index.now.held)) marks.new []) }
+    requires counted { walked.old + unknown_below asof marks.old ≤ asof }
+    ensures passes { IfOk result (λ passes. walked.new ≤ most
+        → passes ≡ chain_passes sought.now (take asof index.now.held) position) }
+    ensures marks { OnOk result (walked.new ≤ most
+        → AreTrue (chain_passes sought.now (take asof index.now.held)) marks.new []) }
+    ensures counted { OnOk result (walked.new + unknown_below asof marks.new ≤ asof) }
 {
-    if is_direct_at(sought, position) {
-        return Ok(true);
+    if let Some(passes) = known_at(sought, marks, position) {
+        return Ok(passes);
     }
     match index.referred_at(asof, position) {
-        Some(next) => follow(alloc, index, sought, asof, marks, next),
+        Some(next) => follow(alloc, index, sought, asof, marks, next, most, walked),
         None => Ok(false),
     }
-}
-
-// Whether the statement at a position is seen and passes the filters by itself.
-fn is_direct_at(sought: &Sought<'_>, position: usize) -> bool
-    requires { AreAscending sought.now }
-    ensures { result ≡ is_direct_at sought.now position }
-{
-    sought.sees(position) && sought.passes(position)
 }
 
 // Follows the chain from a position on.
@@ -101,16 +101,22 @@ fn follow(
     asof: usize,
     marks: &mut Marks,
     start: usize,
+    most: usize,
+    walked: &mut usize,
 ) -> Result<bool, Memory>
     requires asof { asof ≤ length index.now.held }
     requires within { start < asof }
     requires ascending { AreAscending sought.now }
     requires marks { AreTrue (chain_passes sought.now (take asof index.now.held)) marks.old [] }
-    ensures passes { IfOk result (λ passes. passes ≡ chain_passes sought.now (take asof index.now.held) start) }
-    ensures marks { OnOk result (AreTrue (chain_passes sought.now (take asof index.now.held)) marks.new []) }
+    requires counted { walked.old + unknown_below asof marks.old ≤ asof }
+    ensures passes { IfOk result (λ passes. walked.new ≤ most
+        → passes ≡ chain_passes sought.now (take asof index.now.held) start) }
+    ensures marks { OnOk result (walked.new ≤ most
+        → AreTrue (chain_passes sought.now (take asof index.now.held)) marks.new []) }
+    ensures counted { OnOk result (walked.new + unknown_below asof marks.new ≤ asof) }
 {
     let mut path = Vec::new(alloc);
-    let passes = walk(index, sought, asof, marks, &mut path, start)?;
+    let passes = walk(index, sought, asof, marks, &mut path, start, most, walked)?;
     if !passes {
         return Ok(false);
     }
@@ -118,8 +124,8 @@ fn follow(
     Ok(true)
 }
 
-// Walks from a position until something is known. The positions after it are marked as failing: so a walk that comes
-// round ends, too, if nothing passes.
+// Walks from a position until something is known, or more than `most` steps were walked. The positions from it on are
+// marked as failing: so a walk that comes round ends, too, if nothing passes.
 fn walk(
     index: &Index,
     sought: &Sought<'_>,
@@ -127,17 +133,22 @@ fn walk(
     marks: &mut Marks,
     path: &mut Vec<usize>,
     start: usize,
+    most: usize,
+    walked: &mut usize,
 ) -> Result<bool, Memory>
     requires asof { asof ≤ length index.now.held }
     requires within { start < asof }
     requires ascending { AreAscending sought.now }
     requires path { path.old.items ≡ [] }
     requires marks { AreTrue (chain_passes sought.now (take asof index.now.held)) marks.old [] }
-    ensures passes { IfOk result (λ passes. passes ≡ chain_passes sought.now (take asof index.now.held) start) }
-    ensures alike { IfOk result (λ passes. (k : ℕ) → is_among path.new.items k ≡ true
+    requires counted { walked.old + unknown_below asof marks.old ≤ asof }
+    ensures passes { IfOk result (λ passes. walked.new ≤ most
+        → passes ≡ chain_passes sought.now (take asof index.now.held) start) }
+    ensures alike { IfOk result (λ passes. walked.new ≤ most → (k : ℕ) → is_among path.new.items k ≡ true
         → chain_passes sought.now (take asof index.now.held) k ≡ passes) }
-    ensures marks { OnOk result (
-        AreTrue (chain_passes sought.now (take asof index.now.held)) marks.new path.new.items) }
+    ensures marks { OnOk result (walked.new ≤ most
+        → AreTrue (chain_passes sought.now (take asof index.now.held)) marks.new path.new.items) }
+    ensures counted { OnOk result (walked.new + unknown_below asof marks.new ≤ asof) }
 {
     let mut position = start;
     'steps: loop {
@@ -146,6 +157,11 @@ fn walk(
         }
         path.push(position)?;
         marks.set(position, Mark::Fails)?;
+        let taken = (*walked).saturating_add(1);
+        *walked = taken;
+        if taken > most {
+            return Ok(false);
+        }
         match index.referred_at(asof, position) {
             Some(next) => position = next,
             None => return Ok(false),

@@ -1,11 +1,11 @@
 // The statements that a query asks for, in their order, and their pages.
-ghost use Rattle.std.specs.Prelude.{◌≡◌, ◌<◌, ◌≤◌, ℕ, false, nat_le, IfNone, IfOk, IfSome, OnOk, Some, [], length};
+ghost use Rattle.std.specs.Prelude.{◌≡◌, ◌<◌, ◌≤◌, ◌+◌, ℕ, false, nat_le, IfNone, IfOk, IfSome, OnOk, Some, [], length};
 ghost use Rattle.std.specs.Prelude.{slice_get, take};
 ghost use Rattle.std.specs.Option.{option_map_or};
 ghost use Rattle.xapi_query.specs.Filters.{in_time};
 ghost use Rattle.xapi_search.specs.Candidates.{ListsAscend};
 ghost use Rattle.xapi_search.specs.Sought.{AreAscending};
-ghost use Rattle.xapi_pages.specs.Chains.{AreTrue, chain_passes};
+ghost use Rattle.xapi_pages.specs.Chains.{AreTrue, chain_passes, unknown_below};
 ghost use Rattle.xapi_pages.specs.Listings.{is_behind, last_of, positions_of};
 ghost use Rattle.xapi_pages.specs.Searching.{Covers, IsPage, SkipsNone, TellsListed, may_be_listed};
 
@@ -24,7 +24,8 @@ pub(crate) struct Page {
 }
 
 /// The page after a position, in the list as of the first so many statements, looked for among the candidates in their
-/// order. None if more than `most_missed` of them weren't listed, and there are further ones.
+/// order. None if more than `most_missed` of them weren't listed, and there are further ones, or if more steps were
+/// walked along references.
 pub(crate) fn find_page(
     alloc: Global,
     index: &Index,
@@ -48,6 +49,7 @@ pub(crate) fn find_page(
     let mut positions = Vec::new(alloc);
     let mut marks = Marks::new(alloc);
     let mut missed = 0;
+    let mut walked: usize = 0;
     let mut from = first_behind(query.ascending, asof, after);
     'looks: while let Some(i) = next_index(candidates, query.ascending, asof, from) {
         if missed > most_missed {
@@ -55,7 +57,20 @@ pub(crate) fn find_page(
         }
         from = i + 1;
         let position = position_at(query.ascending, asof, i);
-        let listed = is_listed_at(alloc, index, query, sought, asof, &mut marks, position)?;
+        let listed = is_listed_at(
+            alloc,
+            index,
+            query,
+            sought,
+            asof,
+            &mut marks,
+            position,
+            most_missed,
+            &mut walked,
+        )?;
+        if walked > most_missed {
+            return Ok(None);
+        }
         if !listed {
             missed += 1;
             continue;
@@ -127,7 +142,7 @@ fn next_index(
     }
 }
 
-// What costs least is asked first.
+// What costs least is asked first. The answer holds while no more than `most` steps were walked.
 fn is_listed_at(
     alloc: Global,
     index: &Index,
@@ -136,16 +151,22 @@ fn is_listed_at(
     asof: usize,
     marks: &mut Marks,
     position: usize,
+    most: usize,
+    walked: &mut usize,
 ) -> Result<bool, Memory>
     requires asof { asof ≤ length index.now.held }
     requires within { position < asof }
     requires ascending { AreAscending sought.now }
     requires marks { AreTrue (chain_passes sought.now (take asof index.now.held)) marks.old [] }
-    ensures listed { IfOk result (λ listed. TellsListed query.now sought.now index.now.held asof position listed) }
-    ensures marks { OnOk result (AreTrue (chain_passes sought.now (take asof index.now.held)) marks.new []) }
+    requires counted { walked.old + unknown_below asof marks.old ≤ asof }
+    ensures listed { IfOk result (λ listed. walked.new ≤ most
+        → TellsListed query.now sought.now index.now.held asof position listed) }
+    ensures marks { OnOk result (walked.new ≤ most
+        → AreTrue (chain_passes sought.now (take asof index.now.held)) marks.new []) }
+    ensures counted { OnOk result (walked.new + unknown_below asof marks.new ≤ asof) }
 {
     if may_be_listed(index, query, sought, asof, position) {
-        chain_passes(alloc, index, sought, asof, marks, position)
+        chain_passes(alloc, index, sought, asof, marks, position, most, walked)
     } else {
         Ok(false)
     }

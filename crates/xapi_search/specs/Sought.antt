@@ -1,5 +1,5 @@
 -- What a query and a sight ask of the statements of an index, as lists of positions.
-use Rattle.std.specs.Prelude.{◌≡◌, ℕ, Bool, true, false, List, slice_get, Some}
+use Rattle.std.specs.Prelude.{◌≡◌, ◌&&◌, ℕ, nat_lt, Bool, true, false, List, slice_get, Some}
 use Rattle.std.specs.List.{AllByRecursion, list_all}
 use Rattle.xapi_postings.specs.Ascending.{IsAscending, is_in}
 use Rattle.xapi_query.specs.Filters.{direct, sees}
@@ -19,6 +19,15 @@ is_seen (These ks) k = is_in ks.now k
 -- it stands in the list of each filter
 abbrev pub passes : Sought → ℕ → Bool
 passes sought k = list_all (λ ks. is_in ks.now k) sought.filters.items
+
+-- the statement at a position is seen and passes the filters by itself, as the lists tell
+abbrev pub is_direct_at : Sought → ℕ → Bool
+is_direct_at sought position = is_seen sought.seen position && passes sought position
+
+-- of the first n positions those that are seen and pass, in order
+pub record AreDirect (sought : Sought) (n : ℕ) (found : List ℕ) : Type 0 where
+  pub ascending : IsAscending found
+  pub those : (k : ℕ) → is_in found k ≡ nat_lt k n && is_direct_at sought k
 
 abbrev pub SeenAscends : Seen → Type 0
 SeenAscends Nothing = Unit {0}

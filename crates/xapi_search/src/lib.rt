@@ -3,11 +3,13 @@
 #![tactic(auto)]
 
 mod candidates;
+mod direct;
 mod references;
 mod sought;
 mod times;
 
 pub use candidates::{Candidates, Lists};
+pub use direct::{direct_below, is_direct_at};
 pub use references::reaching;
 pub use sought::{Seen, Sought};
 pub use times::bounds;

@@ -6,7 +6,7 @@ use Rattle.xapi_pages.specs.Listings.{is_behind, is_listed_at, last_of, listing_
 use Rattle.xapi_pages.specs.Chains.{chain_passes}
 use Rattle.xapi_pages.proofs.Covering.{none_behind, none_between}
 use Rattle.xapi_pages.proofs.Fronts.{full_page, last_page, le_no, le_yes, next_given, next_left_out, skipped}
-use Rattle.xapi_pages.proofs.Ways.{none_marked}
+use Rattle.xapi_pages.proofs.Ways.{none_marked, unknown_most}
 use Rattle.xapi_pages.proofs.listing.find_page.Goals as goal
 
 pub looks-init : goal.looks-init
@@ -23,12 +23,16 @@ looks-init c =
       short = search rules;
       later = omega arith;
       few = omega arith;
+      counted = omega (arith, unknown_most c.new-marks.result c.args.asof);
       marked = none_marked (chain_passes c.args.sought.now (take c.args.asof c.args.index.now.held)) c.new-marks.result c.new-marks.ensures;
     }
 
 pub returns-then-missed-most_missed-clause-enough : goal.returns-then-missed-most_missed-clause-enough
 returns-then-missed-most_missed-clause-enough c =
     omega (arith, c.looks.invariant.few, c.if-missed-most_missed.true, c.in-Some.ensures.ahead, c.in-Some.ensures.within)
+
+pub returns-then-walked-most_missed-clause-enough : goal.returns-then-walked-most_missed-clause-enough
+returns-then-walked-most_missed-clause-enough c = omega (arith, c.in_ok-listed.ensures.counted, c.if-walked-most_missed.true)
 
 pub overflow_add-from : goal.overflow_add-from
 overflow_add-from c =
@@ -54,12 +58,13 @@ looks-preserved-then-not-listed c =
       given = λ sight tells.
           let l = is_listed_at c.args.query.now sight (take c.args.asof c.args.index.now.held) in
           let reached = none_between c.args.query.now sight c.args.sought.now c.args.index.now.held c.args.asof c.args.candidates.now tells c.requires.covers b at.from i c.in-Some.ensures.ahead c.in-Some.ensures.skips in
-          let passed = next_left_out b l all i x c.position_at-position.ensures.at (and_right (b x) (l x) (sym (c.in_ok-listed.ensures.listed sight tells) ∙ c.if-not-listed.true)) in
+          let passed = next_left_out b l all i x c.position_at-position.ensures.at (and_right (b x) (l x) (sym (c.in_ok-listed.ensures.listed c.if-walked-most_missed.false sight tells) ∙ c.if-not-listed.true)) in
           ap (λ ks. at.positions.items ++ ks) (sym (reached ∙ passed)) ∙ at.invariant.given sight tells;
       short = at.invariant.short;
       later = omega (arith, at.invariant.later, c.in-Some.ensures.ahead);
       few = omega (arith, at.invariant.few, c.in-Some.ensures.ahead);
-      marked = c.in_ok-listed.ensures.marks;
+      counted = c.in_ok-listed.ensures.counted;
+      marked = c.in_ok-listed.ensures.marks c.if-walked-most_missed.false;
     }
 
 pub returns-then-len-most-clause-page : goal.returns-then-len-most-clause-page
@@ -75,7 +80,7 @@ returns-then-len-most-clause-page c = λ sight tells.
     let first : c.first_behind-from.result ≤ i = omega (arith, at.invariant.later, c.in-Some.ensures.ahead) in
     let behind = c.first_behind-from.ensures i x c.position_at-position.ensures.at ∙ le_yes c.first_behind-from.result i first in
     let reached = none_between c.args.query.now sight c.args.sought.now c.args.index.now.held c.args.asof c.args.candidates.now tells c.requires.covers b at.from i c.in-Some.ensures.ahead c.in-Some.ensures.skips in
-    let given = next_given b l all i x c.position_at-position.ensures.at (and_from (b x) (l x) behind (sym (c.in_ok-listed.ensures.listed sight tells) ∙ c.if-not-listed.false)) in
+    let given = next_given b l all i x c.position_at-position.ensures.at (and_from (b x) (l x) behind (sym (c.in_ok-listed.ensures.listed c.if-walked-most_missed.false sight tells) ∙ c.if-not-listed.false)) in
     let whole : at.positions.items ++ x ∷ rest ≡ listing = ap (λ ks. at.positions.items ++ ks) (sym (reached ∙ given)) ∙ at.invariant.given sight tells in
     let counted : at.positions.len ≡ length at.positions.items = search rules in
     let short = at.invariant.short in
@@ -106,13 +111,14 @@ looks-preserved c =
           let l = is_listed_at c.args.query.now sight (take c.args.asof c.args.index.now.held) in
           let rest = filter b (filter l (drop (i + 1) all)) in
           let reached = none_between c.args.query.now sight c.args.sought.now c.args.index.now.held c.args.asof c.args.candidates.now tells c.requires.covers b at.from i c.in-Some.ensures.ahead c.in-Some.ensures.skips in
-          let given = next_given b l all i x c.position_at-position.ensures.at (and_from (b x) (l x) behind (sym (c.in_ok-listed.ensures.listed sight tells) ∙ c.if-not-listed.false)) in
+          let given = next_given b l all i x c.position_at-position.ensures.at (and_from (b x) (l x) behind (sym (c.in_ok-listed.ensures.listed c.if-walked-most_missed.false sight tells) ∙ c.if-not-listed.false)) in
           ap (λ ks. ks ++ rest) c.in_ok-push.ensures.items ∙ (append_assoc at.positions.items (x ∷ []) rest
           ∙ (ap (λ ks. at.positions.items ++ ks) (sym (reached ∙ given)) ∙ at.invariant.given sight tells));
       short = omega arith;
       later = omega (arith, at.invariant.later, c.in-Some.ensures.ahead);
       few = omega (arith, at.invariant.few, c.in-Some.ensures.ahead);
-      marked = c.in_ok-listed.ensures.marks;
+      counted = c.in_ok-listed.ensures.counted;
+      marked = c.in_ok-listed.ensures.marks c.if-walked-most_missed.false;
     }
 
 pub returns-clause-page : goal.returns-clause-page

@@ -1,12 +1,12 @@
-use Rattle.std.proofs.Common.{◌≡◌, ◌≤◌, ◌-◌, ◌++◌, [], drop, take, length}
+use Rattle.std.proofs.Common.{◌≡◌, ◌≤◌, ◌+◌, ◌-◌, ◌++◌, [], drop, take, length}
 use Rattle.std.specs.Prelude.{filter}
 use Rattle.xapi_query.specs.declared.sight.Sight.{Sight}
 use Rattle.xapi_search.specs.Sought.{Tells}
 use Rattle.xapi_pages.specs.Listings.{is_behind, is_listed_at, listing_behind, positions_of}
-use Rattle.xapi_pages.specs.Chains.{AreTrue, chain_passes}
+use Rattle.xapi_pages.specs.Chains.{AreTrue, chain_passes, unknown_below}
 use Rattle.xapi_pages.proofs.listing.find_page.Given as goal
 
--- The page so far, and what is given of the positions that are left; from the first index on, and no more were missed than were looked at.
+-- The page so far, and what is given of the positions that are left; from the first index on, no more were missed than were looked at, and there were no more steps than positions that are known.
 abbrev pub invariant-looks : goal.invariant-looks
 invariant-looks l = record {
   given : (sight : Sight) → Tells l.query sight l.index.held l.sought
@@ -15,6 +15,7 @@ invariant-looks l = record {
   short : length l.positions.items ≤ l.query.page;
   later : l.initial.from ≤ l.from;
   few : l.missed ≤ l.from;
+  counted : l.walked + unknown_below l.asof l.marks ≤ l.asof;
   marked : AreTrue (chain_passes l.sought (take l.asof l.index.held)) l.marks [];
 }
 
