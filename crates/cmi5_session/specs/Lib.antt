@@ -1,4 +1,6 @@
+pub mod Marked
+pub mod Moments
 pub mod Own
 pub mod Phases
-pub mod Views
 pub mod Rules
+pub mod Views
