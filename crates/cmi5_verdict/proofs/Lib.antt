@@ -1,6 +1,7 @@
 pub mod Named
 pub mod Tests
 pub mod Spoken
+pub mod Posted
 pub mod Holders
 pub mod Marked
 pub mod Depths

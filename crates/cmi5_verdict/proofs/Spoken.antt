@@ -1,21 +1,18 @@
 -- What statements say of nodes, one statement after another.
-use Rattle.std.proofs.Common.{◌≡◌, ◌∙◌, ◌&&◌, ◌||◌, ◌==◌, ◌+◌, ◌-◌, ◌^◌, ◌<◌, ◌≤◌, ℕ, Bool, true, false, not, List, [], ◌∷◌, ◌++◌, length, map, drop, Option, Some, None, inl, inr, refl, sym, ap, subst, arith, ⊎_elim}
-use Rattle.std.specs.Prelude.{if◌then◌else◌, replicate, slice_get, slice_set}
+use Rattle.std.proofs.Common.{◌≡◌, ◌∙◌, ◌&&◌, ◌||◌, ◌==◌, ◌+◌, ◌-◌, ◌^◌, ◌<◌, ◌≤◌, ℕ, Bool, true, false, not, List, [], ◌∷◌, ◌++◌, length, map, drop, refl, sym, ap, subst, arith, ⊎_elim}
+use Rattle.std.specs.Prelude.{if◌then◌else◌, replicate, slice_set}
 use Rattle.std.specs.List.{range_with_len}
-use Rattle.std.specs.Option.{option_map_or}
 use Rattle.std.specs.Str.{bytes_eq}
 use Rattle.std.proofs.lemmas.Bool.{cases_eq, eq-eqb, ne_eqb}
 use Rattle.std.proofs.lemmas.List.{drop_all, get_or-replicate, get_or-set_other, get_or-set_same, length-replicate}
 use Rattle.std.proofs.lemmas.List.Folds.{list_any-append}
 use Rattle.std.proofs.lemmas.List.FromFn.{fill_by_all}
-use Rattle.std.proofs.lemmas.Option.{get_or_from_slice_get, slice_get_cases, slice_get_within}
 use Rattle.cmi5_launch.specs.Names.{completed, passed, satisfied, waived}
 use Rattle.cmi5_session.specs.Own.{is_cmi5_defined}
 use Rattle.cmi5_verdict.specs.Nodes.{SeenEnrolment, activity_at}
 use Rattle.cmi5_verdict.specs.Said.{counts_for, either, said_among, said_by, said_in, said_of, said_with, unsaid}
 use Rattle.cmi5_verdict.specs.declared.said.Said.{Said}
 use Rattle.cmi5_verdict.proofs.Tests.{and_true, or_assoc, or_false}
-use Rattle.lrs_ids.proofs.Turns.{turn}
 use Rattle.lrs_json.specs.View.{view}
 use Rattle.xapi_index.specs.Statements.{is_that_id, is_voided}
 use Rattle.xapi_statement.specs.Statement.{activity_of, registration_of, verb_of}
@@ -49,11 +46,11 @@ either_assoc a b c =
 -- ---- what some of all say of a node
 
 module _ (e : SeenEnrolment) (all : List StoredStatement) (place : ℕ) where
-  among_none : said_among e all place [] ≡ unsaid
+  pub among_none : said_among e all place [] ≡ unsaid
   unfolding said_among
   among_none = refl
 
-  among_more : (x : StoredStatement) (xs : List StoredStatement) → said_among e all place (x ∷ xs) ≡ either (said_by e all place x) (said_among e all place xs)
+  pub among_more : (x : StoredStatement) (xs : List StoredStatement) → said_among e all place (x ∷ xs) ≡ either (said_by e all place x) (said_among e all place xs)
   unfolding either said_among said_by
   among_more x xs = refl
 
@@ -69,17 +66,6 @@ module _ (e : SeenEnrolment) (all : List StoredStatement) (place : ℕ) where
   said_next xs i x before now whole next is so_far =
       ap (λ s. either s (said_among e all place (drop (i + 1) xs))) is ∙ (either_assoc before (said_by e all place x) (said_among e all place (drop (i + 1) xs))
       ∙ (ap (λ s. either before s) (sym (ap (λ ys. said_among e all place ys) next ∙ among_more x (drop (i + 1) xs))) ∙ so_far))
-
-  pub said_at : (xs : List StoredStatement) (i : ℕ) (before now whole : Said) → i < length xs → now ≡ either before (option_map_or (said_by e all place) (slice_get xs i) unsaid)
-      → either before (said_among e all place (drop i xs)) ≡ whole → either now (said_among e all place (drop (i + 1) xs)) ≡ whole
-  said_at xs i before now whole less is so_far = by_place (slice_get xs i) refl is
-    where
-      no : slice_get xs i ≡ None → ⊥
-      no at = elim (slice_get_cases xs i).1 [ inl w ↦ cc (w.2, at) | inr w ↦ omega (arith, w.0, less) ]
-
-      by_place : (o : Option StoredStatement) → slice_get xs i ≡ o → now ≡ either before (option_map_or (said_by e all place) o unsaid) → either now (said_among e all place (drop (i + 1) xs)) ≡ whole
-      by_place (Some x) at told = said_next xs i x before now whole (turn xs i x (slice_get_within xs i x at) (sym (get_or_from_slice_get xs i x x at))) told so_far
-      by_place None at told = absurd (no at)
 
   pub said_end : (xs : List StoredStatement) (i : ℕ) (now whole : Said) → length xs ≤ i → either now (said_among e all place (drop i xs)) ≡ whole → now ≡ whole
   said_end xs i now whole end so_far =

@@ -5,8 +5,9 @@ use Rattle.std.specs.List.{range_with_len}
 use Rattle.std.specs.Option.{option_map_or}
 use Rattle.std.proofs.lemmas.List.{get_or-replicate, length-replicate}
 use Rattle.std.proofs.lemmas.List.FromFn.{fill_by_all, get_or-map-range_with_len}
+use Rattle.cmi5_course.specs.declared.course.Node.{Node}
 use Rattle.cmi5_verdict.specs.Marks.{is_marked, is_met_by, is_owed_by, is_satisfied_by}
-use Rattle.cmi5_verdict.specs.Nodes.{is_met_at, is_owed, is_satisfied, is_under, is_unit_in, places, SeenEnrolment, unit_in, verdicts}
+use Rattle.cmi5_verdict.specs.Nodes.{deeper_first, is_met_at, is_owed, is_satisfied, is_under, is_unit_in, owed, places, SeenEnrolment, unit_in, verdicts}
 use Rattle.cmi5_verdict.specs.Said.{meets, said_among, said_in, said_of, unsaid}
 use Rattle.cmi5_verdict.specs.declared.said.Said.{Said}
 use Rattle.xapi_statement.specs.Stored.{StoredStatement}
@@ -46,3 +47,10 @@ module _ (e : SeenEnrolment) (statements : List StoredStatement) (said : List Sa
       (λ k lt. ap (λ b. not (is_unit_in e.nodes k) && b && not (said_of said k).satisfied)
       (ap (λ ms. is_marked ms k) is ∙ get_or-map-range_with_len (is_satisfied e statements) 0 (length e.nodes) k k false (omega arith) (omega arith))
       ∙ ap (λ (s : Said). not (is_unit_in e.nodes k) && is_satisfied e statements k && not s.satisfied) (said_there k (omega arith)))
+
+-- the same of nodes that are an enrolment's
+pub owed_told : (e : SeenEnrolment) (all : List StoredStatement) (nodes : List Node) (said : List Said) (marks : List Bool) (found : List ℕ) → e.nodes ≡ nodes → said ≡ map (said_in e all) (places nodes)
+    → marks ≡ map (is_satisfied_by nodes said) (places nodes) → found ≡ filter (is_owed_by nodes marks said) (places nodes) → deeper_first nodes found ≡ owed e all
+owed_told e all nodes said marks found same =
+    subst (λ ns. said ≡ map (said_in e all) (places ns) → marks ≡ map (is_satisfied_by ns said) (places ns) → found ≡ filter (is_owed_by ns marks said) (places ns) → deeper_first ns found ≡ owed e all)
+    same (λ are marked is. ap (λ ps. deeper_first e.nodes ps) (is ∙ owed_by e all said are marks (marked ∙ verdicts_by e all said are)))

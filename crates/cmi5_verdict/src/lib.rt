@@ -1,6 +1,7 @@
 //! What a learner has reached in a course (cmi5 Quartz, section 13.1.4, `moveOn`, and section 9.3.9): which units are
-//! met, which nodes are satisfied, and of which of these that is still to be said. Begin with `verdicts`. `push_if`
-//! fills lists of numbers.
+//! met, which nodes are satisfied, and of which of these that is still to be said. Begin with `verdicts`. Who keeps
+//! what was said of each node from one statement to the next begins with `place_meant`. `push_if` fills lists of
+//! numbers.
 #![tactic(auto)]
 
 mod enrolment;
@@ -15,8 +16,10 @@ mod units;
 
 pub use enrolment::Enrolment;
 pub use marking::verdicts;
-pub use nodes::satisfied;
+pub use names::place_meant;
+pub use nodes::{parent_of, satisfied, unit_in};
 pub use numbers::push_if;
-pub use owing::owed;
+pub use owing::{owed, owed_by_said};
+pub use said::{Said, add_new};
 pub use statements::Statements;
 pub use units::{met, waived};

@@ -12,8 +12,8 @@ use cmi5_course::Node;
 use lrs_json::Memory;
 use std::alloc::Global;
 
-/// Whether each node of a course is satisfied in a registration, in the order of the text. Goes through the statements
-/// once.
+/// Whether each node of a course is satisfied in a registration, in the order of the text. Goes through the
+/// registration's statements once.
 pub fn verdicts(
     alloc: Global,
     statements: &Statements<'_>,

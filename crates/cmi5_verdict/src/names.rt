@@ -19,7 +19,7 @@ use lrs_names::Id;
 use xapi_statement::{StoredStatement, activity_of, registration_of};
 
 /// The number of the node that a statement is about, if it names that registration and cmi5 defines what it means.
-pub(crate) fn place_meant(enrolment: &Enrolment<'_>, statement: &StoredStatement) -> Option<usize>
+pub fn place_meant(enrolment: &Enrolment<'_>, statement: &StoredStatement) -> Option<usize>
     ensures { (place : ℕ) → place < 2 ^ 64 → is_place place result
         ≡ is_that_id enrolment.now.registration.now (registration_of (view statement.now.received))
         && is_cmi5_defined (view statement.now.received)

@@ -8,7 +8,7 @@ use crate::{Enrolment, Statements};
 use cmi5_course::{Node, Unit};
 
 /// Whether every unit under the node of that number is met, or it is itself one that is. Each call goes through the
-/// statements for each unit; for more than a few nodes `verdicts` does so once for all.
+/// registration's statements for each unit; for more than a few nodes `verdicts` does so once for all.
 pub fn satisfied(statements: &Statements<'_>, enrolment: &Enrolment<'_>, place: u32) -> bool
     ensures { result ≡ is_satisfied (seen enrolment.now) (all_of statements.now) place }
 {
@@ -43,7 +43,7 @@ fn is_met_at(statements: &Statements<'_>, enrolment: &Enrolment<'_>, place: usiz
 }
 
 /// What the node of that number has as a unit, if it is one.
-pub(crate) fn unit_in(nodes: &[Node], place: usize) -> Option<&Unit>
+pub fn unit_in(nodes: &[Node], place: usize) -> Option<&Unit>
     ensures { option_map (λ unit. unit.now) result ≡ unit_in nodes.now place }
 {
     match nodes.get(place) {
@@ -53,7 +53,7 @@ pub(crate) fn unit_in(nodes: &[Node], place: usize) -> Option<&Unit>
 }
 
 /// The number of the node that holds that one.
-pub(crate) fn parent_of(nodes: &[Node], place: usize) -> Option<usize>
+pub fn parent_of(nodes: &[Node], place: usize) -> Option<usize>
     ensures { result ≡ parent_of nodes.now place }
 {
     match nodes.get(place) {

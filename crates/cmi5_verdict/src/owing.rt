@@ -1,9 +1,11 @@
 // Of which nodes it is still to be said that they are satisfied.
-ghost use Rattle.std.specs.Prelude.{◌≡◌, ◌≤◌, ◌++◌, ℕ, nat_le, true, IfOk, OnOk, filter, length};
+ghost use Rattle.std.specs.Prelude.{◌≡◌, ◌≤◌, ◌++◌, ℕ, nat_le, true, IfOk, List, OnOk, filter, length, map};
 ghost use Rattle.std.specs.List.{list_all};
 ghost use Rattle.cmi5_verdict.specs.Marks.{is_owed_by};
-ghost use Rattle.cmi5_verdict.specs.Nodes.{at_depth, deeper_first, depth_of, owed, places, seen};
+ghost use Rattle.cmi5_verdict.specs.Nodes.{SeenEnrolment, at_depth, deeper_first, depth_of, owed, places, seen};
+ghost use Rattle.cmi5_verdict.specs.Said.{said_in};
 ghost use Rattle.cmi5_verdict.specs.Statements.{all_of};
+ghost use Rattle.xapi_statement.specs.Stored.{StoredStatement as SpecStatement};
 
 use crate::marking::{is_marked, satisfied_each};
 use crate::nodes::{depth_of, unit_in};
@@ -16,7 +18,7 @@ use std::alloc::Global;
 
 /// The numbers of the blocks that are satisfied in a registration, and of the course where it is, of which this was
 /// never said. Deeper ones come first, and those of one depth in the order of the text. Goes through the
-/// statements once.
+/// registration's statements once.
 pub fn owed(
     alloc: Global,
     statements: &Statements<'_>,
@@ -25,17 +27,20 @@ pub fn owed(
     ensures { IfOk result (λ places. places.items ≡ owed (seen enrolment.now) (all_of statements.now)) }
 {
     let said = said_of_each(alloc, statements, enrolment)?;
-    let satisfied = satisfied_each(alloc, enrolment.nodes, said.as_slice())?;
-    let found = owed_by(
-        alloc,
-        enrolment.nodes,
-        satisfied.as_slice(),
-        said.as_slice(),
-    )?;
-    deeper_first(alloc, enrolment.nodes, found.as_slice())
+    owed_by_said(alloc, enrolment.nodes, said.as_slice())
 }
 
-// The same by what was said of each, in the order of the text. A course has no more nodes than 32 bits number.
+/// The same by what was said of each node, in the order of the text.
+pub fn owed_by_said(alloc: Global, nodes: &[Node], said: &[Said]) -> Result<Vec<u32>, Memory>
+    ensures { IfOk result (λ told. (e : SeenEnrolment) → (all : List SpecStatement) → e.nodes ≡ nodes.now
+        → said.now ≡ map (said_in e all) (places nodes.now) → told.items ≡ owed e all) }
+{
+    let satisfied = satisfied_each(alloc, nodes, said)?;
+    let found = owed_by(alloc, nodes, satisfied.as_slice(), said)?;
+    deeper_first(alloc, nodes, found.as_slice())
+}
+
+// Those of which it is to be said, in the order of the text. A course has no more nodes than 32 bits number.
 fn owed_by(
     alloc: Global,
     nodes: &[Node],

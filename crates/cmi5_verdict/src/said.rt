@@ -1,10 +1,11 @@
-// What the statements say of the nodes of a course. Each statement is looked at once.
+// What the statements say of the nodes of a course. Each statement of the registration is looked at once.
 ghost use Rattle.std.specs.Prelude.{◌≡◌, ◌<◌, ◌+◌, ◌^◌, ◌==◌, ◌&&◌, ◌||◌, ℕ, IfOk, if◌then◌else◌, length, map, not};
 ghost use Rattle.std.specs.Prelude.{replicate, slice_get, slice_set};
 ghost use Rattle.std.specs.Option.{option_map_or};
 ghost use Rattle.std.specs.Str.{bytes_eq};
 ghost use Rattle.cmi5_verdict.specs.Nodes.{places, seen};
-ghost use Rattle.cmi5_verdict.specs.Said.{either, meets, said_among, said_by, said_in, said_of, said_with, unsaid};
+ghost use Rattle.cmi5_verdict.specs.Said.{at_positions, either, meets, said_among, said_by, said_in, said_of};
+ghost use Rattle.cmi5_verdict.specs.Said.{said_with, unsaid};
 ghost use Rattle.cmi5_verdict.specs.Statements.{all_of};
 ghost use Rattle.cmi5_verdict.specs.Units.{moves_on};
 ghost use Rattle.lrs_json.specs.View.{view};
@@ -18,10 +19,11 @@ use cmi5_launch::names::{COMPLETED, PASSED, SATISFIED, WAIVED};
 use lrs_json::Memory;
 use std::alloc::Global;
 use xapi_statement::{StoredStatement, verb_of};
+use xapi_statement_keys::Key;
 
 /// What was said of a node. A voided statement tells only that the node is satisfied.
 #[derive(Clone, Copy)]
-pub(crate) struct Said {
+pub struct Said {
     pub waived: bool,
     pub completed: bool,
     pub passed: bool,
@@ -53,7 +55,7 @@ impl Said {
     }
 
     /// Whether a unit that asks for this is met.
-    pub(crate) fn meets(self, asked: MoveOn) -> bool
+    pub fn meets(self, asked: MoveOn) -> bool
         ensures { result ≡ meets asked self }
     {
         self.waived || moves_on(asked, self.completed, self.passed)
@@ -120,6 +122,16 @@ pub(crate) fn said_of(said: &[Said], place: usize) -> Said
     }
 }
 
+/// Adds to what was said of each node what the new statements say.
+pub fn add_new(statements: &Statements<'_>, enrolment: &Enrolment<'_>, said: &mut [Said])
+    ensures long { length said.new ≡ length said.old }
+    ensures added { (k : ℕ) → k < length said.old → k < 2 ^ 64 → said_of said.new k
+        ≡ either (said_of said.old k)
+        (said_among (seen enrolment.now) (all_of statements.now) k statements.now.new.now) }
+{
+    note_each(statements, enrolment, statements.new, 0, said);
+}
+
 // ---- statement by statement
 
 // Adds what all of them say of the nodes from the first one on.
@@ -132,7 +144,7 @@ fn note_all(statements: &Statements<'_>, enrolment: &Enrolment<'_>, first: usize
     note_each(statements, enrolment, statements.new, first, said);
 }
 
-// Adds what those say that are held.
+// Adds what those say that are held. Only those of the registration say something.
 fn note_held(
     statements: &Statements<'_>,
     enrolment: &Enrolment<'_>,
@@ -144,8 +156,27 @@ fn note_held(
         ≡ either (said_of said.old k)
         (said_among (seen enrolment.now) (all_of statements.now) (first + k) statements.now.held.now.held) }
 {
-    for at in 0..statements.held.len() {
-        note_at(statements, enrolment, at, first, said);
+    let key = Key::Registration(*enrolment.registration);
+    let positions = statements.held.posting(&key);
+    drop(key);
+    note_positions(statements, enrolment, positions, first, said);
+}
+
+// Adds what those say that are held at these positions.
+fn note_positions(
+    statements: &Statements<'_>,
+    enrolment: &Enrolment<'_>,
+    positions: &[u32],
+    first: usize,
+    said: &mut [Said],
+)
+    ensures long { length said.new ≡ length said.old }
+    ensures noted { (k : ℕ) → k < length said.old → first + k < 2 ^ 64 → said_of said.new k
+        ≡ either (said_of said.old k) (said_among (seen enrolment.now) (all_of statements.now) (first + k)
+        (at_positions statements.now.held.now.held positions.now)) }
+{
+    for position in positions {
+        note_at(statements, enrolment, *position as usize, first, said);
     }
 }
 

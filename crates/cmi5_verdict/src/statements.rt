@@ -17,7 +17,7 @@ pub struct Statements<'a> {
 
 impl<'a> Statements<'a> {
     /// Whether a statement is voided, by one that is held or by a new one. Goes through the new ones.
-    pub(crate) fn is_voided(&self, statement: &StoredStatement) -> bool
+    pub fn is_voided(&self, statement: &StoredStatement) -> bool
         ensures { result ≡ is_voided (all_of self.now) statement.now }
     {
         !statement.is_voiding() && self.is_target(&statement.id())

@@ -10,7 +10,7 @@ use crate::{Enrolment, Statements};
 use cmi5_course::MoveOn;
 
 /// Whether the unit of that number, which asks for this, is met: it was waived, or what it asks for was reached. Each
-/// call goes through the statements; for more than a few units `verdicts` does so once.
+/// call goes through the registration's statements; for more than a few units `verdicts` does so once.
 pub fn met(
     statements: &Statements<'_>,
     enrolment: &Enrolment<'_>,

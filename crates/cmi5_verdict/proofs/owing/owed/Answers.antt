@@ -1,17 +1,16 @@
-use Rattle.std.proofs.Common.{◌∙◌, ap}
+use Rattle.std.proofs.Common.{◌≡◌, ◌∙◌, List, map, refl}
 use Rattle.std.proofs.lemmas.Result.{IfOk-weaker}
-use Rattle.cmi5_verdict.specs.Nodes.{deeper_first, seen}
+use Rattle.cmi5_verdict.specs.Nodes.{SeenEnrolment, owed, places, seen}
+use Rattle.cmi5_verdict.specs.Said.{said_in}
 use Rattle.cmi5_verdict.specs.Statements.{all_of}
-use Rattle.cmi5_verdict.proofs.Whole.{owed_by, verdicts_by}
 use Rattle.cmi5_verdict.proofs.owing.owed.Goals as goal
+use Rattle.xapi_statement.specs.Stored.{StoredStatement}
 
 pub returns : goal.returns
 returns c =
-    let e = seen c.args.enrolment.now in
-    let all = all_of c.args.statements.now in
-    let are = c.as_slice.ensures.value ∙ c.in_ok-said.ensures in
-    let told = c.as_slice-2.ensures.value ∙ (c.in_ok-satisfied.ensures ∙ verdicts_by e all c.as_slice.result.now are) in
-    IfOk-weaker c.deeper_first.result _ _
-    (λ places is. is ∙ ap (deeper_first e.nodes)
-    (c.as_slice-4.ensures.value ∙ (c.in_ok-found.ensures ∙ owed_by e all c.as_slice-3.result.now (c.as_slice-3.ensures.value ∙ c.in_ok-said.ensures) c.as_slice-2.result.now told)))
-    c.deeper_first.ensures
+    let nodes = c.args.enrolment.now.nodes.now in
+    IfOk-weaker c.owed_by_said.result
+    (λ told. (e : SeenEnrolment) → (all : List StoredStatement) → e.nodes ≡ nodes → c.as_slice.result.now ≡ map (said_in e all) (places nodes) → told.items ≡ owed e all)
+    (λ told. told.items ≡ owed (seen c.args.enrolment.now) (all_of c.args.statements.now))
+    (λ told known. known (seen c.args.enrolment.now) (all_of c.args.statements.now) refl (c.as_slice.ensures.value ∙ c.in_ok-said.ensures))
+    c.owed_by_said.ensures

@@ -1,21 +1,12 @@
-use Rattle.std.proofs.Common.{◌<◌, ◌∙◌, ◌+◌, sym, subst, arith}
+use Rattle.std.proofs.Common.{◌∙◌, ◌+◌, ap}
 use Rattle.cmi5_verdict.specs.Nodes.{seen}
-use Rattle.cmi5_verdict.specs.Said.{said_of}
+use Rattle.cmi5_verdict.specs.Said.{either, said_of}
 use Rattle.cmi5_verdict.specs.Statements.{all_of}
-use Rattle.cmi5_verdict.proofs.Spoken.{said_at, said_end}
+use Rattle.cmi5_verdict.proofs.Posted.{said_under_key}
 use Rattle.cmi5_verdict.proofs.said.note_held.Goals as goal
-
-pub loop-at-preserved : goal.loop-at-preserved
-loop-at-preserved c =
-    let at = c.loop-at in
-    record {
-      long = c.note_at.ensures.long ∙ at.invariant.long;
-      noted = λ k lt small.
-          said_at (seen c.args.enrolment.now) (all_of c.args.statements.now) (c.args.first + k) c.args.statements.now.held.now.held at.at (said_of at.said k) (said_of c.note_at.new.said k) _ (omega arith)
-          (c.note_at.ensures.noted k (subst (λ n. k < n) (sym at.invariant.long) lt) small) (at.invariant.noted k lt small);
-    }
 
 pub returns-clause-noted : goal.returns-clause-noted
 returns-clause-noted c = λ k lt small.
-    let at = c.loop-at in
-    said_end (seen c.args.enrolment.now) (all_of c.args.statements.now) (c.args.first + k) c.args.statements.now.held.now.held at.at (said_of at.said k) _ (omega arith) (at.invariant.noted k lt small)
+    c.note_positions.ensures.noted k lt small
+    ∙ ap (λ s. either (said_of c.args.said.now k) s)
+    (said_under_key (seen c.args.enrolment.now) (all_of c.args.statements.now) c.args.statements.now.held.now.held (c.args.first + k) c.posting-positions.result.now c.posting-positions.ensures.visible)

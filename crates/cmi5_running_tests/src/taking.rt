@@ -1,0 +1,167 @@
+// A store, as it is written from one statement to the next.
+ghost use Rattle.std.specs.Prelude.{OnOk};
+ghost use Rattle.cmi5_running_sessions.specs.Room.{HasPlacesFor};
+ghost use Rattle.cmi5_running_verdicts.specs.Holding.{StandBehindHolders};
+
+use crate::comparing::owe_same;
+use crate::said::stored;
+use crate::setting::Setting;
+use crate::store::Store;
+use cmi5_running_sessions::Sessions;
+use cmi5_running_verdicts::Running;
+use cmi5_verdict::Enrolment;
+use lrs_json::Memory;
+use lrs_names::Id;
+use std::alloc::Global;
+use std::slice::from_ref;
+use std::test::Fail;
+use xapi_index::Index;
+use xapi_statement::StoredStatement;
+
+/// What a word tells happens: `enrolment`, or a statement comes.
+pub(crate) fn happen(
+    alloc: Global,
+    setting: &Setting,
+    store: &mut Store,
+    word: &str,
+) -> Result<(), Fail> {
+    if word == "enrolment" {
+        enrol_next(setting, store)
+    } else {
+        say(alloc, setting, store, word)
+    }
+}
+
+// ---- registrations
+
+fn enrol_next(setting: &Setting, store: &mut Store) -> Result<(), Fail> {
+    let enrolment = setting.enrolment(store.enrolled);
+    let enrolled = enrol(&store.statements, &enrolment, &mut store.running);
+    store.enrolled = store.enrolled.wrapping_add(1);
+    enrolled
+}
+
+fn enrol(statements: &Index, enrolment: &Enrolment<'_>, running: &mut Running) -> Result<(), Fail>
+    requires { StandBehindHolders enrolment.now.nodes.now }
+{
+    running.ready(Some(enrolment.nodes))?;
+    running.enrol(statements, enrolment);
+    Ok(())
+}
+
+// ---- statements
+
+fn say(alloc: Global, setting: &Setting, store: &mut Store, word: &str) -> Result<(), Fail> {
+    let coming = alone(alloc, store, word)?;
+    take_each(alloc, setting, store, coming.as_slice())?;
+    hold(&mut store.statements, coming)
+}
+
+// The statement of a word, under the next number.
+fn alone(alloc: Global, store: &Store, word: &str) -> Result<Vec<StoredStatement>, Fail> {
+    let held = store.statements.len() as u64;
+    let mut one = Vec::new(alloc);
+    one.push(stored(alloc, word, held.wrapping_add(1))?)?;
+    Ok(one)
+}
+
+fn hold(statements: &mut Index, coming: Vec<StoredStatement>) -> Result<(), Fail> {
+    statements.ready(coming.as_slice())?;
+    statements.install(coming);
+    Ok(())
+}
+
+fn take_each(
+    alloc: Global,
+    setting: &Setting,
+    store: &mut Store,
+    coming: &[StoredStatement],
+) -> Result<(), Fail> {
+    if !owe_same(alloc, setting, store, coming)? {
+        return Err(Fail::from("before it stands, it owes something else"));
+    }
+    for statement in coming {
+        take(setting, store, statement)?;
+    }
+    Ok(())
+}
+
+fn take(setting: &Setting, store: &mut Store, statement: &StoredStatement) -> Result<(), Fail> {
+    let voided = store.statements.is_voided(statement);
+    void_target(setting, store, statement);
+    take_into_sessions(&mut store.sessions, statement, voided)?;
+    take_into_running(
+        setting,
+        store.enrolled,
+        statement,
+        voided,
+        &mut store.running,
+    );
+    Ok(())
+}
+
+fn take_into_sessions(
+    sessions: &mut Sessions,
+    statement: &StoredStatement,
+    voided: bool,
+) -> Result<(), Fail> {
+    make_places(sessions, statement)?;
+    sessions.install(statement, voided);
+    Ok(())
+}
+
+fn make_places(sessions: &mut Sessions, statement: &StoredStatement) -> Result<(), Memory>
+    ensures { OnOk result (HasPlacesFor sessions.new statement.now) }
+{
+    sessions.ready(from_ref(statement))
+}
+
+fn take_into_running(
+    setting: &Setting,
+    enrolled: u32,
+    statement: &StoredStatement,
+    voided: bool,
+    running: &mut Running,
+) {
+    for number in 0..enrolled {
+        let enrolment = setting.enrolment(number);
+        running.install(number, &enrolment, statement, voided);
+    }
+}
+
+// ---- voiding
+
+fn void_target(setting: &Setting, store: &mut Store, statement: &StoredStatement) {
+    if !statement.is_voiding() {
+        return;
+    }
+    if let Some(id) = statement.target() {
+        void_under(setting, store, &id);
+    }
+}
+
+// The statement of that id is voided, if it is held and stands.
+fn void_under(setting: &Setting, store: &mut Store, id: &Id) {
+    if let Some(target) = store.statements.find(id) {
+        if stands(&store.statements, target) {
+            store.sessions.void(target);
+            void_in_running(setting, store.enrolled, target, &mut store.running);
+        }
+    }
+}
+
+fn stands(statements: &Index, target: &StoredStatement) -> bool {
+    !target.is_voiding() && !statements.is_voided(target)
+}
+
+fn void_in_running(
+    setting: &Setting,
+    enrolled: u32,
+    target: &StoredStatement,
+    running: &mut Running,
+) {
+    for number in 0..enrolled {
+        let enrolment = setting.enrolment(number);
+        running.void(number, &enrolment, target);
+    }
+}

@@ -1,0 +1,25 @@
+-- A statement that doesn't name the registration changes no tally of it.
+use Rattle.std.proofs.Common.{◌≡◌, ◌&&◌, ◌++◌, ◌∷◌, ℕ, true, false, List, [], ap}
+use Rattle.cmi5_running_verdicts.specs.Changes.{is_about}
+use Rattle.cmi5_running_verdicts.specs.Tallies.{AreTallies}
+use Rattle.cmi5_running_verdicts.specs.declared.tally.Tally.{Tally}
+use Rattle.cmi5_running_verdicts.proofs.Settled.{none_counted, none_voided}
+use Rattle.cmi5_session.specs.Marked.{MarkedStatement, mark}
+use Rattle.cmi5_session.specs.Own.{is_cmi5_defined}
+use Rattle.cmi5_verdict.specs.Nodes.{SeenEnrolment, activity_at}
+use Rattle.lrs_json.specs.Json.{Json}
+use Rattle.lrs_json.specs.View.{view}
+use Rattle.xapi_index.specs.Statements.{is_that_id}
+use Rattle.xapi_statement.specs.Statement.{activity_of, registration_of}
+use Rattle.xapi_statement.specs.Stored.{StoredStatement}
+
+about_none : (e : SeenEnrolment) (j : Json) → is_that_id e.registration (registration_of j) ≡ false → (place : ℕ) → is_about e place j ≡ false
+about_none e j other place = ap (λ b. b && is_cmi5_defined j && is_that_id (activity_at e place) (activity_of j)) other
+
+pub elsewhere_counted : (e : SeenEnrolment) → (those : List MarkedStatement) → (m : MarkedStatement) → (tallies : List Tally) → is_that_id e.registration (registration_of (view m.statement.received)) ≡ false
+    → AreTallies e those tallies → AreTallies e (those ++ m ∷ []) tallies
+elsewhere_counted e those m tallies other are = none_counted e those m tallies (λ place lt. about_none e (view m.statement.received) other place) are
+
+pub elsewhere_voided : (e : SeenEnrolment) → (before behind : List MarkedStatement) → (s : StoredStatement) → (tallies : List Tally) → is_that_id e.registration (registration_of (view s.received)) ≡ false
+    → AreTallies e (before ++ mark s false ∷ behind) tallies → AreTallies e (before ++ mark s true ∷ behind) tallies
+elsewhere_voided e before behind s tallies other are = none_voided e before behind s tallies (λ place lt. about_none e (view s.received) other place) are

@@ -1,0 +1,11 @@
+pub mod Parts
+pub mod Walks
+pub mod Counts
+pub mod Marks
+pub mod Settled
+pub mod Fresh
+pub mod Elsewhere
+pub mod Courses
+pub mod Kept
+pub mod Visits
+pub mod Told

@@ -1,0 +1,198 @@
+-- What marked statements say of a node: by one statement more, and by one that is voided.
+use Rattle.std.proofs.Common.{◌≡◌, ◌∙◌, ◌&&◌, ◌||◌, ◌+◌, ◌-◌, ◌^◌, ◌<◌, ◌≤◌, ℕ, Bool, true, false, not, List, [], ◌∷◌, ◌++◌, length, min, refl, sym, ap, arith}
+use Rattle.std.specs.Prelude.{if◌then◌else◌, nat_lt}
+use Rattle.std.specs.List.{list_any}
+use Rattle.std.specs.Option.{option_map_or}
+use Rattle.std.specs.Str.{bytes_eq}
+use Rattle.std.proofs.lemmas.List.Folds.{list_any-append}
+use Rattle.std.proofs.lemmas.List.Sums.{count_by-le-length}
+use Rattle.cmi5_launch.specs.Names.{completed, passed, satisfied, waived}
+use Rattle.cmi5_running_verdicts.specs.Changes.{added, is_about, is_met_with, one_if, one_less, one_more, removed}
+use Rattle.cmi5_running_verdicts.specs.Tallies.{IsTally, how_many_say, is_met_by_all, said_by_all, said_in_tally, says_of_node, says_still}
+use Rattle.cmi5_running_verdicts.specs.declared.tally.Tally.{Tally}
+use Rattle.cmi5_session.specs.Marked.{MarkedStatement, mark}
+use Rattle.cmi5_session.specs.Own.{is_cmi5_defined}
+use Rattle.cmi5_verdict.specs.Nodes.{SeenEnrolment, activity_at, unit_in}
+use Rattle.cmi5_verdict.specs.Said.{meets, said_with}
+use Rattle.cmi5_verdict.specs.declared.said.Said.{Said}
+use Rattle.cmi5_verdict.proofs.Spoken.{same_said}
+use Rattle.cmi5_verdict.proofs.Tests.{or_false}
+use Rattle.cmi5_running_verdicts.proofs.Counts.{count_around, count_push}
+use Rattle.lrs_json.specs.View.{view}
+use Rattle.xapi_index.specs.Statements.{is_that_id}
+use Rattle.xapi_statement.specs.Statement.{activity_of, registration_of, verb_of}
+use Rattle.xapi_statement.specs.Stored.{StoredStatement}
+
+-- ---- what is said, as a tally counts it
+
+-- what is counted of what is said of the node
+pub record IsSaid (e : SeenEnrolment) (those : List MarkedStatement) (place : ℕ) (t : Tally) : Type 0 where
+  pub waived : t.waived ≡ how_many_say e those waived place
+  pub completed : t.completed ≡ how_many_say e those completed place
+  pub passed : t.passed ≡ how_many_say e those passed place
+  pub satisfied : t.satisfied ≡ list_any (says_of_node e satisfied place) those
+
+pub said_part : (e : SeenEnrolment) (those : List MarkedStatement) (place : ℕ) (t : Tally) → IsTally e those place t → IsSaid e those place t
+said_part e those place t is = record { waived = is.waived; completed = is.completed; passed = is.passed; satisfied = is.satisfied }
+
+said_alike : (e : SeenEnrolment) (those : List MarkedStatement) (place : ℕ) (t : Tally) → IsSaid e those place t → said_in_tally t ≡ said_by_all e those place
+said_alike e those place t is = same_said _ _ _ _ _ _ _ _ (ap (λ n. nat_lt 0 n) is.waived) (ap (λ n. nat_lt 0 n) is.completed) (ap (λ n. nat_lt 0 n) is.passed) is.satisfied
+
+pub met_alike : (e : SeenEnrolment) (those : List MarkedStatement) (place : ℕ) (t : Tally) → IsSaid e those place t → is_met_with e.nodes place t ≡ is_met_by_all e those place
+met_alike e those place t is = ap (λ (s : Said). option_map_or (λ unit. meets unit.move_on s) (unit_in e.nodes place) true) (said_alike e those place t is)
+
+-- ---- numbers
+
+plus_none : (a : ℕ) → a + 0 ≡ a
+plus_none a = omega arith
+
+fits : (number all long : ℕ) → number ≡ all → all ≤ long → long + 1 < 2 ^ 64 → number + 1 < 2 ^ 64
+fits number all long is le few = omega arith
+
+one_more_is : (number : ℕ) (counts : Bool) → number + 1 < 2 ^ 64 → one_more number counts ≡ number + one_if counts
+one_more_is number true few =
+    let is : min (number + 1) (2 ^ 64 - 1) ≡ number + 1 = omega arith in
+    is
+one_more_is number false few = sym (plus_none number)
+
+less_one : (number a c : ℕ) → number ≡ a + (1 + c) → number - 1 ≡ a + (0 + c)
+less_one number a c is = omega arith
+
+one_less_is : (said : Bool) (number a c : ℕ) → number ≡ a + (one_if (said && not false) + c) → one_less number (said && not false) ≡ a + (one_if (said && not true) + c)
+one_less_is true number a c is = less_one number a c is
+one_less_is false number a c is = is
+
+-- ---- what one statement says
+
+-- by its verb, and whether it is in the registration, is defined and is about the node
+flag : (v r d a : Bool) → ((v && d) && r) && a ≡ (if (r && d) && a then v else false)
+flag true true true true = refl
+flag true true true false = refl
+flag true true false a = refl
+flag true false true a = refl
+flag true false false a = refl
+flag false true true true = refl
+flag false true true false = refl
+flag false true false a = refl
+flag false false d a = refl
+
+module _ (e : SeenEnrolment) (place : ℕ) (m : MarkedStatement) (verb : List ℕ) where
+  says_if : says_of_node e verb place m ≡ (if is_about e place (view m.statement.received) then bytes_eq (verb_of (view m.statement.received)) verb else false)
+  says_if =
+      flag (bytes_eq (verb_of (view m.statement.received)) verb) (is_that_id e.registration (registration_of (view m.statement.received))) (is_cmi5_defined (view m.statement.received))
+      (is_that_id (activity_at e place) (activity_of (view m.statement.received)))
+
+  says_none : is_about e place (view m.statement.received) ≡ false → says_of_node e verb place m ≡ false
+  says_none elsewhere = says_if ∙ ap (λ b. if b then bytes_eq (verb_of (view m.statement.received)) verb else false) elsewhere
+
+  says_here : is_about e place (view m.statement.received) ≡ true → says_of_node e verb place m ≡ bytes_eq (verb_of (view m.statement.received)) verb
+  says_here here = says_if ∙ ap (λ b. if b then bytes_eq (verb_of (view m.statement.received)) verb else false) here
+
+-- ---- one statement more
+
+any_push : {A : Type 0} (test : A → Bool) (xs : List A) (x : A) → list_any test (xs ++ x ∷ []) ≡ list_any test xs || test x
+any_push test xs x = list_any-append test xs (x ∷ []) ∙ ap (λ b. list_any test xs || b) (or_false (test x))
+
+module _ (e : SeenEnrolment) (those : List MarkedStatement) (m : MarkedStatement) (place : ℕ) where
+  many_push : (verb : List ℕ) → how_many_say e (those ++ m ∷ []) verb place ≡ how_many_say e those verb place + one_if (says_of_node e verb place m && not m.voided)
+  many_push verb = count_push (says_still e verb place) those m
+
+  many_same : (verb : List ℕ) → is_about e place (view m.statement.received) ≡ false → how_many_say e (those ++ m ∷ []) verb place ≡ how_many_say e those verb place
+  many_same verb elsewhere =
+      many_push verb ∙ (ap (λ b. how_many_say e those verb place + one_if (b && not m.voided)) (says_none e place m verb elsewhere) ∙ plus_none (how_many_say e those verb place))
+
+  any_same : is_about e place (view m.statement.received) ≡ false → list_any (says_of_node e satisfied place) (those ++ m ∷ []) ≡ list_any (says_of_node e satisfied place) those
+  any_same elsewhere =
+      any_push (says_of_node e satisfied place) those m
+      ∙ (ap (λ b. list_any (says_of_node e satisfied place) those || b) (says_none e place m satisfied elsewhere) ∙ or_false (list_any (says_of_node e satisfied place) those))
+
+  -- of another node nothing more is counted
+  pub counted_elsewhere : (t : Tally) → is_about e place (view m.statement.received) ≡ false → IsSaid e those place t → IsSaid e (those ++ m ∷ []) place t
+  counted_elsewhere t elsewhere is = record {
+    waived = is.waived ∙ sym (many_same waived elsewhere);
+    completed = is.completed ∙ sym (many_same completed elsewhere);
+    passed = is.passed ∙ sym (many_same passed elsewhere);
+    satisfied = is.satisfied ∙ sym (any_same elsewhere);
+  }
+
+  many_more : (verb : List ℕ) (number : ℕ) → length those + 1 < 2 ^ 64 → is_about e place (view m.statement.received) ≡ true → number ≡ how_many_say e those verb place
+      → one_more number (bytes_eq (verb_of (view m.statement.received)) verb && not m.voided) ≡ how_many_say e (those ++ m ∷ []) verb place
+  many_more verb number few here is =
+      let counts : Bool = bytes_eq (verb_of (view m.statement.received)) verb && not m.voided in
+      one_more_is number counts (fits number (how_many_say e those verb place) (length those) is (count_by-le-length (says_still e verb place) those) few)
+      ∙ (ap (λ n. n + one_if counts) is
+      ∙ sym (many_push verb ∙ ap (λ b. how_many_say e those verb place + one_if (b && not m.voided)) (says_here e place m verb here)))
+
+  any_more : (said : Bool) → is_about e place (view m.statement.received) ≡ true → said ≡ list_any (says_of_node e satisfied place) those
+      → said || bytes_eq (verb_of (view m.statement.received)) satisfied ≡ list_any (says_of_node e satisfied place) (those ++ m ∷ [])
+  any_more said here is =
+      ap (λ b. b || bytes_eq (verb_of (view m.statement.received)) satisfied) is
+      ∙ sym (any_push (says_of_node e satisfied place) those m ∙ ap (λ b. list_any (says_of_node e satisfied place) those || b) (says_here e place m satisfied here))
+
+  -- of its own what it says
+  pub counted_here : (t : Tally) → length those + 1 < 2 ^ 64 → is_about e place (view m.statement.received) ≡ true → IsSaid e those place t
+      → IsSaid e (those ++ m ∷ []) place (added (said_with (verb_of (view m.statement.received)) m.voided) t)
+  unfolding added said_with
+  counted_here t few here is = record {
+    waived = many_more waived t.waived few here is.waived;
+    completed = many_more completed t.completed few here is.completed;
+    passed = many_more passed t.passed few here is.passed;
+    satisfied = any_more t.satisfied here is.satisfied;
+  }
+
+pub added_unmet : (told : Said) (t : Tally) → (added told t).unmet ≡ t.unmet
+unfolding added
+added_unmet told t = refl
+
+-- ---- one statement that is voided
+
+module _ (e : SeenEnrolment) (before behind : List MarkedStatement) (s : StoredStatement) (place : ℕ) where
+  abbrev marked_with : Bool → List MarkedStatement
+  marked_with voided = before ++ mark s voided ∷ behind
+
+  many_around : (verb : List ℕ) (voided : Bool) → how_many_say e (marked_with voided) verb place
+      ≡ how_many_say e before verb place + (one_if (says_of_node e verb place (mark s voided) && not voided) + how_many_say e behind verb place)
+  many_around verb voided = count_around (says_still e verb place) before (mark s voided) behind
+
+  many_known : (verb : List ℕ) (voided said : Bool) → says_of_node e verb place (mark s voided) ≡ said
+      → how_many_say e (marked_with voided) verb place ≡ how_many_say e before verb place + (one_if (said && not voided) + how_many_say e behind verb place)
+  many_known verb voided said is =
+      many_around verb voided ∙ ap (λ b. how_many_say e before verb place + (one_if (b && not voided) + how_many_say e behind verb place)) is
+
+  many_kept : (verb : List ℕ) → is_about e place (view s.received) ≡ false → how_many_say e (marked_with false) verb place ≡ how_many_say e (marked_with true) verb place
+  many_kept verb elsewhere =
+      many_known verb false false (says_none e place (mark s false) verb elsewhere) ∙ sym (many_known verb true false (says_none e place (mark s true) verb elsewhere))
+
+  any_kept : list_any (says_of_node e satisfied place) (marked_with false) ≡ list_any (says_of_node e satisfied place) (marked_with true)
+  any_kept =
+      list_any-append (says_of_node e satisfied place) before (mark s false ∷ behind) ∙ sym (list_any-append (says_of_node e satisfied place) before (mark s true ∷ behind))
+
+  pub voided_elsewhere : (t : Tally) → is_about e place (view s.received) ≡ false → IsSaid e (before ++ mark s false ∷ behind) place t → IsSaid e (before ++ mark s true ∷ behind) place t
+  voided_elsewhere t elsewhere is = record {
+    waived = is.waived ∙ many_kept waived elsewhere;
+    completed = is.completed ∙ many_kept completed elsewhere;
+    passed = is.passed ∙ many_kept passed elsewhere;
+    satisfied = is.satisfied ∙ any_kept;
+  }
+
+  many_less : (verb : List ℕ) (number : ℕ) → is_about e place (view s.received) ≡ true → number ≡ how_many_say e (marked_with false) verb place
+      → one_less number (bytes_eq (verb_of (view s.received)) verb && not false) ≡ how_many_say e (marked_with true) verb place
+  many_less verb number here is =
+      let said : Bool = bytes_eq (verb_of (view s.received)) verb in
+      one_less_is said number (how_many_say e before verb place) (how_many_say e behind verb place)
+      (is ∙ many_known verb false said (says_here e place (mark s false) verb here))
+      ∙ sym (many_known verb true said (says_here e place (mark s true) verb here))
+
+  pub voided_here : (t : Tally) → is_about e place (view s.received) ≡ true → IsSaid e (before ++ mark s false ∷ behind) place t
+      → IsSaid e (before ++ mark s true ∷ behind) place (removed (said_with (verb_of (view s.received)) false) t)
+  unfolding removed said_with
+  voided_here t here is = record {
+    waived = many_less waived t.waived here is.waived;
+    completed = many_less completed t.completed here is.completed;
+    passed = many_less passed t.passed here is.passed;
+    satisfied = is.satisfied ∙ any_kept;
+  }
+
+pub removed_unmet : (told : Said) (t : Tally) → (removed told t).unmet ≡ t.unmet
+unfolding removed
+removed_unmet told t = refl

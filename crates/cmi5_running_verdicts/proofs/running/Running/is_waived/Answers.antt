@@ -1,0 +1,10 @@
+use Rattle.std.proofs.Common.{◌∙◌}
+use Rattle.cmi5_session.specs.Marked.{marked}
+use Rattle.cmi5_running_verdicts.proofs.Kept.{tallies_in}
+use Rattle.cmi5_running_verdicts.proofs.Told.{waiver_told}
+use Rattle.cmi5_running_verdicts.proofs.running.Running.is_waived.Goals as goal
+
+pub returns : goal.returns
+returns c = λ e statements stands lt.
+    c.is_waived_at.ensures
+    ∙ waiver_told e statements c.tallies.result.now (tallies_in c.args.self.now c.args.number e (marked statements) c.tallies.result.now c.tallies.ensures stands) c.args.place lt

@@ -1,0 +1,7 @@
+use Rattle.std.proofs.Common.{◌≡◌, map}
+use Rattle.std.specs.List.{range_with_len}
+use Rattle.cmi5_running_verdicts.specs.Told.{said_at}
+use Rattle.cmi5_running_verdicts.proofs.telling.said_of_each.Given as goal
+
+abbrev pub invariant-loop-place : goal.invariant-loop-place
+invariant-loop-place l = l.said.items ≡ map (said_at l.tallies) (range_with_len 0 l.place)
