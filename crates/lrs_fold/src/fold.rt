@@ -1,7 +1,7 @@
 ghost use Rattle.std.specs.Prelude.{◌≡◌, OnOk};
 ghost use Rattle.lrs_parts.specs.Parts.{state_of, AddsNoPlaces, IsReadyFor, MakesPlacesFor};
+ghost use Rattle.lrs_parts.specs.Parts.{SeenParts as SpecParts};
 ghost use Rattle.lrs_parts.specs.State.{apply, nothing};
-ghost use Rattle.lrs_parts.specs.declared.parts.Parts.{Parts as SpecParts};
 
 use lrs_json::Memory;
 use lrs_parts::{Effect, Parts};

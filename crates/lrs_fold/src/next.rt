@@ -64,7 +64,7 @@ impl Fold {
         if refusal(alloc, &self.parts, entry)?.is_some() {
             return Ok(false);
         }
-        Ok(self.parts.last.milliseconds() <= entry.moment.milliseconds())
+        Ok(self.last_moment().milliseconds() <= entry.moment.milliseconds())
     }
 }
 

@@ -70,7 +70,7 @@ impl Fold {
                 Entry {
                     caller,
                     write,
-                    moment: next_moment(clock, self.parts.last),
+                    moment: next_moment(clock, self.last_moment()),
                     draw: *draw,
                 },
             ),
@@ -86,6 +86,13 @@ impl Fold {
                 Ok(Outcome::Said(said))
             }
         }
+    }
+
+    /// The last entry's moment.
+    pub(crate) fn last_moment(&self) -> Moment
+        ensures { result ≡ (state_of self.now.parts).last }
+    {
+        self.parts.last
     }
 
     // What is said to a caller whose command's form is refused.

@@ -1,14 +1,12 @@
 -- Which sessions are open, since when nothing happened in one, and what is said of one that is abandoned.
-use Rattle.std.specs.Prelude.{ℕ, ◌+◌, ◌*◌, ◌-◌, ◌&&◌, Bool, false, not, max, nat_le, List, [], ◌∷◌, length}
-use Rattle.std.specs.Prelude.{Option, filter, filter_map, find, is_some, option_and_then, option_map}
-use Rattle.std.specs.Prelude.{slice_get, if◌then◌else◌}
+use Rattle.std.specs.Prelude.{ℕ, ◌+◌, ◌*◌, ◌-◌, ◌&&◌, Bool, false, not, max, nat_le, List, length}
+use Rattle.std.specs.Prelude.{Option, filter, filter_map, is_some, option_and_then, option_map, slice_get}
 use Rattle.std.specs.List.{range_with_len}
 use Rattle.std.specs.Option.{option_map_or}
 use Rattle.std.specs.Str.{bytes_eq}
 use Rattle.cmi5_course.specs.declared.launch.Launch.{Launch}
 use Rattle.cmi5_launch.specs.Made.{said_abandoned, saying_json}
-use Rattle.cmi5_launch.specs.Names.{initialized}
-use Rattle.cmi5_session.specs.Own.{is_of_session, is_own}
+use Rattle.cmi5_session.specs.Moments.{began_at, last_own}
 use Rattle.lrs_history.specs.Launches.{Target, activity_at, target}
 use Rattle.lrs_history.specs.Sessions.{is_closed}
 use Rattle.lrs_json.specs.Json.{Json}
@@ -42,11 +40,6 @@ open_of st registration activity =
 
 -- ---- since when nothing happened
 
--- the moment of the last of the session's own statements, or that one if it has none
-abbrev pub last_own : List ℕ → ℕ → List StoredStatement → ℕ
-last_own id moment [] = moment
-last_own id moment (s ∷ ss) = last_own id (if is_of_session id s.authority then s.stored else moment) ss
-
 -- when the session of the launch of that number was launched or fetched
 abbrev pub desk_moment : State → ℕ → ℕ
 desk_moment st number = option_map_or (λ (s : HeldSession). s.moment) (slice_get st.sessions number) 0
@@ -65,10 +58,6 @@ abbrev pub idle_ones : State → ℕ → ℕ → List ℕ
 idle_ones st seconds moment = filter (λ k. is_idle st seconds moment k && is_open st k) (launch_numbers st)
 
 -- ---- what is said of one
-
--- when the session of that id said that it is initialized, if it did
-abbrev pub began_at : List ℕ → List StoredStatement → Option ℕ
-began_at id statements = option_map (λ (s : StoredStatement). s.stored) (find (is_own id initialized) statements)
 
 -- how long a session lasted that began then: to the last statement of its own
 abbrev pub lasted : List ℕ → List StoredStatement → ℕ → ℕ

@@ -11,11 +11,12 @@ use Rattle.cmi5_course.specs.declared.launch.Mode.{Mode}
 use Rattle.cmi5_course.specs.declared.reason.Reason.{Reason}
 use Rattle.cmi5_launch.specs.Made.{Saying, launched_json, said_abandoned, said_launched, said_satisfied, said_waived, saying_json}
 use Rattle.cmi5_launch.specs.Names.{abandoned, launched, satisfied, waived}
+use Rattle.cmi5_session.specs.Moments.{began_at}
 use Rattle.cmi5_verdict.specs.Nodes.{activity_at as activity_of_node}
 use Rattle.lrs_agents.specs.declared.agents.Agent.{Agent}
 use Rattle.lrs_history.specs.DeskEffects.{abandoning_each, abandoning_one, enrolling, fetching, giving, launching, sweeping, telling, waiving}
 use Rattle.lrs_history.specs.Effects.{owed_in_session}
-use Rattle.lrs_history.specs.Endings.{abandoned_at, abandoned_from, abandoned_json, abandoned_jsons, abandoned_of, began_at, idle_ones, lasted, open_of}
+use Rattle.lrs_history.specs.Endings.{abandoned_at, abandoned_from, abandoned_json, abandoned_jsons, abandoned_of, idle_ones, lasted, open_of}
 use Rattle.lrs_history.specs.Enrolments.{Enrolled, enrolled, enrolled_as, enrolment_of, owed_behind}
 use Rattle.lrs_history.specs.Launches.{Target, activity_at, launched_at, target}
 use Rattle.lrs_history.specs.Made.{left_behind, made_under, owed_jsons, owed_made, satisfied_at, satisfied_json, waived_at, waived_json}

@@ -22,7 +22,7 @@ use Rattle.lrs_replies.specs.declared.reply.Trouble.{Trouble}
 use Rattle.lrs_replies.specs.declared.reply.Trouble.TheVariants as trouble
 use Rattle.lrs_machine.specs.Acts.{landed_among}
 use Rattle.lrs_machine.specs.Desk.{Desk, HoldsPrefix, IsOnDisk, KeepsLine}
-use Rattle.lrs_parts.specs.declared.parts.Parts.{Parts}
+use Rattle.lrs_parts.specs.Parts.{SeenParts as Parts}
 use Rattle.lrs_machine.specs.Line.{Record, entries, in_doubt, sure, opened_line, line_of, AreBefore}
 use Rattle.lrs_machine.specs.Steps.{Does, GrewBy, HoldsFrames, Happens, HoldsEntries, LeavesFrames, IsTied, CarriesOut, folded, landed_of, line_after, one_of, sure_of}
 use Rattle.lrs_machine.proofs.Frames.{length-store-more}

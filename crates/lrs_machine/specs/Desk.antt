@@ -14,8 +14,7 @@ use Rattle.lrs_history.specs.History.{state, ComesNext, IsLegal, IsLegalFrom}
 use Rattle.lrs_history.specs.Refusals.{barred}
 use Rattle.lrs_history.specs.Whose.{who_is}
 use Rattle.lrs_record.specs.declared.entry.Caller.{Caller}
-use Rattle.lrs_parts.specs.Parts.{AddsNoPlaces}
-use Rattle.lrs_parts.specs.declared.parts.Parts.{Parts}
+use Rattle.lrs_parts.specs.Parts.{AddsNoPlaces, SeenParts as Parts}
 use Rattle.lrs_machine.specs.Line.{Record, entries, in_doubt, sure, opened_line, AreBefore, BeginsWith}
 use Rattle.lrs_machine.specs.Acts.{Receipt, landed_among, place_where}
 use Rattle.lrs_machine.specs.declared.opening.DeskRefused.{DeskRefused}

@@ -9,7 +9,7 @@ ghost use Rattle.lrs_machine.specs.Fold.{state_of};
 ghost use Rattle.lrs_machine.specs.Steps.{Does};
 ghost use Rattle.lrs_parts.specs.Parts.{AddsNoPlaces, IsReadyFor, MakesPlacesFor};
 ghost use Rattle.lrs_parts.specs.State.{apply};
-ghost use Rattle.lrs_parts.specs.declared.parts.Parts.{Parts};
+ghost use Rattle.lrs_parts.specs.Parts.{SeenParts as Parts};
 
 use lrs_disk::Disk;
 use lrs_fold::{Accepted, Fold};

@@ -1,3 +1,4 @@
+pub mod Lent
 pub mod Trees
 pub mod Same
 pub mod Supplied

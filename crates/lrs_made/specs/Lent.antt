@@ -1,8 +1,22 @@
 -- Units and registrations, as the parts lend them.
-use Rattle.lrs_history.specs.Enrolments.{Enrolled}
+use Rattle.std.specs.Prelude.{◌≡◌, ◌<◌, length, Some}
+use Rattle.lrs_history.specs.Enrolments.{Enrolled, enrolled_as}
 use Rattle.lrs_history.specs.Launches.{Target}
 use Rattle.lrs_made.specs.declared.enrolments.LentEnrolled.{LentEnrolled}
 use Rattle.lrs_made.specs.declared.targets.LentTarget.{LentTarget}
+use Rattle.lrs_parts.specs.State.{State}
+
+-- ---- registrations
+
+-- what is seen of a registration that is lent, with its course
+abbrev pub seen_enrolled : LentEnrolled → Enrolled
+seen_enrolled e = record { base = e.base.now; registration = e.registration.now; course = e.course.now }
+
+-- The course is that of the registration in a store of that state, with its address.
+abbrev pub IsLentBy : State → LentEnrolled → Type 0
+IsLentBy st e = enrolled_as st e.registration.now ≡ Some (seen_enrolled e)
+
+-- ---- units
 
 -- what is seen of a unit that is lent
 abbrev pub seen_target : LentTarget → Target
@@ -14,6 +28,11 @@ seen_target t = record {
   unit = t.unit.now;
 }
 
--- what is seen of a registration that is lent, with its course
-abbrev pub seen_enrolled : LentEnrolled → Enrolled
-seen_enrolled e = record { base = e.base.now; registration = e.registration.now; course = e.course.now }
+-- its registration with its course
+abbrev pub enrolled_of : LentTarget → Enrolled
+enrolled_of t = record { base = t.base.now; registration = t.registration.now; course = t.course.now }
+
+-- The same of a unit: the course is that of its registration, and has a node of that number.
+pub record IsTargetOf (st : State) (t : LentTarget) : Type 0 where
+  pub enrolled : enrolled_as st t.registration.now ≡ Some (enrolled_of t)
+  pub place : t.place < length t.course.now.nodes

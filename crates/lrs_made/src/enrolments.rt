@@ -1,14 +1,14 @@
 // Registrations with their courses.
-ghost use Rattle.std.specs.Prelude.{◌≡◌, option_map, IfOk};
+ghost use Rattle.std.specs.Prelude.{◌≡◌, option_map, IfOk, IfSome};
 ghost use Rattle.cmi5_verdict.specs.Nodes.{seen};
 ghost use Rattle.lrs_history.specs.Enrolments.{enrolled, enrolled_as, enrolled_from, enrolment_of, verdicts_of};
-ghost use Rattle.lrs_made.specs.Lent.{seen_enrolled};
+ghost use Rattle.lrs_made.specs.Lent.{IsLentBy, seen_enrolled};
 ghost use Rattle.lrs_parts.specs.Parts.{state_of};
 ghost use Rattle.lrs_parts.specs.declared.founding.Founding.{Founding as SpecFounding};
 
-use crate::held::held_alone;
+use crate::held::{course_of, founding_of, registration_under};
 use cmi5_course::Course;
-use cmi5_verdict::{Enrolment, verdicts};
+use cmi5_verdict::Enrolment;
 use lrs_json::Memory;
 use lrs_names::{Id, Iri};
 use lrs_parts::{HeldRegistration, Parts};
@@ -40,9 +40,10 @@ impl LentEnrolled<'_> {
 
 /// The registration of that id with its course, if both are there.
 pub fn enrolled<'a>(parts: &'a Parts, id: &Id) -> Option<LentEnrolled<'a>>
-    ensures { option_map seen_enrolled result ≡ enrolled (state_of parts.now) id.now }
+    ensures found { option_map seen_enrolled result ≡ enrolled (state_of parts.now) id.now }
+    ensures lent { IfSome result (λ e. IsLentBy (state_of parts.now) e) }
 {
-    match parts.learning.registrations.find(id) {
+    match registration_under(parts, id) {
         Some(registration) => enrolled_as(parts, registration),
         None => None,
     }
@@ -53,9 +54,10 @@ pub fn enrolled_as<'a>(
     parts: &'a Parts,
     registration: &'a HeldRegistration,
 ) -> Option<LentEnrolled<'a>>
-    ensures { option_map seen_enrolled result ≡ enrolled_as (state_of parts.now) registration.now }
+    ensures found { option_map seen_enrolled result ≡ enrolled_as (state_of parts.now) registration.now }
+    ensures lent { IfSome result (λ e. IsLentBy (state_of parts.now) e) }
 {
-    match &parts.founding {
+    match founding_of(parts) {
         Some(founding) => enrolled_from(parts, &founding.base, registration),
         None => None,
     }
@@ -70,7 +72,7 @@ fn enrolled_from<'a>(
     ensures { (founding : SpecFounding) → founding.base ≡ base.now → option_map seen_enrolled result
         ≡ enrolled_from (state_of parts.now) registration.now founding }
 {
-    let Some(course) = parts.learning.courses.get(registration.course) else {
+    let Some(course) = course_of(parts, registration) else {
         return None;
     };
     Some(LentEnrolled {
@@ -86,8 +88,9 @@ pub fn verdicts_of(
     parts: &Parts,
     enrolled: &LentEnrolled<'_>,
 ) -> Result<Vec<bool>, Memory>
+    requires { IsLentBy (state_of parts.now) enrolled.now }
     ensures { IfOk result (λ verdicts. verdicts.items
         ≡ verdicts_of (state_of parts.now) (seen_enrolled enrolled.now)) }
 {
-    verdicts(alloc, &held_alone(parts), &enrolled.enrolment())
+    parts.verdicts(alloc, enrolled.registration, &enrolled.enrolment())
 }

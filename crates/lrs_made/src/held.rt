@@ -1,17 +1,30 @@
-// The statements that a store holds.
-ghost use Rattle.std.specs.Prelude.{◌≡◌};
-ghost use Rattle.cmi5_verdict.specs.Statements.{all_of};
+// What is held of registrations and of their courses.
+ghost use Rattle.std.specs.Prelude.{◌≡◌, slice_get};
+ghost use Rattle.std.specs.Option.{option_copied};
 ghost use Rattle.lrs_parts.specs.Parts.{state_of};
+ghost use Rattle.lrs_parts.specs.Registrations.{registration_under};
 
-use cmi5_verdict::Statements;
-use lrs_parts::Parts;
+use cmi5_course::Course;
+use lrs_names::Id;
+use lrs_parts::{Founding, HeldRegistration, Parts};
 
-/// Those that are held, with none behind them.
-pub(crate) fn held_alone(parts: &Parts) -> Statements<'_>
-    ensures { all_of result ≡ (state_of parts.now).statements }
+/// What the store was founded with, if it was.
+pub(crate) fn founding_of(parts: &Parts) -> Option<&Founding>
+    ensures { option_copied result ≡ (state_of parts.now).founding }
 {
-    Statements {
-        held: &parts.statements,
-        new: &[],
-    }
+    parts.founding.as_ref()
+}
+
+/// The registration of that id.
+pub(crate) fn registration_under<'a>(parts: &'a Parts, id: &Id) -> Option<&'a HeldRegistration>
+    ensures { option_copied result ≡ registration_under id.now (state_of parts.now).registrations }
+{
+    parts.learning.registrations.find(id)
+}
+
+/// The course of a registration.
+pub(crate) fn course_of<'a>(parts: &'a Parts, registration: &HeldRegistration) -> Option<&'a Course>
+    ensures { option_copied result ≡ slice_get (state_of parts.now).courses registration.now.course }
+{
+    parts.learning.courses.get(registration.course)
 }

@@ -1,11 +1,11 @@
 // That blocks and courses are satisfied.
-ghost use Rattle.std.specs.Prelude.{◌≡◌, ◌++◌, ◌∷◌, [], IfOk, OnOk, filter_map, option_map};
+ghost use Rattle.std.specs.Prelude.{◌≡◌, ◌++◌, ◌∷◌, [], IfOk, IfSome, OnOk, filter_map, option_map};
 ghost use Rattle.std.specs.Option.{option_copied};
 ghost use Rattle.lrs_history.specs.Enrolments.{owed_behind};
 ghost use Rattle.lrs_history.specs.Made.{left_behind, made_under, owed_jsons, owed_made, satisfied_at, satisfied_json};
 ghost use Rattle.lrs_ids.specs.IdSupply.{GiveSame, left_of};
 ghost use Rattle.lrs_json.specs.View.{view};
-ghost use Rattle.lrs_made.specs.Lent.{seen_enrolled};
+ghost use Rattle.lrs_made.specs.Lent.{IsLentBy, seen_enrolled};
 ghost use Rattle.lrs_made.specs.Said.{jsons_of};
 ghost use Rattle.lrs_parts.specs.Parts.{state_of};
 ghost use Rattle.lrs_parts.specs.State.{used_in};
@@ -15,7 +15,6 @@ use crate::making::make_under;
 use crate::saying::statement_of;
 use cmi5_course::Node;
 use cmi5_launch::{Made, activity_id};
-use cmi5_verdict::{Statements, owed};
 use lrs_ids::IdSupply;
 use lrs_json::Memory;
 use lrs_names::Id;
@@ -35,6 +34,7 @@ pub fn add_owed(
     supply: &mut IdSupply,
     made: &mut Vec<StoredStatement>,
 ) -> Result<(), Memory>
+    requires { IfSome (option_copied enrolled) (λ e. IsLentBy (state_of parts.now) e) }
     ensures made { OnOk result (made.new.items
         ≡ made.old.items
         ++ owed_made (state_of parts.now) session.now (left_of (used_in (state_of parts.now)) supply.old) moment
@@ -60,6 +60,7 @@ fn add_owed_in(
     supply: &mut IdSupply,
     made: &mut Vec<StoredStatement>,
 ) -> Result<(), Memory>
+    requires { IsLentBy (state_of parts.now) enrolled.now }
     ensures made { OnOk result (made.new.items
         ≡ made.old.items
         ++ made_under (left_of (used_in (state_of parts.now)) supply.old) moment
@@ -80,6 +81,7 @@ fn owed_statements(
     enrolled: &LentEnrolled<'_>,
     session: &Id,
 ) -> Result<Vec<Statement>, Memory>
+    requires { IsLentBy (state_of parts.now) enrolled.now }
     ensures { IfOk result (λ said. jsons_of said.items
         ≡ owed_jsons (state_of parts.now) session.now new.now (seen_enrolled enrolled.now)) }
 {
@@ -94,14 +96,11 @@ fn owed_places(
     new: &[StoredStatement],
     enrolled: &LentEnrolled<'_>,
 ) -> Result<Vec<u32>, Memory>
+    requires { IsLentBy (state_of parts.now) enrolled.now }
     ensures { IfOk result (λ places. places.items
         ≡ owed_behind (state_of parts.now) new.now (seen_enrolled enrolled.now)) }
 {
-    let statements = Statements {
-        held: &parts.statements,
-        new,
-    };
-    owed(alloc, &statements, &enrolled.enrolment())
+    parts.owed(alloc, enrolled.registration, &enrolled.enrolment(), new)
 }
 
 // That each of these nodes is satisfied, in that session.

@@ -1,11 +1,11 @@
 // The unit that a launch, a waiver or an abandoned session speaks of.
-ghost use Rattle.std.specs.Prelude.{◌≡◌, option_map, IfOk, IfSome};
+ghost use Rattle.std.specs.Prelude.{◌≡◌, ◌<◌, length, option_map, IfOk, IfSome};
 ghost use Rattle.cmi5_launch.specs.Addresses.{IsAddress};
-ghost use Rattle.lrs_history.specs.Launches.{activity_at, target, target_under};
-ghost use Rattle.lrs_made.specs.Lent.{seen_target};
+ghost use Rattle.lrs_history.specs.Launches.{activity_at, target, target_at, target_in};
+ghost use Rattle.lrs_made.specs.Lent.{IsTargetOf, enrolled_of, seen_target};
 ghost use Rattle.lrs_parts.specs.Parts.{state_of};
-ghost use Rattle.lrs_parts.specs.declared.founding.Founding.{Founding as SpecFounding};
 
+use crate::enrolments::enrolled;
 use cmi5_course::{Course, Unit};
 use cmi5_launch::activity_id;
 use lrs_json::Memory;
@@ -44,42 +44,58 @@ impl LentTarget<'_> {
 pub fn target<'a>(parts: &'a Parts, registration: &Id, publisher: &'a Iri) -> Option<LentTarget<'a>>
     ensures found { option_map seen_target result ≡ target (state_of parts.now) registration.now publisher.now }
     ensures address { IfSome result (λ t. IsAddress t.unit.now.url) }
+    ensures lent { IfSome result (λ t. IsTargetOf (state_of parts.now) t) }
 {
-    match &parts.founding {
-        Some(founding) => target_under(parts, &founding.base, registration, publisher),
+    match enrolled(parts, registration) {
+        Some(known) => target_in(known.base, known.registration, known.course, publisher),
         None => None,
     }
 }
 
-// The same in a store of that address.
-fn target_under<'a>(
-    parts: &'a Parts,
+// The unit of that id in that course.
+fn target_in<'a>(
     base: &'a Iri,
-    registration: &Id,
+    registration: &'a HeldRegistration,
+    course: &'a Course,
     publisher: &'a Iri,
 ) -> Option<LentTarget<'a>>
-    ensures found { (founding : SpecFounding) → founding.base ≡ base.now → option_map seen_target result
-        ≡ target_under (state_of parts.now) registration.now publisher.now founding }
+    ensures found { option_map seen_target result
+        ≡ target_in base.now registration.now publisher.now course.now }
     ensures address { IfSome result (λ t. IsAddress t.unit.now.url) }
+    ensures enrolled { IfSome result (λ t. enrolled_of t
+        ≡ record { base = base.now; registration = registration.now; course = course.now }) }
+    ensures place { IfSome result (λ t. t.place < length course.now.nodes) }
 {
-    let Some(registration) = parts.learning.registrations.find(registration) else {
-        return None;
-    };
-    let Some(course) = parts.learning.courses.get(registration.course) else {
-        return None;
-    };
-    let Some(place) = course.unit(publisher) else {
-        return None;
-    };
-    let Some(unit) = course.unit_at(place) else {
-        return None;
-    };
-    Some(LentTarget {
-        base,
-        registration,
-        course,
-        place,
-        publisher,
-        unit,
-    })
+    match course.unit(publisher) {
+        Some(place) => target_at(base, registration, course, place, publisher),
+        None => None,
+    }
+}
+
+// The unit of that number, which has that id.
+fn target_at<'a>(
+    base: &'a Iri,
+    registration: &'a HeldRegistration,
+    course: &'a Course,
+    place: u32,
+    publisher: &'a Iri,
+) -> Option<LentTarget<'a>>
+    ensures found { option_map seen_target result
+        ≡ target_at base.now registration.now publisher.now course.now place }
+    ensures address { IfSome result (λ t. IsAddress t.unit.now.url) }
+    ensures enrolled { IfSome result (λ t. enrolled_of t
+        ≡ record { base = base.now; registration = registration.now; course = course.now }) }
+    ensures place { IfSome result (λ t. t.place < length course.now.nodes) }
+{
+    match course.unit_at(place) {
+        Some(unit) => Some(LentTarget {
+            base,
+            registration,
+            course,
+            place,
+            publisher,
+            unit,
+        }),
+        None => None,
+    }
 }

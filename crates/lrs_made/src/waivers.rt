@@ -3,16 +3,14 @@ ghost use Rattle.std.specs.Prelude.{◌≡◌, IfOk};
 ghost use Rattle.lrs_history.specs.DeskEffects.{is_waived};
 ghost use Rattle.lrs_history.specs.Made.{waived_json};
 ghost use Rattle.lrs_json.specs.View.{view};
-ghost use Rattle.lrs_made.specs.Lent.{seen_target};
+ghost use Rattle.lrs_made.specs.Lent.{IsTargetOf, seen_target};
 ghost use Rattle.lrs_parts.specs.Parts.{state_of};
 
 use crate::enrolments::LentEnrolled;
-use crate::held::held_alone;
 use crate::saying::statement_of;
 use crate::targets::LentTarget;
 use cmi5_course::Reason;
 use cmi5_launch::Made;
-use cmi5_verdict::waived;
 use lrs_json::Memory;
 use lrs_names::Id;
 use lrs_parts::Parts;
@@ -21,6 +19,7 @@ use xapi_statement::Statement;
 
 /// Whether the unit is waived: a statement stands that says so.
 pub fn is_waived(parts: &Parts, target: &LentTarget<'_>) -> bool
+    requires { IsTargetOf (state_of parts.now) target.now }
     ensures { result ≡ is_waived (state_of parts.now) (seen_target target.now) }
 {
     let enrolled = LentEnrolled {
@@ -28,7 +27,7 @@ pub fn is_waived(parts: &Parts, target: &LentTarget<'_>) -> bool
         registration: target.registration,
         course: target.course,
     };
-    waived(&held_alone(parts), &enrolled.enrolment(), target.place)
+    parts.is_waived(target.registration, &enrolled.enrolment(), target.place)
 }
 
 /// The statement that the unit was waived, in that session (cmi5 Quartz, section 9.3.7).

@@ -6,12 +6,11 @@ use Rattle.cmi5_course.specs.Launches.{session_of}
 use Rattle.lrs_parts.specs.Counted.{AddsNone, MakesPlaceFor, TakesPlaceBackFor}
 use Rattle.lrs_parts.specs.Launches.{key_text, token_text}
 use Rattle.lrs_parts.specs.Learning.{AddsNoLearningPlaces, MakesLearningPlaces, TakesLearningPlacesBack}
-use Rattle.lrs_parts.specs.Parts.{AddsNoPlaces}
+use Rattle.lrs_parts.specs.Parts.{AddsNoPlaces, SeenParts}
 use Rattle.lrs_parts.specs.Registrations.{registration_key}
 use Rattle.lrs_parts.specs.Sessions.{made_session_id}
 use Rattle.lrs_parts.specs.declared.effect.Effect.{Effect}
 use Rattle.lrs_parts.specs.declared.learning.Learning.{Learning}
-use Rattle.lrs_parts.specs.declared.parts.Parts.{Parts}
 use Rattle.lrs_register.proofs.Ahead.{made_and_back}
 use Rattle.lrs_register.specs.Register.{Registered, is_key_of}
 use Rattle.lrs_register.specs.declared.change.Change.{Change}
@@ -35,10 +34,12 @@ learning_back before mid new x made taken = record {
   tokens = back token_text x.tokens before.tokens mid.tokens new.tokens made.tokens taken.tokens;
 }
 
-pub none_more : (parts : Parts) → AddsNoPlaces parts parts
+pub none_more : (parts : SeenParts) → AddsNoPlaces parts parts
 none_more parts = record {
   providers = λ k has. has;
   learning = record { courses = λ k has. has; registrations = λ k has. has; launches = λ k has. has; made_sessions = λ k has. has; keys = λ k has. has; tokens = λ k has. has };
   statements = inr refl;
   documents = λ k has. has;
+  sessions = record { own = λ id has. has; unit = λ registration activity has. has; units = λ registration has. has };
+  running = inr refl;
 }

@@ -8,4 +8,5 @@ pub mod Launches
 pub mod Sessions
 pub mod State
 pub mod Learning
+pub mod Progress
 pub mod Parts

@@ -1,18 +1,40 @@
 -- The parts in memory, as the definitions see them, and room for an effect in each.
-use Rattle.std.specs.Prelude.{◌≡◌, ◌⊎◌, ◌+◌, ◌<◌, ◌^◌}
+use Rattle.std.specs.Prelude.{◌≡◌, ◌⊎◌, ◌+◌, ◌<◌, ◌^◌, ℕ, List, Option, None}
 use Rattle.std.specs.Cmp.Lexicographic.{slice_cmp}
 use Rattle.std.specs.Ordering.{nat_cmp}
+use Rattle.lrs_ids.specs.Ids.{Used, either, those}
 use Rattle.lrs_parts.specs.Counted.{AddsNone, HasRoomToCount, MakesPlaceFor}
+use Rattle.lrs_parts.specs.Launches.{session_ids}
 use Rattle.lrs_parts.specs.Learning.{AddsNoLearningPlaces, IsLearningReadyFor, MakesLearningPlaces}
 use Rattle.lrs_parts.specs.Providers.{token_of}
+use Rattle.lrs_parts.specs.Registrations.{registration_ids}
+use Rattle.lrs_parts.specs.Sessions.{made_session_ids}
 use Rattle.lrs_parts.specs.State.{State}
 use Rattle.lrs_parts.specs.declared.effect.Effect.{Effect}
-use Rattle.lrs_parts.specs.declared.parts.Parts.{Parts}
+use Rattle.lrs_parts.specs.declared.founding.Founding.{Founding}
+use Rattle.lrs_parts.specs.declared.learning.Learning.{Learning}
+use Rattle.lrs_parts.specs.declared.progress.Progress.{Progress}
+use Rattle.lrs_parts.specs.declared.providers.HeldProvider.{HeldProvider}
+use Rattle.lrs_parts.specs.Progress.{IsProgressReadyFor}
+use Rattle.cmi5_running_sessions.specs.Room as room
+use Rattle.lrs_register.specs.Register.{Registered}
 use Rattle.xapi_docs.specs.Docs as docs
-use Rattle.xapi_docs.specs.Docs.{HasRoomForDocuments, documents_in, is_written}
-use Rattle.xapi_index.specs.Index.{HoldsNothingAhead, IsIndexReadyFor}
+use Rattle.xapi_docs.specs.Docs.{HasRoomForDocuments, Places, documents_in, is_written}
+use Rattle.xapi_index.specs.Index.{HoldsNothingAhead, Indexed, IsIndexReadyFor}
+use Rattle.xapi_index.specs.Statements.{ids_of}
 
-abbrev pub state_of : Parts → State
+-- what is seen of all parts together
+pub record SeenParts : Type 0 where
+  pub founding : Option Founding
+  pub providers : Registered (List ℕ) HeldProvider
+  pub statements : Indexed
+  pub documents : Places
+  pub learning : Learning
+  pub progress : Progress
+  pub length : ℕ
+  pub last : ℕ
+
+abbrev pub state_of : SeenParts → State
 state_of parts = record {
   founding = parts.founding;
   providers = parts.providers.held;
@@ -29,26 +51,39 @@ state_of parts = record {
   last = parts.last;
 }
 
+-- the ids that are used: those of the statements, of the registrations, and of sessions
+abbrev pub used_with : Indexed → Learning → Used
+used_with statements learning =
+    either (those (ids_of statements.held))
+    (either (those (registration_ids learning.registrations.held))
+    (either (those (session_ids learning.launches.held)) (those (made_session_ids learning.made_sessions.held))))
+
+-- ---- room
+
 -- there is room for each of its changes, and one entry more can be counted
-pub record IsReadyFor (parts : Parts) (effect : Effect) : Type 0 where
+pub record IsReadyFor (parts : SeenParts) (effect : Effect) : Type 0 where
   pub providers : HasRoomToCount (slice_cmp nat_cmp) token_of parts.providers effect.providers
   pub statements : IsIndexReadyFor parts.statements effect.statements
   pub documents : HasRoomForDocuments parts.documents effect.documents
   pub learning : IsLearningReadyFor parts.learning effect
+  pub progress : IsProgressReadyFor parts.progress parts.founding parts.learning.courses.held effect
   pub length : parts.length + 1 < 2 ^ 64
 
 -- ---- places that are made ahead
 
 -- Places were made for what an effect brings, and for nothing else. Of the statements nothing needs to be said: all
 -- that stands ahead is taken back.
-pub record MakesPlacesFor (old new : Parts) (effect : Effect) : Type 0 where
+pub record MakesPlacesFor (old new : SeenParts) (effect : Effect) : Type 0 where
   pub providers : MakesPlaceFor (slice_cmp nat_cmp) token_of effect.providers old.providers new.providers
   pub documents : docs.MakesPlaces (is_written effect.documents) old.documents new.documents
   pub learning : MakesLearningPlaces old.learning new.learning effect
+  pub sessions : room.MakesPlaces effect.statements old.progress.sessions new.progress.sessions
 
--- No part has a place that it hadn't. The statements are as they were, or hold nothing ahead.
-pub record AddsNoPlaces (old new : Parts) : Type 0 where
+-- No part has a place that it hadn't. The statements are as they were, or hold nothing ahead; so are the tallies.
+pub record AddsNoPlaces (old new : SeenParts) : Type 0 where
   pub providers : AddsNone (slice_cmp nat_cmp) old.providers new.providers
   pub statements : HoldsNothingAhead new.statements ⊎ (new.statements ≡ old.statements)
   pub documents : docs.AddsNoPlace old.documents new.documents
   pub learning : AddsNoLearningPlaces old.learning new.learning
+  pub sessions : room.AddsNoPlaces old.progress.sessions new.progress.sessions
+  pub running : (new.progress.running.coming ≡ None) ⊎ (new.progress.running ≡ old.progress.running)

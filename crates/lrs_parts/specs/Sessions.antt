@@ -60,7 +60,7 @@ sessions_after moment sessions change =
 -- ---- room
 
 -- What is seen of the sessions: what is known of each, and for how many more there is room.
-pub record SeenSessions : Type 0 where
+pub record SeenHeldSessions : Type 0 where
   pub held : List HeldSession
   pub spare : ℕ
 
@@ -69,7 +69,7 @@ HasRoomIf false spare = Unit {0}
 HasRoomIf true spare = 1 ≤ spare
 
 -- there is room for one more, if one begins
-abbrev pub HasRoomForSession : SeenSessions → SessionsChange → Type 0
+abbrev pub HasRoomForSession : SeenHeldSessions → SessionsChange → Type 0
 HasRoomForSession sessions change = HasRoomIf change.launched sessions.spare
 
 -- ---- session ids of no launch

@@ -3,7 +3,7 @@ ghost use Rattle.std.specs.Prelude.{◌≡◌, [], OnOk};
 ghost use Rattle.lrs_parts.specs.Learning.{IsLearningReadyFor, KeepsLearning, MakesLearningPlaces};
 ghost use Rattle.lrs_parts.specs.Learning.{TakesLearningPlacesBack};
 
-use crate::{Courses, Effect, Keys, Launches, MadeSessions, Registrations, Sessions, Tokens};
+use crate::{Courses, Effect, HeldSessions, Keys, Launches, MadeSessions, Registrations, Tokens};
 use lrs_json::Memory;
 use std::alloc::Global;
 
@@ -13,7 +13,7 @@ pub struct Learning {
     pub courses: Courses,
     pub registrations: Registrations,
     pub launches: Launches,
-    pub sessions: Sessions,
+    pub sessions: HeldSessions,
     pub made_sessions: MadeSessions,
     pub keys: Keys,
     pub tokens: Tokens,
@@ -33,7 +33,7 @@ impl Learning {
             courses: Courses::new(alloc),
             registrations: Registrations::new(alloc),
             launches: Launches::new(alloc),
-            sessions: Sessions::new(alloc),
+            sessions: HeldSessions::new(alloc),
             made_sessions: MadeSessions::new(alloc),
             keys: Keys::new(alloc),
             tokens: Tokens::new(alloc),

@@ -1,20 +1,22 @@
 // All parts together.
-ghost use Rattle.std.specs.Prelude.{◌≡◌, OnOk};
+ghost use Rattle.std.specs.Prelude.{◌≡◌, ◌<◌, ◌^◌, OnOk};
 ghost use Rattle.lrs_parts.specs.Founding.{founding_after};
-ghost use Rattle.lrs_parts.specs.Parts.{state_of, AddsNoPlaces, IsReadyFor, MakesPlacesFor};
+ghost use Rattle.lrs_parts.specs.Parts.{state_of, used_with, AddsNoPlaces, IsReadyFor, MakesPlacesFor, SeenParts};
 ghost use Rattle.lrs_parts.specs.State.{apply, nothing};
-ghost use Rattle.lrs_parts.specs.declared.parts.Parts.{Parts as SpecParts};
 
-use crate::{Effect, Founding, Learning, Providers};
+use crate::following::{enrol_new, take_in_each};
+use crate::readying::ready_each;
+use crate::{Effect, Founding, Learning, Progress, Providers};
 use lrs_ids::UsedIds;
 use lrs_json::Memory;
 use lrs_names::Id;
 use lrs_time::Moment;
 use std::alloc::Global;
+use std::marker::Model;
 use xapi_docs::Docs;
 use xapi_index::Index;
 
-/// All that a store holds.
+/// All that a store holds. What is kept of progress follows the other parts.
 #[derive(Drop)]
 pub struct Parts {
     pub founding: Option<Founding>,
@@ -22,10 +24,37 @@ pub struct Parts {
     pub statements: Index,
     pub documents: Docs,
     pub learning: Learning,
+    /// How far sessions and registrations have come.
+    pub progress: Progress,
     /// How many entries there are.
     pub length: u64,
     /// The last entry's moment.
     pub last: Moment,
+}
+
+impl Model for Parts {
+    ghost use Rattle.std.specs.Coded.{codes};
+    ghost use Rattle.lrs_json.specs.contracts.tree.Tree as tree;
+    ghost use Rattle.lrs_parts.specs.Parts.{SeenParts};
+    ghost use Rattle.lrs_parts.specs.Progress.{IsKept};
+
+    ghost Value = { SeenParts };
+
+    ghost coded = { Prim.hlevel (codes, tree.the_row.coded) };
+
+    ghost view = { λ p. record {
+      founding = p.founding;
+      providers = p.providers;
+      statements = p.statements;
+      documents = p.documents;
+      learning = p.learning;
+      progress = p.progress;
+      length = p.length;
+      last = p.last;
+    } };
+
+    ghost invariant = { λ p. IsKept p.progress p.founding p.learning.courses.held p.learning.registrations.held
+        p.statements.held };
 }
 
 impl Parts {
@@ -33,42 +62,53 @@ impl Parts {
     pub fn new(alloc: Global) -> Parts
         ensures { state_of result ≡ nothing }
     {
+        let providers = Providers::new(alloc);
+        let statements = Index::new(alloc);
+        let documents = Docs::new(alloc);
+        let learning = Learning::new(alloc);
+        let progress = Progress::new(alloc);
         Parts {
             founding: None,
-            providers: Providers::new(alloc),
-            statements: Index::new(alloc),
-            documents: Docs::new(alloc),
-            learning: Learning::new(alloc),
+            providers,
+            statements,
+            documents,
+            learning,
+            progress,
             length: 0,
             last: Moment::clamp(0),
         }
     }
 
-    /// Makes room for an effect in each part. There is none if the entries can't be counted any more.
+    /// Makes room for an effect in each part. There is none if the entries can't be counted any more, and none for one
+    /// that no command has: that replaces a course or a registration, or brings a registration without its course.
     pub fn ready(&mut self, effect: &Effect) -> Result<(), Memory>
         ensures same { state_of self.new ≡ state_of self.old }
         ensures ready { OnOk result (IsReadyFor self.new effect.now) }
         ensures made { MakesPlacesFor self.old self.new effect.now }
     {
-        if self.length == u64::MAX {
-            return Err(Memory);
-        }
-        self.providers.ready(&effect.providers)?;
-        self.statements.ready(effect.statements.as_slice())?;
-        self.documents.ready_change(&effect.documents)?;
-        self.learning.ready(effect)
+        ready_each(
+            &mut self.progress,
+            &self.founding,
+            &mut self.providers,
+            &mut self.statements,
+            &mut self.documents,
+            &mut self.learning,
+            self.length,
+            effect,
+        )
     }
 
     /// Takes back the places that were made for an effect which doesn't come: then there are none but those before.
     pub fn release(&mut self, effect: &Effect)
         ensures same { state_of self.new ≡ state_of self.old }
-        ensures undone { (before : SpecParts) → MakesPlacesFor before self.old effect.now
+        ensures undone { (before : SeenParts) → MakesPlacesFor before self.old effect.now
             → AddsNoPlaces before self.new }
     {
         self.providers.release(&effect.providers);
         self.statements.release();
         self.documents.release_change(&effect.documents);
         self.learning.release(effect);
+        self.progress.release(effect.statements.as_slice());
     }
 
     /// Takes an effect in for which there is room. It takes no memory.
@@ -92,11 +132,24 @@ impl Parts {
             acceptance: _,
         } = effect;
         found(&mut self.founding, founding);
-        self.providers.install(providers);
-        self.statements.install(statements.into_vec());
-        self.documents.install_change(documents);
         self.learning.courses.install(courses);
+        enrol_new(
+            &mut self.progress.running,
+            &self.founding,
+            &self.learning.courses,
+            &self.statements,
+            &registrations.new,
+        );
         self.learning.registrations.install(registrations);
+        take_in_each(
+            &mut self.progress,
+            &self.founding,
+            &self.learning,
+            &mut self.statements,
+            statements,
+        );
+        self.providers.install(providers);
+        self.documents.install_change(documents);
         self.learning.launches.install(launches);
         self.learning.sessions.install(moment, sessions);
         self.learning.made_sessions.install(made_sessions);
@@ -115,18 +168,31 @@ impl UsedIds for Parts {
     ghost used = { λ parts. used_in (state_of parts) };
 
     fn is_used(&self, id: &Id) -> bool {
-        self.statements.is_used(id)
-            || self.learning.registrations.is_used(id)
-            || self.learning.launches.is_used(id)
-            || self.learning.made_sessions.is_used(id)
+        is_used_in(&self.statements, &self.learning, id)
     }
 
     fn count(&self) -> u128 {
-        self.statements.len() as u128
-            + self.learning.registrations.len() as u128
-            + self.learning.launches.len() as u128
-            + self.learning.made_sessions.len() as u128
+        count_used(&self.statements, &self.learning)
     }
+}
+
+fn is_used_in(statements: &Index, learning: &Learning, id: &Id) -> bool
+    ensures { result ≡ (used_with statements.now learning.now).is_used id.now }
+{
+    statements.is_used(id)
+        || learning.registrations.is_used(id)
+        || learning.launches.is_used(id)
+        || learning.made_sessions.is_used(id)
+}
+
+fn count_used(statements: &Index, learning: &Learning) -> u128
+    ensures count { result ≡ (used_with statements.now learning.now).count }
+    ensures few { result < 2 ^ 100 }
+{
+    statements.len() as u128
+        + learning.registrations.len() as u128
+        + learning.launches.len() as u128
+        + learning.made_sessions.len() as u128
 }
 
 // The first founding counts.

@@ -53,24 +53,24 @@ impl SessionsChange {
 
 /// What the desk knows of the sessions of launches, one for each launch and in their order.
 #[derive(Drop)]
-pub struct Sessions {
+pub struct HeldSessions {
     held: Vec<HeldSession>,
 }
 
-impl Model for Sessions {
+impl Model for HeldSessions {
     ghost use Rattle.std.specs.Prelude.{vec_len, vec_capacity, ◌-◌};
-    ghost use Rattle.lrs_parts.specs.Sessions.{SeenSessions};
+    ghost use Rattle.lrs_parts.specs.Sessions.{SeenHeldSessions};
 
-    ghost Value = { SeenSessions };
+    ghost Value = { SeenHeldSessions };
 
     ghost view = { λ s. record { held = s.held.items; spare = vec_capacity s.held - vec_len s.held } };
 }
 
-impl Sessions {
-    pub fn new(alloc: Global) -> Sessions
+impl HeldSessions {
+    pub fn new(alloc: Global) -> HeldSessions
         ensures { result.held ≡ [] }
     {
-        Sessions {
+        HeldSessions {
             held: Vec::new(alloc),
         }
     }

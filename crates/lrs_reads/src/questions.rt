@@ -8,7 +8,7 @@ ghost use Rattle.lrs_history.specs.Enrolments.{enrolled};
 ghost use Rattle.lrs_history.specs.History.{answered_inside, read_answered};
 ghost use Rattle.lrs_history.specs.Refusals.{outside_of};
 ghost use Rattle.lrs_history.specs.Whose.{launch_of, who_is};
-ghost use Rattle.lrs_made.specs.Lent.{seen_enrolled};
+ghost use Rattle.lrs_made.specs.Lent.{IsLentBy, seen_enrolled};
 ghost use Rattle.lrs_parts.specs.Parts.{state_of};
 ghost use Rattle.xapi_index.specs.Statements.{held_under};
 ghost use Rattle.xapi_statement.specs.Shown.{shown_text};
@@ -155,6 +155,7 @@ fn standing_said(alloc: Global, parts: &Parts, id: &Id) -> Result<Answered, Memo
 
 // The same of the registration that is there.
 fn standing_of(alloc: Global, parts: &Parts, known: &LentEnrolled<'_>) -> Result<Answered, Memory>
+    requires { IsLentBy (state_of parts.now) known.now }
     ensures { IfOk result (λ said. said
         ≡ standing_said (state_of parts.now) (Some (seen_enrolled known.now))) }
 {

@@ -17,7 +17,7 @@ ghost use Rattle.xapi_statement.specs.Statement.{own_id};
 
 use crate::whose::{launch_of, was_abandoned};
 use cmi5_course::Launch;
-use cmi5_session::{Forbidden, SessionView, permitted, permitted_outside, view_of};
+use cmi5_session::{Forbidden, SessionView, permitted, permitted_outside};
 use lrs_command::Who;
 use lrs_json::{Memory, Tree};
 use lrs_names::{Draw, Id};
@@ -59,7 +59,7 @@ fn session_of<'a>(parts: &Parts, who: Who, launch: &'a Launch) -> SessionView<'a
     ensures { seen result
         ≡ view_of launch.now true (was_abandoned (state_of parts.now) who) parts.now.statements.held }
 {
-    view_of(&parts.statements, launch, true, was_abandoned(parts, who))
+    parts.session_view(launch, true, was_abandoned(parts, who))
 }
 
 // Why a statement isn't kept, if it is new.

@@ -1,4 +1,3 @@
 pub mod Filled
-pub mod Walks
 pub mod Quiet
 pub mod Told

@@ -3,7 +3,8 @@ use Rattle.std.proofs.Common.{◌≡◌, ◌+◌, ◌*◌, ◌<◌, ℕ, max, Bo
 use Rattle.std.specs.Option.{option_map_or}
 use Rattle.std.proofs.lemmas.Bool.{and_left, and_right, leb-false, lt-leb}
 use Rattle.cmi5_course.specs.declared.launch.Launch.{Launch}
-use Rattle.lrs_history.specs.Endings.{desk_moment, is_idle, is_open, last_own}
+use Rattle.cmi5_session.specs.Moments.{last_own}
+use Rattle.lrs_history.specs.Endings.{desk_moment, is_idle, is_open}
 use Rattle.lrs_history.specs.Sessions.{is_closed}
 use Rattle.lrs_parts.specs.State.{State}
 

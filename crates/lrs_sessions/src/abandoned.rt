@@ -1,17 +1,17 @@
 // What the store says of sessions that it abandons (cmi5 Quartz, section 9.3.6).
 ghost use Rattle.std.specs.Prelude.{◌≡◌, ◌∷◌, ◌++◌, [], IfOk, OnOk};
 ghost use Rattle.lrs_history.specs.Endings.{abandoned_at, abandoned_from, abandoned_json, abandoned_jsons};
-ghost use Rattle.lrs_history.specs.Endings.{abandoned_of};
+ghost use Rattle.lrs_history.specs.Endings.{abandoned_of, lasted};
 ghost use Rattle.lrs_json.specs.View.{view};
 ghost use Rattle.lrs_made.specs.Lent.{seen_target};
 ghost use Rattle.lrs_made.specs.Said.{json_given, jsons_of};
 ghost use Rattle.lrs_parts.specs.Parts.{state_of};
 
-use crate::moments::{began_at, lasted};
 use cmi5_course::Launch;
 use cmi5_launch::Made;
 use lrs_json::Memory;
 use lrs_made::{LentTarget, statement_of, target};
+use lrs_names::Id;
 use lrs_parts::Parts;
 use lrs_time::Moment;
 use std::alloc::Global;
@@ -66,7 +66,7 @@ fn abandoned_at(alloc: Global, parts: &Parts, number: u32) -> Result<Option<Stat
 fn abandoned_of(alloc: Global, parts: &Parts, launch: &Launch) -> Result<Option<Statement>, Memory>
     ensures { IfOk result (λ said. json_given said ≡ abandoned_of (state_of parts.now) launch.now) }
 {
-    match began_at(&parts.statements, &launch.session) {
+    match parts.began_at(&launch.session) {
         Some(began) => abandoned_from(alloc, parts, launch, began),
         None => Ok(None),
     }
@@ -84,7 +84,7 @@ fn abandoned_from(
     let Some(found) = target(parts, &launch.registration, &launch.publisher) else {
         return Ok(None);
     };
-    let ms = lasted(&parts.statements, &launch.session, began);
+    let ms = lasted(parts, &launch.session, began);
     Ok(Some(abandoned_statement(alloc, &found, launch, ms)?))
 }
 
@@ -110,4 +110,12 @@ fn abandoned_statement(
         target.publisher,
         &launch.session,
     )
+}
+
+// How many milliseconds a session lasted that began then: to the last statement of its own.
+fn lasted(parts: &Parts, session: &Id, began: Moment) -> u64
+    ensures { result ≡ lasted session.now parts.now.statements.held began }
+{
+    let last = parts.last_own(session, began);
+    last.milliseconds().saturating_sub(began.milliseconds())
 }

@@ -6,8 +6,6 @@ ghost use Rattle.lrs_parts.specs.Parts.{state_of};
 
 use crate::numbers::launch_count;
 use cmi5_course::Launch;
-use cmi5_launch::names::TERMINATED;
-use cmi5_session::has_own;
 use cmi5_verdict::push_if;
 use lrs_json::Memory;
 use lrs_names::{Id, Iri};
@@ -25,7 +23,7 @@ fn is_terminated(parts: &Parts, number: u32) -> bool
     ensures { result ≡ is_terminated (state_of parts.now) number }
 {
     match parts.learning.launches.get(number) {
-        Some(launch) => has_own(&parts.statements, &launch.session, TERMINATED),
+        Some(launch) => parts.has_ended(&launch.session),
         None => false,
     }
 }
@@ -60,7 +58,7 @@ pub fn open_of(
     Ok(numbers)
 }
 
-// The statements are looked through only where the rest holds.
+// Whether it is open is asked only where the rest holds.
 fn is_open_of(parts: &Parts, registration: &Id, activity: &Iri, number: u32) -> bool
     ensures { result ≡ is_number_of (state_of parts.now) registration.now activity.now number
         && is_open (state_of parts.now) number }

@@ -1,10 +1,10 @@
 // In which sessions nothing happened for so long.
 ghost use Rattle.std.specs.Prelude.{◌≡◌, ◌&&◌, ◌+◌, ◌*◌, max, nat_le, IfOk};
-ghost use Rattle.lrs_history.specs.Endings.{desk_moment, idle_ones, is_idle, is_open, last_event, last_own};
+ghost use Rattle.cmi5_session.specs.Moments.{last_own};
+ghost use Rattle.lrs_history.specs.Endings.{desk_moment, idle_ones, is_idle, is_open, last_event};
 ghost use Rattle.lrs_parts.specs.Parts.{state_of};
 
 use crate::closed::is_open;
-use crate::moments::last_own;
 use crate::numbers::launch_count;
 use cmi5_verdict::push_if;
 use lrs_json::Memory;
@@ -34,8 +34,8 @@ pub fn idle_ones(
     Ok(numbers)
 }
 
-// The statements are looked through only where the desk's moment lies so far back, and for the last one only where the
-// session is open.
+// Whether the session is open is asked only where the desk's moment lies so far back, and what it said last only where
+// it is.
 fn is_idle_and_open(parts: &Parts, seconds: u32, moment: Moment, number: u32) -> bool
     ensures { result ≡ is_idle (state_of parts.now) seconds moment number
         && is_open (state_of parts.now) number }
@@ -77,7 +77,7 @@ fn last_event_of(parts: &Parts, number: u32, session: &Id) -> Moment
     ensures { result ≡ max (desk_moment (state_of parts.now) number)
         (last_own session.now 0 (state_of parts.now).statements) }
 {
-    let said = last_own(&parts.statements, session, earliest());
+    let said = parts.last_own(session, earliest());
     later(desk_moment(parts, number), said)
 }
 

@@ -1,13 +1,12 @@
 //! Sessions of launches, over the parts of a store in memory: which are closed, which are open, which are idle, and
 //! what the store says of those that it abandons. A function has the name of the definition in `lrs_history` that it
-//! equals. Begin with `closed`, `idle` and `abandoned`. `moments` tells when a session said something, and `numbers`
-//! counts launches and goes from their numbers to the ids of their sessions.
+//! equals. Begin with `closed`, `idle` and `abandoned`. `numbers` counts launches and goes from their numbers to the
+//! ids of their sessions. What sessions said is asked of the parts, which keep it: no statement is looked at here.
 #![tactic(auto)]
 
 mod abandoned;
 mod closed;
 mod idle;
-mod moments;
 mod numbers;
 
 pub use abandoned::abandoned_statements;

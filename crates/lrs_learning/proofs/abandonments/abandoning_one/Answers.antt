@@ -5,7 +5,7 @@ use Rattle.lrs_history.specs.DeskEffects.{abandoning_each, abandoning_one}
 use Rattle.lrs_learning.proofs.Changes.{one_is}
 use Rattle.lrs_learning.specs.Occasions.{occasion_at}
 use Rattle.lrs_parts.specs.Launches.{place_of_session}
-use Rattle.lrs_parts.specs.Parts.{state_of}
+use Rattle.lrs_parts.specs.Parts.{SeenParts, state_of}
 use Rattle.lrs_learning.proofs.abandonments.abandoning_one.Goals as goal
 
 pub returns : goal.returns
@@ -16,5 +16,5 @@ returns c =
     (λ made. (by : Who) → made ≡ abandoning_each st (occasion_at st by c.args.moment c.args.draw.now) c.push.new.self.items)
     (λ made. (by : Who) → made ≡ abandoning_one st (occasion_at st by c.args.moment c.args.draw.now) o)
     (λ made known. λ by. known by ∙ one_is st (occasion_at st by c.args.moment c.args.draw.now) c.push.new.self.items c.in-Some.number o
-    (c.in_ok-push.ensures.items ∙ ap (λ xs. xs ++ c.in-Some.number ∷ []) c.new-numbers.ensures.items) (sym c.place.ensures ∙ c.in-Some.is)
+    (c.in_ok-push.ensures.items ∙ ap (λ xs. xs ++ c.in-Some.number ∷ []) c.new-numbers.ensures.items) (ap (λ (parts : SeenParts). place_of_session c.args.session parts.learning.launches.held) (sym c.parts.view_is) ∙ (sym c.place.ensures ∙ c.in-Some.is))
     (sym c.is_open.ensures ∙ c.if-not-is_open.false)) c.abandoning_each.ensures

@@ -4,7 +4,7 @@ use Rattle.lrs_command.specs.declared.who.Who.{Who}
 use Rattle.lrs_history.specs.DeskEffects.{enrolling}
 use Rattle.lrs_learning.specs.Occasions.{occasion_at}
 use Rattle.lrs_parts.specs.Courses.{place_of_course}
-use Rattle.lrs_parts.specs.Parts.{state_of}
+use Rattle.lrs_parts.specs.Parts.{SeenParts, state_of}
 use Rattle.lrs_learning.proofs.enrolments.enrolling.Goals as goal
 
 pub returns : goal.returns
@@ -14,4 +14,4 @@ returns c =
     (λ made. (by : Who) → made ≡ enrolling st (occasion_at st by c.args.moment c.args.draw.now) c.of.result (Some c.in-Some.course))
     (λ made. (by : Who) → made ≡ enrolling st (occasion_at st by c.args.moment c.args.draw.now) c.args.actor (place_of_course c.args.course st.courses))
     (λ made known. λ by. known by ∙ (ap (λ a. enrolling st (occasion_at st by c.args.moment c.args.draw.now) a (Some c.in-Some.course)) c.of.ensures
-    ∙ ap (λ o. enrolling st (occasion_at st by c.args.moment c.args.draw.now) c.args.actor o) (sym c.in-Some.is ∙ c.place_of_course.ensures))) c.enrol_in.ensures
+    ∙ ap (λ o. enrolling st (occasion_at st by c.args.moment c.args.draw.now) c.args.actor o) (sym c.in-Some.is ∙ (c.place_of_course.ensures ∙ ap (λ (parts : SeenParts). place_of_course c.args.course parts.learning.courses.held) c.parts.view_is)))) c.enrol_in.ensures

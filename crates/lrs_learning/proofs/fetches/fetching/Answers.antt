@@ -6,7 +6,7 @@ use Rattle.lrs_learning.proofs.Changes.{given_is}
 use Rattle.lrs_learning.specs.Occasions.{occasion_at}
 use Rattle.lrs_history.specs.DeskEffects.{fetching, giving}
 use Rattle.lrs_parts.specs.Launches.{key_under}
-use Rattle.lrs_parts.specs.Parts.{state_of}
+use Rattle.lrs_parts.specs.Parts.{SeenParts, state_of}
 use Rattle.lrs_learning.proofs.fetches.fetching.Goals as goal
 
 pub returns : goal.returns
@@ -15,4 +15,4 @@ returns c =
     IfOk-weaker c.giving.result (λ made. (by : Who) → made ≡ giving (occasion_at st by c.args.moment c.args.draw.now) c.in-Some.held.now)
     (λ made. (by : Who) → made ≡ fetching st (occasion_at st by c.args.moment c.args.draw.now) (key_under c.args.key st.keys))
     (λ made known. λ by. known by ∙ given_is st (occasion_at st by c.args.moment c.args.draw.now) c.in-Some.held.now (key_under c.args.key st.keys)
-    (sym c.find.ensures ∙ ap option_copied c.in-Some.is) c.if-held.false (sym c.is_closed.ensures ∙ c.if-is_closed.false)) c.giving.ensures
+    (ap (λ (parts : SeenParts). key_under c.args.key parts.learning.keys.held) (sym c.parts.view_is) ∙ (sym c.find.ensures ∙ ap option_copied c.in-Some.is)) c.if-held.false (sym c.is_closed.ensures ∙ c.if-is_closed.false)) c.giving.ensures

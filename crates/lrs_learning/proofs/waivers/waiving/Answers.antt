@@ -11,6 +11,9 @@ use Rattle.lrs_made.specs.Lent.{seen_target}
 use Rattle.lrs_parts.specs.Parts.{state_of}
 use Rattle.lrs_learning.proofs.waivers.waiving.Goals as goal
 
+pub is_waived-requires : goal.is_waived-requires
+is_waived-requires c = c.in-Some.ensures.lent
+
 pub returns : goal.returns
 returns c =
     let st = state_of c.args.parts.now in

@@ -1,8 +1,12 @@
-use Rattle.std.proofs.Common.{◌∙◌, ap, sym, option_and_then, option_copied}
+use Rattle.std.proofs.Common.{◌∙◌, Option, ap, option_and_then}
 use Rattle.lrs_history.specs.Enrolments.{enrolled_as}
 use Rattle.lrs_parts.specs.Parts.{state_of}
+use Rattle.lrs_parts.specs.declared.registrations.HeldRegistration.{HeldRegistration}
 use Rattle.lrs_made.proofs.enrolments.enrolled.Goals as goal
 
-pub returns-in-Some : goal.returns-in-Some
-returns-in-Some c =
-    c.enrolled_as.ensures ∙ ap (λ o. option_and_then (enrolled_as (state_of c.args.parts.now)) o) (ap option_copied (sym c.in-Some.is) ∙ c.find.ensures)
+pub returns-in-Some-clause-found : goal.returns-in-Some-clause-found
+returns-in-Some-clause-found c =
+    c.enrolled_as.ensures.found ∙ ap (λ (o : Option HeldRegistration). option_and_then (enrolled_as (state_of c.args.parts.now)) o) c.in-Some.ensures
+
+pub returns-in-None-clause-found : goal.returns-in-None-clause-found
+returns-in-None-clause-found c = ap (λ (o : Option HeldRegistration). option_and_then (enrolled_as (state_of c.args.parts.now)) o) c.in-None.ensures

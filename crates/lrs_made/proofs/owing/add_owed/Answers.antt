@@ -1,13 +1,17 @@
-use Rattle.std.proofs.Common.{◌≡◌, ◌++◌, ◌∙◌, Option, OnOk, refl, ap, sym, subst, append-nil, option_copied, option_map}
+use Rattle.std.proofs.Common.{◌≡◌, ◌++◌, ◌∙◌, Option, IfSome, OnOk, refl, ap, sym, subst, append-nil, option_copied, option_map}
 use Rattle.lrs_history.specs.Made.{left_behind, owed_jsons, owed_made}
 use Rattle.lrs_ids.specs.Ids.{Supply}
 use Rattle.lrs_ids.specs.IdSupply.{GiveSame, left_of}
-use Rattle.lrs_made.specs.Lent.{seen_enrolled}
+use Rattle.lrs_made.specs.Lent.{IsLentBy, seen_enrolled}
 use Rattle.lrs_made.specs.declared.enrolments.LentEnrolled.{LentEnrolled}
 use Rattle.lrs_parts.specs.Parts.{state_of}
 use Rattle.lrs_parts.specs.State.{used_in}
 use Rattle.lrs_made.proofs.Same.{behind_made}
 use Rattle.lrs_made.proofs.owing.add_owed.Goals as goal
+
+pub add_owed_in-requires : goal.add_owed_in-requires
+add_owed_in-requires c =
+    subst (λ (o : Option LentEnrolled). IfSome o (λ (e : LentEnrolled). IsLentBy (state_of c.args.parts.now) e)) (ap option_copied c.in-Some.is) c.requires
 
 -- ---- what is made
 

@@ -1,7 +1,15 @@
+-- The parts find the registration with its course.
 use Rattle.std.proofs.Common.{◌≡◌, ◌++◌, IfOk, subst}
-use Rattle.cmi5_verdict.specs.Nodes.{SeenEnrolment, owed}
+use Rattle.cmi5_verdict.specs.Nodes.{SeenEnrolment, owed, seen}
+use Rattle.lrs_made.proofs.Lent.{enrolment_lent}
+use Rattle.lrs_made.specs.Lent.{seen_enrolled}
 use Rattle.lrs_parts.specs.Parts.{state_of}
 use Rattle.lrs_made.proofs.owing.owed_places.Goals as goal
+
+pub owed-requires : goal.owed-requires
+owed-requires c =
+    let e = c.args.enrolled.now in
+    record { enrolled = enrolment_lent (state_of c.args.parts.now) e.registration.now (seen_enrolled e) (seen c.enrolment.result) c.requires c.enrolment.ensures }
 
 pub returns : goal.returns
 returns c =

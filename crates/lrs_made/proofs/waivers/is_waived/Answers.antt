@@ -1,16 +1,23 @@
--- The unit's registration, with its course, over the statements that are held.
-use Rattle.std.proofs.Common.{◌∙◌, List, ap}
+-- The parts find the unit's registration with its course.
+use Rattle.std.proofs.Common.{◌<◌, ◌∙◌, length, ap, subst, sym}
 use Rattle.cmi5_launch.specs.Names.{waived}
 use Rattle.cmi5_verdict.specs.Nodes.{SeenEnrolment, activity_at, seen}
 use Rattle.cmi5_verdict.specs.Units.{stands}
+use Rattle.lrs_made.proofs.Lent.{enrolment_lent}
+use Rattle.lrs_made.specs.Lent.{enrolled_of}
 use Rattle.lrs_parts.specs.Parts.{state_of}
-use Rattle.xapi_statement.specs.Stored.{StoredStatement}
 use Rattle.lrs_made.proofs.waivers.is_waived.Goals as goal
+
+pub is_waived-requires-clause-enrolled : goal.is_waived-requires-clause-enrolled
+is_waived-requires-clause-enrolled c =
+    let t = c.args.target.now in
+    enrolment_lent (state_of c.args.parts.now) t.registration.now (enrolled_of t) (seen c.enrolment.result) c.requires.enrolled c.enrolment.ensures
+
+pub is_waived-requires-clause-place : goal.is_waived-requires-clause-place
+is_waived-requires-clause-place c =
+    subst (λ (e : SeenEnrolment). c.args.target.now.place < length e.nodes) (sym c.enrolment.ensures) c.requires.place
 
 pub returns : goal.returns
 returns c =
-    let e = seen c.enrolment.result in
     let place = c.args.target.now.place in
-    c.waived.ensures
-    ∙ (ap (λ (ss : List StoredStatement). stands ss e.registration (activity_at e place) waived) c.held_alone.ensures
-    ∙ ap (λ (x : SeenEnrolment). stands (state_of c.args.parts.now).statements x.registration (activity_at x place) waived) c.enrolment.ensures)
+    c.is_waived.ensures ∙ ap (λ (e : SeenEnrolment). stands (state_of c.args.parts.now).statements e.registration (activity_at e place) waived) c.enrolment.ensures

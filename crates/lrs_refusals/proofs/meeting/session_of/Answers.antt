@@ -4,4 +4,4 @@ use Rattle.lrs_refusals.proofs.meeting.session_of.Goals as goal
 
 pub returns : goal.returns
 returns c =
-    c.view_of.ensures ∙ ap (λ (gone : Bool). view_of c.args.launch.now true gone c.args.parts.now.statements.held) c.was_abandoned.ensures
+    c.session_view.ensures ∙ ap (λ (gone : Bool). view_of c.args.launch.now true gone c.args.parts.now.statements.held) c.was_abandoned.ensures

@@ -4,7 +4,9 @@ use Rattle.lrs_parts.specs.Launches.{session_ids}
 use Rattle.lrs_parts.specs.Registrations.{registration_ids}
 use Rattle.lrs_parts.specs.Sessions.{made_session_ids}
 use Rattle.xapi_index.specs.Statements.{ids_of}
-use Rattle.std.proofs.Common.{arith}
+use Rattle.lrs_parts.specs.Parts.{SeenParts, state_of}
+use Rattle.lrs_parts.specs.State.{used_in}
+use Rattle.std.proofs.Common.{◌∙◌, ap}
 use Rattle.lrs_parts.proofs.parts.PartsUsedIds.count.Goals as goal
 
 pub returns-clause-counted : goal.returns-clause-counted
@@ -18,5 +20,8 @@ returns-clause-counted c =
     (either_counted (those registrations) (either (those sessions) (those made)) (those_counted registrations)
     (either_counted (those sessions) (those made) (those_counted sessions) (those_counted made)))
 
+pub returns-clause-count : goal.returns-clause-count
+returns-clause-count c = c.count_used.ensures.count ∙ ap (λ (v : SeenParts). (used_in (state_of v)).count) c.self.view_is
+
 pub returns-clause-few : goal.returns-clause-few
-returns-clause-few c = omega arith
+returns-clause-few c = c.count_used.ensures.few

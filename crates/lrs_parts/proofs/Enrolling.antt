@@ -1,0 +1,278 @@
+-- The tallies of registrations: what they stand for where a registration comes, where a statement does or is voided, and
+-- where a founding or a course comes.
+use Rattle.std.proofs.Common.{◌≡◌, ◌==◌, ◌<◌, ◌+◌, zero, suc, ℕ, List, [], ◌∷◌, ◌++◌, length, length-append, refl, sym, ◌∙◌, ap, subst, arith, eq-eqb, true≢false, Option, Some, None, Bool, true, false, cond, slice_get}
+use Rattle.std.specs.Prelude.{option_and_then, option_map, position, if◌then◌else◌}
+use Rattle.std.specs.Option.{option_or}
+use Rattle.std.specs.Str.{bytes_eq}
+use Rattle.std.proofs.lemmas.Bool.Decides.{nat_tests}
+use Rattle.std.proofs.lemmas.Option.{cond_some, none-some, same_Some, slice_get_within}
+use Rattle.cmi5_course.specs.Courses.{Course, course_key}
+use Rattle.cmi5_course.specs.declared.course.Node.{Node}
+use Rattle.cmi5_running_verdicts.specs.Running.{SeenRunning, Stands}
+use Rattle.cmi5_running_verdicts.specs.Tallies.{AreTallies}
+use Rattle.cmi5_running_verdicts.specs.declared.tally.Tally.{Tally}
+use Rattle.cmi5_session.specs.Marked.{MarkedStatement}
+use Rattle.cmi5_verdict.specs.Nodes.{SeenEnrolment}
+use Rattle.lrs_json.specs.View.{view}
+use Rattle.lrs_parts.specs.Counted.{has_key_of, place_under}
+use Rattle.lrs_parts.specs.Courses.{courses_after}
+use Rattle.lrs_parts.specs.Founding.{founding_after}
+use Rattle.lrs_parts.specs.Progress.{AreCounted, HasTallies, IsReadyToEnrol, enrolment_at, enrolment_in, enrolment_with, number_held, number_in, number_named}
+use Rattle.lrs_parts.specs.Registrations.{registration_key, registrations_after}
+use Rattle.lrs_parts.specs.declared.founding.Founding.{Founding}
+use Rattle.lrs_parts.specs.declared.registrations.HeldRegistration.{HeldRegistration}
+use Rattle.lrs_parts.proofs.Events.{passes_there, same_bytes, stands_there}
+use Rattle.lrs_register.proofs.Firsts.{position-push}
+use Rattle.lrs_register.specs.Changes.{with_replaced}
+use Rattle.lrs_register.specs.Register.{with_new}
+use Rattle.lrs_register.specs.declared.change.Change.{Change}
+use Rattle.xapi_index.specs.Statements.{is_that_id}
+use Rattle.xapi_statement.specs.Statement.{registration_of}
+use Rattle.xapi_statement.specs.Stored.{StoredStatement}
+
+-- ---- registrations with their courses
+
+abbrev seen_with : List ℕ → ℕ → Founding → Course → SeenEnrolment
+seen_with id course f c = record { registration = id; base = f.base; course = course; nodes = c.nodes }
+
+abbrev of_both : Option Founding → List Course → List ℕ → ℕ → Option SeenEnrolment
+of_both founding courses id course = option_and_then (λ (f : Founding). option_map (seen_with id course f) (slice_get courses course)) founding
+
+-- the id and the course are all that counts of a registration
+same_enrolment : (founding : Option Founding) (courses : List Course) (h r : HeldRegistration) → h.id ≡ r.id → h.course ≡ r.course → enrolment_in founding courses h ≡ enrolment_in founding courses r
+same_enrolment founding courses h r id course =
+    ap (λ (i : List ℕ). of_both founding courses i h.course) id ∙ ap (λ (n : ℕ). of_both founding courses r.id n) course
+
+enrolled_id : (founding : Option Founding) (courses : List Course) (r : HeldRegistration) (e : SeenEnrolment) → enrolment_in founding courses r ≡ Some e → e.registration ≡ r.id
+enrolled_id None courses r e is = absurd (none-some e is)
+enrolled_id (Some f) courses r e is = by_course (slice_get courses r.course) is
+  where
+    by_course : (o : Option Course) → option_map (enrolment_with r f) o ≡ Some e → e.registration ≡ r.id
+    by_course None is = absurd (none-some e is)
+    by_course (Some c) is = sym (ap (λ (x : SeenEnrolment). x.registration) (same_Some (enrolment_with r f c) e is))
+
+-- ---- the registration that a statement names
+
+named_place : (registrations : List HeldRegistration) (s : StoredStatement) (k : ℕ) → number_named s registrations ≡ Some k
+    → (id : List ℕ) × (place_under registration_key id registrations ≡ Some k)
+named_place registrations s k is = by_id (registration_of (view s.received)) is
+  where
+    by_id : (o : Option (List ℕ)) → option_and_then (λ (id : List ℕ). place_under registration_key id registrations) o ≡ Some k
+        → (id : List ℕ) × (place_under registration_key id registrations ≡ Some k)
+    by_id None is = absurd (none-some k is)
+    by_id (Some id) is = (id, is)
+
+other_id : (registrations : List HeldRegistration) (i id : List ℕ) (k : ℕ) (r : HeldRegistration) → place_under registration_key id registrations ≡ Some k → slice_get registrations k ≡ Some r
+    → (place_under registration_key i registrations ≡ Some k → ⊥) → bytes_eq i r.id ≡ false
+other_id registrations i id k r place there apart = by_test (bytes_eq i r.id) refl
+  where
+    by_test : (b : Bool) → bytes_eq i r.id ≡ b → b ≡ false
+    by_test true is =
+        let same : i ≡ id = same_bytes i r.id is ∙ same_bytes r.id id (passes_there (λ (x : HeldRegistration). bytes_eq (registration_key x) id) registrations k r place there) in
+        absurd (apart (ap (λ (j : List ℕ). place_under registration_key j registrations) same ∙ place))
+    by_test false is = refl
+
+-- it names no other one
+elsewhere_named : (registrations : List HeldRegistration) (s : StoredStatement) (id : List ℕ) (k : ℕ) (r : HeldRegistration) → place_under registration_key id registrations ≡ Some k
+    → slice_get registrations k ≡ Some r → (number_named s registrations ≡ Some k → ⊥) → is_that_id r.id (registration_of (view s.received)) ≡ false
+elsewhere_named registrations s id k r place there apart = by_named (registration_of (view s.received)) apart
+  where
+    by_named : (o : Option (List ℕ)) → (option_and_then (λ (i : List ℕ). place_under registration_key i registrations) o ≡ Some k → ⊥) → is_that_id r.id o ≡ false
+    by_named None apart = refl
+    by_named (Some i) apart = other_id registrations i id k r place there apart
+
+-- ---- a statement comes, or is voided
+
+-- what stays true of the tallies of the registrations that it doesn't name
+abbrev pub Elsewhere : List MarkedStatement → List MarkedStatement → StoredStatement → Type 0
+Elsewhere before after s = (e : SeenEnrolment) → (tallies : List Tally) → is_that_id e.registration (registration_of (view s.received)) ≡ false
+    → AreTallies e before tallies → AreTallies e after tallies
+
+-- one that it doesn't name
+other_counted : (old new : SeenRunning) (founding : Option Founding) (courses : List Course) (registrations : List HeldRegistration) (before after : List MarkedStatement) (s : StoredStatement)
+    → Elsewhere before after s → (id : List ℕ) (k : ℕ) (r : HeldRegistration) → place_under registration_key id registrations ≡ Some k → slice_get registrations k ≡ Some r
+    → (number_named s registrations ≡ Some k → ⊥) → slice_get new.held k ≡ slice_get old.held k
+    → HasTallies old founding courses before k r → HasTallies new founding courses after k r
+other_counted old new founding courses registrations before after s elsewhere id k r place there apart held counted = record {
+  enrolment = counted.enrolment;
+  enrolled = counted.enrolled;
+  stands = record {
+    tallies = counted.stands.tallies;
+    held = held ∙ counted.stands.held;
+    are = elsewhere counted.enrolment counted.stands.tallies
+        (ap (λ (i : List ℕ). is_that_id i (registration_of (view s.received))) (enrolled_id founding courses r counted.enrolment counted.enrolled)
+        ∙ elsewhere_named registrations s id k r place there apart) counted.stands.are;
+  };
+}
+
+-- the one that it names
+named_counted : (old new : SeenRunning) (founding : Option Founding) (courses : List Course) (registrations : List HeldRegistration) (before after : List MarkedStatement) (number : ℕ) (e : SeenEnrolment)
+    → enrolment_at founding courses registrations number ≡ Some e → (Stands old before number e → Stands new after number e)
+    → (k : ℕ) (r : HeldRegistration) → k ≡ number → slice_get registrations k ≡ Some r → HasTallies old founding courses before k r → HasTallies new founding courses after k r
+named_counted old new founding courses registrations before after number e at stands k r same there counted =
+    let here : enrolment_in founding courses r ≡ Some e =
+    sym (ap (λ (o : Option HeldRegistration). option_and_then (enrolment_in founding courses) o) there)
+    ∙ (ap (λ (n : ℕ). enrolment_at founding courses registrations n) same ∙ at) in
+    let its : counted.enrolment ≡ e = same_Some counted.enrolment e (sym counted.enrolled ∙ here) in
+    let old_stands : Stands old before number e =
+    subst (λ (n : ℕ). Stands old before n e) same (subst (λ (x : SeenEnrolment). Stands old before k x) its counted.stands) in
+    record {
+      enrolment = e;
+      enrolled = here;
+      stands = subst (λ (n : ℕ). Stands new after n e) (sym same) (stands old_stands);
+    }
+
+pub counted_on : (old new : SeenRunning) (founding : Option Founding) (courses : List Course) (registrations : List HeldRegistration) (before after : List MarkedStatement) (s : StoredStatement)
+    → Elsewhere before after s → (number : ℕ) (e : SeenEnrolment) → number_named s registrations ≡ Some number → enrolment_at founding courses registrations number ≡ Some e
+    → (Stands old before number e → Stands new after number e) → ((k : ℕ) → (k == number) ≡ false → slice_get new.held k ≡ slice_get old.held k) → length new.held ≡ length old.held
+    → AreCounted old founding courses registrations before → AreCounted new founding courses registrations after
+counted_on old new founding courses registrations before after s elsewhere number e named at stands others long counted = record {
+  long = long ∙ counted.long;
+  each = λ id k r place there. by_number id k r place there (k == number) refl;
+}
+  where
+    by_number : (id : List ℕ) (k : ℕ) (r : HeldRegistration) → place_under registration_key id registrations ≡ Some k → slice_get registrations k ≡ Some r → (b : Bool) → (k == number) ≡ b
+        → HasTallies new founding courses after k r
+    by_number id k r place there true is =
+        let same : k ≡ number = grind (arith, nat_tests) in
+        named_counted old new founding courses registrations before after number e at stands k r same there (counted.each id k r place there)
+    by_number id k r place there false is =
+        other_counted old new founding courses registrations before after s elsewhere id k r place there
+        (λ also. true≢false (sym (eq-eqb k number (same_Some k number (sym also ∙ named))) ∙ is)) (others k is) (counted.each id k r place there)
+
+-- it names none that is held
+pub counted_still : (running : SeenRunning) (founding : Option Founding) (courses : List Course) (registrations : List HeldRegistration) (before after : List MarkedStatement) (s : StoredStatement)
+    → Elsewhere before after s → number_named s registrations ≡ None → AreCounted running founding courses registrations before → AreCounted running founding courses registrations after
+counted_still running founding courses registrations before after s elsewhere none counted = record {
+  long = counted.long;
+  each = λ id k r place there. other_counted running running founding courses registrations before after s elsewhere id k r place there (λ also. none-some k (sym none ∙ also)) refl
+      (counted.each id k r place there);
+}
+
+-- the one that it names has its course
+pub always_enrolled : (running : SeenRunning) (founding : Option Founding) (courses : List Course) (registrations : List HeldRegistration) (those : List MarkedStatement) (s : StoredStatement) (number : ℕ)
+    → number_named s registrations ≡ Some number → enrolment_at founding courses registrations number ≡ None → AreCounted running founding courses registrations those → ⊥
+always_enrolled running founding courses registrations those s number named none counted =
+    let place = named_place registrations s number named in
+    let held = stands_there (λ (x : HeldRegistration). bytes_eq (registration_key x) place.0) registrations number place.1 in
+    let its : HasTallies running founding courses those number held.0 = counted.each place.0 number held.0 place.1 held.1 in
+    none-some its.enrolment (sym none ∙ (ap (λ (o : Option HeldRegistration). option_and_then (enrolment_in founding courses) o) held.1 ∙ its.enrolled))
+
+-- ---- a registration comes
+
+get_front : {A : Type 0} (xs ys : List A) (k : ℕ) (x : A) → slice_get xs k ≡ Some x → slice_get (xs ++ ys) k ≡ Some x
+get_front [] ys k x at = absurd (none-some x at)
+get_front (y ∷ xs) ys zero x at = at
+get_front (y ∷ xs) ys (suc k) x at = get_front xs ys k x at
+
+get_behind : {A : Type 0} (xs : List A) (y : A) (ys : List A) → slice_get (xs ++ y ∷ ys) (length xs) ≡ Some y
+get_behind [] y ys = refl
+get_behind (x ∷ xs) y ys = get_behind xs y ys
+
+pub counted_more : (old new : SeenRunning) (founding : Option Founding) (courses : List Course) (registrations : List HeldRegistration) (those : List MarkedStatement) (r : HeldRegistration) (e : SeenEnrolment)
+    → enrolment_in founding courses r ≡ Some e → Stands new those (length old.held) e → ((k : ℕ) → k < length old.held → slice_get new.held k ≡ slice_get old.held k)
+    → length new.held ≡ length old.held + 1 → AreCounted old founding courses registrations those → AreCounted new founding courses (registrations ++ r ∷ []) those
+counted_more old new founding courses registrations those r e enrolled stands others long counted = record {
+  long = omega (arith, long, counted.long, length-append registrations (r ∷ []));
+  each = λ id k x place there.
+      by_place id k x there (position (λ (y : HeldRegistration). bytes_eq (registration_key y) id) registrations) refl
+      (sym (position-push (λ (y : HeldRegistration). bytes_eq (registration_key y) id) registrations r) ∙ place);
+}
+  where
+    by_place : (id : List ℕ) (k : ℕ) (x : HeldRegistration) → slice_get (registrations ++ r ∷ []) k ≡ Some x → (o : Option ℕ)
+        → position (λ (y : HeldRegistration). bytes_eq (registration_key y) id) registrations ≡ o
+        → option_or o (cond (bytes_eq (registration_key r) id) (Some (length registrations)) None) ≡ Some k → HasTallies new founding courses those k x
+    by_place id k x there (Some j) first is =
+        let place : position (λ (y : HeldRegistration). bytes_eq (registration_key y) id) registrations ≡ Some k = first ∙ is in
+        let held = stands_there (λ (y : HeldRegistration). bytes_eq (registration_key y) id) registrations k place in
+        let same : held.0 ≡ x = same_Some held.0 x (sym (get_front registrations (r ∷ []) k held.0 held.1) ∙ there) in
+        let its : HasTallies old founding courses those k held.0 = counted.each id k held.0 place held.1 in
+        let within : k < length old.held = omega (arith, slice_get_within registrations k held.0 held.1, counted.long) in
+        record {
+          enrolment = its.enrolment;
+          enrolled = subst (λ (y : HeldRegistration). enrolment_in founding courses y ≡ Some its.enrolment) same its.enrolled;
+          stands = record { tallies = its.stands.tallies; held = others k within ∙ its.stands.held; are = its.stands.are };
+        }
+    by_place id k x there None first is =
+        let both : (bytes_eq (registration_key r) id ≡ true) × (length registrations ≡ k) = cond_some (bytes_eq (registration_key r) id) (length registrations) k is in
+        let same : r ≡ x =
+        same_Some r x (sym (get_behind registrations r []) ∙ (ap (λ (n : ℕ). slice_get (registrations ++ r ∷ []) n) both.1 ∙ there)) in
+        record {
+          enrolment = e;
+          enrolled = subst (λ (y : HeldRegistration). enrolment_in founding courses y ≡ Some e) same enrolled;
+          stands = subst (λ (n : ℕ). Stands new those n e) (counted.long ∙ both.1) stands;
+        }
+
+-- ---- the parts beside change
+
+pub counted_under : (running : SeenRunning) (founding later : Option Founding) (courses more : List Course) (registrations : List HeldRegistration) (those : List MarkedStatement)
+    → ((r : HeldRegistration) (e : SeenEnrolment) → enrolment_in founding courses r ≡ Some e → enrolment_in later more r ≡ Some e)
+    → AreCounted running founding courses registrations those → AreCounted running later more registrations those
+counted_under running founding later courses more registrations those grows counted = record {
+  long = counted.long;
+  each = λ id k r place there.
+      let its : HasTallies running founding courses those k r = counted.each id k r place there in
+      record { enrolment = its.enrolment; enrolled = grows r its.enrolment its.enrolled; stands = its.stands };
+}
+
+kept_course : (courses : List Course) (new : Option Course) (k : ℕ) (c : Course) → slice_get courses k ≡ Some c → slice_get (with_new courses new) k ≡ Some c
+kept_course courses None k c at = at
+kept_course courses (Some x) k c at = get_front courses (x ∷ []) k c at
+
+enrolled_in_more : (f : Founding) (courses : List Course) (change : Change Course) → change.replaced ≡ None → (r : HeldRegistration) (e : SeenEnrolment)
+    → option_map (enrolment_with r f) (slice_get courses r.course) ≡ Some e → option_map (enrolment_with r f) (slice_get (courses_after courses change) r.course) ≡ Some e
+enrolled_in_more f courses change stay r e is = by_course (slice_get courses r.course) refl is
+  where
+    by_course : (o : Option Course) → slice_get courses r.course ≡ o → option_map (enrolment_with r f) o ≡ Some e → option_map (enrolment_with r f) (slice_get (courses_after courses change) r.course) ≡ Some e
+    by_course None at is = absurd (none-some e is)
+    by_course (Some c) at is =
+        ap (λ (o : Option Course). option_map (enrolment_with r f) o)
+        (ap (λ (o : Option Course). slice_get (with_replaced (has_key_of course_key) (with_new courses change.new) o) r.course) stay ∙ kept_course courses change.new r.course c at) ∙ is
+
+-- what a registration has it keeps
+pub enrolled_after : (founding new : Option Founding) (courses : List Course) (change : Change Course) → change.replaced ≡ None → (r : HeldRegistration) (e : SeenEnrolment)
+    → enrolment_in founding courses r ≡ Some e → enrolment_in (founding_after founding new) (courses_after courses change) r ≡ Some e
+enrolled_after None new courses change stay r e is = absurd (none-some e is)
+enrolled_after (Some f) new courses change stay r e is = enrolled_in_more f courses change stay r e is
+
+pub enrolled_on : (founding later new : Option Founding) (courses more : List Course) (change : Change Course) → later ≡ founding_after founding new → more ≡ courses_after courses change
+    → change.replaced ≡ None → (r : HeldRegistration) (e : SeenEnrolment) → enrolment_in founding courses r ≡ Some e → enrolment_in later more r ≡ Some e
+enrolled_on founding later new courses more change founded came stay r e is =
+    ap (λ (x : Option Founding). enrolment_in x more r) founded ∙ (ap (λ (cs : List Course). enrolment_in (founding_after founding new) cs r) came ∙ enrolled_after founding new courses change stay r e is)
+
+pub ready_on : (running : SeenRunning) (founding later new : Option Founding) (courses more : List Course) (change : Change Course) → later ≡ founding_after founding new → more ≡ courses_after courses change
+    → change.replaced ≡ None → (r : HeldRegistration) → IsReadyToEnrol running founding courses r → IsReadyToEnrol running later more r
+ready_on running founding later new courses more change founded came stay r ready = record {
+  enrolment = ready.enrolment;
+  enrolled = enrolled_on founding later new courses more change founded came stay r ready.enrolment ready.enrolled;
+  room = ready.room;
+}
+
+pub registered : (registrations : List HeldRegistration) (change : Change HeldRegistration) → change.replaced ≡ None → registrations_after registrations change ≡ with_new registrations change.new
+registered registrations change stay = ap (λ (o : Option HeldRegistration). with_replaced (has_key_of registration_key) (with_new registrations change.new) o) stay
+
+-- ---- a registration that is held
+
+-- its tallies stand for these statements
+pub held_stands : (running : SeenRunning) (founding : Option Founding) (courses : List Course) (registrations : List HeldRegistration) (those : List MarkedStatement) (r : HeldRegistration) (number : ℕ) (e : SeenEnrolment)
+    → number_held r registrations ≡ Some number → enrolment_in founding courses r ≡ Some e → AreCounted running founding courses registrations those → Stands running those number e
+held_stands running founding courses registrations those r number e is enrolled counted = by_place (place_under registration_key r.id registrations) refl is
+  where
+    by_course : (k : ℕ) (h : HeldRegistration) (b : Bool) → place_under registration_key r.id registrations ≡ Some k → slice_get registrations k ≡ Some h → (h.course == r.course) ≡ b
+        → (if b then Some k else None) ≡ Some number → Stands running those number e
+    by_course k h false place there course is = absurd (none-some number is)
+    by_course k h true place there course is =
+        let same_course : h.course ≡ r.course = grind (arith, nat_tests) in
+        let same_id : h.id ≡ r.id = same_bytes h.id r.id (passes_there (λ (x : HeldRegistration). bytes_eq (registration_key x) r.id) registrations k h place there) in
+        let its : HasTallies running founding courses those k h = counted.each r.id k h place there in
+        let same : its.enrolment ≡ e = same_Some its.enrolment e (sym its.enrolled ∙ (same_enrolment founding courses h r same_id same_course ∙ enrolled)) in
+        subst (λ (n : ℕ). Stands running those n e) (same_Some k number is) (subst (λ (x : SeenEnrolment). Stands running those k x) same its.stands)
+
+    by_held : (k : ℕ) (o : Option HeldRegistration) → place_under registration_key r.id registrations ≡ Some k → slice_get registrations k ≡ o
+        → option_and_then (λ (held : HeldRegistration). if held.course == r.course then Some k else None) o ≡ Some number → Stands running those number e
+    by_held k None place there is = absurd (none-some number is)
+    by_held k (Some h) place there is = by_course k h (h.course == r.course) place there refl is
+
+    by_place : (o : Option ℕ) → place_under registration_key r.id registrations ≡ o → option_and_then (number_in r registrations) o ≡ Some number → Stands running those number e
+    by_place None place is = absurd (none-some number is)
+    by_place (Some k) place is = by_held k (slice_get registrations k) place refl is

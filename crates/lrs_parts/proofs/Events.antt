@@ -1,0 +1,478 @@
+-- What changes among marked statements where one comes: it stands behind the others, and may void one of them.
+use Rattle.std.proofs.Common.{◌≡◌, ◌<◌, ◌≤◌, ◌+◌, ◌^◌, zero, suc, ℕ, List, [], ◌∷◌, ◌++◌, length, length-append, take, append_assoc, refl, sym, ◌∙◌, ap, subst, arith, true≢false, Option, Some, None, Bool, true, false, cond, not, ◌&&◌, ◌||◌, nat_lt, slice_get}
+use Rattle.std.specs.Prelude.{option_and_then, position, find, is_some, if◌then◌else◌}
+use Rattle.std.specs.List.{AllByRecursion, position_from}
+use Rattle.std.specs.Option.{option_map_or}
+use Rattle.std.specs.Str.{bytes_eq}
+use Rattle.std.proofs.lemmas.Grind.{common_steps}
+use Rattle.std.proofs.lemmas.Iterator.Adapters.{position_from-zero}
+use Rattle.std.proofs.lemmas.List.{take_more}
+use Rattle.std.proofs.lemmas.List.Folds.{list_any-append}
+use Rattle.std.proofs.lemmas.Option.{cond_some, get_or_from_slice_get, none-some, same_Some, slice_get_past, slice_get_within}
+use Rattle.std.proofs.lemmas.Slice.Eq.{bytes_eq-Decides}
+use Rattle.cmi5_session.specs.Marked.{MarkedStatement, mark, marked, marked_by, statements_of}
+use Rattle.lrs_ids.specs.Ids.{are_distinct}
+use Rattle.lrs_json.specs.View.{view}
+use Rattle.lrs_names.specs.Members.{is_one_of}
+use Rattle.lrs_parts.specs.Progress.{is_voided_anew, voided_anew}
+use Rattle.xapi_index.specs.Statements.{add, add_each, ids_of, is_held, is_that_id, is_target, is_voided, position_referred, referred_at, voided_by, voids}
+use Rattle.xapi_index.proofs.Adding.{extends}
+use Rattle.xapi_index.proofs.Coming.{not_true}
+use Rattle.xapi_index.proofs.Firsts.{get_first, lt_yes, place_first}
+use Rattle.xapi_index.proofs.Found.{found_at, item_at}
+use Rattle.xapi_index.proofs.Rising.{left_true, right_true}
+use Rattle.xapi_index.proofs.Supplies.{used_held}
+use Rattle.xapi_rules.specs.Rules.{is_voiding}
+use Rattle.xapi_statement.specs.Statement.{target_of}
+use Rattle.xapi_statement.specs.Stored.{StoredStatement}
+
+-- ---- truths
+
+or_none : (b : Bool) → (b || false) ≡ b
+or_none true = refl
+or_none false = refl
+
+neither : (a b : Bool) → (a || b) ≡ false → (a ≡ false) × (b ≡ false)
+neither true b is = absurd (true≢false is)
+neither false b is = (refl, is)
+
+pub same_bytes : (a b : List ℕ) → bytes_eq a b ≡ true → a ≡ b
+same_bytes a b is = (bytes_eq-Decides a b).0 is
+
+bytes_same : (a b : List ℕ) → a ≡ b → bytes_eq a b ≡ true
+bytes_same a b is = (bytes_eq-Decides a b).1 is
+
+-- ---- lists
+
+-- what stands among the first n
+within_front : {A : Type 0} (n : ℕ) (xs : List A) (k : ℕ) (x : A) → slice_get (take n xs) k ≡ Some x → (k < n) × (slice_get xs k ≡ Some x)
+within_front zero xs k x at = absurd (none-some x at)
+within_front (suc n) [] k x at = absurd (none-some x at)
+within_front (suc n) (y ∷ ys) zero x at = (omega arith, at)
+within_front (suc n) (y ∷ ys) (suc k) x at =
+    let rest : (k < n) × (slice_get ys k ≡ Some x) = within_front n ys k x at in
+    (omega (arith, rest.0), rest.1)
+
+take_next : {A : Type 0} (xs : List A) (at : ℕ) (x : A) → slice_get xs at ≡ Some x → take (at + 1) xs ≡ take at xs ++ x ∷ []
+take_next xs at x there = take_more xs at x (slice_get_within xs at x there) ∙ ap (λ y. take at xs ++ y ∷ []) (get_or_from_slice_get xs at x x there)
+
+take_front : {A : Type 0} (xs ys : List A) → take (length xs) (xs ++ ys) ≡ xs
+take_front [] ys = refl
+take_front (x ∷ xs) ys = ap (λ zs. x ∷ zs) (take_front xs ys)
+
+get_behind : {A : Type 0} (xs : List A) (y : A) (ys : List A) → slice_get (xs ++ y ∷ ys) (length xs) ≡ Some y
+get_behind [] y ys = refl
+get_behind (x ∷ xs) y ys = get_behind xs y ys
+
+front_few : {A : Type 0} (n : ℕ) (xs : List A) → length (take n xs) ≤ n
+front_few zero xs = omega arith
+front_few (suc n) [] = omega arith
+front_few (suc n) (x ∷ xs) = omega (arith, front_few n xs)
+
+pub get_within : {A : Type 0} (xs : List A) (k : ℕ) → k < length xs → (x : A) × (slice_get xs k ≡ Some x)
+get_within [] k less = absurd (omega (arith, less))
+get_within (x ∷ xs) zero less = (x, refl)
+get_within (x ∷ xs) (suc k) less = get_within xs k (omega (arith, less))
+
+-- something stands at the first place that passes
+pub stands_there : {A : Type 0} (p : A → Bool) (xs : List A) (k : ℕ) → position p xs ≡ Some k → (y : A) × (slice_get xs k ≡ Some y)
+stands_there {A} p xs k at = by_item (find p xs) (item_at p xs (position p xs) k at refl) (sym (found_at p xs (position p xs) refl) ∙ ap (λ o. is_some o) at)
+  where
+    by_item : (o : Option A) → slice_get xs k ≡ o → is_some o ≡ true → (y : A) × (slice_get xs k ≡ Some y)
+    by_item None is some = absurd (true≢false (sym some))
+    by_item (Some y) is some = (y, is)
+
+found_by : {A : Type 0} (p : A → Bool) (x : A) (xs : List A) (y : A) → (find p xs ≡ Some y → p y ≡ true)
+    → (b : Bool) → p x ≡ b → cond b (Some x) (find p xs) ≡ Some y → p y ≡ true
+found_by {A} p x xs y rest true passes at = subst (λ (z : A). p z ≡ true) (same_Some x y at) passes
+found_by p x xs y rest false fails at = rest at
+
+found_passes : {A : Type 0} (p : A → Bool) (xs : List A) (y : A) → find p xs ≡ Some y → p y ≡ true
+found_passes p [] y is = absurd (none-some y is)
+found_passes p (x ∷ xs) y is = found_by p x xs y (found_passes p xs y) (p x) refl is
+
+-- and it passes
+pub passes_there : {A : Type 0} (p : A → Bool) (xs : List A) (k : ℕ) (y : A) → position p xs ≡ Some k → slice_get xs k ≡ Some y → p y ≡ true
+passes_there p xs k y at there = found_passes p xs y (sym (item_at p xs (position p xs) k at refl) ∙ there)
+
+-- ---- ids of their own
+
+among : (xs : List StoredStatement) (k : ℕ) (t : StoredStatement) (id : List ℕ) → slice_get xs k ≡ Some t → t.id ≡ id → is_one_of (ids_of xs) id ≡ true
+among [] k t id at same = absurd (none-some t at)
+among (x ∷ xs) zero t id at same =
+    ap (λ b. b || is_one_of (ids_of xs) id) (bytes_same x.id id (ap (λ (u : StoredStatement). u.id) (same_Some x t at) ∙ same))
+among (x ∷ xs) (suc k) t id at same = by_test (bytes_eq x.id id) (among xs k t id at same)
+  where
+    by_test : (b : Bool) → is_one_of (ids_of xs) id ≡ true → (b || is_one_of (ids_of xs) id) ≡ true
+    by_test true more = refl
+    by_test false more = more
+
+place_by : (i : ℕ) (x : StoredStatement) (xs : List StoredStatement) (k : ℕ) (t : StoredStatement) → slice_get xs k ≡ Some t → is_one_of (ids_of xs) x.id ≡ false
+    → position_from (λ (u : StoredStatement). bytes_eq u.id t.id) (i + 1) xs ≡ Some (i + 1 + k) → (b : Bool) → bytes_eq x.id t.id ≡ b
+    → cond b (Some i) (position_from (λ (u : StoredStatement). bytes_eq u.id t.id) (i + 1) xs) ≡ Some (i + suc k)
+place_by i x xs k t at apart rest true is = absurd (true≢false (sym (among xs k t x.id at (sym (same_bytes x.id t.id is))) ∙ apart))
+place_by i x xs k t at apart rest false is =
+    let place : i + 1 + k ≡ i + suc k = omega arith in
+    rest ∙ ap (λ (n : ℕ). Some n) place
+
+place_from : (i : ℕ) (xs : List StoredStatement) → are_distinct (ids_of xs) ≡ true → (k : ℕ) (t : StoredStatement) → slice_get xs k ≡ Some t
+    → position_from (λ (u : StoredStatement). bytes_eq u.id t.id) i xs ≡ Some (i + k)
+place_from i [] distinct k t at = absurd (none-some t at)
+place_from i (x ∷ xs) distinct zero t at =
+    let here : bytes_eq x.id t.id ≡ true = bytes_same x.id t.id (ap (λ (u : StoredStatement). u.id) (same_Some x t at)) in
+    let place : i ≡ i + zero = omega arith in
+    ap (λ b. cond b (Some i) (position_from (λ (u : StoredStatement). bytes_eq u.id t.id) (i + 1) xs)) here ∙ ap (λ (n : ℕ). Some n) place
+place_from i (x ∷ xs) distinct (suc k) t at =
+    let apart : is_one_of (ids_of xs) x.id ≡ false = not_true (is_one_of (ids_of xs) x.id) (left_true (not (is_one_of (ids_of xs) x.id)) (are_distinct (ids_of xs)) distinct) in
+    place_by i x xs k t at apart (place_from (i + 1) xs (right_true (not (is_one_of (ids_of xs) x.id)) (are_distinct (ids_of xs)) distinct) k t at)
+    (bytes_eq x.id t.id) refl
+
+-- each stands at the first place of its id
+place_of_id : (xs : List StoredStatement) → are_distinct (ids_of xs) ≡ true → (k : ℕ) (t : StoredStatement) → slice_get xs k ≡ Some t
+    → position (λ (u : StoredStatement). bytes_eq u.id t.id) xs ≡ Some k
+place_of_id xs distinct k t at =
+    let place : 0 + k ≡ k = omega arith in
+    position_from-zero (λ (u : StoredStatement). bytes_eq u.id t.id) xs ∙ (place_from 0 xs distinct k t at ∙ ap (λ (n : ℕ). Some n) place)
+
+same_place : (xs : List StoredStatement) → are_distinct (ids_of xs) ≡ true → (j k : ℕ) (s t : StoredStatement) → slice_get xs j ≡ Some s → slice_get xs k ≡ Some t → s.id ≡ t.id → j ≡ k
+same_place xs distinct j k s t one other same =
+    same_Some j k (sym (place_of_id xs distinct j s one) ∙ (ap (λ (id : List ℕ). position (λ (u : StoredStatement). bytes_eq u.id id) xs) same ∙ place_of_id xs distinct k t other))
+
+one_of_more : (xs : List StoredStatement) (s : StoredStatement) (id : List ℕ) → is_one_of (ids_of (xs ++ s ∷ [])) id ≡ (is_one_of (ids_of xs) id || bytes_eq s.id id)
+one_of_more [] s id = or_none (bytes_eq s.id id)
+one_of_more (x ∷ xs) s id = by_test (bytes_eq x.id id) (one_of_more xs s id)
+  where
+    by_test : (b : Bool) → is_one_of (ids_of (xs ++ s ∷ [])) id ≡ (is_one_of (ids_of xs) id || bytes_eq s.id id)
+        → (b || is_one_of (ids_of (xs ++ s ∷ [])) id) ≡ ((b || is_one_of (ids_of xs) id) || bytes_eq s.id id)
+    by_test true more = refl
+    by_test false more = more
+
+distinct_push : (held : List StoredStatement) (s : StoredStatement) → are_distinct (ids_of held) ≡ true → is_one_of (ids_of held) s.id ≡ false → are_distinct (ids_of (held ++ s ∷ [])) ≡ true
+distinct_push [] s distinct apart = refl
+distinct_push (x ∷ xs) s distinct apart =
+    ap (λ b. not b && are_distinct (ids_of (xs ++ s ∷ []))) none ∙ distinct_push xs s (right_true (not (is_one_of (ids_of xs) x.id)) (are_distinct (ids_of xs)) distinct) both.1
+  where
+    both : (bytes_eq x.id s.id ≡ false) × (is_one_of (ids_of xs) s.id ≡ false)
+    both = neither (bytes_eq x.id s.id) (is_one_of (ids_of xs) s.id) apart
+
+    other : (b : Bool) → bytes_eq s.id x.id ≡ b → b ≡ false
+    other true is = absurd (true≢false (sym (bytes_same x.id s.id (sym (same_bytes s.id x.id is))) ∙ both.0))
+    other false is = refl
+
+    first : is_one_of (ids_of xs) x.id ≡ false
+    first = not_true (is_one_of (ids_of xs) x.id) (left_true (not (is_one_of (ids_of xs) x.id)) (are_distinct (ids_of xs)) distinct)
+
+    none : is_one_of (ids_of (xs ++ s ∷ [])) x.id ≡ false
+    none = one_of_more xs s x.id ∙ (ap (λ b. b || bytes_eq s.id x.id) first ∙ other (bytes_eq s.id x.id) refl)
+
+distinct_add : (held : List StoredStatement) (s : StoredStatement) → are_distinct (ids_of held) ≡ true → are_distinct (ids_of (add held s)) ≡ true
+distinct_add held s distinct = by_test (is_held s.id held) refl
+  where
+    by_test : (b : Bool) → is_held s.id held ≡ b → are_distinct (ids_of (if b then held else held ++ s ∷ [])) ≡ true
+    by_test true is = distinct
+    by_test false is = distinct_push held s distinct (sym (used_held held s.id) ∙ is)
+
+-- what is added leaves the ids distinct
+pub distinct_each : (held xs : List StoredStatement) → are_distinct (ids_of held) ≡ true → are_distinct (ids_of (add_each held xs)) ≡ true
+distinct_each held [] distinct = distinct
+distinct_each held (x ∷ xs) distinct = distinct_each (add held x) xs (distinct_add held x distinct)
+
+-- ---- what is added
+
+pub longer : (held xs : List StoredStatement) → length held ≤ length (add_each held xs)
+longer held xs =
+    let behind = extends held xs in
+    omega (arith, ap (λ (ys : List StoredStatement). length ys) behind.1, length-append held behind.0)
+
+pub front_of : (held xs : List StoredStatement) → take (length held) (add_each held xs) ≡ held
+front_of held xs =
+    let behind = extends held xs in
+    ap (λ (ys : List StoredStatement). take (length held) ys) behind.1 ∙ take_front held behind.0
+
+next_added : (held xs : List StoredStatement) (x : StoredStatement) → slice_get (add_each (held ++ x ∷ []) xs) (length held) ≡ Some x
+next_added held xs x =
+    let behind = extends (held ++ x ∷ []) xs in
+    ap (λ (ys : List StoredStatement). slice_get ys (length held)) (behind.1 ∙ append_assoc held (x ∷ []) behind.0) ∙ get_behind held x behind.0
+
+added_new : (P : StoredStatement → Type 0) (held xs : List StoredStatement) (x : StoredStatement) → P x → (k : ℕ) (s : StoredStatement) → length held ≤ k
+    → ((front : List StoredStatement) → length front ≤ k → slice_get (add_each front xs) k ≡ Some s → P s)
+    → (b : Bool) → nat_lt (length held) k ≡ b → slice_get (add_each (held ++ x ∷ []) xs) k ≡ Some s → P s
+added_new P held xs x holds k s past rest true is there =
+    let before : length held < k = grind (arith, common_steps) in
+    rest (held ++ x ∷ []) (omega (arith, before, length-append held (x ∷ []))) there
+added_new P held xs x holds k s past rest false is there =
+    let behind : k ≤ length held = grind (arith, common_steps) in
+    let here : length held ≡ k = omega (arith, behind, past) in
+    subst (λ (t : StoredStatement). P t)
+    (same_Some x s (sym (next_added held xs x) ∙ (ap (λ (n : ℕ). slice_get (add_each (held ++ x ∷ []) xs) n) here ∙ there))) holds
+
+added_by : (P : StoredStatement → Type 0) (held xs : List StoredStatement) (x : StoredStatement) → P x → (k : ℕ) (s : StoredStatement) → length held ≤ k
+    → ((front : List StoredStatement) → length front ≤ k → slice_get (add_each front xs) k ≡ Some s → P s)
+    → (b : Bool) → slice_get (add_each (if b then held else held ++ x ∷ []) xs) k ≡ Some s → P s
+added_by P held xs x holds k s past rest true there = rest held past there
+added_by P held xs x holds k s past rest false there = added_new P held xs x holds k s past rest (nat_lt (length held) k) refl there
+
+-- what holds of each that comes holds of those that stand behind the others
+pub added_from : (P : StoredStatement → Type 0) (held xs : List StoredStatement) → AllByRecursion P xs → (k : ℕ) (s : StoredStatement) → length held ≤ k
+    → slice_get (add_each held xs) k ≡ Some s → P s
+added_from P held [] each k s past at = absurd (none-some s (sym (slice_get_past held k past) ∙ at))
+added_from P held (x ∷ xs) each k s past at =
+    added_by P held xs x each.0 k s past (λ front long there. added_from P front xs each.1 k s long there) (is_held x.id held) at
+
+-- ---- marks
+
+pub statements_back : (those xs : List StoredStatement) → statements_of (marked_by those xs) ≡ xs
+statements_back those [] = refl
+statements_back those (x ∷ xs) = ap (λ (ys : List StoredStatement). x ∷ ys) (statements_back those xs)
+
+pub marks_long : (those xs : List StoredStatement) → length (marked_by those xs) ≡ length xs
+marks_long those [] = refl
+marks_long those (x ∷ xs) = ap suc (marks_long those xs)
+
+marks_append : (those xs ys : List StoredStatement) → marked_by those (xs ++ ys) ≡ marked_by those xs ++ marked_by those ys
+marks_append those [] ys = refl
+marks_append those (x ∷ xs) ys = ap (λ (ms : List MarkedStatement). mark x (is_voided those x) ∷ ms) (marks_append those xs ys)
+
+-- as many as stand before it
+pub marks_few : (all : List StoredStatement) (at : ℕ) → at + 1 < 2 ^ 64 → length (marked (take at all)) + 1 < 2 ^ 64
+marks_few all at few = omega (arith, few, marks_long (take at all) (take at all), front_few at all)
+
+-- by which each is voided alike
+marks_same : (a b xs : List StoredStatement) → ((k : ℕ) (t : StoredStatement) → slice_get xs k ≡ Some t → is_voided a t ≡ is_voided b t) → marked_by a xs ≡ marked_by b xs
+marks_same a b [] same = refl
+marks_same a b (x ∷ xs) same =
+    ap (λ (v : Bool). mark x v ∷ marked_by a xs) (same zero x refl)
+    ∙ ap (λ (ms : List MarkedStatement). mark x (is_voided b x) ∷ ms) (marks_same a b xs (λ k t at. same (suc k) t at))
+
+-- by which each but one is
+record Parted (a b xs : List StoredStatement) (x : StoredStatement) : Type 0 where
+  front : List MarkedStatement
+  rest : List MarkedStatement
+  by_a : marked_by a xs ≡ front ++ mark x (is_voided a x) ∷ rest
+  by_b : marked_by b xs ≡ front ++ mark x (is_voided b x) ∷ rest
+
+parted_at : (a b xs : List StoredStatement) (q : ℕ) (x : StoredStatement) → slice_get xs q ≡ Some x
+    → ((k : ℕ) (t : StoredStatement) → slice_get xs k ≡ Some t → (k ≡ q → ⊥) → is_voided a t ≡ is_voided b t) → Parted a b xs x
+parted_at a b [] q x at same = absurd (none-some x at)
+parted_at a b (y ∷ ys) zero x at same =
+    let here : y ≡ x = same_Some y x at in
+    record {
+      front = [];
+      rest = marked_by a ys;
+      by_a = ap (λ (z : StoredStatement). mark z (is_voided a z) ∷ marked_by a ys) here;
+      by_b = ap (λ (z : StoredStatement). mark z (is_voided b z) ∷ marked_by b ys) here
+          ∙ ap (λ (ms : List MarkedStatement). mark x (is_voided b x) ∷ ms) (sym (marks_same a b ys (λ k t there. same (suc k) t there (λ is. omega (arith, is)))));
+    }
+parted_at a b (y ∷ ys) (suc q) x at same =
+    let more : Parted a b ys x = parted_at a b ys q x at (λ k t there apart. same (suc k) t there (λ is. apart (omega (arith, is)))) in
+    record {
+      front = mark y (is_voided a y) ∷ more.front;
+      rest = more.rest;
+      by_a = ap (λ (ms : List MarkedStatement). mark y (is_voided a y) ∷ ms) more.by_a;
+      by_b = ap (λ (v : Bool). mark y v ∷ marked_by b ys) (sym (same zero y refl (λ is. omega (arith, is))))
+          ∙ ap (λ (ms : List MarkedStatement). mark y (is_voided a y) ∷ ms) more.by_b;
+    }
+
+-- ---- what one statement more voids
+
+one_target : (a b : List ℕ) (s : StoredStatement) → voids a s ≡ true → voids b s ≡ true → a ≡ b
+one_target a b s one other = by_target (voided_by s) one other
+  where
+    by_target : (o : Option (List ℕ)) → is_that_id a o ≡ true → is_that_id b o ≡ true → a ≡ b
+    by_target None one other = absurd (true≢false (sym one))
+    by_target (Some id) one other = sym (same_bytes id a one) ∙ same_bytes id b other
+
+-- who voids is voiding, and refers to what it voids
+voiding_target : (id : List ℕ) (s : StoredStatement) → voids id s ≡ true → (target_of (view s.received) ≡ Some id) × (is_voiding (view s.received) ≡ true)
+voiding_target id s is = by_verb (is_voiding (view s.received)) (target_of (view s.received)) is
+  where
+    by_verb : (b : Bool) (o : Option (List ℕ)) → is_that_id id (if b then o else None) ≡ true → (o ≡ Some id) × (b ≡ true)
+    by_verb true None is = absurd (true≢false (sym is))
+    by_verb true (Some other) is = (ap (λ (x : List ℕ). Some x) (same_bytes other id is), refl)
+    by_verb false o is = absurd (true≢false (sym is))
+
+voided_more : (those : List StoredStatement) (s t : StoredStatement)
+    → is_voided (those ++ s ∷ []) t ≡ (not (is_voiding (view t.received)) && (is_target t.id those || (voids t.id s || false)))
+voided_more those s t = ap (λ (b : Bool). not (is_voiding (view t.received)) && b) (list_any-append (voids t.id) those (s ∷ []))
+
+-- what it doesn't void is voided as before
+stays : (those : List StoredStatement) (s t : StoredStatement) → voids t.id s ≡ false → is_voided (those ++ s ∷ []) t ≡ is_voided those t
+stays those s t none =
+    voided_more those s t
+    ∙ (ap (λ (b : Bool). not (is_voiding (view t.received)) && (is_target t.id those || (b || false))) none
+    ∙ ap (λ (b : Bool). not (is_voiding (view t.received)) && b) (or_none (is_target t.id those)))
+
+-- what was voided is voided still
+still : (those : List StoredStatement) (s t : StoredStatement) → is_voided those t ≡ true → is_voided (those ++ s ∷ []) t ≡ true
+still those s t is = voided_more those s t ∙ by_parts (is_voiding (view t.received)) (is_target t.id those) is
+  where
+    by_parts : (v g : Bool) → (not v && g) ≡ true → (not v && (g || (voids t.id s || false))) ≡ true
+    by_parts true g is = absurd (true≢false (sym is))
+    by_parts false true is = refl
+    by_parts false false is = absurd (true≢false (sym is))
+
+-- what is voided by it alone
+newly : (those : List StoredStatement) (s t : StoredStatement) → is_voided those t ≡ false → is_voided (those ++ s ∷ []) t ≡ true → (voids t.id s ≡ true) × (is_voiding (view t.received) ≡ false)
+newly those s t old new = by_parts (is_voiding (view t.received)) (is_target t.id those) (voids t.id s) old (sym (voided_more those s t) ∙ new)
+  where
+    by_parts : (v g w : Bool) → (not v && g) ≡ false → (not v && (g || (w || false))) ≡ true → (w ≡ true) × (v ≡ false)
+    by_parts true g w old new = absurd (true≢false (sym new))
+    by_parts false true w old new = absurd (true≢false old)
+    by_parts false false true old new = (refl, refl)
+    by_parts false false false old new = absurd (true≢false (sym new))
+
+-- ---- by position
+
+-- the first ones, and the one behind them
+voided_on : (all : List StoredStatement) (at : ℕ) (s t : StoredStatement) → slice_get all at ≡ Some s → is_voided (take (at + 1) all) t ≡ is_voided (take at all ++ s ∷ []) t
+voided_on all at s t there = ap (λ (xs : List StoredStatement). is_voided xs t) (take_next all at s there)
+
+-- it refers to what it voids
+refers : (all : List StoredStatement) (at k : ℕ) (s t : StoredStatement) → are_distinct (ids_of all) ≡ true → slice_get all at ≡ Some s → slice_get all k ≡ Some t → k < at
+    → voids t.id s ≡ true → referred_at (take (at + 1) all) at ≡ Some k
+refers all at k s t distinct there other before is =
+    let front : List StoredStatement = take (at + 1) all in
+    let target : target_of (view s.received) ≡ Some t.id = (voiding_target t.id s is).0 in
+    let on : nat_lt k (at + 1) ≡ true = lt_yes k (at + 1) (omega (arith, before)) in
+    let place : position (λ (u : StoredStatement). bytes_eq u.id t.id) all ≡ Some k = place_of_id all distinct k t other in
+    ap (λ (o : Option StoredStatement). option_and_then (position_referred front) o) (get_first (at + 1) all at (omega arith) ∙ there)
+    ∙ (ap (λ (o : Option (List ℕ)). option_and_then (λ (id : List ℕ). position (λ (u : StoredStatement). bytes_eq u.id id) front) o) target
+    ∙ sym (place_first (λ (u : StoredStatement). bytes_eq u.id t.id) (at + 1) all (position (λ (u : StoredStatement). bytes_eq u.id t.id) all) k place refl on))
+
+anew : (all : List StoredStatement) (at k : ℕ) (t : StoredStatement) → slice_get all k ≡ Some t → is_voided (take at all) t ≡ false → is_voided (take (at + 1) all) t ≡ true → is_voided_anew all at k ≡ true
+anew all at k t there old new =
+    ap (λ (o : Option StoredStatement). not (option_map_or (is_voided (take at all)) o false) && option_map_or (is_voided (take (at + 1) all)) o false) there
+    ∙ (ap (λ (b : Bool). not b && is_voided (take (at + 1) all) t) old ∙ new)
+
+-- It voids none that stands: only its own mark comes.
+pub no_event : (all : List StoredStatement) (at : ℕ) (s : StoredStatement) → are_distinct (ids_of all) ≡ true → slice_get all at ≡ Some s → voided_anew all at ≡ None
+    → marked (take (at + 1) all) ≡ marked (take at all) ++ mark s (is_voided (take (at + 1) all) s) ∷ []
+no_event all at s distinct there none =
+    ap (λ (xs : List StoredStatement). marked_by (take (at + 1) all) xs) (take_next all at s there)
+    ∙ (marks_append (take (at + 1) all) (take at all) (s ∷ [])
+    ∙ ap (λ (ms : List MarkedStatement). ms ++ mark s (is_voided (take (at + 1) all) s) ∷ []) (marks_same (take (at + 1) all) (take at all) (take at all) same))
+  where
+    contrary : (k : ℕ) (t : StoredStatement) → (k < at) × (slice_get all k ≡ Some t) → is_voided (take at all) t ≡ false → is_voided (take (at + 1) all) t ≡ true → ⊥
+    contrary k t place old new =
+        let voided : voids t.id s ≡ true = (newly (take at all) s t old (sym (voided_on all at s t there) ∙ new)).0 in
+        let found : voided_anew all at ≡ Some k =
+        ap (λ (o : Option ℕ). option_and_then (λ (position : ℕ). if is_voided_anew all at position then Some position else None) o) (refers all at k s t distinct there place.1 place.0 voided)
+        ∙ ap (λ (b : Bool). if b then Some k else None) (anew all at k t place.1 old new) in
+        none-some k (sym none ∙ found)
+
+    decide : (k : ℕ) (t : StoredStatement) → (k < at) × (slice_get all k ≡ Some t) → (old new : Bool) → is_voided (take at all) t ≡ old → is_voided (take (at + 1) all) t ≡ new
+        → is_voided (take (at + 1) all) t ≡ is_voided (take at all) t
+    decide k t place true new was is = voided_on all at s t there ∙ still (take at all) s t was ∙ sym was
+    decide k t place false true was is = absurd (contrary k t place was is)
+    decide k t place false false was is = is ∙ sym was
+
+    same : (k : ℕ) (t : StoredStatement) → slice_get (take at all) k ≡ Some t → is_voided (take (at + 1) all) t ≡ is_voided (take at all) t
+    same k t found = decide k t (within_front at all k t found) (is_voided (take at all) t) (is_voided (take (at + 1) all) t) refl refl
+
+-- It voids one that stands: that one's mark changes, and its own comes.
+pub record Voiding (all : List StoredStatement) (at : ℕ) (s : StoredStatement) (q : ℕ) : Type 0 where
+  pub voided : StoredStatement
+  pub there : slice_get all q ≡ Some voided
+  pub front : List MarkedStatement
+  pub rest : List MarkedStatement
+  pub old : marked (take at all) ≡ front ++ mark voided false ∷ rest
+  pub new : marked (take (at + 1) all) ≡ front ++ mark voided true ∷ (rest ++ mark s (is_voided (take (at + 1) all) s) ∷ [])
+
+-- what is told of the one that is found
+record Found (all : List StoredStatement) (at q : ℕ) : Type 0 where
+  item : StoredStatement
+  there : slice_get all q ≡ Some item
+  old : is_voided (take at all) item ≡ false
+  new : is_voided (take (at + 1) all) item ≡ true
+
+found_anew : (all : List StoredStatement) (at q : ℕ) → is_voided_anew all at q ≡ true → Found all at q
+found_anew all at q is = by_item (slice_get all q) refl is
+  where
+    by_item : (o : Option StoredStatement) → slice_get all q ≡ o
+        → (not (option_map_or (is_voided (take at all)) o false) && option_map_or (is_voided (take (at + 1) all)) o false) ≡ true → Found all at q
+    by_item None at_q is = absurd (true≢false (sym is))
+    by_item (Some x) at_q is = record {
+      item = x;
+      there = at_q;
+      old = not_true (is_voided (take at all) x) (left_true (not (is_voided (take at all) x)) (is_voided (take (at + 1) all) x) is);
+      new = right_true (not (is_voided (take at all) x)) (is_voided (take (at + 1) all) x) is;
+    }
+
+place_anew : (all : List StoredStatement) (at q : ℕ) → voided_anew all at ≡ Some q → (referred_at (take (at + 1) all) at ≡ Some q) × (is_voided_anew all at q ≡ true)
+place_anew all at q is = by_place (referred_at (take (at + 1) all) at) refl is
+  where
+    by_place : (o : Option ℕ) → referred_at (take (at + 1) all) at ≡ o → option_and_then (λ (position : ℕ). if is_voided_anew all at position then Some position else None) o ≡ Some q
+        → (referred_at (take (at + 1) all) at ≡ Some q) × (is_voided_anew all at q ≡ true)
+    by_place None refers is = absurd (none-some q is)
+    by_place (Some p) refers is =
+        let both : (is_voided_anew all at p ≡ true) × (p ≡ q) = cond_some (is_voided_anew all at p) p q is in
+        (refers ∙ ap (λ (n : ℕ). Some n) both.1, subst (λ (n : ℕ). is_voided_anew all at n ≡ true) both.1 both.0)
+
+-- what it refers to is no later than itself
+referred_within : (all : List StoredStatement) (at q : ℕ) → referred_at (take (at + 1) all) at ≡ Some q → q < at + 1
+referred_within all at q is = by_item (slice_get (take (at + 1) all) at) is
+  where
+    by_target : (o : Option (List ℕ)) → option_and_then (λ (id : List ℕ). position (λ (u : StoredStatement). bytes_eq u.id id) (take (at + 1) all)) o ≡ Some q → q < at + 1
+    by_target None is = absurd (none-some q is)
+    by_target (Some id) is =
+        let found = stands_there (λ (u : StoredStatement). bytes_eq u.id id) (take (at + 1) all) q is in
+        (within_front (at + 1) all q found.0 found.1).0
+
+    by_item : (o : Option StoredStatement) → option_and_then (position_referred (take (at + 1) all)) o ≡ Some q → q < at + 1
+    by_item None is = absurd (none-some q is)
+    by_item (Some s) is = by_target (target_of (view s.received)) is
+
+-- one that it doesn't void
+other_stays : (all : List StoredStatement) (at : ℕ) (s t : StoredStatement) → slice_get all at ≡ Some s → (voids t.id s ≡ true → ⊥) → is_voided (take (at + 1) all) t ≡ is_voided (take at all) t
+other_stays all at s t there apart = by_test (voids t.id s) refl
+  where
+    by_test : (b : Bool) → voids t.id s ≡ b → is_voided (take (at + 1) all) t ≡ is_voided (take at all) t
+    by_test true both = absurd (apart both)
+    by_test false none = voided_on all at s t there ∙ stays (take at all) s t none
+
+pub voiding_at : (all : List StoredStatement) (at : ℕ) (s : StoredStatement) (q : ℕ) → are_distinct (ids_of all) ≡ true → slice_get all at ≡ Some s → voided_anew all at ≡ Some q → Voiding all at s q
+voiding_at all at s q distinct there is = record {
+  voided = found.item;
+  there = found.there;
+  front = parts.front;
+  rest = parts.rest;
+  old = parts.by_b ∙ ap (λ (v : Bool). parts.front ++ mark found.item v ∷ parts.rest) found.old;
+  new = ap (λ (xs : List StoredStatement). marked_by (take (at + 1) all) xs) (take_next all at s there)
+      ∙ (marks_append (take (at + 1) all) (take at all) (s ∷ [])
+      ∙ (ap (λ (ms : List MarkedStatement). ms ++ mark s (is_voided (take (at + 1) all) s) ∷ [])
+      (parts.by_a ∙ ap (λ (v : Bool). parts.front ++ mark found.item v ∷ parts.rest) found.new)
+      ∙ append_assoc parts.front (mark found.item true ∷ parts.rest) (mark s (is_voided (take (at + 1) all) s) ∷ [])));
+}
+  where
+    place : (referred_at (take (at + 1) all) at ≡ Some q) × (is_voided_anew all at q ≡ true)
+    place = place_anew all at q is
+
+    found : Found all at q
+    found = found_anew all at q place.1
+
+    only : (voids found.item.id s ≡ true) × (is_voiding (view found.item.received) ≡ false)
+    only = newly (take at all) s found.item found.old (sym (voided_on all at s found.item there) ∙ found.new)
+
+    -- it isn't the one that voids
+    other : q ≡ at → ⊥
+    other same =
+        let here : s ≡ found.item = same_Some s found.item (sym there ∙ (ap (λ (n : ℕ). slice_get all n) (sym same) ∙ found.there)) in
+        true≢false (sym (voiding_target found.item.id s only.0).1 ∙ (ap (λ (t : StoredStatement). is_voiding (view t.received)) here ∙ only.1))
+
+    before : (b : Bool) → nat_lt q at ≡ b → q < at
+    before true less = grind (arith, common_steps)
+    before false more =
+        let past : at ≤ q = grind (arith, common_steps) in
+        let no_later : q < at + 1 = referred_within all at q place.0 in
+        absurd (other (omega (arith, past, no_later)))
+
+    within : slice_get (take at all) q ≡ Some found.item
+    within = get_first at all q (before (nat_lt q at) refl) ∙ found.there
+
+    others : (k : ℕ) (t : StoredStatement) → slice_get (take at all) k ≡ Some t → (k ≡ q → ⊥) → is_voided (take (at + 1) all) t ≡ is_voided (take at all) t
+    others k t here apart =
+        other_stays all at s t there
+        (λ both. apart (same_place all distinct k q t found.item (within_front at all k t here).1 found.there (one_target t.id found.item.id s both only.0)))
+
+    parts : Parted (take (at + 1) all) (take at all) (take at all) found.item
+    parts = parted_at (take (at + 1) all) (take at all) (take at all) q found.item within others

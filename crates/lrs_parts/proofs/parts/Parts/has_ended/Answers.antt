@@ -1,0 +1,14 @@
+use Rattle.std.proofs.Common.{◌∙◌, List, ap}
+use Rattle.cmi5_launch.specs.Names.{terminated}
+use Rattle.cmi5_session.specs.Marked.{marked}
+use Rattle.cmi5_session.specs.Own.{has_own}
+use Rattle.lrs_parts.specs.Parts.{SeenParts}
+use Rattle.lrs_parts.proofs.Events.{statements_back}
+use Rattle.xapi_statement.specs.Stored.{StoredStatement}
+use Rattle.lrs_parts.proofs.parts.Parts.has_ended.Goals as goal
+
+pub returns : goal.returns
+returns c =
+    let all = c.self.inside.statements.held in
+    c.has_ended.ensures (marked all) c.self.invariant.follows.sessions
+    ∙ ap (λ (ss : List StoredStatement). has_own c.args.session.now terminated ss) (statements_back all all ∙ ap (λ (v : SeenParts). v.statements.held) c.self.view_is)

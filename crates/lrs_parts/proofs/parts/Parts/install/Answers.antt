@@ -1,0 +1,100 @@
+-- Each part takes its change in, and what is kept of progress follows.
+use Rattle.std.proofs.Common.{◌+◌, ◌∙◌, ap, refl, subst, sym}
+use Rattle.lrs_parts.specs.Courses.{courses_after}
+use Rattle.lrs_parts.specs.Founding.{founding_after}
+use Rattle.lrs_parts.specs.Launches.{keys_after, launches_after, tokens_after}
+use Rattle.lrs_parts.specs.Parts.{IsReadyFor, SeenParts}
+use Rattle.lrs_parts.specs.Providers.{providers_after}
+use Rattle.lrs_parts.specs.Registrations.{registrations_after}
+use Rattle.lrs_parts.specs.Sessions.{made_sessions_after, sessions_after}
+use Rattle.lrs_parts.proofs.Enrolling.{ready_on}
+use Rattle.lrs_parts.proofs.Kept.{kept_enrolled, same_states}
+use Rattle.xapi_docs.specs.Changes.{documents_after}
+use Rattle.xapi_docs.specs.Docs.{documents_in}
+use Rattle.xapi_index.specs.Statements.{add_each}
+use Rattle.lrs_parts.proofs.parts.Parts.install.Goals as goal
+
+-- ---- room
+
+pub install-requires : goal.install-requires
+install-requires c =
+    let ready = subst (λ (v : SeenParts). IsReadyFor v c.args.effect) (sym c.self.view_is) c.requires in ready.learning.courses
+
+pub install-requires-2 : goal.install-requires-2
+install-requires-2 c =
+    let ready = subst (λ (v : SeenParts). IsReadyFor v c.args.effect) (sym c.self.view_is) c.requires in ready.learning.registrations
+
+pub take_in_each-requires-clause-ready : goal.take_in_each-requires-clause-ready
+take_in_each-requires-clause-ready c =
+    let ready = subst (λ (v : SeenParts). IsReadyFor v c.args.effect) (sym c.self.view_is) c.requires in ready.statements
+
+pub take_in_each-requires-clause-places : goal.take_in_each-requires-clause-places
+take_in_each-requires-clause-places c =
+    let ready = subst (λ (v : SeenParts). IsReadyFor v c.args.effect) (sym c.self.view_is) c.requires in ready.progress.sessions
+
+pub install-requires-3 : goal.install-requires-3
+install-requires-3 c =
+    let ready = subst (λ (v : SeenParts). IsReadyFor v c.args.effect) (sym c.self.view_is) c.requires in ready.providers
+
+pub install_change-requires : goal.install_change-requires
+install_change-requires c =
+    let ready = subst (λ (v : SeenParts). IsReadyFor v c.args.effect) (sym c.self.view_is) c.requires in ready.documents
+
+pub install-requires-4 : goal.install-requires-4
+install-requires-4 c =
+    let ready = subst (λ (v : SeenParts). IsReadyFor v c.args.effect) (sym c.self.view_is) c.requires in ready.learning.launches
+
+pub install-requires-5 : goal.install-requires-5
+install-requires-5 c =
+    let ready = subst (λ (v : SeenParts). IsReadyFor v c.args.effect) (sym c.self.view_is) c.requires in ready.learning.sessions
+
+pub install-requires-6 : goal.install-requires-6
+install-requires-6 c =
+    let ready = subst (λ (v : SeenParts). IsReadyFor v c.args.effect) (sym c.self.view_is) c.requires in ready.learning.made_sessions
+
+pub install-requires-7 : goal.install-requires-7
+install-requires-7 c =
+    let ready = subst (λ (v : SeenParts). IsReadyFor v c.args.effect) (sym c.self.view_is) c.requires in ready.learning.keys
+
+pub install-requires-8 : goal.install-requires-8
+install-requires-8 c =
+    let ready = subst (λ (v : SeenParts). IsReadyFor v c.args.effect) (sym c.self.view_is) c.requires in ready.learning.tokens
+
+-- ---- what is kept
+
+pub enrol_new-requires : goal.enrol_new-requires
+enrol_new-requires c = λ r comes.
+    let old = c.self.inside in
+    let x = c.args.effect in
+    let ready = subst (λ (v : SeenParts). IsReadyFor v c.args.effect) (sym c.self.view_is) c.requires in
+    ready_on old.progress.running old.founding c.found.new.held x.founding old.learning.courses.held c.install.new.self.held x.courses c.found.ensures c.install.ensures ready.progress.courses_stay r
+    (ready.progress.running r comes)
+
+pub take_in_each-requires-clause-kept : goal.take_in_each-requires-clause-kept
+take_in_each-requires-clause-kept c =
+    let old = c.self.inside in
+    let x = c.args.effect in
+    let ready = subst (λ (v : SeenParts). IsReadyFor v c.args.effect) (sym c.self.view_is) c.requires in
+    kept_enrolled old.progress c.enrol_new.new.running old.founding c.found.new.held x.founding old.learning.courses.held c.install.new.self.held x.courses old.learning.registrations.held
+    c.install-2.new.self.held x.registrations old.statements.held c.found.ensures c.install.ensures ready.progress.courses_stay c.install-2.ensures ready.progress.registrations_stay c.enrol_new.ensures
+    c.self.invariant
+
+pub invariant_of-self : goal.invariant_of-self
+invariant_of-self c = c.take_in_each.ensures.kept
+
+-- ---- the state
+
+pub returns : goal.returns
+returns c =
+    let x = c.args.effect in
+    let is = c.self.view_is in
+    same_states _ _ (c.found.ensures ∙ ap (λ (v : SeenParts). founding_after v.founding x.founding) is) (c.install-3.ensures ∙ ap (λ (v : SeenParts). providers_after v.providers.held x.providers) is)
+    (c.take_in_each.ensures.held ∙ ap (λ (v : SeenParts). add_each v.statements.held x.statements) is)
+    (c.install_change.ensures ∙ ap (λ (v : SeenParts). documents_after (documents_in v.documents) x.documents) is)
+    (c.install.ensures ∙ ap (λ (v : SeenParts). courses_after v.learning.courses.held x.courses) is)
+    (c.install-2.ensures ∙ ap (λ (v : SeenParts). registrations_after v.learning.registrations.held x.registrations) is)
+    (c.install-4.ensures ∙ ap (λ (v : SeenParts). launches_after v.learning.launches.held x.launches) is)
+    (c.install-5.ensures ∙ ap (λ (v : SeenParts). sessions_after x.moment v.learning.sessions.held x.sessions) is)
+    (c.install-6.ensures ∙ ap (λ (v : SeenParts). made_sessions_after v.learning.made_sessions.held x.made_sessions) is)
+    (c.install-7.ensures ∙ ap (λ (v : SeenParts). keys_after v.learning.keys.held x.keys) is) (c.install-8.ensures ∙ ap (λ (v : SeenParts). tokens_after v.learning.tokens.held x.tokens) is)
+    (ap (λ (v : SeenParts). v.length + 1) is) refl

@@ -1,0 +1,18 @@
+use Rattle.std.proofs.Common.{◌≡◌, ◌∙◌, Some, subst, sym}
+use Rattle.cmi5_session.specs.Marked.{marked}
+use Rattle.cmi5_verdict.specs.Nodes.{seen}
+use Rattle.lrs_parts.specs.Parts.{SeenParts}
+use Rattle.lrs_parts.specs.Progress.{enrolment_in}
+use Rattle.lrs_parts.proofs.Enrolling.{held_stands}
+use Rattle.cmi5_running_verdicts.specs.Running.{Stands}
+use Rattle.lrs_parts.proofs.parts.Parts.owed.Goals as goal
+
+pub owed_by_count-requires : goal.owed_by_count-requires
+owed_by_count-requires c =
+    let old = c.self.inside in
+    let e = seen c.args.enrolment.now in
+    let r = c.args.registration.now in
+    let enrolled : enrolment_in old.founding old.learning.courses.held r ≡ Some e = subst (λ (v : SeenParts). enrolment_in v.founding v.learning.courses.held r ≡ Some e) (sym c.self.view_is) c.requires.enrolled in
+    let stands = held_stands old.progress.running old.founding old.learning.courses.held old.learning.registrations.held (marked old.statements.held) r c.in-Some.number e
+    (sym c.number_held.ensures ∙ c.in-Some.is) enrolled c.self.invariant.follows.counted in
+    subst (λ (v : SeenParts). Stands v.progress.running (marked v.statements.held) c.in-Some.number e) c.self.view_is stands

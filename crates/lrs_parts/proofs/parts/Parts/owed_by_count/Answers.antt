@@ -1,0 +1,14 @@
+use Rattle.std.proofs.Common.{◌≡◌, ◌∙◌, IfOk, List, ap, subst, sym}
+use Rattle.cmi5_running_verdicts.specs.Running.{Stands}
+use Rattle.cmi5_session.specs.Marked.{marked}
+use Rattle.cmi5_verdict.specs.Nodes.{owed, seen}
+use Rattle.lrs_parts.specs.Parts.{SeenParts}
+use Rattle.xapi_statement.specs.Stored.{StoredStatement}
+use Rattle.lrs_parts.proofs.parts.Parts.owed_by_count.Goals as goal
+
+pub returns : goal.returns
+returns c =
+    let e = seen c.args.enrolment.now in
+    let here = subst (λ (v : SeenParts). Stands v.progress.running (marked v.statements.held) c.args.number e) (sym c.self.view_is) c.requires in
+    let stands = subst (λ (ss : List StoredStatement). Stands c.self.inside.progress.running (marked ss) c.args.number e) (ap (λ (v : SeenParts). v.statements.held) c.self.view_is ∙ sym c.behind_held-statements.ensures.held) here in
+    subst (λ (ss : List StoredStatement). IfOk c.owed.result (λ places. places.items ≡ owed e ss)) c.behind_held-statements.ensures.all (c.owed.ensures stands)

@@ -1,0 +1,8 @@
+use Rattle.std.proofs.Common.{◌≡◌, IfOk, List, subst}
+use Rattle.cmi5_verdict.specs.Nodes.{owed, seen}
+use Rattle.xapi_statement.specs.Stored.{StoredStatement}
+use Rattle.lrs_parts.proofs.parts.Parts.owed_of_all.Goals as goal
+
+pub returns : goal.returns
+returns c =
+    subst (λ (ss : List StoredStatement). IfOk c.owed.result (λ places. places.items ≡ owed (seen c.args.enrolment.now) ss)) c.behind_held.ensures.all c.owed.ensures

@@ -1,0 +1,11 @@
+use Rattle.std.proofs.Common.{◌∙◌, List, ap}
+use Rattle.cmi5_launch.specs.Names.{waived}
+use Rattle.cmi5_verdict.specs.Nodes.{activity_at, seen}
+use Rattle.cmi5_verdict.specs.Units.{stands}
+use Rattle.xapi_statement.specs.Stored.{StoredStatement}
+use Rattle.lrs_parts.proofs.parts.Parts.waived_by_all.Goals as goal
+
+pub returns : goal.returns
+returns c =
+    let e = seen c.args.enrolment.now in
+    c.waived.ensures ∙ ap (λ (ss : List StoredStatement). stands ss e.registration (activity_at e c.args.place) waived) c.held_alone.ensures

@@ -1,0 +1,134 @@
+-- What is kept from entry to entry of how far sessions and registrations have come, what it stands for, and what a
+-- statement that comes changes of what came before it.
+use Rattle.std.specs.Prelude.{◌≡◌, ◌≤◌, ◌+◌, ◌==◌, ℕ, ◌&&◌, Bool, false, not, List, length, take, Option, Some, None}
+use Rattle.std.specs.Prelude.{IsTrue, option_and_then, option_map, slice_get, if◌then◌else◌}
+use Rattle.std.specs.Option.{option_map_or}
+use Rattle.cmi5_course.specs.Courses.{Course}
+use Rattle.cmi5_course.specs.declared.course.Node.{Node}
+use Rattle.cmi5_running_sessions.specs.Kept.{SeenSessions, StandsFor}
+use Rattle.cmi5_running_sessions.specs.Room.{HasPlacesFor, HasPlacesForEach}
+use Rattle.cmi5_running_verdicts.specs.Running.{HasRoomFor, SeenRunning, Stands}
+use Rattle.cmi5_session.specs.Marked.{MarkedStatement, marked}
+use Rattle.cmi5_verdict.specs.Nodes.{SeenEnrolment}
+use Rattle.lrs_ids.specs.Ids.{are_distinct}
+use Rattle.lrs_json.specs.View.{view}
+use Rattle.lrs_parts.specs.Counted.{place_under}
+use Rattle.lrs_parts.specs.Registrations.{registration_key}
+use Rattle.lrs_parts.specs.declared.effect.Effect.{Effect}
+use Rattle.lrs_parts.specs.declared.founding.Founding.{Founding}
+use Rattle.lrs_parts.specs.declared.progress.Progress.{Progress}
+use Rattle.lrs_parts.specs.declared.registrations.HeldRegistration.{HeldRegistration}
+use Rattle.xapi_index.specs.Statements.{ids_of, is_voided, referred_at}
+use Rattle.xapi_statement.specs.Statement.{registration_of}
+use Rattle.xapi_statement.specs.Stored.{StoredStatement}
+
+-- ---- what verdicts look at
+
+abbrev pub enrolment_with : HeldRegistration → Founding → Course → SeenEnrolment
+enrolment_with r founding course = record {
+  registration = r.id;
+  base = founding.base;
+  course = r.course;
+  nodes = course.nodes;
+}
+
+-- of a registration, if the store is founded and the course is there
+abbrev pub enrolment_in : Option Founding → List Course → HeldRegistration → Option SeenEnrolment
+enrolment_in founding courses r = option_and_then
+    (λ f. option_map (enrolment_with r f) (slice_get courses r.course)) founding
+
+-- of the registration of that number
+abbrev pub enrolment_at : Option Founding → List Course → List HeldRegistration → ℕ → Option SeenEnrolment
+enrolment_at founding courses registrations number =
+    option_and_then (enrolment_in founding courses) (slice_get registrations number)
+
+-- the number of the registration that a statement names, the first of its id
+abbrev pub number_named : StoredStatement → List HeldRegistration → Option ℕ
+number_named s registrations =
+    option_and_then (λ id. place_under registration_key id registrations) (registration_of (view s.received))
+
+-- that number, if the registration there is in the course of this one
+abbrev pub number_in : HeldRegistration → List HeldRegistration → ℕ → Option ℕ
+number_in r registrations number = option_and_then
+    (λ (held : HeldRegistration). if held.course == r.course then Some number else None)
+    (slice_get registrations number)
+
+-- the number of a registration, if it is held and the first of its id
+abbrev pub number_held : HeldRegistration → List HeldRegistration → Option ℕ
+number_held r registrations =
+    option_and_then (number_in r registrations) (place_under registration_key r.id registrations)
+
+-- ---- what it stands for
+
+-- the tallies of a registration stand for these statements
+pub record HasTallies (running : SeenRunning) (founding : Option Founding) (courses : List Course)
+    (those : List MarkedStatement) (number : ℕ) (r : HeldRegistration) : Type 0 where
+  pub enrolment : SeenEnrolment
+  pub enrolled : enrolment_in founding courses r ≡ Some enrolment
+  pub stands : Stands running those number enrolment
+
+-- Each registration has tallies. Those of the first of its id stand for these statements, and it has its course.
+pub record AreCounted (running : SeenRunning) (founding : Option Founding) (courses : List Course)
+    (registrations : List HeldRegistration) (those : List MarkedStatement) : Type 0 where
+  pub long : length running.held ≡ length registrations
+  pub each : (id : List ℕ) → (number : ℕ) → (r : HeldRegistration)
+      → place_under registration_key id registrations ≡ Some number → slice_get registrations number ≡ Some r
+      → HasTallies running founding courses those number r
+
+-- What is kept of sessions stands for these statements, and so does what is kept of registrations.
+pub record Follows (p : Progress) (founding : Option Founding) (courses : List Course)
+    (registrations : List HeldRegistration) (those : List MarkedStatement) : Type 0 where
+  pub sessions : StandsFor p.sessions those
+  pub counted : AreCounted p.running founding courses registrations those
+
+-- The statements have ids of their own, and what is kept follows them.
+pub record IsKept (p : Progress) (founding : Option Founding) (courses : List Course)
+    (registrations : List HeldRegistration) (statements : List StoredStatement) : Type 0 where
+  pub distinct : IsTrue (are_distinct (ids_of statements))
+  pub follows : Follows p founding courses registrations (marked statements)
+
+-- ---- what a statement that comes changes
+
+-- the statement at a position is there, and one of the first n voids it
+abbrev pub is_voided_at : List StoredStatement → ℕ → ℕ → Bool
+is_voided_at statements n position = option_map_or (is_voided (take n statements)) (slice_get statements position) false
+
+-- the one at `at` voids that one, and none before it does
+abbrev pub is_voided_anew : List StoredStatement → ℕ → ℕ → Bool
+is_voided_anew statements at position =
+    not (is_voided_at statements at position) && is_voided_at statements (at + 1) position
+
+-- the position of the one that it voids so
+abbrev pub voided_anew : List StoredStatement → ℕ → Option ℕ
+voided_anew statements at = option_and_then
+    (λ position. if is_voided_anew statements at position then Some position else None)
+    (referred_at (take (at + 1) statements) at)
+
+-- what the statements from a position on say has places
+abbrev pub ArePlacedFrom : SeenSessions → List StoredStatement → ℕ → Type 0
+ArePlacedFrom sessions statements first = (k : ℕ) → (s : StoredStatement) → first ≤ k
+    → slice_get statements k ≡ Some s → HasPlacesFor sessions s
+
+-- ---- room
+
+-- the nodes of a registration's course
+abbrev pub AreNodesOf : Option Founding → List Course → HeldRegistration → Option (List Node) → Type 0
+AreNodesOf founding courses r nodes = (e : SeenEnrolment) × (enrolment_in founding courses r ≡ Some e)
+    × (nodes ≡ Some e.nodes)
+
+-- the registration has its course, and there are tallies for it
+pub record IsReadyToEnrol (running : SeenRunning) (founding : Option Founding) (courses : List Course)
+    (r : HeldRegistration) : Type 0 where
+  pub enrolment : SeenEnrolment
+  pub enrolled : enrolment_in founding courses r ≡ Some enrolment
+  pub room : HasRoomFor running enrolment.nodes
+
+-- A registration comes only to a founded store with its course, of which nothing is replaced, and there are tallies for
+-- it. What the statements say has places.
+pub record IsProgressReadyFor (p : Progress) (founding : Option Founding) (courses : List Course)
+    (effect : Effect) : Type 0 where
+  pub sessions : HasPlacesForEach p.sessions effect.statements
+  pub courses_stay : effect.courses.replaced ≡ None
+  pub registrations_stay : effect.registrations.replaced ≡ None
+  pub running : (r : HeldRegistration) → effect.registrations.new ≡ Some r
+      → IsReadyToEnrol p.running founding courses r

@@ -1,0 +1,148 @@
+// Room in the parts for an effect that is to come.
+ghost use Rattle.std.specs.Prelude.{◌≡◌, ◌+◌, ◌<◌, ◌^◌, None, Some, IfOk, IfSome, OnOk, option_map};
+ghost use Rattle.std.specs.Cmp.Lexicographic.{slice_cmp};
+ghost use Rattle.std.specs.Ordering.{nat_cmp};
+ghost use Rattle.cmi5_running_sessions.specs.Room as room;
+ghost use Rattle.cmi5_running_verdicts.specs.Holding.{StandBehindHolders};
+ghost use Rattle.lrs_parts.specs.Counted.{HasRoomToCount, MakesPlaceFor};
+ghost use Rattle.lrs_parts.specs.Learning.{IsLearningReadyFor, KeepsLearning, MakesLearningPlaces};
+ghost use Rattle.lrs_parts.specs.Progress.{AreNodesOf, IsProgressReadyFor};
+ghost use Rattle.lrs_parts.specs.Providers.{token_of};
+ghost use Rattle.lrs_parts.specs.declared.registrations.HeldRegistration.{HeldRegistration as SpecRegistration};
+ghost use Rattle.xapi_docs.specs.Docs as docs;
+ghost use Rattle.xapi_docs.specs.Docs.{HasRoomForDocuments, documents_in, is_written};
+ghost use Rattle.xapi_index.specs.Index.{IsIndexReadyFor};
+
+use crate::following::enrolment_in;
+use crate::{
+    Courses, Effect, Founding, HeldRegistration, Learning, Progress, Providers, RegistrationsChange,
+};
+use cmi5_course::Node;
+use lrs_json::Memory;
+use xapi_docs::Docs;
+use xapi_index::Index;
+
+// ---- what is kept of progress
+
+/// Makes room for an effect in what is kept of progress. There is none if it replaces a course or a registration, or if
+/// a registration comes without its course: no command does that.
+pub(crate) fn ready_progress(
+    progress: &mut Progress,
+    founding: &Option<Founding>,
+    courses: &Courses,
+    effect: &Effect,
+) -> Result<(), Memory>
+    ensures made { room.MakesPlaces effect.now.statements progress.old.sessions progress.new.sessions }
+    ensures held { progress.new.running.held ≡ progress.old.running.held }
+    ensures ready { OnOk result (IsProgressReadyFor progress.new founding.now courses.now.held effect.now) }
+{
+    let nodes = nodes_of_effect(founding, courses, effect)?;
+    progress.ready(effect.statements.as_slice(), nodes)
+}
+
+// The nodes of the course of a registration that comes, if one does.
+fn nodes_of_effect<'a>(
+    founding: &'a Option<Founding>,
+    courses: &'a Courses,
+    effect: &'a Effect,
+) -> Result<Option<&'a [Node]>, Memory>
+    ensures courses { IfOk result (λ _. effect.now.courses.replaced ≡ None) }
+    ensures registrations { IfOk result (λ _. effect.now.registrations.replaced ≡ None) }
+    ensures nodes { IfOk result (λ ns. (r : SpecRegistration) → effect.now.registrations.new ≡ Some r
+        → AreNodesOf founding.now courses.now.held r (option_map (λ n. n.now) ns)) }
+    ensures behind { IfOk result (λ ns. IfSome ns (λ n. StandBehindHolders n.now)) }
+{
+    match &effect.courses.replaced {
+        Some(_) => Err(Memory),
+        None => nodes_of_change(founding, courses, &effect.registrations),
+    }
+}
+
+fn nodes_of_change<'a>(
+    founding: &'a Option<Founding>,
+    courses: &'a Courses,
+    change: &'a RegistrationsChange,
+) -> Result<Option<&'a [Node]>, Memory>
+    ensures registrations { IfOk result (λ _. change.now.replaced ≡ None) }
+    ensures nodes { IfOk result (λ ns. (r : SpecRegistration) → change.now.new ≡ Some r
+        → AreNodesOf founding.now courses.now.held r (option_map (λ n. n.now) ns)) }
+    ensures behind { IfOk result (λ ns. IfSome ns (λ n. StandBehindHolders n.now)) }
+{
+    match &change.replaced {
+        Some(_) => Err(Memory),
+        None => nodes_of_new(founding, courses, &change.new),
+    }
+}
+
+fn nodes_of_new<'a>(
+    founding: &'a Option<Founding>,
+    courses: &'a Courses,
+    coming: &'a Option<HeldRegistration>,
+) -> Result<Option<&'a [Node]>, Memory>
+    ensures nodes { IfOk result (λ ns. (r : SpecRegistration) → coming.now ≡ Some r
+        → AreNodesOf founding.now courses.now.held r (option_map (λ n. n.now) ns)) }
+    ensures behind { IfOk result (λ ns. IfSome ns (λ n. StandBehindHolders n.now)) }
+{
+    match coming {
+        Some(registration) => nodes_of(founding, courses, registration),
+        None => Ok(None),
+    }
+}
+
+fn nodes_of<'a>(
+    founding: &'a Option<Founding>,
+    courses: &'a Courses,
+    registration: &'a HeldRegistration,
+) -> Result<Option<&'a [Node]>, Memory>
+    ensures nodes { IfOk result (λ ns.
+        AreNodesOf founding.now courses.now.held registration.now (option_map (λ n. n.now) ns)) }
+    ensures behind { IfOk result (λ ns. IfSome ns (λ n. StandBehindHolders n.now)) }
+{
+    match enrolment_in(founding, courses, registration) {
+        Some(enrolment) => Ok(Some(enrolment.nodes)),
+        None => Err(Memory),
+    }
+}
+
+// ---- all parts
+
+/// Makes room for an effect in each part. There is none if the entries, of which there are so many, can't be counted
+/// any more.
+pub(crate) fn ready_each(
+    progress: &mut Progress,
+    founding: &Option<Founding>,
+    providers: &mut Providers,
+    statements: &mut Index,
+    documents: &mut Docs,
+    learning: &mut Learning,
+    entries: u64,
+    effect: &Effect,
+) -> Result<(), Memory>
+    ensures same_running { progress.new.running.held ≡ progress.old.running.held }
+    ensures same_providers { providers.new.held ≡ providers.old.held }
+    ensures same_statements { statements.new.held ≡ statements.old.held }
+    ensures same_documents { documents_in documents.new ≡ documents_in documents.old }
+    ensures same_learning { KeepsLearning learning.old learning.new }
+    ensures ready_progress { OnOk result
+        (IsProgressReadyFor progress.new founding.now learning.old.courses.held effect.now) }
+    ensures ready_providers { OnOk result
+        (HasRoomToCount (slice_cmp nat_cmp) token_of providers.new effect.now.providers) }
+    ensures ready_statements { OnOk result (IsIndexReadyFor statements.new effect.now.statements) }
+    ensures ready_documents { OnOk result (HasRoomForDocuments documents.new effect.now.documents) }
+    ensures ready_learning { OnOk result (IsLearningReadyFor learning.new effect.now) }
+    ensures countable { OnOk result (entries + 1 < 2 ^ 64) }
+    ensures made_sessions { room.MakesPlaces effect.now.statements progress.old.sessions progress.new.sessions }
+    ensures made_providers { MakesPlaceFor (slice_cmp nat_cmp) token_of effect.now.providers
+        providers.old providers.new }
+    ensures made_documents { docs.MakesPlaces (is_written effect.now.documents) documents.old documents.new }
+    ensures made_learning { MakesLearningPlaces learning.old learning.new effect.now }
+{
+    ready_progress(progress, founding, &learning.courses, effect)?;
+    if entries == u64::MAX {
+        return Err(Memory);
+    }
+    providers.ready(&effect.providers)?;
+    statements.ready(effect.statements.as_slice())?;
+    documents.ready_change(&effect.documents)?;
+    learning.ready(effect)
+}
