@@ -2,13 +2,15 @@
 """Makes a store file of N statements by the formats of docs/FORMATS.md, without the program: a second hand that writes
 the journal, for measuring and for holding the program against it.
 
-    make_store.py FILE N [--limit BYTES] [--table ROWS] [--documents M]
+    make_store.py FILE N [--limit BYTES] [--table ROWS] [--documents M] [--refer chain|circle]
 
 ROWS is a second file: the same statements as rows of a table, each a place, a verb, the name of its agent, a registration
-and a text, parted by tabs.
+and the text that a page shows of it, parted by tabs.
 Statement i has the id 00000000-0000-4000-8000-<i in twelve hexadecimal digits>. M state documents of 1,024 bytes come
-after the statements: document i is s<i mod 10> of the agent u<i / 10>."""
+after the statements: document i is s<i mod 10> of the agent u<i / 10>. With --refer each statement refers to the one
+before it; in a circle the first refers to the last, in a chain to none."""
 import argparse
+import datetime
 import json
 import struct
 
@@ -39,6 +41,26 @@ def statement(i):
     }
 
 
+def referring(i, number, shape):
+    """The statement as one of a chain or a circle."""
+    before = number - 1 if i == 0 and shape == "circle" else i - 1
+    if before < 0:
+        return statement(i)
+    return {**statement(i), "object": {"objectType": "StatementRef", "id": f"00000000-0000-4000-8000-{before:012x}"}}
+
+
+def shown(i):
+    """The statement as the store shows it."""
+    moment = datetime.datetime.fromtimestamp((MOMENT + i) / 1000, datetime.timezone.utc)
+    account = {"homePage": "https://lrs.invalid/callers", "name": "admin"}
+    return {
+        **statement(i),
+        "stored": moment.strftime("%Y-%m-%dT%H:%M:%S.") + f"{(MOMENT + i) % 1000:03d}Z",
+        "authority": {"objectType": "Agent", "name": "admin", "account": account},
+        "version": "1.0.0",
+    }
+
+
 def document(i):
     text = b'{"page":%d,"notes":"' % i
     return {
@@ -62,12 +84,14 @@ def main():
     words.add_argument("--limit", type=int, default=268_435_456)
     words.add_argument("--table")
     words.add_argument("--documents", type=int, default=0)
+    words.add_argument("--refer", choices=["chain", "circle"])
     words = words.parse_args()
     with open(words.file, "wb") as out:
         out.write(b"\x01LRSJRNL\x01" + struct.pack(">Q", words.limit))
         out.write(frame(entry(MOMENT, "0" * 64, {"found": {"admin": "adminadmin", "base": "http://127.0.0.1:8080/"}})))
         for i in range(words.number):
-            put = {"put": {"id": f"00000000-0000-4000-8000-{i:012x}", "statement": statement(i)}}
+            made = statement(i) if words.refer is None else referring(i, words.number, words.refer)
+            put = {"put": {"id": f"00000000-0000-4000-8000-{i:012x}", "statement": made}}
             out.write(frame(entry(MOMENT + i, f"{i:032x}{i:032x}", put)))
         for i in range(words.documents):
             out.write(frame(entry(MOMENT + words.number + i, f"{i:032x}{i:032x}", {"state": document(i)})))
@@ -75,7 +99,7 @@ def main():
     if words.table is not None:
         with open(words.table, "wb") as out:
             for i in range(words.number):
-                made = statement(i)
+                made = shown(i)
                 verb, agent = made["verb"]["id"], made["actor"]["account"]["name"]
                 row = f"{i}\t{verb}\t{agent}\t{made['context']['registration']}\t"
                 out.write(row.encode() + written(made) + b"\n")

@@ -1,8 +1,10 @@
 #!/usr/bin/env python3
 """Launches a unit for N learners, lets each session say four statements in one batch, and prints how long such a batch
 takes as the store grows, how long a sweep takes, which finds no open session, and how long the store takes to open.
+With `open` no session says that it is terminated, and the sweep abandons them all.
 
-  bench/sessions.py PROGRAM FILE N      PROGRAM is the built program; FILE is made anew; N sessions (10000 at most)
+  bench/sessions.py PROGRAM FILE N [open]      PROGRAM is the built program; FILE is made anew; N sessions (10000 at
+                                               most)
 """
 import atexit
 import http.client
@@ -100,6 +102,7 @@ def launch(client, actor, unit=UNIT):
 
 def main():
     program, store, sessions = sys.argv[1], sys.argv[2], int(sys.argv[3])
+    stay_open = sys.argv[4:] == ["open"]
     if os.path.exists(store):
         os.remove(store)
     made = [program, "init", store, "--admin", "adminadmin", "--limit", "1000000000"]
@@ -114,15 +117,18 @@ def main():
     for learner in range(1, sessions + 1):
         actor = {"account": {"homePage": "https://p.example", "name": f"k{learner}"}}
         _, token, statements = launch(client, actor)
+        said = statements[:3] if stay_open else statements
         start = time.time()
-        client.post("/xapi/statements", statements, token)
+        client.post("/xapi/statements", said, token)
         seconds, batches = seconds + time.time() - start, batches + 1
         if learner % 500 == 0:
-            print(f"  over {5 * learner} statements a session's batch of four takes {1000 * seconds / batches:.1f} ms")
+            held = (1 + len(said)) * learner
+            print(f"  over {held} statements a session's batch of {len(said)} takes {1000 * seconds / batches:.2f} ms")
             seconds, batches = 0.0, 0
     start = time.time()
-    client.post("/desk/sweep", {"idle": 0})
-    print(f"  a sweep over {sessions} sessions that ended takes {1000 * (time.time() - start):.1f} ms")
+    swept = client.post("/desk/sweep", {"idle": 0})
+    took = 1000 * (time.time() - start)
+    print(f"  a sweep over {sessions} sessions, of which it abandons {len(swept['abandoned'])}, takes {took:.1f} ms")
     server.kill()
     server.wait()
     server, opening = serve(program, store)

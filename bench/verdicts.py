@@ -39,20 +39,27 @@ def course():
 
 
 class Times:
-    """How long calls took, by what they do."""
+    """How long calls took, by what they do, and how long the server worked on them, without the disk and the client."""
 
-    def __init__(self):
-        self.seconds = {}
+    def __init__(self, server):
+        self.server, self.seconds, self.worked = server, {}, {}
+
+    def processor(self):
+        with open(f"/proc/{self.server.pid}/schedstat") as told:
+            return int(told.read().split()[0]) / 1e9
 
     def of(self, name, call):
-        start = time.time()
+        start, before = time.time(), self.processor()
         result = call()
         self.seconds.setdefault(name, []).append(time.time() - start)
+        self.worked.setdefault(name, []).append(self.processor() - before)
         return result
 
     def show(self):
         for name, seconds in self.seconds.items():
-            print(f"    {name}: {1000 * statistics.median(seconds):.1f} ms ({1000 * max(seconds):.1f} at most)")
+            worked = 1000 * statistics.median(self.worked[name])
+            took, most = 1000 * statistics.median(seconds), 1000 * max(seconds)
+            print(f"    {name}: {took:.1f} ms ({most:.1f} at most), of the server's processor {worked:.2f} ms")
 
 
 def go_through(client, times, number):
@@ -86,7 +93,7 @@ def measure(program, store, held):
     subprocess.run([maker, store, str(held), "--limit", "1073741824"], check=True)
     server, opening = serve(program, store)
     print(f"  over {held} statements, which are opened in {opening:.1f} s")
-    client, times = Client(), Times()
+    client, times = Client(), Times(server)
     times.of("the course", lambda: client.post("/desk/courses", course()))
     for number in range(LEARNERS):
         go_through(client, times, number)
