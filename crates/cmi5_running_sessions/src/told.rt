@@ -15,7 +15,7 @@ use lrs_json::{Text, Tree};
 use lrs_names::Id;
 use xapi_statement::{Authority, StoredStatement, activity_of, registration_of, verb_of};
 
-/// The session of whose own a statement under that authority is.
+/// The session whose own statement one under that authority is, if it is one's.
 pub(crate) fn session_of(authority: &Authority) -> Option<Id>
     ensures { (id : List ℕ) → is_of_session id authority.now ≡ is_that_id id result }
 {

@@ -7,7 +7,7 @@
 // enrolment. What is told is the phase of the session, by its first letter, with `c` and `p` where the unit was
 // completed and passed in its registration; then `+` or `-` for each node, satisfied or not; then the numbers of those
 // of which that is still to be said. That is told by what is kept. A line also fails if the statements tell something
-// else, of whichever session or registration. A line after `//` is none.
+// else, of whichever session or registration. A line that begins with `//` is a comment.
 use crate::comparing::tell_same;
 use crate::setting::Setting;
 use crate::store::Store;

@@ -118,7 +118,7 @@ module _ (e : SeenEnrolment) (statements : List StoredStatement) (ts : List Tall
   unfolding said_among
   waiver_told place lt = ap (λ (s : Said). s.waived) (said_told place lt)
 
--- ---- new statements of which none voids another
+-- ---- new statements of which none is a voiding statement
 
 none_targets : (id : List ℕ) (new : List StoredStatement) → any_voids new ≡ false → list_any (voids id) new ≡ false
 none_targets id [] none = refl

@@ -1,4 +1,4 @@
--- What the tallies of a course's nodes tell of them, and whether one of some statements voids another.
+-- What the tallies of a course's nodes tell of them, and whether one of some statements is a voiding statement.
 use Rattle.std.specs.Prelude.{ℕ, ◌==◌, Bool, List, nat_lt}
 use Rattle.std.specs.List.{list_any}
 use Rattle.cmi5_running_verdicts.specs.Changes.{tally_of}

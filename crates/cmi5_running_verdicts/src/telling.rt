@@ -64,7 +64,7 @@ fn said_of_each(alloc: Global, tallies: &[Tally]) -> Result<Vec<Said>, Memory>
 
 // ---- what is owed
 
-/// Whether one of these voids another. What is said before it counts no more from then on.
+/// Whether one of these is a voiding statement: then what was counted may count no more.
 pub(crate) fn any_voids(statements: &[StoredStatement]) -> bool
     ensures { result ≡ any_voids statements.now }
 {
@@ -77,7 +77,7 @@ pub(crate) fn any_voids(statements: &[StoredStatement]) -> bool
 }
 
 /// The numbers of the nodes that are satisfied and of which this was never said, by the tallies of the statements that
-/// are held, and by the new ones, of which none voids another.
+/// are held, and by the new ones, of which none is a voiding statement.
 pub(crate) fn owed_by_tallies(
     alloc: Global,
     tallies: &[Tally],

@@ -207,7 +207,7 @@ fn follow(
     }
 }
 
-// It comes, voided or not.
+// A statement comes, voided or not.
 fn take_in(
     progress: &mut Progress,
     founding: &Option<Founding>,
@@ -226,7 +226,7 @@ fn take_in(
     count(&mut progress.running, founding, learning, statement, voided);
 }
 
-// It is counted for the registration that it names.
+// A statement is counted for the registration that it names.
 fn count(
     running: &mut Running,
     founding: &Option<Founding>,
@@ -265,7 +265,8 @@ fn count_in(
 
 // ---- a statement is voided
 
-// The one that the statement at a position voids, if none before does, stands no more.
+// The statement that the one at a position voids stands no more. If one before voids it already, its counts were taken
+// back then.
 fn void_by(
     progress: &mut Progress,
     founding: &Option<Founding>,
@@ -288,7 +289,7 @@ fn void_by(
     }
 }
 
-// The position of that one.
+// The position of the statement that the one at a position is the first to void.
 fn voided_anew(statements: &Index, at: usize) -> Option<usize>
     requires { at + 1 < 2 ^ 64 }
     ensures { result ≡ voided_anew statements.now.held at }
@@ -350,7 +351,7 @@ fn void(
     discount(&mut progress.running, founding, learning, statement);
 }
 
-// It isn't counted any more.
+// A voided statement isn't counted any more.
 fn discount(
     running: &mut Running,
     founding: &Option<Founding>,

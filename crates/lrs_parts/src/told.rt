@@ -1,4 +1,4 @@
-// What is told of sessions and of registrations, without going through the statements.
+// What is told of sessions and of registrations. Of what is held it is told without going through the statements.
 ghost use Rattle.std.specs.Prelude.{◌≡◌, ◌==◌, ◌<◌, ◌++◌, IfOk, Some, length};
 ghost use Rattle.cmi5_launch.specs.Names.{terminated, waived};
 ghost use Rattle.cmi5_running_verdicts.specs.Running.{Stands};
@@ -76,7 +76,7 @@ impl Parts {
     {
         match number_held(&self.learning.registrations, registration) {
             Some(number) => self.progress.running.verdicts(alloc, number),
-            None => self.verdicts_of_all(alloc, enrolment),
+            None => self.verdicts_by_fold(alloc, enrolment),
         }
     }
 
@@ -95,7 +95,7 @@ impl Parts {
     {
         match number_held(&self.learning.registrations, registration) {
             Some(number) => self.progress.running.is_waived(number, place),
-            None => self.waived_by_all(enrolment, place),
+            None => self.waived_by_fold(enrolment, place),
         }
     }
 
@@ -114,14 +114,14 @@ impl Parts {
             places.items ≡ owed (seen enrolment.now) (self.now.statements.held ++ new.now)) }
     {
         match number_held(&self.learning.registrations, registration) {
-            Some(number) => self.owed_by_count(alloc, number, enrolment, new),
-            None => self.owed_of_all(alloc, enrolment, new),
+            Some(number) => self.owed_by_tallies(alloc, number, enrolment, new),
+            None => self.owed_by_fold(alloc, enrolment, new),
         }
     }
 
     // ---- of one that is held
 
-    fn owed_by_count(
+    fn owed_by_tallies(
         &self,
         alloc: Global,
         number: u32,
@@ -138,22 +138,26 @@ impl Parts {
             .owed(alloc, number, &statements, enrolment)
     }
 
-    // ---- of one that is yet to be held: all statements are gone through
+    // ---- of one that is yet to be held: the statements of the registration are gone through
 
-    fn verdicts_of_all(&self, alloc: Global, enrolment: &Enrolment<'_>) -> Result<Vec<bool>, Memory>
+    fn verdicts_by_fold(
+        &self,
+        alloc: Global,
+        enrolment: &Enrolment<'_>,
+    ) -> Result<Vec<bool>, Memory>
         ensures { IfOk result (λ told. told.items ≡ verdicts (seen enrolment.now) self.now.statements.held) }
     {
         verdicts(alloc, &self.held_alone(), enrolment)
     }
 
-    fn waived_by_all(&self, enrolment: &Enrolment<'_>, place: u32) -> bool
+    fn waived_by_fold(&self, enrolment: &Enrolment<'_>, place: u32) -> bool
         ensures { result ≡ stands self.now.statements.held enrolment.now.registration.now
             (activity_at (seen enrolment.now) place) waived }
     {
         waived(&self.held_alone(), enrolment, place)
     }
 
-    fn owed_of_all(
+    fn owed_by_fold(
         &self,
         alloc: Global,
         enrolment: &Enrolment<'_>,

@@ -7,8 +7,8 @@ use Rattle.lrs_parts.proofs.Enrolling.{held_stands}
 use Rattle.cmi5_running_verdicts.specs.Running.{Stands}
 use Rattle.lrs_parts.proofs.parts.Parts.owed.Goals as goal
 
-pub owed_by_count-requires : goal.owed_by_count-requires
-owed_by_count-requires c =
+pub owed_by_tallies-requires : goal.owed_by_tallies-requires
+owed_by_tallies-requires c =
     let old = c.self.inside in
     let e = seen c.args.enrolment.now in
     let r = c.args.registration.now in

@@ -4,7 +4,7 @@ use Rattle.cmi5_session.specs.Marked.{marked}
 use Rattle.cmi5_verdict.specs.Nodes.{owed, seen}
 use Rattle.lrs_parts.specs.Parts.{SeenParts}
 use Rattle.xapi_statement.specs.Stored.{StoredStatement}
-use Rattle.lrs_parts.proofs.parts.Parts.owed_by_count.Goals as goal
+use Rattle.lrs_parts.proofs.parts.Parts.owed_by_tallies.Goals as goal
 
 pub returns : goal.returns
 returns c =

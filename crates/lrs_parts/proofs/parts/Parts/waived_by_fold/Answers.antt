@@ -3,7 +3,7 @@ use Rattle.cmi5_launch.specs.Names.{waived}
 use Rattle.cmi5_verdict.specs.Nodes.{activity_at, seen}
 use Rattle.cmi5_verdict.specs.Units.{stands}
 use Rattle.xapi_statement.specs.Stored.{StoredStatement}
-use Rattle.lrs_parts.proofs.parts.Parts.waived_by_all.Goals as goal
+use Rattle.lrs_parts.proofs.parts.Parts.waived_by_fold.Goals as goal
 
 pub returns : goal.returns
 returns c =

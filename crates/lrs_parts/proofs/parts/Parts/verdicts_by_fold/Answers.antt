@@ -1,7 +1,7 @@
 use Rattle.std.proofs.Common.{◌≡◌, IfOk, List, subst}
 use Rattle.cmi5_verdict.specs.Nodes.{seen, verdicts}
 use Rattle.xapi_statement.specs.Stored.{StoredStatement}
-use Rattle.lrs_parts.proofs.parts.Parts.verdicts_of_all.Goals as goal
+use Rattle.lrs_parts.proofs.parts.Parts.verdicts_by_fold.Goals as goal
 
 pub returns : goal.returns
 returns c =
