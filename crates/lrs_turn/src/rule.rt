@@ -1,0 +1,88 @@
+// The rule of the table, and what each step tells.
+ghost use Rattle.std.specs.Prelude.{List, []};
+ghost use Rattle.lrs_turn.specs.Rule.{meaning, Kept, starter, less, another, both, spent};
+ghost use Rattle.lrs_turn.specs.Rule.{Takes, Rests, Fetches, Points, Commits, Gives};
+
+use crate::journaled::Journaled;
+use crate::view::{Opening, View};
+use atomic_table::{Join, Play, Split, TableRule};
+use std::marker::{Brand, PhantomData};
+
+pub struct Keeps;
+
+impl<S: Journaled> TableRule<Option<S>, View<S::Record>, Opening<S>> for Keeps {
+    ghost holds = { λ o s. Kept (meaning S.line S.marks S.tide) o.passes s };
+
+    ghost first = { λ o. starter (S.line o.state.value) (S.marks o.state.value) (S.tide o.state.value) o.passes };
+}
+
+// Takes the slot, if the turn was free.
+pub struct Take;
+
+impl<S: Journaled> Play<Option<S>, View<S::Record>> for Take {
+    ghost then = { λ s v n w. Takes (meaning S.line S.marks S.tide) v n w };
+}
+
+// Puts the slot back, empty.
+pub struct Rest;
+
+impl<S: Journaled> Play<Option<S>, View<S::Record>> for Rest {
+    ghost then = { λ s v n w. Rests v w };
+}
+
+// Takes the empty slot again.
+pub struct Fetch;
+
+impl<S: Journaled> Play<Option<S>, View<S::Record>> for Fetch {
+    ghost then = { λ s v n w. Fetches v w };
+}
+
+// Puts the slot back with the state in it, and frees the turn.
+pub struct Give;
+
+impl<S: Journaled> Play<Option<S>, View<S::Record>> for Give {
+    ghost then = { λ s v n w. Gives (meaning S.line S.marks S.tide) v w };
+}
+
+// Sees the list as it is.
+pub struct Point;
+
+impl<S: Journaled> Play<Option<S>, View<S::Record>> for Point {
+    ghost then = { λ s v n w. Points v w };
+}
+
+/// The list behind a commit, for the proof alone: a step can't be told of it.
+pub trait Said<T> {
+    ghost list: { List T };
+}
+
+impl<T> Said<T> for Brand {
+    ghost list = { [] };
+}
+
+// Adds one record.
+pub struct Commit<W> {
+    marker: PhantomData<W>,
+}
+
+impl<S: Journaled, W: Said<S::Record>> Play<Option<S>, View<S::Record>> for Commit<W> {
+    ghost then = { λ s v n w. Commits W.list v w };
+}
+
+// A further pass.
+pub struct Deal;
+
+impl<T: Drop> Split<View<T>> for Deal {
+    ghost left = { less };
+
+    ghost right = { another };
+}
+
+// One seat for the passes of two.
+pub struct Merge;
+
+impl<T: Drop> Join<View<T>> for Merge {
+    ghost both = { both };
+
+    ghost spent = { spent };
+}

@@ -1,0 +1,5 @@
+//! The tests of lrs_turn.
+#![tactic(auto)]
+
+#[cfg(test)]
+mod tests;
