@@ -49,3 +49,7 @@ block_passed bytes at n before long tested is holds =
     let all : list_all is_plain (take n (drop at bytes)) ≡ true = subst (λ m. list_all is_plain (take m (drop at bytes)) ≡ true) wide (sym is ∙ holds) in
     let more = passed_by n (drop at bytes) fits all in
     rw (before, more, drop-drop n at bytes) (omega arith)
+
+-- the run at the front, and what is behind it
+pub run_behind : (text run rest : List ℕ) (n : ℕ) → n ≡ prefix_len is_plain text → run ≡ take n text → rest ≡ drop n text → run ++ flat_map escaped rest ≡ flat_map escaped text
+run_behind text run rest n is is_run is_rest = rw (is_run, is_rest, is) (sym (splits text))

@@ -4,3 +4,5 @@ pub mod Escaping
 pub mod Views
 pub mod Back
 pub mod Sets
+pub mod Behind
+pub mod Steps

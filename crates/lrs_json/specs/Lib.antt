@@ -8,3 +8,5 @@ pub mod Find
 pub mod Names
 pub mod Depth
 pub mod Fits
+pub mod Spellable
+pub mod Behind

@@ -160,31 +160,41 @@ fn put_run<'a>(bytes: &'a [u8], into: &mut Vec<u8>) -> Result<&'a [u8], Memory>
     }
 }
 
-#[tactic(auto, unfolding(crate::specs::Written::escaped))]
 fn put_byte(byte: u8, into: &mut Vec<u8>) -> Result<(), Memory>
     ensures ok { OnOk result (into.new.items ≡ into.old.items ++ escaped byte) }
     ensures kept { Extends into.old.items into.new.items }
 {
+    put(written_byte(byte, &mut [0; 6]), into)
+}
+
+/// The byte as it stands in a written string. The buffer is room for it.
+#[tactic(auto, unfolding(crate::specs::Written::escaped))]
+pub(crate) fn written_byte<'a>(byte: u8, buffer: &'a mut [u8; 6]) -> &'a [u8]
+    ensures { result.now ≡ escaped byte }
+{
     match byte {
-        b'"' => put(b"\\\"", into),
-        b'\\' => put(b"\\\\", into),
-        8 => put(b"\\b", into),
-        b'\t' => put(b"\\t", into),
-        b'\n' => put(b"\\n", into),
-        12 => put(b"\\f", into),
-        b'\r' => put(b"\\r", into),
-        0..32 => put(
-            &[
+        b'"' => b"\\\"",
+        b'\\' => b"\\\\",
+        8 => b"\\b",
+        b'\t' => b"\\t",
+        b'\n' => b"\\n",
+        12 => b"\\f",
+        b'\r' => b"\\r",
+        0..32 => {
+            *buffer = [
                 b'\\',
                 b'u',
                 b'0',
                 b'0',
                 hex_digit(byte / 16),
                 hex_digit(byte % 16),
-            ],
-            into,
-        ),
-        _ => put(&[byte], into),
+            ];
+            buffer
+        }
+        _ => {
+            *buffer = [byte; 6];
+            &buffer[..1]
+        }
     }
 }
 

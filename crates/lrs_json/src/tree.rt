@@ -2,7 +2,7 @@ ghost use Rattle.std.specs.Prelude.{◌≡◌, map, option_map};
 ghost use Rattle.lrs_json.specs.View.{view, member_view, members_of};
 ghost use Rattle.lrs_json.specs.Find.{find, find_member};
 
-use crate::{Items, Text};
+use crate::{Items, Number, Text};
 
 /// A JSON value (RFC 8259, section 3). A number keeps its spelling, an object its members in their order.
 #[cycle(tree)]
@@ -10,7 +10,7 @@ use crate::{Items, Text};
 pub enum Tree {
     Null,
     Bool(bool),
-    Number(Text),
+    Number(Number),
     Words(Text),
     List(Items<Tree>),
     Object(Items<Member>),

@@ -12,7 +12,7 @@ ghost use Rattle.lrs_json_equal.specs.SameValue.{same, same_elements, same_membe
 
 use crate::partners::Partners;
 use lrs_decimal::Decimal;
-use lrs_json::{Member, Text, Tree, find_member};
+use lrs_json::{Member, Number, Tree, find_member};
 
 // Fewer members are looked for one by one.
 const FEW: usize = 32;
@@ -50,7 +50,7 @@ fn is_same_value(a: &Tree, b: &Tree) -> bool
     }
 }
 
-fn is_same_number(a: &Text, b: &Text) -> bool
+fn is_same_number(a: &Number, b: &Number) -> bool
     requires a_fits { IsNumber a.now × IsTrue (is_in_range a.now) }
     requires b_fits { IsNumber b.now × IsTrue (is_in_range b.now) }
     ensures { result ≡ is_eq (order a.now b.now) }

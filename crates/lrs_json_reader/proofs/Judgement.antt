@@ -1,13 +1,11 @@
 -- The reader's answer, by what was read.
-use Rattle.std.proofs.Common.{◌≡◌, ◌≤◌, ◌↔◌, ◌-◌, ◌+◌, ℕ, suc, Bool, arith, max, List, [], ◌∷◌, length, Option, Some, None, true, false, Result, Ok, Err, IfOk, inl, refl, sym, ap, ◌∙◌, subst, true≢false, IsTrue}
+use Rattle.std.proofs.Common.{◌≡◌, ◌≤◌, ◌↔◌, ◌-◌, ℕ, max, List, [], ◌∷◌, length, Option, Some, None, true, false, Result, Ok, Err, IfOk, inl, refl, sym, ap, ◌∙◌, subst, true≢false, IsTrue}
 use Rattle.lrs_json.specs.Json.{Json}
 use Rattle.lrs_json.specs.View.{view}
 use Rattle.lrs_json_reader.specs.Placed.{Placed, plain}
 use Rattle.lrs_json_reader.specs.Flaws.{earlier, earliest, repeated_names, out_of_range_numbers}
 use Rattle.lrs_json_reader.specs.Grammar.{IsText}
 use Rattle.lrs_json.specs.Depth.{depth}
-use Rattle.lrs_json_reader.specs.Brackets.{reaches}
-use Rattle.lrs_json_reader.specs.declared.depth.Mode.TheVariants.{Outside}
 use Rattle.lrs_json_reader.specs.Refusals.{is_too_deep, Spells, IsBad, RepeatedAt, OutOfRangeAt, Gives, Refuses}
 use Rattle.lrs_json_reader.specs.Reading.{IsRead, Judged, Judges}
 use Rattle.lrs_json_reader.specs.declared.reading.ReadRefused.{ReadRefused}
@@ -67,10 +65,6 @@ no_text limit bytes f none =
       found = tt;
       all = λ j s. absurd (none s.placed s.spelled);
     }
-
--- what the scan told
-pub scan_told : (depth : ℕ) (bytes : List ℕ) (seen told : Bool) → seen ≡ reaches (depth + 1) 0 Outside bytes → seen ≡ told → is_too_deep depth bytes ≡ told
-scan_told depth bytes seen told e t = let one : suc depth ≡ depth + 1 = omega arith in ap (λ n. reaches n 0 Outside bytes) one ∙ sym e ∙ t
 
 -- ---- a text was read
 
@@ -171,3 +165,9 @@ given_readable limit bytes (Err e) s = tt
 pub given_again : (limit : ℕ) (bytes : List ℕ) (r : Answer) → ((j : Json) → Spells limit bytes j → Gives r (λ t. view t ≡ j)) → (t : Tree) → IsReadable limit (view t) → bytes ≡ written (view t) → Gives r (λ u. u ≡ t)
 given_again limit bytes r all t readable e =
     MatchResult-weaker r (all (view t) (subst (λ z. Spells limit z (view t)) (sym e) (written-Spells limit (view t) readable))) (λ u s. same_tree u t s) (λ y m. m)
+
+-- the written form of a value that can be read nests no deeper than it
+pub written-shallow : (limit : ℕ) (j : Json) → IsReadable limit j → is_too_deep limit (written j) ≡ false
+written-shallow limit j readable =
+    let s = written-Spells limit j readable in
+    shallow-scan limit (written j) s.placed s.spelled (subst (λ z. depth z ≤ limit) (sym s.is) s.shallow)

@@ -7,6 +7,7 @@ pub mod FirstBytes
 pub mod Readings
 pub mod Ends
 pub mod Noting
+pub mod Fitted
 pub mod Lists
 pub mod Objects
 pub mod Names
@@ -15,3 +16,4 @@ pub mod Whole
 pub mod Escapes
 pub mod WrittenLemmas
 pub mod Judgement
+pub mod Rereads

@@ -1,7 +1,7 @@
 -- The steps of the loop over the members of an object, and of one member.
-use Rattle.std.proofs.Common.{◌≡◌, ℕ, ◌<◌, List, [], ◌∷◌, ◌++◌, Bool, true, false, length, drop, map, Ok, Err, refl, sym, ap, ◌∙◌, subst, true≢false, arith}
-use Rattle.std.proofs.lemmas.List.{map-append}
-use Rattle.lrs_decimal.proofs.Runs.{behind}
+use Rattle.std.proofs.Common.{◌≡◌, ℕ, ◌≤◌, ◌<◌, List, [], ◌∷◌, ◌++◌, append_assoc, length-append, Bool, true, false, length, take, drop, map, Ok, Err, refl, sym, ap, ◌∙◌, subst, true≢false, arith}
+use Rattle.std.proofs.lemmas.List.{append-nil, map-append}
+use Rattle.lrs_decimal.proofs.Runs.{behind, drop_front, take_front}
 use Rattle.lrs_json.specs.Json as Json
 use Rattle.lrs_json.specs.View.{view, member_view, members_of}
 use Rattle.lrs_json_reader.specs.Placed.{Placed, object, plain, plain_members, Members, no_members, member}
@@ -86,6 +86,28 @@ object_next ts new lefts afters left t start here mid next is places_are left_is
           (i.1, m.1 ∙ ap (before_members so.ms) (i.3 ∙ ap (λ z. member z.left z.name z.value i.1) r.0) ∙ sym (members-push so.ms x i.1), subst (λ z. Paired z i.1 next.cursor rest) (sym later) tail);
       shorter = omega (arith, found.shorter, go.no_longer, so.shorter);
     }
+
+-- The same, where the places stand on a stack, above those that were on it.
+pub record ObjectHere (ts : List Member) (below stack : List ℕ) (start here : Reader) : Type 0 where
+  pub own : List ℕ
+  pub on : stack ≡ below ++ own
+  pub so_far : ObjectSoFar ts own start here
+
+pub object_begun : (below : List ℕ) (start here : Reader) (rest : List ℕ) → start.cursor ≡ 123 ∷ rest → here.cursor ≡ drop 1 start.cursor → here.places ≡ start.places → ObjectHere [] below below start here
+object_begun below start here rest e d notes = record { own = []; on = sym (append-nil below); so_far = object_start start here rest e d notes }
+
+pub object_more : (ts new : List Member) (below stack pushed kept : List ℕ) (left : ℕ) (t : Member) (start here mid next : Reader) → new ≡ ts ++ t ∷ [] → pushed ≡ stack ++ left ∷ [] → kept ≡ pushed → left ≡ length mid.cursor
+    → mid.places ≡ here.places → ObjectHere ts below stack start here → StepsToNext (has_some ts) 125 here.cursor (Ok true) mid.cursor → ReadsMember mid (Ok t) next → ObjectHere new below kept start next
+object_more ts new below stack pushed kept left t start here mid next is on same left_is places so go found =
+    record {
+      own = so.own ++ left ∷ [];
+      on = same ∙ on ∙ ap (λ z. z ++ left ∷ []) so.on ∙ append_assoc below so.own (left ∷ []);
+      so_far = object_next ts new so.own (so.own ++ left ∷ []) left t start here mid next is refl left_is places so.so_far go found;
+    }
+
+-- the places of its own, and those that were there before
+pub stack_parts : (below stack own : List ℕ) (base : ℕ) → stack ≡ below ++ own → base ≡ length below → (base ≤ length stack) × (drop base stack ≡ own) × (take base stack ≡ below)
+stack_parts below stack own base on at = (omega (arith, at, ap length on, length-append below own), rw (on, at) (drop_front below own), rw (on, at) (take_front below own))
 
 object_at : (x : Placed) (start rest0 rest : List ℕ) → start ≡ 123 ∷ rest0 → Value x start rest → (all : Members) × (x ≡ object all) × Value (object all) start rest
 object_at x start rest0 rest e v =

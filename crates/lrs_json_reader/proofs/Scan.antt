@@ -1,5 +1,5 @@
 -- On a spelled text the scan reaches the limit exactly where the value nests so deep.
-use Rattle.std.proofs.Common.{◌≡◌, ◌≢◌, ◌≤◌, ◌<◌, ℕ, suc, ◌+◌, ◌-◌, ◌==◌, ◌||◌, max, nat_le, codes, nat_lt, ◌*◌, if◌then◌else◌, Option, Some, None, List, [], ◌∷◌, ◌++◌, Bool, true, false, refl, sym, ap, ◌∙◌, IsTrue, not, ◌&&◌, arith}
+use Rattle.std.proofs.Common.{◌≡◌, ◌≢◌, ◌≤◌, ◌<◌, ℕ, suc, drop, cond, ◌+◌, ◌-◌, ◌==◌, ◌||◌, max, nat_le, codes, nat_lt, ◌*◌, if◌then◌else◌, Option, Some, None, List, [], ◌∷◌, ◌++◌, Bool, true, false, refl, sym, ap, ◌∙◌, IsTrue, not, ◌&&◌, arith}
 use Rattle.std.proofs.lemmas.Option.{option_and_then_some}
 use Rattle.std.proofs.lemmas.Grind.{common_steps}
 use Rattle.lrs_decimal.specs.Numbers.{Each, is_digit}
@@ -11,8 +11,11 @@ use Rattle.lrs_json_reader.specs.Strings.{piece_at, next_at, digit_at, unit_at, 
 use Rattle.lrs_json_reader.specs.declared.strings.Piece.{Piece}
 use Rattle.lrs_json_reader.specs.declared.strings.Piece.TheVariants.{Byte, Char}
 use Rattle.lrs_json_reader.specs.Refusals.{is_too_deep}
+use Rattle.std.specs.List.{prefix_len}
+use Rattle.lrs_json.specs.Written.{is_plain}
 use Rattle.lrs_json.specs.Depth.{depth, depth_of_elements, depth_of_members}
 use Rattle.lrs_json_reader.specs.Brackets.{opens, closes, reaches}
+use Rattle.lrs_json_reader.specs.declared.depth.Mode.{Mode}
 use Rattle.lrs_json_reader.specs.declared.depth.Mode.TheVariants.{Outside, Inside, Escaped}
 
 -- a byte that the scan passes over outside strings
@@ -53,6 +56,23 @@ no_mark limit d b bs l q k =
     let n : (b == 34) ≡ false = grind (arith, common_steps) in
     let m : (b == 92) ≡ false = grind (arith, common_steps) in
     rw (n, m, other d limit l) refl
+
+plain_inside_at : (limit d b : ℕ) (bs : List ℕ) (plain : Bool) → is_plain b ≡ plain → d < limit → reaches limit d Inside (drop (prefix_len is_plain bs) bs) ≡ reaches limit d Inside bs
+    → reaches limit d Inside (drop (cond plain (1 + prefix_len is_plain bs) 0) (b ∷ bs)) ≡ reaches limit d Inside (b ∷ bs)
+plain_inside_at limit d b bs true p l rest =
+    let one : 1 + prefix_len is_plain bs ≡ suc (prefix_len is_plain bs) = omega arith in
+    let q : b ≢ 34 = grind (arith, common_steps) in
+    let k : b ≢ 92 = grind (arith, common_steps) in
+    rw one (rest ∙ sym (no_mark limit d b bs l q k))
+plain_inside_at limit d b bs false p l rest = refl
+
+plain_inside : (limit d : ℕ) (bs : List ℕ) → d < limit → reaches limit d Inside (drop (prefix_len is_plain bs) bs) ≡ reaches limit d Inside bs
+plain_inside limit d [] l = refl
+plain_inside limit d (b ∷ bs) l = plain_inside_at limit d b bs (is_plain b) refl l (plain_inside limit d bs l)
+
+-- bytes that stand for themselves are passed over
+pub plain_passed : (mode : Mode) (bytes left : List ℕ) (n : ℕ) → mode ≡ Inside → n ≡ prefix_len is_plain bytes → left ≡ drop n bytes → (limit d : ℕ) → d < limit → reaches limit d mode left ≡ reaches limit d mode bytes
+plain_passed mode bytes left n inside is passed limit d l = rw (inside, passed, is) (plain_inside limit d bytes l)
 
 pub next_is : (bytes : List ℕ) (b : ℕ) (a : List ℕ) → next_at bytes ≡ Some (b, a) → bytes ≡ b ∷ a
 unfolding next_at
@@ -264,3 +284,7 @@ shallow-scan limit bytes p s l = reaches-IsText (suc limit) bytes p (omega arith
 
 pub scan-shallow : (limit : ℕ) (bytes : List ℕ) (p : Placed) → IsText p bytes → is_too_deep limit bytes ≡ false → depth (plain p) ≤ limit
 scan-shallow limit bytes p s e = let l = lt_of (suc limit) (depth (plain p)) (sym (reaches-IsText (suc limit) bytes p (omega arith) s) ∙ e) in omega (arith, l)
+
+-- what the scan told
+pub scan_told : (limit : ℕ) (bytes : List ℕ) (seen : Bool) → seen ≡ reaches (limit + 1) 0 Outside bytes → seen ≡ is_too_deep limit bytes
+scan_told limit bytes seen told = let one : limit + 1 ≡ suc limit = omega arith in told ∙ ap (λ n. reaches n 0 Outside bytes) one

@@ -19,7 +19,7 @@ Opens-Stops : (close : ℕ) (b : List ℕ) → Opens close b → Stops is_space 
 Opens-Stops close [] o = tt
 Opens-Stops close (x ∷ b) o = o.0
 
-not_close : (close : ℕ) (b rest : List ℕ) → Opens close b → b ≡ close ∷ rest → ⊥
+pub not_close : (close : ℕ) (b rest : List ℕ) → Opens close b → b ≡ close ∷ rest → ⊥
 not_close close [] rest o e = o
 not_close close (x ∷ b) rest o e = o.1 (cc e)
 

@@ -13,6 +13,7 @@ use Rattle.lrs_json_reader.specs.Flaws.{repeated_names, repeated_in_elements, re
 use Rattle.lrs_json_reader.specs.Grammar.{Spaces, Comma, Chars, Quoted, Value, Listed, Paired, IsText}
 use Rattle.lrs_json.specs.Written.{escaped, quoted, comma_if, written, elements_text, members_text}
 use Rattle.lrs_json.specs.Fits.{Fits, FitElements, FitMembers, IsReadable}
+use Rattle.lrs_json.specs.Spellable.{IsSpellable, AreSpellableElements, AreSpellableMembers}
 use Rattle.lrs_json_reader.specs.Refusals.{Spells}
 use Rattle.lrs_json_reader.proofs.Escapes.{piece_of, piece_again, text_again}
 
@@ -84,7 +85,7 @@ pieces_Chars (b ∷ s) rest =
     let a = flat_map escaped s ++ 34 ∷ rest in
     (a, rw (append_assoc (escaped b) (flat_map escaped s) (34 ∷ rest)) (piece_again b a), pieces_Chars s rest)
 
-quoted-Quoted : (s rest : List ℕ) → IsUtf8 s → Quoted s (quoted s ++ rest) rest
+pub quoted-Quoted : (s rest : List ℕ) → IsUtf8 s → Quoted s (quoted s ++ rest) rest
 quoted-Quoted s rest u =
     (pieces_of s, flat_map escaped s ++ 34 ∷ rest, rw (append_assoc (flat_map escaped s) (34 ∷ []) rest) refl, pieces_Chars s rest, pieces_text s, u)
 
@@ -98,7 +99,7 @@ comma_written false bs = refl
 -- ---- the value in its written form, with what follows it
 
 abbrev mutual
-  place : Json → List ℕ → Placed.Placed
+  pub place : Json → List ℕ → Placed.Placed
   place null rest = Placed.null
   place (boolean b) rest = Placed.boolean b
   place (number s) rest = Placed.number (length (s ++ rest)) s
@@ -117,7 +118,7 @@ abbrev mutual
       Placed.member (length (quoted k ++ 58 ∷ (written j ++ e))) k (place j e) (place_members ms rest)
 
 mutual
-  plain-place : (j : Json) (rest : List ℕ) → plain (place j rest) ≡ j
+  pub plain-place : (j : Json) (rest : List ℕ) → plain (place j rest) ≡ j
   plain-place null rest = refl
   plain-place (boolean b) rest = refl
   plain-place (number s) rest = refl
@@ -133,17 +134,35 @@ mutual
   plain-place_members no_members rest = refl
   plain-place_members (member k j ms) rest = cc (plain-place j (members_text true ms ++ rest), plain-place_members ms rest)
 
+-- what can be read can be spelled
 mutual
-  written-Value : (j : Json) (rest : List ℕ) → Fits j → Value (place j rest) (written j ++ rest) rest
+  Fits-IsSpellable : (j : Json) → Fits j → IsSpellable j
+  Fits-IsSpellable null f = tt
+  Fits-IsSpellable (boolean b) f = tt
+  Fits-IsSpellable (number s) f = f.0
+  Fits-IsSpellable (string s) f = f
+  Fits-IsSpellable (array js) f = elements-spellable js f
+  Fits-IsSpellable (object ms) f = members-spellable ms [] f
+
+  elements-spellable : (js : Elements) → FitElements js → AreSpellableElements js
+  elements-spellable no_elements f = tt
+  elements-spellable (element j js) f = (Fits-IsSpellable j f.0, elements-spellable js f.1)
+
+  members-spellable : (ms : Members) (names : List (List ℕ)) → FitMembers names ms → AreSpellableMembers ms
+  members-spellable no_members names f = tt
+  members-spellable (member k j ms) names f = (f.0, Fits-IsSpellable j f.2, members-spellable ms (k ∷ names) f.3)
+
+mutual
+  pub written-Value : (j : Json) (rest : List ℕ) → IsSpellable j → Value (place j rest) (written j ++ rest) rest
   written-Value null rest f = refl
   written-Value (boolean true) rest f = refl
   written-Value (boolean false) rest f = refl
-  written-Value (number s) rest f = (refl, f.0, refl)
+  written-Value (number s) rest f = (refl, f, refl)
   written-Value (string s) rest f = quoted-Quoted s rest f
   written-Value (array js) rest f = (elements_text false js ++ rest, refl, text-Listed js false rest f)
-  written-Value (object ms) rest f = (members_text false ms ++ rest, refl, text-Paired ms [] false rest f)
+  written-Value (object ms) rest f = (members_text false ms ++ rest, refl, text-Paired ms false rest f)
 
-  text-Listed : (js : Elements) (later : Bool) (rest : List ℕ) → FitElements js → Listed later (place_elements js rest) (elements_text later js ++ rest) rest
+  text-Listed : (js : Elements) (later : Bool) (rest : List ℕ) → AreSpellableElements js → Listed later (place_elements js rest) (elements_text later js ++ rest) rest
   text-Listed no_elements later rest f = no_spaces (93 ∷ rest)
   text-Listed (element j js) later rest f =
       let c = elements_text true js ++ rest in
@@ -151,9 +170,9 @@ mutual
       let whole : (comma_if later ++ written j ++ elements_text true js) ++ rest ≡ comma_if later ++ a = simp append_assoc in
       (a, a, c, subst (λ z. Comma later z a) (sym whole) (comma_written later a), no_spaces a, written-Value j c f.0, text-Listed js true rest f.1)
 
-  text-Paired : (ms : Members) (names : List (List ℕ)) (later : Bool) (rest : List ℕ) → FitMembers names ms → Paired later (place_members ms rest) (members_text later ms ++ rest) rest
-  text-Paired no_members names later rest f = no_spaces (125 ∷ rest)
-  text-Paired (member k j ms) names later rest f =
+  text-Paired : (ms : Members) (later : Bool) (rest : List ℕ) → AreSpellableMembers ms → Paired later (place_members ms rest) (members_text later ms ++ rest) rest
+  text-Paired no_members later rest f = no_spaces (125 ∷ rest)
+  text-Paired (member k j ms) later rest f =
       let e = members_text true ms ++ rest in
       let d = written j ++ e in
       let a = quoted k ++ 58 ∷ d in
@@ -169,8 +188,8 @@ mutual
         quoted-Quoted k (58 ∷ d) f.0,
         no_spaces (58 ∷ d),
         no_spaces d,
-        written-Value j e f.2,
-        text-Paired ms (k ∷ names) true rest f.3,
+        written-Value j e f.1,
+        text-Paired ms true rest f.2,
         refl,
       )
 
@@ -209,7 +228,7 @@ mutual
   members-in_range (member k j ms) names rest f = rw (place-in_range j (members_text true ms ++ rest) f.2, members-in_range ms (k ∷ names) rest f.3) refl
 
 written-IsText : (j : Json) → Fits j → IsText (place j []) (written j)
-written-IsText j f = (written j, [], no_spaces (written j), subst (λ z. Value (place j []) z []) (append-nil (written j)) (written-Value j [] f), no_spaces [])
+written-IsText j f = (written j, [], no_spaces (written j), subst (λ z. Value (place j []) z []) (append-nil (written j)) (written-Value j [] (Fits-IsSpellable j f)), no_spaces [])
 
 -- the written form of a value that can be read spells it
 pub written-Spells : (limit : ℕ) (j : Json) → IsReadable limit j → Spells limit (written j) j

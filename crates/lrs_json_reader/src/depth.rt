@@ -1,6 +1,9 @@
-ghost use Rattle.std.specs.Prelude.{◌≡◌, ◌<◌, ◌^◌};
+ghost use Rattle.std.specs.Prelude.{◌≡◌, ◌≤◌, ◌<◌, ◌^◌, ℕ, length};
 ghost use Rattle.lrs_json_reader.specs.Brackets.{depth_after, mode_after, reaches};
+ghost use Rattle.lrs_json_reader.specs.Refusals.{is_too_deep};
 ghost use Rattle.lrs_json_reader.specs.declared.depth.Mode.TheVariants.{Outside};
+
+use lrs_json::appending::plain_len;
 
 /// Where a scan of the bytes stands.
 #[derive(Clone, Copy, Debug, PartialEq)]
@@ -36,22 +39,44 @@ impl Mode {
             (Mode::Inside | Mode::Escaped, _) => Mode::Inside,
         }
     }
+
+    // In a string the bytes that stand for themselves change nothing.
+    fn after_plain(self, bytes: &[u8]) -> &[u8]
+        ensures same { (limit depth : ℕ) → depth < limit →
+            reaches limit depth self result.now ≡ reaches limit depth self bytes.now }
+        ensures no_longer { length result.now ≤ length bytes.now }
+    {
+        match self {
+            Mode::Inside => &bytes[plain_len(bytes)..],
+            Mode::Outside | Mode::Escaped => bytes,
+        }
+    }
 }
 
-/// Whether the depth of the brackets reaches the limit.
-pub fn reaches(bytes: &[u8], limit: u32) -> bool
+/// Whether the brackets nest deeper than `depth`: a scan of the bytes, for whoever must not recurse so far.
+pub fn is_too_deep(bytes: &[u8], depth: u32) -> bool
+    requires { depth ≤ 128 }
+    ensures { result ≡ is_too_deep depth bytes.now }
+{
+    reaches(bytes, depth + 1)
+}
+
+// Whether the depth of the brackets reaches the limit.
+fn reaches(bytes: &[u8], limit: u32) -> bool
     requires low { 0 < limit }
     requires high { limit < 1000 }
     ensures { result ≡ reaches limit 0 Outside bytes.now }
 {
     let mut depth = 0;
     let mut mode = Mode::Outside;
-    for byte in bytes {
+    let mut left = bytes;
+    while let [byte, behind @ ..] = left {
         depth = mode.depth_after(depth, *byte);
         if depth == limit {
             return true;
         }
         mode = mode.after(*byte);
+        left = mode.after_plain(behind);
     }
     false
 }

@@ -3,8 +3,13 @@
 
 mod cursor;
 mod depth;
+mod fitting;
 mod reader;
 mod reading;
+mod rereading;
 mod strings;
 
+pub use depth::is_too_deep;
+pub use fitting::fits;
 pub use reading::{ReadRefused, read, read_to};
+pub use rereading::reread;

@@ -1,4 +1,5 @@
 ghost use Rattle.std.specs.Prelude.{◌≡◌, ◌≢◌, ◌<◌, ℕ, List, [], ◌∷◌, OnOk, IfOk, map, Some, length};
+ghost use Rattle.lrs_json.specs.Names.{is_among};
 ghost use Rattle.lrs_json.specs.View.{member_view};
 ghost use Rattle.lrs_json_reader.specs.Flaws.{earlier, earliest};
 ghost use Rattle.lrs_json_reader.specs.Placed.{number};
@@ -6,7 +7,7 @@ ghost use Rattle.lrs_json_reader.specs.Reading.{no_places, noted, ReadsWord, Rea
 
 use crate::cursor::{Cursor, Stop};
 use lrs_decimal::is_in_range;
-use lrs_json::{Items, Member, Memory, Text, Tree};
+use lrs_json::{Items, Member, Memory, Number, Text, Tree};
 use std::alloc::Global;
 use std::collections::BTreeSet;
 
@@ -69,7 +70,7 @@ impl Reader<'_> {
         let left = self.cursor.len();
         let spelling = self.cursor.number()?;
         self.note_number(left, &spelling);
-        Ok(Tree::Number(spelling))
+        Ok(Tree::Number(Number::of(spelling)))
     }
 
     fn note_number(&mut self, left: usize, spelling: &Text)
@@ -101,55 +102,62 @@ impl Reader<'_> {
 }
 
 impl Reader<'_> {
+    /// The places of the members of the objects that it stands in are kept on a stack, so that no object has a list of
+    /// its own.
     #[cycle(reader)]
-    pub fn value(&mut self) -> Result<Tree, Stop>
-        ensures { ReadsValue self.old result self.new }
+    pub fn value(&mut self, lefts: &mut Vec<usize>) -> Result<Tree, Stop>
+        ensures reads { ReadsValue self.old result self.new }
+        ensures kept { OnOk result (lefts.new.items ≡ lefts.old.items) }
     {
         match self.cursor.first() {
-            Some(b'[') => self.list(),
-            Some(b'{') => self.object(),
+            Some(b'[') => self.list(lefts),
+            Some(b'{') => self.object(lefts),
             _ => self.leaf(),
         }
     }
 
     #[cycle(reader)]
-    fn list(&mut self) -> Result<Tree, Stop>
+    fn list(&mut self, lefts: &mut Vec<usize>) -> Result<Tree, Stop>
         requires { (rest : List ℕ) × (self.old.cursor ≡ 91 ∷ rest) }
-        ensures { ReadsValue self.old result self.new }
+        ensures reads { ReadsValue self.old result self.new }
+        ensures kept { OnOk result (lefts.new.items ≡ lefts.old.items) }
     {
         self.cursor.advance(1);
         let mut items = Items::new(self.cursor.allocator());
         while self.cursor.goes_on(!items.is_empty(), b']')? {
-            items.push(self.value()?)?;
+            items.push(self.value(lefts)?)?;
         }
         Ok(Tree::List(items))
     }
 
     #[cycle(reader)]
-    fn object(&mut self) -> Result<Tree, Stop>
+    fn object(&mut self, lefts: &mut Vec<usize>) -> Result<Tree, Stop>
         requires { (rest : List ℕ) × (self.old.cursor ≡ 123 ∷ rest) }
-        ensures { ReadsValue self.old result self.new }
+        ensures reads { ReadsValue self.old result self.new }
+        ensures kept { OnOk result (lefts.new.items ≡ lefts.old.items) }
     {
         self.cursor.advance(1);
+        let base = lefts.len();
         let mut members = Items::new(self.cursor.allocator());
-        let mut lefts = Vec::new(self.cursor.allocator());
         while self.cursor.goes_on(!members.is_empty(), b'}')? {
             lefts.push(self.cursor.len())?;
-            members.push(self.member()?)?;
+            members.push(self.member(lefts)?)?;
         }
-        self.note_repeated(members.as_slice(), &lefts)?;
+        self.note_repeated(members.as_slice(), &lefts[base..])?;
+        lefts.truncate(base);
         Ok(Tree::Object(members))
     }
 
     #[cycle(reader)]
-    fn member(&mut self) -> Result<Member, Stop>
-        ensures { ReadsMember self.old result self.new }
+    fn member(&mut self, lefts: &mut Vec<usize>) -> Result<Member, Stop>
+        ensures reads { ReadsMember self.old result self.new }
+        ensures kept { OnOk result (lefts.new.items ≡ lefts.old.items) }
     {
         let name = self.cursor.quoted()?;
         self.cursor.skip_spaces();
         self.cursor.word(b":")?;
         self.cursor.skip_spaces();
-        let value = self.value()?;
+        let value = self.value(lefts)?;
         Ok(Member { name, value })
     }
 
@@ -167,8 +175,52 @@ impl Reader<'_> {
     }
 }
 
+// A set of the names pays only where an object has more than so many.
+const FEW: usize = 16;
+
 // Of the names that equal an earlier one, the place of the first.
 fn earliest_repeated(
+    alloc: Global,
+    members: &[Member],
+    lefts: &[usize],
+) -> Result<Option<usize>, Memory>
+    ensures { IfOk result (λ r. r ≡ earliest (repeated_among [] (map (λ m. (member_view m).0) members.now) lefts.now)) }
+{
+    if members.len() <= FEW {
+        Ok(earliest_of_few(members, lefts))
+    } else {
+        earliest_of_many(alloc, members, lefts)
+    }
+}
+
+fn earliest_of_few(members: &[Member], lefts: &[usize]) -> Option<usize>
+    ensures { result ≡ earliest (repeated_among [] (map (λ m. (member_view m).0) members.now) lefts.now) }
+{
+    let mut found = None;
+    let mut before = 0;
+    for (member, left) in members.iter().zip(lefts) {
+        let again = is_named(member.name.as_str(), &members[..before]);
+        before += 1;
+        if again {
+            found = earlier(found, *left);
+        }
+    }
+    found
+}
+
+// Whether one of the members has the name.
+fn is_named(name: &str, members: &[Member]) -> bool
+    ensures { result ≡ is_among name.now (map (λ m. (member_view m).0) members.now) }
+{
+    for member in members {
+        if member.name.as_str() == name {
+            return true;
+        }
+    }
+    false
+}
+
+fn earliest_of_many(
     alloc: Global,
     members: &[Member],
     lefts: &[usize],

@@ -8,7 +8,7 @@ ghost use Rattle.lrs_json_reader.specs.Refusals.{is_too_deep, Spells, IsBad, Rep
 ghost use Rattle.lrs_json_reader.specs.Reading.{ReadsText, Judges};
 
 use crate::cursor::{Cursor, Stop};
-use crate::depth::reaches;
+use crate::depth::is_too_deep;
 use crate::reader::{Places, Reader};
 use lrs_json::{DEPTH, Memory, Tree};
 use std::alloc::Global;
@@ -74,7 +74,7 @@ pub fn read_to(alloc: Global, bytes: &[u8], depth: u32) -> Result<Tree, ReadRefu
     ensures again { (t : SpecTree) → IsReadable depth (view t) → bytes.now ≡ written (view t) →
         Gives result (λ u. u ≡ t) }
 {
-    if reaches(bytes, depth + 1) {
+    if is_too_deep(bytes, depth) {
         return Err(ReadRefused::TooDeep);
     }
     match read_text(alloc, bytes) {
@@ -89,8 +89,9 @@ fn read_text(alloc: Global, bytes: &[u8]) -> Result<(Tree, Places), Stop>
     ensures { ReadsText bytes.now result }
 {
     let mut reader = Reader::new(alloc, bytes);
+    let mut lefts = Vec::new(alloc);
     reader.cursor.skip_spaces();
-    let tree = reader.value()?;
+    let tree = reader.value(&mut lefts)?;
     reader.cursor.skip_spaces();
     if reader.cursor.is_empty() {
         Ok((tree, reader.places))

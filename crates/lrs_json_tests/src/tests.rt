@@ -1,8 +1,8 @@
 ghost use Rattle.std.specs.Prelude.{◌≤◌};
 
-use lrs_json::{Items, Memory, Text, Tree, write};
+use lrs_json::{Items, Memory, Text, Tree, is_written, write};
 use lrs_json_equal::same_value;
-use lrs_json_reader::{ReadRefused, read, read_to};
+use lrs_json_reader::{ReadRefused, fits, read, read_to, reread};
 use std::alloc::Global;
 
 // Whether the written form of what is read is that text.
@@ -123,6 +123,141 @@ fn wrong_unlawful(alloc: Global) -> Option<usize> {
 #[test]
 fn unlawful_texts_are_bad(rt: HostRuntime) {
     assert_eq!(rt; wrong_unlawful(rt.alloc()), None);
+}
+
+// Texts of trees, other texts, and whether these are the written forms of the trees.
+const FORMS: [(&str, &str, bool); 18] = [
+    (
+        " {\"b\":1.50, \"a\":[true,null]}",
+        "{\"b\":1.50,\"a\":[true,null]}",
+        true,
+    ),
+    ("{\"\\u0061\":{}}", "{\"a\":{}}", true),
+    ("\"\\u000A\\/\"", "\"\\n/\"", true),
+    ("\"\\u001F\"", "\"\\u001f\"", true),
+    ("{\"a\":1}", "{\"a\": 1}", false),
+    ("{\"a\":1}", "{\"a\":1} ", false),
+    ("{\"a\":1}", " {\"a\":1}", false),
+    ("{\"a\":1}", "{\"a\":1}}", false),
+    ("{\"a\":1}", "{\"a\":1", false),
+    ("{\"a\":1,\"b\":2}", "{\"b\":2,\"a\":1}", false),
+    ("[1,2]", "[2,1]", false),
+    ("[1.0]", "[1]", false),
+    ("[]", "[0]", false),
+    ("\"\\n\"", "\"\\u000a\"", false),
+    ("\"\\u001f\"", "\"\\u001F\"", false),
+    ("\"/\"", "\"\\/\"", false),
+    ("\"\u{e9}\"", "\"\\u00e9\"", false),
+    ("null", "", false),
+];
+
+fn has_written_form(alloc: Global, text: &str, bytes: &str) -> Result<bool, ReadRefused> {
+    let tree = read(alloc, text.as_bytes())?;
+    let same = is_written(&tree, bytes.as_bytes());
+    drop(tree);
+    Ok(same)
+}
+
+fn wrong_form(alloc: Global) -> Option<usize> {
+    for (i, (text, bytes, wanted)) in FORMS.iter().enumerate() {
+        if has_written_form(alloc, text, bytes) != Ok(*wanted) {
+            return Some(i);
+        }
+    }
+    None
+}
+
+#[test]
+fn a_tree_has_one_written_form(rt: HostRuntime) {
+    assert_eq!(rt; wrong_form(rt.alloc()), None);
+}
+
+// Whether that tree is read back from the text.
+fn is_reread(alloc: Global, tree: &Tree, text: &[u8]) -> Result<bool, Memory> {
+    let again = reread(alloc, text)?;
+    Ok(tree.same(&again))
+}
+
+fn is_read_back(alloc: Global, text: &[u8], written: &[u8]) -> Result<bool, ReadRefused> {
+    let tree = read(alloc, text)?;
+    let same = is_reread(alloc, &tree, written);
+    drop(tree);
+    Ok(same?)
+}
+
+fn wrong_reread(alloc: Global) -> Option<usize> {
+    for (i, (text, written)) in LAWFUL.iter().enumerate() {
+        if is_read_back(alloc, text.as_bytes(), written.as_bytes()) != Ok(true) {
+            return Some(i);
+        }
+    }
+    None
+}
+
+#[test]
+fn what_was_written_is_read_back(rt: HostRuntime) {
+    assert_eq!(rt; wrong_reread(rt.alloc()), None);
+}
+
+fn unread(alloc: Global) -> Option<usize> {
+    for (i, text) in UNLAWFUL.iter().enumerate() {
+        if reread(alloc, text).is_err() {
+            return Some(i);
+        }
+    }
+    None
+}
+
+#[test]
+fn of_what_is_no_written_form_some_tree_is_read(rt: HostRuntime) {
+    assert_eq!(rt; unread(rt.alloc()), None);
+}
+
+// Trees, how deep they may nest, and whether they fit. Behind 16 members their names are compared otherwise.
+const FITTING: [(&str, u32, bool); 13] = [
+    ("1", 0, true),
+    ("[]", 0, false),
+    ("{}", 0, false),
+    ("[[1],{}]", 2, true),
+    ("[[1],{}]", 1, false),
+    ("{\"a\":{\"b\":[]}}", 3, true),
+    ("{\"a\":{\"b\":[]}}", 2, false),
+    ("{\"a\":1,\"b\":{\"a\":2}}", 2, true),
+    ("{\"a\":1,\"a\":2}", 2, false),
+    ("[{\"a\":{\"b\":1,\"b\":1}}]", 64, false),
+    ("[1e1000]", 64, false),
+    (
+        "{\"a\":0,\"b\":0,\"c\":0,\"d\":0,\"e\":0,\"f\":0,\"g\":0,\"h\":0,\"i\":0,\"j\":0,\"k\":0,\"l\":0,\"m\":0,\"n\":0,\"o\":0,\"p\":0,\"q\":0}",
+        1,
+        true,
+    ),
+    (
+        "{\"a\":0,\"b\":0,\"c\":0,\"d\":0,\"e\":0,\"f\":0,\"g\":0,\"h\":0,\"i\":0,\"j\":0,\"k\":0,\"l\":0,\"m\":0,\"n\":0,\"o\":0,\"p\":0,\"a\":0}",
+        1,
+        false,
+    ),
+];
+
+// Reading back refuses nothing, so that such trees come to be.
+fn fits_at(alloc: Global, text: &str, depth: u32) -> Result<bool, Memory> {
+    let tree = reread(alloc, text.as_bytes())?;
+    let fitting = fits(alloc, &tree, depth);
+    drop(tree);
+    fitting
+}
+
+fn wrong_fitting(alloc: Global) -> Option<usize> {
+    for (i, (text, depth, wanted)) in FITTING.iter().enumerate() {
+        if fits_at(alloc, text, *depth) != Ok(*wanted) {
+            return Some(i);
+        }
+    }
+    None
+}
+
+#[test]
+fn a_tree_fits_where_reading_gives_it(rt: HostRuntime) {
+    assert_eq!(rt; wrong_fitting(rt.alloc()), None);
 }
 
 // The escape of each control character, as it may be read, and as it is written.

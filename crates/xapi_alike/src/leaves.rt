@@ -6,13 +6,13 @@ ghost use Rattle.lrs_names.specs.Ids.{id_of};
 ghost use Rattle.lrs_time.specs.Reading.{timestamp_at, duration_at};
 
 use crate::place::Place;
-use lrs_json::Text;
+use lrs_json::{Number, Text};
 use lrs_names::Id;
 use lrs_time::{Duration, read_timestamp};
 use xapi_values::numbers::are_equal;
 
 /// Whether the spellings of numbers are one, or are of one value.
-pub fn is_same_amount(a: &Text, b: &Text) -> bool
+pub fn is_same_amount(a: &Number, b: &Number) -> bool
     ensures { result ≡ same_amount a.now b.now }
 {
     a == b || are_equal(a.as_bytes(), b.as_bytes())
