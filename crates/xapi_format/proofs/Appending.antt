@@ -9,7 +9,7 @@ use Rattle.lrs_json.specs.Texts.{name_text, member_text}
 pub behind : (start mid end a b : List ℕ) → mid ≡ start ++ a → end ≡ mid ++ b → end ≡ start ++ (a ++ b)
 behind start mid end a b e f = f ∙ ap (λ x. x ++ b) e ∙ append_assoc start a b
 
-member_parts : (later : Bool) (name : List ℕ) (j : Json) → name_text later name ++ written j ≡ member_text later name j
+pub member_parts : (later : Bool) (name : List ℕ) (j : Json) → name_text later name ++ written j ≡ member_text later name j
 member_parts later name j = simp append_assoc
 
 -- a name and its value are the member

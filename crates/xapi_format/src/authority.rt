@@ -1,9 +1,9 @@
-ghost use Rattle.std.specs.Prelude.{◌≡◌};
+ghost use Rattle.std.specs.Prelude.{◌≡◌, IfOk};
 ghost use Rattle.std.specs.Str.{bytes_eq};
 
 use itoa::Buffer;
 use lrs_agents::Ifi;
-use lrs_json::{Text, utf8_text};
+use lrs_json::{Memory, Text, utf8_text};
 use lrs_names::Id;
 
 /// Under whose authority a statement stands.
@@ -35,6 +35,21 @@ impl Authority {
             Authority::Provider { number: _, name } => name.as_str(),
             Authority::Session(_) => "session",
             Authority::Desk => "desk",
+        }
+    }
+
+    /// A copy of its own.
+    pub fn copy(&self) -> Result<Authority, Memory>
+        ensures { IfOk result (λ authority. authority ≡ self.now) }
+    {
+        match self {
+            Authority::Admin => Ok(Authority::Admin),
+            Authority::Provider { number, name } => Ok(Authority::Provider {
+                number: *number,
+                name: name.clone()?,
+            }),
+            Authority::Session(id) => Ok(Authority::Session(*id)),
+            Authority::Desk => Ok(Authority::Desk),
         }
     }
 

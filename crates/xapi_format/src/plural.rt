@@ -1,16 +1,15 @@
 // What the completed form changes in the members on the way to the context activities (xAPI 1.0.3, part two, section
-// 2.4.6.2): written as a text, and made as a tree.
-ghost use Rattle.std.specs.Prelude.{◌≡◌, ◌++◌, ℕ, List, IfOk, OnOk, map};
+// 2.4.6.2): noted while the received text is written, and made as a tree.
+ghost use Rattle.std.specs.Prelude.{◌≡◌, ℕ, List, IfOk, OnOk, map, option_map};
 ghost use Rattle.lrs_json.specs.Json.{Json, object};
-ghost use Rattle.lrs_json.specs.Texts.{member_text};
 ghost use Rattle.lrs_json.specs.View.{view, member_view, members_of};
-ghost use Rattle.lrs_json.specs.Written.{Extends, written};
 ghost use Rattle.xapi_format.specs.Completed.{in_array, plural_activities_member, plural_context_member, plural_member, plural_nested_member, plural_object};
+ghost use Rattle.xapi_format.specs.Noting.{Notes, NotesMember, members_in};
 ghost use Rattle.xapi_values.specs.Following.{HasOneMore};
 ghost use Rattle.xapi_values.specs.Memberwise.{each_member, with_each_member};
 
 use crate::building::push;
-use lrs_json::appending::{put, put_name, put_tree};
+use crate::draft::Draft;
 use lrs_json::{Items, Member, Memory, Tree};
 use std::alloc::Global;
 use xapi_values::{is_nested, whole};
@@ -19,54 +18,56 @@ use xapi_values::{is_nested, whole};
 pub trait Plural {
     ghost change: { List ℕ → Json → Json };
 
-    /// Appends its text.
-    fn put(name: &str, value: &Tree, into: &mut Vec<u8>) -> Result<(), Memory>
-        ensures ok { OnOk result (into.new.items ≡ into.old.items ++ written (change name.now (view value.now))) }
-        ensures kept { Extends into.old.items into.new.items };
+    /// Writes the value as it was received, and notes what is shown of it.
+    fn note(name: &str, value: &Tree, draft: &mut Draft) -> Result<(), Memory>
+        ensures { OnOk result (Notes (view value.now) (change name.now (view value.now)) draft.old draft.new) };
 
     /// Makes it as a tree of its own.
     fn made(alloc: Global, name: &str, value: &Tree) -> Result<Tree, Memory>
         ensures { IfOk result (λ made. view made ≡ change name.now (view value.now)) };
 }
 
-// ---- as a text
+// ---- in the received text
 
-// Changes the members, if it is an object.
-#[tactic(auto, using(lrs_json::proofs::Extending::extends_trans))]
-fn put_each<P: Plural>(tree: &Tree, into: &mut Vec<u8>) -> Result<(), Memory>
-    ensures ok { OnOk result (into.new.items ≡ into.old.items
-        ++ written (with_each_member P.change (view tree.now))) }
-    ensures kept { Extends into.old.items into.new.items }
+/// The members, if it is an object.
+pub fn members_in(tree: &Tree) -> Option<&[Member]>
+    ensures { option_map (λ members. members_of (map member_view members.now)) result ≡ members_in (view tree.now) }
 {
     match tree {
-        Tree::Object(members) => put_members::<P>(members.as_slice(), into),
-        _ => put_tree(tree, into),
+        Tree::Object(members) => Some(members.as_slice()),
+        _ => None,
     }
 }
 
-#[tactic(auto, using(lrs_json::proofs::Extending::extends_trans))]
-fn put_members<P: Plural>(members: &[Member], into: &mut Vec<u8>) -> Result<(), Memory>
-    ensures ok { OnOk result (into.new.items ≡ into.old.items
-        ++ written (object (each_member P.change (members_of (map member_view members.now))))) }
-    ensures kept { Extends into.old.items into.new.items }
+// Changes the members, if it is an object.
+fn note_each<P: Plural>(tree: &Tree, draft: &mut Draft) -> Result<(), Memory>
+    ensures { OnOk result (Notes (view tree.now) (with_each_member P.change (view tree.now)) draft.old draft.new) }
 {
-    put(b"{", into)?;
-    for (i, member) in members.iter().enumerate() {
-        put_member::<P>(i > 0, member, into)?;
+    match members_in(tree) {
+        Some(members) => note_members::<P>(members, draft),
+        None => draft.put_tree(tree),
     }
-    put(b"}", into)
 }
 
-/// Appends a member, after others if they stand before.
-#[tactic(auto, using(lrs_json::proofs::Extending::extends_trans))]
-pub fn put_member<P: Plural>(later: bool, member: &Member, into: &mut Vec<u8>) -> Result<(), Memory>
-    ensures ok { OnOk result (into.new.items ≡ into.old.items
-        ++ member_text later member.now.name (P.change member.now.name (view member.now.value))) }
-    ensures kept { Extends into.old.items into.new.items }
+fn note_members<P: Plural>(members: &[Member], draft: &mut Draft) -> Result<(), Memory>
+    ensures { OnOk result (Notes (object (members_of (map member_view members.now)))
+        (object (each_member P.change (members_of (map member_view members.now)))) draft.old draft.new) }
+{
+    draft.put(b"{")?;
+    for (i, member) in members.iter().enumerate() {
+        note_member::<P>(i > 0, member, draft)?;
+    }
+    draft.put(b"}")
+}
+
+/// Writes a member, after others if they stand before, and notes what is shown of it.
+pub fn note_member<P: Plural>(later: bool, member: &Member, draft: &mut Draft) -> Result<(), Memory>
+    ensures { OnOk result (NotesMember later later member.now.name (view member.now.value)
+        (P.change member.now.name (view member.now.value)) draft.old draft.new) }
 {
     let name = member.name.as_str();
-    put_name(later, name, into)?;
-    P::put(name, &member.value, into)
+    draft.put_name(later, name)?;
+    P::note(name, &member.value, draft)
 }
 
 // ---- as a tree
@@ -113,11 +114,11 @@ pub struct OfStatement;
 impl Plural for OfStatement {
     ghost change = { plural_member };
 
-    fn put(name: &str, value: &Tree, into: &mut Vec<u8>) -> Result<(), Memory> {
+    fn note(name: &str, value: &Tree, draft: &mut Draft) -> Result<(), Memory> {
         match name {
-            "context" => put_each::<OfContext>(value, into),
-            "object" => put_object(value, into),
-            _ => put_tree(value, into),
+            "context" => note_each::<OfContext>(value, draft),
+            "object" => note_object(value, draft),
+            _ => draft.put_tree(value),
         }
     }
 
@@ -131,14 +132,13 @@ impl Plural for OfStatement {
 }
 
 // The object of a statement: a SubStatement has a context of its own.
-fn put_object(tree: &Tree, into: &mut Vec<u8>) -> Result<(), Memory>
-    ensures ok { OnOk result (into.new.items ≡ into.old.items ++ written (plural_object (view tree.now))) }
-    ensures kept { Extends into.old.items into.new.items }
+fn note_object(tree: &Tree, draft: &mut Draft) -> Result<(), Memory>
+    ensures { OnOk result (Notes (view tree.now) (plural_object (view tree.now)) draft.old draft.new) }
 {
     if is_nested(tree) {
-        put_each::<OfNested>(tree, into)
+        note_each::<OfNested>(tree, draft)
     } else {
-        put_tree(tree, into)
+        draft.put_tree(tree)
     }
 }
 
@@ -158,10 +158,10 @@ struct OfNested;
 impl Plural for OfNested {
     ghost change = { plural_nested_member };
 
-    fn put(name: &str, value: &Tree, into: &mut Vec<u8>) -> Result<(), Memory> {
+    fn note(name: &str, value: &Tree, draft: &mut Draft) -> Result<(), Memory> {
         match name {
-            "context" => put_each::<OfContext>(value, into),
-            _ => put_tree(value, into),
+            "context" => note_each::<OfContext>(value, draft),
+            _ => draft.put_tree(value),
         }
     }
 
@@ -180,10 +180,10 @@ struct OfContext;
 impl Plural for OfContext {
     ghost change = { plural_context_member };
 
-    fn put(name: &str, value: &Tree, into: &mut Vec<u8>) -> Result<(), Memory> {
+    fn note(name: &str, value: &Tree, draft: &mut Draft) -> Result<(), Memory> {
         match name {
-            "contextActivities" => put_each::<OfContextActivities>(value, into),
-            _ => put_tree(value, into),
+            "contextActivities" => note_each::<OfContextActivities>(value, draft),
+            _ => draft.put_tree(value),
         }
     }
 
@@ -200,8 +200,8 @@ struct OfContextActivities;
 impl Plural for OfContextActivities {
     ghost change = { plural_activities_member };
 
-    fn put(_: &str, value: &Tree, into: &mut Vec<u8>) -> Result<(), Memory> {
-        put_in_array(value, into)
+    fn note(_: &str, value: &Tree, draft: &mut Draft) -> Result<(), Memory> {
+        note_in_array(value, draft)
     }
 
     fn made(alloc: Global, _: &str, value: &Tree) -> Result<Tree, Memory> {
@@ -209,18 +209,12 @@ impl Plural for OfContextActivities {
     }
 }
 
-#[tactic(auto, using(lrs_json::proofs::Extending::extends_trans))]
-fn put_in_array(tree: &Tree, into: &mut Vec<u8>) -> Result<(), Memory>
-    ensures ok { OnOk result (into.new.items ≡ into.old.items ++ written (in_array (view tree.now))) }
-    ensures kept { Extends into.old.items into.new.items }
+fn note_in_array(tree: &Tree, draft: &mut Draft) -> Result<(), Memory>
+    ensures { OnOk result (Notes (view tree.now) (in_array (view tree.now)) draft.old draft.new) }
 {
-    match tree {
-        Tree::Object(_) => {
-            put(b"[", into)?;
-            put_tree(tree, into)?;
-            put(b"]", into)
-        }
-        _ => put_tree(tree, into),
+    match members_in(tree) {
+        Some(_) => draft.put_in_brackets(tree),
+        None => draft.put_tree(tree),
     }
 }
 

@@ -5,7 +5,7 @@ use lrs_names::Id;
 use lrs_time::Moment;
 use std::alloc::Global;
 use std::test::Fail;
-use xapi_format::{Authority, completed, put_completed};
+use xapi_format::{Authority, ReceivedText, completed};
 use xapi_reduced::reduced;
 use xapi_values::is_nested;
 
@@ -86,7 +86,8 @@ fn is_completed_as(
     text: &str,
 ) -> Result<bool, Fail> {
     let mut bytes = Vec::new(alloc);
-    put_completed(received, &id()?, stored(), by, &mut bytes)?;
+    let kept = ReceivedText::of(alloc, received)?;
+    kept.put_completed(&id()?, stored(), by, &mut bytes)?;
     Ok(bytes.as_slice() == text.as_bytes())
 }
 
@@ -107,21 +108,32 @@ fn is_written_as(alloc: Global, tree: &Tree, text: &str) -> Result<bool, Fail> {
     Ok(bytes.as_slice() == text.as_bytes())
 }
 
-fn is_completed_both_ways(
+// Whether the text that it is kept as gives the tree back.
+fn is_read_back(alloc: Global, received: &Tree, text: &str) -> Result<bool, Fail> {
+    let kept = ReceivedText::of(alloc, received)?;
+    let tree = kept.tree(alloc)?;
+    is_written_as(alloc, &tree, text)
+}
+
+fn is_completed_each_way(
     alloc: Global,
-    received: &str,
-    by: &Authority,
     text: &str,
+    by: &Authority,
+    wanted: &str,
 ) -> Result<bool, Fail> {
-    let received = read(alloc, received.as_bytes())?;
-    Ok(is_completed_as(alloc, &received, by, text)? && is_completed_to(alloc, &received, by, text)?)
+    let received = read(alloc, text.as_bytes())?;
+    Ok(
+        is_read_back(alloc, &received, text)?
+            && is_completed_as(alloc, &received, by, wanted)?
+            && is_completed_to(alloc, &received, by, wanted)?,
+    )
 }
 
 // The number of the first row that isn't so.
 fn first_completed_wrong(alloc: Global, rows: &[(&str, By, &str)]) -> Result<Option<usize>, Fail> {
     for (i, (received, by, text)) in rows.iter().enumerate() {
         let by = authority(alloc, *by)?;
-        if !is_completed_both_ways(alloc, received, &by, text)? {
+        if !is_completed_each_way(alloc, received, &by, text)? {
             return Ok(Some(i));
         }
     }

@@ -4,7 +4,6 @@ use Rattle.std.specs.Prelude.{IsTrue, is_none, if◌then◌else◌}
 use Rattle.lrs_json.specs.Json.{Json}
 use Rattle.xapi_rules.specs.Rules.{broken_rule}
 use Rattle.xapi_statement.specs.Statement.{is_statement, is_too_long, refusal}
-use Rattle.xapi_statement.specs.declared.refused.StatementRefused.{StatementRefused}
 use Rattle.xapi_statement.specs.declared.refused.StatementRefused.TheVariants.{TooLong, Broken}
 
 no_rule : (long : Bool) (rule : Option ℕ) → if◌then◌else◌ long (Some TooLong) (option_map Broken rule) ≡ None → is_none rule ≡ true

@@ -1,8 +1,9 @@
 //! Statements (xAPI 1.0.3, part two, section 2): a value that breaks none of the rules, what the layers above ask of
-//! one, how long one may be that is received, and a statement as the store keeps it.
+//! one, how long one may be that is received, and a statement as the store keeps it: with its tree, and as it is held.
 #![tactic(auto)]
 
 mod activities;
+mod held;
 mod length;
 mod members;
 mod parties;
@@ -11,6 +12,7 @@ mod statement;
 mod stored;
 
 pub use activities::has_context_activity;
+pub use held::HeldStatement;
 pub use length::{LONGEST_STATEMENT, is_too_long};
 pub use lrs_json::Memory;
 pub use members::{

@@ -1,5 +1,5 @@
 // Who takes part in a statement.
-ghost use Rattle.std.specs.Prelude.{◌≡◌, ◌↔◌, ◌||◌, Some, IsTrue, map, codes};
+ghost use Rattle.std.specs.Prelude.{◌≡◌, ◌↔◌, Some, IsTrue, map, codes};
 ghost use Rattle.lrs_json.specs.View.{view, elements_of};
 ghost use Rattle.lrs_names.specs.Members.{has_member_that};
 ghost use Rattle.xapi_format.specs.Party.{is_identified, any_identified, has_identified, is_party};
@@ -78,7 +78,7 @@ fn object_is_party(statement: &Tree, ifi: &Ifi) -> bool
 }
 
 #[tactic(auto, unfolding(crate::specs::Parties::has_direct_agent))]
-pub fn has_direct_agent(statement: &Tree, ifi: &Ifi) -> bool
+fn has_direct_agent(statement: &Tree, ifi: &Ifi) -> bool
     ensures { result ≡ has_direct_agent ifi.now (view statement.now) }
 {
     is_party_at(statement, "actor", ifi) || object_is_party(statement, ifi)
@@ -151,12 +151,4 @@ pub fn is_actor(statement: &Tree, ifi: &Ifi) -> bool
         Some(actor) => is_agent_of(actor, ifi),
         None => false,
     }
-}
-
-/// Whether who has that identifier takes part in a statement at one of its related places, whoever its authority is.
-pub fn has_inner_agent(statement: &Tree, ifi: &Ifi) -> bool
-    ensures { result ≡ (has_context_agent ifi.now (view statement.now)
-        || has_member_that (codes "object") (nested_has_agent ifi.now) (view statement.now)) }
-{
-    has_context_agent(statement, ifi) || object_has_agent(statement, ifi)
 }

@@ -7,7 +7,9 @@ use lrs_time::Moment;
 use std::alloc::Global;
 use std::cmp::Ordering;
 use std::test::Fail;
-use xapi_statement::{Authority, Format, Statement, StatementRefused, StoredStatement};
+use xapi_statement::{
+    Authority, Format, HeldStatement, Statement, StatementRefused, StoredStatement,
+};
 
 // One with all parts, one with a SubStatement, one that voids, and one about an Agent.
 const WHOLE: &str =
@@ -322,17 +324,6 @@ fn kept(alloc: Global, text: &str, by: Authority) -> Result<StoredStatement, Fai
     }
 }
 
-fn is_written_as(
-    alloc: Global,
-    kept: &StoredStatement,
-    format: Format,
-    text: &str,
-) -> Result<bool, Fail> {
-    let mut bytes = Vec::new(alloc);
-    kept.write(format, &mut bytes)?;
-    Ok(bytes.as_slice() == text.as_bytes())
-}
-
 fn has_tree_of(
     alloc: Global,
     kept: &StoredStatement,
@@ -340,13 +331,36 @@ fn has_tree_of(
     text: &str,
 ) -> Result<bool, Fail> {
     let tree = kept.tree(alloc, format)?;
-    is_tree_written_as(alloc, &tree, text)
+    is_tree_written_as(alloc, &tree, text.as_bytes())
 }
 
-fn is_tree_written_as(alloc: Global, tree: &Tree, text: &str) -> Result<bool, Fail> {
+fn is_tree_written_as(alloc: Global, tree: &Tree, text: &[u8]) -> Result<bool, Fail> {
     let mut bytes = Vec::new(alloc);
     write(tree, &mut bytes)?;
-    Ok(bytes.as_slice() == text.as_bytes())
+    Ok(bytes.as_slice() == text)
+}
+
+fn is_held_written_as(
+    alloc: Global,
+    kept: &StoredStatement,
+    format: Format,
+    text: &str,
+) -> Result<bool, Fail> {
+    let held = HeldStatement::of(alloc, kept)?;
+    let found = is_shown_as(alloc, &held, format, text.as_bytes());
+    drop(held);
+    found
+}
+
+fn is_shown_as(
+    alloc: Global,
+    held: &HeldStatement,
+    format: Format,
+    text: &[u8],
+) -> Result<bool, Fail> {
+    let mut bytes = Vec::new(alloc);
+    held.write(format, &mut bytes)?;
+    Ok(bytes.as_slice() == text)
 }
 
 // The number of the first row that isn't so.
@@ -356,8 +370,8 @@ fn first_shown_wrong(
     rows: &[(Format, &str)],
 ) -> Result<Option<usize>, Fail> {
     for (i, (format, text)) in rows.iter().enumerate() {
-        if !is_written_as(alloc, kept, *format, text)?
-            || !has_tree_of(alloc, kept, *format, text)?
+        if !has_tree_of(alloc, kept, *format, text)?
+            || !is_held_written_as(alloc, kept, *format, text)?
         {
             return Ok(Some(i));
         }
@@ -417,6 +431,34 @@ fn a_kept_statement_tells_its_id_and_moment(rt: HostRuntime) -> Result<(), Fail>
     Ok(())
 }
 
+// ---- statements as they are held
+
+// Statements as they are sent, one a line: with what the store adds itself in front, between and behind, context
+// activities alone and in arrays, escapes, numbers in many spellings, members in any order.
+const SENT: &str =
+    r#"{"actor":{"mbox":"mailto:a@b"},"verb":{"id":"http://v/1"},"object":{"id":"http://a/1"}}
+{"actor":{"mbox":"mailto:a@b"},"verb":{"id":"http://v/1"},"object":{"id":"http://a/1"},"id":"AAAAAAAA-1111-4111-8111-111111111111","timestamp":"2023-11-14T22:13:20Z","version":"1.0.3"}
+{"version":"1.0.1","authority":{"mbox":"mailto:x@y"},"stored":"2020-01-01T00:00:00Z","timestamp":"2023-11-14T22:13:20.5+01:00","id":"aaaaaaaa-1111-4111-8111-111111111111","object":{"id":"http://a/1"},"verb":{"id":"http://v/1"},"actor":{"mbox":"mailto:a@b"}}
+{"object":{"id":"http://a/1"},"id":"aaaaaaaa-1111-4111-8111-111111111111","actor":{"mbox":"mailto:a@b"},"timestamp":"2023-11-14T22:13:20Z","verb":{"id":"http://v/1"}}
+{"actor":{"mbox":"mailto:a@b"},"timestamp":"2023-11-14T22:13:20Z","version":"1.0.0","verb":{"id":"http://v/1"},"stored":"2020-01-01T00:00:00Z","object":{"id":"http://a/1"}}
+{"actor":{"mbox":"mailto:a@b"},"verb":{"id":"http://v/1"},"version":"1.0.","object":{"id":"http://a/1"}}
+{"id":"aaaaaaaa-1111-4111-8111-111111111111","actor":{"mbox":"mailto:a@b"},"verb":{"id":"http://v/1"},"object":{"id":"http://a/1"}}
+{"actor":{"mbox":"mailto:a@b"},"verb":{"id":"http://v/1"},"object":{"id":"http://a/1"},"context":{"contextActivities":{"parent":{"id":"http://p/1"},"grouping":[{"id":"http://g/1"},{"id":"http://g/2"}],"category":{"definition":{"name":{"en":"C"},"type":"http://t/1"},"id":"http://c/1"},"other":[]}}}
+{"context":{"registration":"BBBBBBBB-1111-4111-8111-111111111111","contextActivities":{"other":{"id":"http://o/1"}},"language":"en"},"id":"aaaaaaaa-1111-4111-8111-111111111111","actor":{"mbox":"mailto:a@b"},"verb":{"id":"http://v/1"},"object":{"id":"http://a/1"}}
+{"actor":{"mbox":"mailto:a@b"},"verb":{"id":"http://v/1"},"context":{"contextActivities":{"parent":{"id":"http://p/1"}}},"version":"1.0.0","object":{"objectType":"SubStatement","context":{"contextActivities":{"parent":{"id":"http://p/2"},"other":[{"id":"http://o/2"}]},"instructor":{"name":"I","mbox":"mailto:i@j"}},"actor":{"name":"B","mbox":"mailto:c@d"},"verb":{"id":"http://v/2","display":{"en":"did"}},"object":{"id":"http://a/2"},"timestamp":"2023-11-14T22:13:20Z"}}
+{"object":{"actor":{"mbox":"mailto:c@d"},"verb":{"id":"http://v/2"},"object":{"id":"http://a/2"},"context":{"language":"en","contextActivities":{"category":{"id":"http://c/2"},"grouping":{"id":"http://g/2"}}},"objectType":"SubStatement"},"actor":{"mbox":"mailto:a@b"},"timestamp":"2023-11-14T22:13:20Z","verb":{"id":"http://v/1"}}
+{"actor":{"mbox":"mailto:a@b"},"verb":{"id":"http://v/1"},"object":{"id":"http://a/1"},"context":{}}
+{"actor":{"mbox":"mailto:a@b"},"verb":{"id":"http://v/1"},"object":{"id":"http://a/1"},"context":{"contextActivities":{}},"result":{}}
+{"actor":{"name":"\"\\\/\b\f\n\r\t\u001f\u007f\u00e9\ud83d\ude00 é","mbox":"mailto:a\u0040b"},"verb":{"id":"http:\/\/v\/1"},"\u006fbject":{"id":"http://a/1"},"result":{"response":"\u0022\u005c\u000A"}}
+{"\u0069d":"aaaaaaaa\u002d1111-4111-8111-111111111111","version":"1.0.\"\\\u0001","actor":{"mbox":"mailto:a@b"},"timest\u0061mp":"2023-11-14T22:13:20\u005a","verb":{"id":"http://v/1"},"object":{"id":"http://a/1"}}
+{"actor":{"mbox":"mailto:a@b"},"verb":{"id":"http://v/1"},"object":{"id":"http://a/1"},"context":{"\u0063ontextActivities":{"p\u0061rent":{"\u0069d":"http:\/\/p\/1"}},"extensions":{"http://e/\u00e9":"\"","http:\/\/e\/\u0031":{"":""}}}}
+{"result":{"score":{"max":100.000e0,"scaled":0.80,"min":-0,"raw":1E+2},"duration":"PT1H0M0S"},"actor":{"mbox":"mailto:a@b"},"verb":{"id":"http://v/1"},"object":{"id":"http://a/1"},"context":{"extensions":{"http://e/1":[-0.0,0e0,1e-7,5e+3,1E0,0.10,12345678901234567890,-12.50E-1]}}}
+{"actor":{"mbox":"mailto:a@b"},"verb":{"id":"http://v/1"},"object":{"id":"http://a/1"},"context":{"extensions":{"http://e/1":[null,true,false,{},[],"",[[]],{"b":{"id":1},"a":2}],"http://e/2":null}}}
+{"attachments":[{"fileUrl":"http://f/1","usageType":"http://u/1","display":{"en":"D"},"contentType":"text/plain","length":0,"sha2":"x"}],"object":{"definition":{"name":{"en":"A","de":"B"}},"id":"http://a/1","objectType":"Activity"},"verb":{"display":{"en":"did"},"id":"http://v/1"},"actor":{"member":[{"name":"M","mbox":"mailto:m@n"},{"account":{"name":"k","homePage":"http://h"}}],"name":"G","objectType":"Group"}}
+{"actor":{"mbox":"mailto:a@b","name":"A"},"verb":{"id":"http://adlnet.gov/expapi/verbs/voided"},"object":{"id":"E05AA883-acaf-40ad-bf54-02c8ce485fb0","objectType":"StatementRef"}}
+{"actor":{"mbox":"mailto:a@b"},"verb":{"id":"http://v/1"},"object":{"mbox":"mailto:c@d","name":"C","objectType":"Agent"},"authority":{"mbox":"mailto:x@y"}}
+ { "actor" : { "mbox" : "mailto:a@b" } , "id" : "aaaaaaaa-1111-4111-8111-111111111111" , "verb" : { "id" : "http://v/1" } , "object" : { "id" : "http://a/1" } , "context" : { "contextActivities" : { "parent" : { "id" : "http://p/1" } } } , "version" : "1.0.0" } "#;
+
 fn provider(alloc: Global) -> Result<Authority, Fail> {
     Ok(Authority::Provider {
         number: 12,
@@ -424,49 +466,78 @@ fn provider(alloc: Global) -> Result<Authority, Fail> {
     })
 }
 
-fn account(alloc: Global, name: &str) -> Result<Ifi, Fail> {
-    Ok(Ifi::Account {
-        home: Text::of(alloc, "https://lrs.invalid/callers")?,
-        name: Text::of(alloc, name)?,
-    })
-}
-
-// Where a kept statement has who has that identifier: at the direct places, and with the related ones.
-fn places(kept: &StoredStatement, ifi: &Ifi) -> (bool, bool) {
-    (kept.has_agent(ifi, false), kept.has_agent(ifi, true))
-}
-
-fn account_places(alloc: Global, kept: &StoredStatement, name: &str) -> Result<(bool, bool), Fail> {
-    let ifi = account(alloc, name)?;
-    Ok(places(kept, &ifi))
-}
-
-fn kept_mailbox_places(
+// Whether both are shown alike in that form.
+fn are_shown_alike(
     alloc: Global,
     kept: &StoredStatement,
-    mail: &str,
-) -> Result<(bool, bool), Fail> {
-    let ifi = mailbox(alloc, mail)?;
-    Ok(places(kept, &ifi))
+    held: &HeldStatement,
+    format: Format,
+) -> Result<bool, Fail> {
+    let mut bytes = Vec::new(alloc);
+    let tree = kept.tree(alloc, format)?;
+    write(&tree, &mut bytes)?;
+    is_shown_as(alloc, held, format, bytes.as_slice())
 }
 
-// The authority that the store gives takes part at the related places, the one that was received doesn't.
-fn is_the_callers(alloc: Global, kept: &StoredStatement) -> Result<bool, Fail> {
+// Whether the tree that is made anew is written as the one that was received, and known as this one.
+fn is_received_again(
+    alloc: Global,
+    kept: &StoredStatement,
+    held: &HeldStatement,
+) -> Result<bool, Fail> {
+    let mut bytes = Vec::new(alloc);
+    write(kept.received(), &mut bytes)?;
+    let tree = held.received(alloc)?;
+    let known = held.is_received_as(&tree) && !held.is_received_as(&Tree::Null);
+    let again = is_tree_written_as(alloc, &tree, bytes.as_slice());
+    drop(tree);
+    Ok(again? && known)
+}
+
+// Whether the statement that is made anew is held as the first one.
+fn is_whole_again(alloc: Global, held: &HeldStatement) -> Result<bool, Fail> {
+    let whole = held.whole(alloc)?;
+    let again = are_shown_alike(alloc, &whole, held, Format::Exact);
+    drop(whole);
+    again
+}
+
+fn are_alike(alloc: Global, kept: &StoredStatement, held: &HeldStatement) -> Result<bool, Fail> {
     Ok(
-        account_places(alloc, kept, "provider:12")? == (false, true)
-            && account_places(alloc, kept, "admin")? == (false, false)
-            && kept_mailbox_places(alloc, kept, "mailto:auth@example.com")? == (false, false)
-            && kept_mailbox_places(alloc, kept, "mailto:t@example.com")? == (false, true)
-            && kept_mailbox_places(alloc, kept, "mailto:team@example.com")? == (true, true),
+        are_shown_alike(alloc, kept, held, Format::Exact)?
+            && are_shown_alike(alloc, kept, held, Format::Ids)?
+            && is_received_again(alloc, kept, held)?
+            && is_whole_again(alloc, held)?,
     )
 }
 
-#[test]
-fn the_authority_of_a_kept_statement_is_the_callers(rt: HostRuntime) -> Result<(), Fail> {
-    let by = provider(rt.alloc())?;
-    let kept = kept(rt.alloc(), WHOLE, by)?;
-    let told = is_the_callers(rt.alloc(), &kept);
+fn is_held_alike(alloc: Global, kept: &StoredStatement) -> Result<bool, Fail> {
+    let held = HeldStatement::of(alloc, kept)?;
+    let alike = are_alike(alloc, kept, &held);
+    drop(held);
+    alike
+}
+
+fn is_sent_held_alike(alloc: Global, text: &str) -> Result<bool, Fail> {
+    let by = provider(alloc)?;
+    let kept = kept(alloc, text, by)?;
+    let alike = is_held_alike(alloc, &kept);
     drop(kept);
-    assert!(rt; told?);
+    alike
+}
+
+// The number of the first line whose statement is shown otherwise once it is held.
+fn first_held_wrong(alloc: Global, texts: &str) -> Result<Option<usize>, Fail> {
+    for (i, text) in texts.lines().enumerate() {
+        if !is_sent_held_alike(alloc, text)? {
+            return Ok(Some(i));
+        }
+    }
+    Ok(None)
+}
+
+#[test]
+fn a_held_statement_is_shown_as_its_tree_is(rt: HostRuntime) -> Result<(), Fail> {
+    assert_eq!(rt; first_held_wrong(rt.alloc(), SENT)?, None);
     Ok(())
 }

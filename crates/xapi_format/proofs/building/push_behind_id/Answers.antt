@@ -2,8 +2,7 @@ use Rattle.std.proofs.Common.{map, codes, ap, ◌∙◌}
 use Rattle.std.proofs.lemmas.Result.{on_ok_weaker}
 use Rattle.lrs_json.specs.Json.{no_members, member, string}
 use Rattle.lrs_json.specs.View.{view, member_view, members_of}
-use Rattle.xapi_format.specs.Authorities.{authority_json}
-use Rattle.xapi_format.specs.Completed.{added_last, given_or}
+use Rattle.xapi_format.specs.Completed.{given_or}
 use Rattle.xapi_values.specs.Following.{followed_by}
 use Rattle.xapi_format.proofs.building.push_behind_id.Goals as goal
 

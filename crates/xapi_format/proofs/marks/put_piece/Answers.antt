@@ -1,0 +1,11 @@
+use Rattle.std.proofs.Common.{◌++◌, List, ℕ, ap, ◌∙◌}
+use Rattle.std.proofs.lemmas.Result.{on_ok_weaker}
+use Rattle.xapi_format.specs.Received.{bracket, bytes_at}
+use Rattle.xapi_format.proofs.Appending.{behind}
+use Rattle.xapi_format.proofs.marks.put_piece.Goals as goal
+
+pub returns-clause-ok : goal.returns-clause-ok
+returns-clause-ok c =
+    let old = c.args.into.now.items in
+    on_ok_weaker c.put_bracket.result (λ e. behind old c.put.new.into.items c.put_bracket.new.into.items (bytes_at c.args.text.now c.args.piece.place) (bracket c.args.piece.behind)
+    (c.in_ok-put.ensures.ok ∙ ap (λ (t : List ℕ). old ++ t) c.of-bytes.ensures) e) c.put_bracket.ensures.ok

@@ -1,0 +1,195 @@
+// A statement as the store holds it in memory.
+ghost use Rattle.std.specs.Prelude.{◌≡◌, ◌↔◌, ◌++◌, IsTrue, IfOk, OnOk, OnErr};
+ghost use Rattle.lrs_json.specs.View.{view};
+ghost use Rattle.lrs_json.specs.Written.{Extends};
+ghost use Rattle.xapi_rules.specs.Rules.{is_voiding};
+ghost use Rattle.xapi_statement.specs.Shown.{shown_form, shown_text};
+ghost use Rattle.xapi_statement.specs.Statement.{is_statement, registration_of, target_of};
+
+use crate::{Authority, Format, Statement, StoredStatement};
+use lrs_json::{Memory, Tree, write};
+use lrs_names::Id;
+use lrs_time::Moment;
+use std::alloc::Global;
+use std::marker::Model;
+use xapi_format::ReceivedText;
+
+/// A statement as the store holds it in memory, seen as the `StoredStatement` that it was made of. Of what was received
+/// it keeps the written text, since a tree takes several times as much room, and most of what is held is only shown.
+/// Beside the text stands what is asked of many statements at a time: to which one it refers, its registration, and
+/// whether it voids. For all else its tree is made anew, which takes memory.
+#[derive(Drop)]
+pub struct HeldStatement {
+    received: ReceivedText,
+    id: Id,
+    stored: Moment,
+    authority: Authority,
+    target: Option<Id>,
+    registration: Option<Id>,
+    is_voiding: bool,
+}
+
+impl Model for HeldStatement {
+    ghost use Rattle.xapi_statement.specs.Stored.{StoredStatement as SpecStatement};
+    ghost use Rattle.std.specs.Coded.{codes};
+    ghost use Rattle.lrs_json.specs.contracts.tree.Tree as tree;
+    ghost use Rattle.xapi_statement.specs.Held.{IsNoted};
+
+    ghost Value = { SpecStatement };
+
+    ghost coded = { Prim.hlevel (codes, tree.the_row.coded) };
+
+    ghost view = { λ h. record { received = h.received; id = h.id; stored = h.stored; authority = h.authority } };
+
+    ghost invariant = { λ h. IsNoted h.received h.target h.registration h.is_voiding };
+}
+
+impl HeldStatement {
+    /// Writes the text of a statement, and notes what is asked of it. The statement stays with the caller.
+    pub fn of(alloc: Global, statement: &StoredStatement) -> Result<HeldStatement, Memory>
+        ensures { IfOk result (λ h. h ≡ statement.now) }
+    {
+        let whole = statement.statement();
+        let received = ReceivedText::of(alloc, whole.received())?;
+        let authority = statement.authority().copy()?;
+        Ok(HeldStatement::noted(received, authority, statement))
+    }
+
+    // The statement with that text and that authority, which are its own.
+    fn noted(
+        received: ReceivedText,
+        authority: Authority,
+        statement: &StoredStatement,
+    ) -> HeldStatement
+        requires received { received ≡ statement.now.received }
+        requires authority { authority ≡ statement.now.authority }
+        requires unbroken { IsTrue (is_statement (view statement.now.received)) }
+        ensures { result ≡ statement.now }
+    {
+        let id = statement.id();
+        let stored = statement.stored();
+        let target = statement.target();
+        let registration = statement.registration();
+        let is_voiding = statement.is_voiding();
+        HeldStatement {
+            received,
+            id,
+            stored,
+            authority,
+            target,
+            registration,
+            is_voiding,
+        }
+    }
+
+    /// The id under which it is kept.
+    pub fn id(&self) -> Id
+        ensures { result ≡ self.now.id }
+    {
+        self.id
+    }
+
+    /// The moment at which it was accepted.
+    pub fn stored(&self) -> Moment
+        ensures { result ≡ self.now.stored }
+    {
+        self.stored
+    }
+
+    /// Under whose authority it stands: the caller who brought it.
+    pub fn authority(&self) -> &Authority
+        ensures { result.now ≡ self.now.authority }
+    {
+        &self.authority
+    }
+
+    /// The statement to which its object refers.
+    pub fn target(&self) -> Option<Id>
+        ensures { result ≡ target_of (view self.now.received) }
+    {
+        self.target
+    }
+
+    /// The registration that its context names, a UUID.
+    pub fn registration(&self) -> Option<Id>
+        ensures { result ≡ registration_of (view self.now.received) }
+    {
+        self.registration
+    }
+
+    /// Whether its verb is voided (xAPI 1.0.3, part two, section 2.3.2).
+    pub fn is_voiding(&self) -> bool
+        ensures { result ≡ is_voiding (view self.now.received) }
+    {
+        self.is_voiding
+    }
+
+    /// Whether this tree was received. Takes no memory.
+    pub fn is_received_as(&self, tree: &Tree) -> bool
+        ensures { IsTrue result ↔ (tree.now ≡ self.now.received) }
+    {
+        self.received.is_of(tree)
+    }
+
+    /// The tree that was received, made anew.
+    pub fn received(&self, alloc: Global) -> Result<Tree, Memory>
+        ensures { IfOk result (λ t. t ≡ self.now.received) }
+    {
+        self.received.tree(alloc)
+    }
+
+    /// The statement with its tree, made anew.
+    pub fn whole(&self, alloc: Global) -> Result<StoredStatement, Memory>
+        ensures { IfOk result (λ s. s ≡ self.now) }
+    {
+        let authority = self.authority.copy()?;
+        let tree = self.received.tree(alloc)?;
+        Ok(Statement::of(tree).complete(self.id, self.stored, authority))
+    }
+
+    /// Appends the written form of its tree in that form, or nothing if memory runs out. Of the exact form no tree
+    /// is made.
+    pub fn write(&self, format: Format, into: &mut Vec<u8>) -> Result<(), Memory>
+        ensures ok { OnOk result (into.new.items ≡ into.old.items ++ shown_text format self.now) }
+        ensures err { OnErr result (into.new.items ≡ into.old.items) }
+    {
+        let length = into.len();
+        let written = self.put_shown(format, into);
+        if written.is_err() {
+            into.truncate(length);
+        }
+        written
+    }
+
+    // What stood before stays if memory runs out in the middle.
+    fn put_shown(&self, format: Format, into: &mut Vec<u8>) -> Result<(), Memory>
+        ensures ok { OnOk result (into.new.items ≡ into.old.items ++ shown_text format self.now) }
+        ensures kept { Extends into.old.items into.new.items }
+    {
+        match format {
+            Format::Exact => {
+                self.received
+                    .put_completed(&self.id, self.stored, &self.authority, into)
+            }
+            Format::Ids => self.put_reduced(into),
+        }
+    }
+
+    fn put_reduced(&self, into: &mut Vec<u8>) -> Result<(), Memory>
+        ensures ok { OnOk result (into.new.items ≡ into.old.items ++ shown_text Format.Ids self.now) }
+        ensures kept { Extends into.old.items into.new.items }
+    {
+        let tree = self.reduced(*into.allocator())?;
+        write(&tree, into)
+    }
+
+    // The tree of its form by ids.
+    fn reduced(&self, alloc: Global) -> Result<Tree, Memory>
+        ensures { IfOk result (λ tree. view tree ≡ shown_form Format.Ids self.now) }
+    {
+        let whole = self.whole(alloc)?;
+        let tree = whole.tree(alloc, Format::Ids);
+        drop(whole);
+        tree
+    }
+}
