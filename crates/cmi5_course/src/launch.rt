@@ -2,7 +2,7 @@ ghost use Rattle.std.specs.Prelude.{◌≡◌, Some, IfSome};
 ghost use Rattle.cmi5_course.specs.Words.{mode_text, mode_of};
 
 use lrs_agents::Ifi;
-use lrs_json::Text;
+use lrs_json::Number;
 use lrs_names::{Id, Iri};
 use lrs_register::Keyed;
 use std::alloc::AllocError;
@@ -57,7 +57,7 @@ pub struct Launch {
     pub publisher: Iri,
     pub mode: Mode,
     /// The score from 0 to 1 that passes the unit, as the course spells it.
-    pub mastery: Option<Text>,
+    pub mastery: Option<Number>,
 }
 
 impl Keyed<Id> for Launch {

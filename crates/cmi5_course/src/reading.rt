@@ -13,7 +13,7 @@ ghost use Rattle.cmi5_course.specs.Courses.{kind_of, unit_if, node_of};
 use crate::places::Placed;
 use crate::rules::is_of_kind;
 use crate::{Kind, Method, MoveOn, Node, Unit};
-use lrs_json::{Items, Memory, Text, Tree};
+use lrs_json::{Items, Memory, Number, Text, Tree};
 use lrs_names::{Iri, text_under};
 use std::alloc::Global;
 
@@ -55,8 +55,8 @@ fn method_in(tree: &Tree) -> Method
     }
 }
 
-fn mastery_text(tree: &Tree) -> Option<&Text>
-    ensures { option_map (λ text. text.now) result ≡ spelling_under (codes "masteryScore") (view tree.now) }
+fn mastery_text(tree: &Tree) -> Option<&Number>
+    ensures { option_map (λ number. number.now) result ≡ spelling_under (codes "masteryScore") (view tree.now) }
 {
     match tree.get("masteryScore") {
         Some(Tree::Number(spelling)) => Some(spelling),
@@ -64,7 +64,7 @@ fn mastery_text(tree: &Tree) -> Option<&Text>
     }
 }
 
-fn copy_mastery(tree: &Tree) -> Result<Option<Text>, Memory>
+fn copy_mastery(tree: &Tree) -> Result<Option<Number>, Memory>
     ensures { IfOk result (λ copy. copy ≡ spelling_under (codes "masteryScore") (view tree.now)) }
 {
     match mastery_text(tree) {

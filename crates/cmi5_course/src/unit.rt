@@ -1,7 +1,7 @@
 ghost use Rattle.std.specs.Prelude.{◌≡◌};
 ghost use Rattle.cmi5_course.specs.Words.{move_on_text, move_on_of, method_text, method_of};
 
-use lrs_json::Text;
+use lrs_json::{Number, Text};
 
 /// What satisfies a unit (cmi5 Quartz, section 13.1.4, `moveOn`).
 #[derive(Clone, Copy, Debug, PartialEq, Eq)]
@@ -81,7 +81,7 @@ pub struct Unit {
     pub url: Text,
     pub move_on: MoveOn,
     /// The score from 0 to 1 that passes it, as the course spells it.
-    pub mastery_text: Option<Text>,
+    pub mastery_text: Option<Number>,
     pub method: Method,
     /// What is handed to its content as it is.
     pub parameters: Option<Text>,

@@ -1,6 +1,6 @@
 // What is read of a course, which courses are the same, and the words of modes.
 use cmi5_course::{Course, CourseRefused, Kind, Method, Mode, MoveOn, Node, Unit};
-use lrs_json::Text;
+use lrs_json::{Number, Text};
 use lrs_json_reader::read;
 use lrs_names::Iri;
 use std::alloc::Global;
@@ -93,11 +93,18 @@ fn is_text(text: &Option<Text>, wanted: &str) -> bool {
     }
 }
 
+fn is_number(number: &Option<Number>, wanted: &str) -> bool {
+    match number {
+        Some(number) => number.as_str() == wanted,
+        None => false,
+    }
+}
+
 fn is_sample_unit(unit: &Unit) -> bool {
     unit.url.as_str() == "https://au.example/u"
         && unit.move_on == MoveOn::CompletedAndPassed
         && unit.method == Method::AnyWindow
-        && is_text(&unit.mastery_text, "0.8")
+        && is_number(&unit.mastery_text, "0.8")
         && unit.parameters.is_none()
         && unit.entitlement.is_none()
 }
@@ -145,7 +152,7 @@ const FULL: &str =
 fn is_full_unit(unit: &Unit) -> bool {
     unit.move_on == MoveOn::NotApplicable
         && unit.method == Method::OwnWindow
-        && is_text(&unit.mastery_text, "10e-1")
+        && is_number(&unit.mastery_text, "10e-1")
         && is_text(&unit.parameters, "p")
         && is_text(&unit.entitlement, "k")
 }

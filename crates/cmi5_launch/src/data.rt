@@ -9,7 +9,7 @@ use crate::activities::only_activity;
 use crate::names::SESSION_ID;
 use cmi5_course::{Mode, Unit};
 use lrs_agent_texts::building::{push, push_given, push_words, whole};
-use lrs_json::{Items, Member, Memory, Text, Tree, utf8_text, write};
+use lrs_json::{Items, Member, Memory, Number, Text, Tree, utf8_text, write};
 use lrs_names::{Id, Iri};
 use std::alloc::Global;
 
@@ -73,7 +73,7 @@ fn push_given_data(
 /// One member more, which holds the number so spelled, where there is one.
 pub fn push_number(
     name: &str,
-    spelling: &Option<Text>,
+    spelling: &Option<Number>,
     built: &mut Items<Member>,
 ) -> Result<(), Memory>
     ensures { OnOk result (map member_view built.new
@@ -85,7 +85,7 @@ pub fn push_number(
     }
 }
 
-fn number(spelling: &Text) -> Result<Tree, Memory>
+fn number(spelling: &Number) -> Result<Tree, Memory>
     ensures { IfOk result (λ tree. view tree ≡ number spelling.now) }
 {
     Ok(Tree::Number(spelling.clone()?))

@@ -4,7 +4,7 @@ ghost use Rattle.cmi5_launch.specs.Addresses.{IsAddress};
 use cmi5_course::{Kind, Method, Mode, MoveOn, Reason, Unit};
 use cmi5_launch::{Made, activity_id, launch_address, launch_data, made_statement};
 use lrs_agents::{Agent, Ifi};
-use lrs_json::{Text, write};
+use lrs_json::{Decimal, Number, Text, write};
 use lrs_names::{Id, Iri};
 use std::alloc::Global;
 use std::test::Fail;
@@ -39,9 +39,23 @@ fn text_if(alloc: Global, text: Option<&str>) -> Result<Option<Text>, Fail> {
     }
 }
 
+fn number_if(alloc: Global, spelling: Option<&str>) -> Result<Option<Number>, Fail> {
+    match spelling {
+        Some(spelling) => Ok(Some(number(alloc, spelling)?)),
+        None => Ok(None),
+    }
+}
+
+fn number(alloc: Global, spelling: &str) -> Result<Number, Fail> {
+    match Decimal::of(spelling.as_bytes()) {
+        Some(_) => Ok(Number::of(Text::of(alloc, spelling)?)),
+        None => Err(Fail::from("no number")),
+    }
+}
+
 fn unit(alloc: Global, url: &str, given: &Given) -> Result<Unit, Fail> {
     let url = Text::of(alloc, url)?;
-    let mastery_text = text_if(alloc, given.mastery)?;
+    let mastery_text = number_if(alloc, given.mastery)?;
     let parameters = text_if(alloc, given.parameters)?;
     let entitlement = text_if(alloc, given.entitlement)?;
     Ok(Unit {

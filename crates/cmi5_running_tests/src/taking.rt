@@ -9,14 +9,14 @@ use crate::setting::Setting;
 use crate::store::Store;
 use cmi5_running_sessions::Sessions;
 use cmi5_running_verdicts::Running;
-use cmi5_verdict::Enrolment;
+use cmi5_verdict::{Enrolment, Statements};
 use lrs_json::Memory;
 use lrs_names::Id;
 use std::alloc::Global;
 use std::slice::from_ref;
 use std::test::Fail;
 use xapi_index::Index;
-use xapi_statement::StoredStatement;
+use xapi_statement::{HeldStatement, StoredStatement};
 
 /// What a word tells happens: `enrolment`, or a statement comes.
 pub(crate) fn happen(
@@ -44,8 +44,8 @@ fn enrol_next(setting: &Setting, store: &mut Store) -> Result<(), Fail> {
 fn enrol(statements: &Index, enrolment: &Enrolment<'_>, running: &mut Running) -> Result<(), Fail>
     requires { StandBehindHolders enrolment.now.nodes.now }
 {
-    running.ready(Some(enrolment.nodes))?;
-    running.enrol(statements, enrolment);
+    running.ready(statements, Some(enrolment))?;
+    running.enrol();
     Ok(())
 }
 
@@ -54,7 +54,7 @@ fn enrol(statements: &Index, enrolment: &Enrolment<'_>, running: &mut Running) -
 fn say(alloc: Global, setting: &Setting, store: &mut Store, word: &str) -> Result<(), Fail> {
     let coming = alone(alloc, store, word)?;
     take_each(alloc, setting, store, coming.as_slice())?;
-    hold(&mut store.statements, coming)
+    hold(&mut store.statements, coming.as_slice())
 }
 
 // The statement of a word, under the next number.
@@ -65,8 +65,8 @@ fn alone(alloc: Global, store: &Store, word: &str) -> Result<Vec<StoredStatement
     Ok(one)
 }
 
-fn hold(statements: &mut Index, coming: Vec<StoredStatement>) -> Result<(), Fail> {
-    statements.ready(coming.as_slice())?;
+fn hold(statements: &mut Index, coming: &[StoredStatement]) -> Result<(), Fail> {
+    statements.ready(coming)?;
     statements.install(coming);
     Ok(())
 }
@@ -81,14 +81,19 @@ fn take_each(
         return Err(Fail::from("before it stands, it owes something else"));
     }
     for statement in coming {
-        take(setting, store, statement)?;
+        take(alloc, setting, store, statement)?;
     }
     Ok(())
 }
 
-fn take(setting: &Setting, store: &mut Store, statement: &StoredStatement) -> Result<(), Fail> {
-    let voided = store.statements.is_voided(statement);
-    void_target(setting, store, statement);
+fn take(
+    alloc: Global,
+    setting: &Setting,
+    store: &mut Store,
+    statement: &StoredStatement,
+) -> Result<(), Fail> {
+    let voided = is_voided(&store.statements, statement);
+    void_target(alloc, setting, store, statement)?;
     take_into_sessions(&mut store.sessions, statement, voided)?;
     take_into_running(
         setting,
@@ -98,6 +103,12 @@ fn take(setting: &Setting, store: &mut Store, statement: &StoredStatement) -> Re
         &mut store.running,
     );
     Ok(())
+}
+
+// Whether one that is held voids the one that comes.
+fn is_voided(held: &Index, coming: &StoredStatement) -> bool {
+    let statements = Statements { held, new: &[] };
+    statements.is_voided(coming)
 }
 
 fn take_into_sessions(
@@ -131,27 +142,36 @@ fn take_into_running(
 
 // ---- voiding
 
-fn void_target(setting: &Setting, store: &mut Store, statement: &StoredStatement) {
+fn void_target(
+    alloc: Global,
+    setting: &Setting,
+    store: &mut Store,
+    statement: &StoredStatement,
+) -> Result<(), Fail> {
     if !statement.is_voiding() {
-        return;
+        return Ok(());
     }
-    if let Some(id) = statement.target() {
-        void_under(setting, store, &id);
+    match statement.target() {
+        Some(id) => void_under(alloc, setting, store, &id),
+        None => Ok(()),
     }
 }
 
 // The statement of that id is voided, if it is held and stands.
-fn void_under(setting: &Setting, store: &mut Store, id: &Id) {
-    if let Some(target) = store.statements.find(id) {
-        if stands(&store.statements, target) {
-            store.sessions.void(target);
-            void_in_running(setting, store.enrolled, target, &mut store.running);
+fn void_under(alloc: Global, setting: &Setting, store: &mut Store, id: &Id) -> Result<(), Fail> {
+    if let Some(held) = store.statements.find(id) {
+        if stands(&store.statements, held) {
+            let target = held.whole(alloc)?;
+            store.sessions.void(&target);
+            void_in_running(setting, store.enrolled, &target, &mut store.running);
+            drop(target);
         }
     }
+    Ok(())
 }
 
-fn stands(statements: &Index, target: &StoredStatement) -> bool {
-    !target.is_voiding() && !statements.is_voided(target)
+fn stands(statements: &Index, held: &HeldStatement) -> bool {
+    !held.is_voiding() && !statements.is_voided(held)
 }
 
 fn void_in_running(

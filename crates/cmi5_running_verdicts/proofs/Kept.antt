@@ -4,8 +4,7 @@ use Rattle.std.specs.Prelude.{slice_get, slice_set}
 use Rattle.std.specs.Option.{option_map_or}
 use Rattle.std.proofs.lemmas.List.{get_or-set_same, length-set}
 use Rattle.std.proofs.lemmas.Option.{get_or_from_slice_get, none-some, same_Some, slice_get-get_or, slice_get_within}
-use Rattle.cmi5_course.specs.declared.course.Node.{Node}
-use Rattle.cmi5_running_verdicts.specs.Running.{HasRoomFor, SeenRunning, Stands}
+use Rattle.cmi5_running_verdicts.specs.Running.{HasCounted, SeenRunning, Stands}
 use Rattle.cmi5_running_verdicts.specs.Tallies.{AreTallies}
 use Rattle.cmi5_running_verdicts.specs.declared.tally.Tally.{Tally}
 use Rattle.cmi5_session.specs.Marked.{MarkedStatement}
@@ -63,13 +62,13 @@ others_stay xs old all ts is same k lt =
 
 -- ---- what was made ahead
 
-pub is_fresh : (r : SeenRunning) (nodes : List Node) (e : SeenEnrolment) (coming : Option (List Tally)) (ts : List Tally)
-    → HasRoomFor r nodes → e.nodes ≡ nodes → coming ≡ r.coming → coming ≡ Some ts → AreTallies e [] ts
-is_fresh r nodes e coming ts room same is there =
-    subst (λ (us : List Tally). AreTallies e [] us) (same_Some room.tallies ts (sym room.coming ∙ (sym is ∙ there))) (room.fresh e same)
+pub is_counted : (r : SeenRunning) (those : List MarkedStatement) (e : SeenEnrolment) (coming : Option (List Tally)) (ts : List Tally)
+    → HasCounted r those e → coming ≡ r.coming → coming ≡ Some ts → AreTallies e those ts
+is_counted r those e coming ts counted is there =
+    subst (λ (us : List Tally). AreTallies e those us) (same_Some counted.tallies ts (sym counted.coming ∙ (sym is ∙ there))) counted.are
 
-pub never_none : (r : SeenRunning) (nodes : List Node) (coming : Option (List Tally)) → HasRoomFor r nodes → coming ≡ r.coming → coming ≡ None → ⊥
-never_none r nodes coming room is none = none-some room.tallies (sym none ∙ (is ∙ room.coming))
+pub never_none : (r : SeenRunning) (those : List MarkedStatement) (e : SeenEnrolment) (coming : Option (List Tally)) → HasCounted r those e → coming ≡ r.coming → coming ≡ None → ⊥
+never_none r those e coming counted is none = none-some counted.tallies (sym none ∙ (is ∙ counted.coming))
 
 -- ---- what stands
 

@@ -236,3 +236,10 @@ counting_all e statements ks nth ts end done =
     let those : done.those ≡ marked_at_each statements ks =
     sym (append-nil done.those) ∙ (ap (λ (js : List ℕ). done.those ++ marked_at_each statements js) (sym (drop_all nth ks end)) ∙ done.left) in
     subst (λ (ms : List MarkedStatement). AreTallies e ms ts) those done.are
+
+-- ---- what is counted, told otherwise
+
+pub counted_as : (e : SeenEnrolment) (more same : List MarkedStatement) (old new : List Tally) → more ≡ same
+    → ((those : List MarkedStatement) → length those + 1 < 2 ^ 64 → AreTallies e those old → AreTallies e (those ++ more) new)
+    → (those : List MarkedStatement) → length those + 1 < 2 ^ 64 → AreTallies e those old → AreTallies e (those ++ same) new
+counted_as e more same old new is step those few are = subst (λ (ms : List MarkedStatement). AreTallies e (those ++ ms) new) is (step those few are)

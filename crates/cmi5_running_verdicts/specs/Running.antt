@@ -1,6 +1,5 @@
 -- What is counted of registrations, in the order in which they were made.
-use Rattle.std.specs.Prelude.{◌≡◌, ◌≤◌, ℕ, List, [], Option, Some, slice_get}
-use Rattle.cmi5_course.specs.declared.course.Node.{Node}
+use Rattle.std.specs.Prelude.{◌≡◌, ◌≤◌, ℕ, List, Option, Some, slice_get}
 use Rattle.cmi5_running_verdicts.specs.Tallies.{AreTallies}
 use Rattle.cmi5_running_verdicts.specs.declared.tally.Tally.{Tally}
 use Rattle.cmi5_session.specs.Marked.{MarkedStatement}
@@ -18,9 +17,9 @@ pub record Stands (r : SeenRunning) (those : List MarkedStatement) (number : ℕ
   pub held : slice_get r.held number ≡ Some tallies
   pub are : AreTallies e those tallies
 
--- There are tallies for a course of these nodes, of which nothing was said yet, and room for them.
-pub record HasRoomFor (r : SeenRunning) (nodes : List Node) : Type 0 where
+-- There are tallies for a registration that comes, which stand for these statements, and room for them.
+pub record HasCounted (r : SeenRunning) (those : List MarkedStatement) (e : SeenEnrolment) : Type 0 where
   pub tallies : List Tally
   pub coming : r.coming ≡ Some tallies
-  pub fresh : (e : SeenEnrolment) → e.nodes ≡ nodes → AreTallies e [] tallies
+  pub are : AreTallies e those tallies
   pub room : 1 ≤ r.spare

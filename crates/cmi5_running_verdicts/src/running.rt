@@ -1,12 +1,12 @@
 // What is counted of registrations, in the order in which they were made. The tallies of one that is to come are made
-// ahead.
+// ahead, with all that statements say of it already.
 ghost use Rattle.std.specs.Prelude.{◌≡◌, ◌<◌, ◌+◌, ◌^◌, ◌==◌, [], ◌∷◌, ◌++◌, ℕ, List, None, false, true, length};
 ghost use Rattle.std.specs.Prelude.{slice_get, IfNone, IfOk, IfSome, OnErr, OnOk};
 ghost use Rattle.std.specs.Option.{option_map_or};
 ghost use Rattle.cmi5_launch.specs.Names.{waived};
 ghost use Rattle.cmi5_running_verdicts.specs.Holding.{StandBehindHolders};
 ghost use Rattle.cmi5_running_verdicts.specs.Positions.{marked_at, marked_at_each};
-ghost use Rattle.cmi5_running_verdicts.specs.Running.{HasRoomFor, Stands};
+ghost use Rattle.cmi5_running_verdicts.specs.Running.{HasCounted, Stands};
 ghost use Rattle.cmi5_running_verdicts.specs.Tallies.{AreTallies};
 ghost use Rattle.cmi5_session.specs.Marked.{MarkedStatement, mark, marked};
 ghost use Rattle.cmi5_verdict.specs.Nodes.{SeenEnrolment, activity_at, is_satisfied, owed, seen, verdicts};
@@ -17,13 +17,12 @@ ghost use Rattle.xapi_statement.specs.Stored.{StoredStatement as SpecStatement};
 use crate::counting::{count, discount, fresh};
 use crate::tally::Tally;
 use crate::telling::{any_voids, is_all_met_at, is_waived_at, owed_by_tallies, verdicts};
-use cmi5_course::Node;
 use cmi5_verdict::{Enrolment, Statements, owed};
 use lrs_json::Memory;
 use std::alloc::Global;
 use std::marker::Model;
 use xapi_index::Index;
-use xapi_statement::StoredStatement;
+use xapi_statement::{HeldStatement, StoredStatement};
 use xapi_statement_keys::Key;
 
 /// The tallies of the nodes of one registration's course, in the order of the text.
@@ -72,15 +71,6 @@ impl Tallies {
             → AreTallies (seen enrolment.now) (before ++ mark statement.now true ∷ behind) self.new }
     {
         discount(enrolment, statement, self.list.as_mut_slice());
-    }
-
-    // Counts all that statements say of the registration, where nothing is counted yet.
-    fn count_all(&mut self, statements: &Index, enrolment: &Enrolment<'_>)
-        requires behind { StandBehindHolders enrolment.now.nodes.now }
-        requires fresh { AreTallies (seen enrolment.now) [] self.old }
-        ensures { AreTallies (seen enrolment.now) (marked statements.now.held) self.new }
-    {
-        count_registered(statements, enrolment, self.list.as_mut_slice());
     }
 }
 
@@ -132,31 +122,36 @@ impl Running {
 
     // ---- what is to come
 
-    /// Makes tallies for a registration in a course of these nodes, and room for them. What was made before is taken
-    /// back. Without nodes none is to come.
-    pub fn ready(&mut self, nodes: Option<&[Node]>) -> Result<(), Memory>
-        requires { IfSome nodes (λ ns. StandBehindHolders ns.now) }
+    /// Makes tallies for a registration that comes, counts what the statements say of it already, and makes room for
+    /// them. What was made before is taken back. Without an enrolment none is to come.
+    pub fn ready(
+        &mut self,
+        statements: &Index,
+        enrolment: Option<&Enrolment<'_>>,
+    ) -> Result<(), Memory>
+        requires behind { IfSome enrolment (λ e. StandBehindHolders e.now.nodes.now) }
         ensures held { self.new.held ≡ self.old.held }
-        ensures ready { OnOk result (IfSome nodes.entry (λ ns. HasRoomFor self.new ns.now)) }
-        ensures none { IfNone nodes.entry (self.new.coming ≡ None) }
+        ensures ready { OnOk result (IfSome enrolment.entry (λ e.
+            HasCounted self.new (marked statements.now.held) (seen e.now))) }
+        ensures none { IfNone enrolment.entry (self.new.coming ≡ None) }
         ensures nothing { OnErr result (self.new.coming ≡ None) }
     {
         self.release();
-        match nodes {
-            Some(course) => self.make(course),
+        match enrolment {
+            Some(coming) => self.make(statements, coming),
             None => Ok(()),
         }
     }
 
-    fn make(&mut self, nodes: &[Node]) -> Result<(), Memory>
-        requires behind { StandBehindHolders nodes.now }
+    fn make(&mut self, statements: &Index, enrolment: &Enrolment<'_>) -> Result<(), Memory>
+        requires behind { StandBehindHolders enrolment.now.nodes.now }
         requires nothing { self.old.coming ≡ None }
         ensures held { self.new.held ≡ self.old.held }
-        ensures ready { OnOk result (HasRoomFor self.new nodes.now) }
+        ensures ready { OnOk result (HasCounted self.new (marked statements.now.held) (seen enrolment.now)) }
         ensures nothing { OnErr result (self.new.coming ≡ None) }
     {
         self.held.reserve(1)?;
-        let made = fresh(self.alloc, nodes)?;
+        let made = counted(self.alloc, statements, enrolment)?;
         self.coming = Some(Tallies::of(made));
         Ok(())
     }
@@ -169,20 +164,17 @@ impl Running {
         self.coming = None;
     }
 
-    /// Takes a registration in for which there is room, and counts what the statements say of it already. It takes no
-    /// memory.
-    pub fn enrol(&mut self, statements: &Index, enrolment: &Enrolment<'_>)
-        requires room { HasRoomFor self.old enrolment.now.nodes.now }
-        requires behind { StandBehindHolders enrolment.now.nodes.now }
-        ensures stands { Stands self.new (marked statements.now.held) (length self.old.held) (seen enrolment.now) }
+    /// Takes in the registration for which tallies were made. It takes no memory.
+    pub fn enrol(&mut self)
+        requires { (those : List MarkedStatement) × (e : SeenEnrolment) × HasCounted self.old those e }
+        ensures stands { (those : List MarkedStatement) → (e : SeenEnrolment) → HasCounted self.old those e
+            → Stands self.new those (length self.old.held) e }
         ensures others { (k : ℕ) → k < length self.old.held
             → slice_get self.new.held k ≡ slice_get self.old.held k }
         ensures long { length self.new.held ≡ length self.old.held + 1 }
         ensures nothing { self.new.coming ≡ None }
     {
-        if let Some(coming) = self.coming.take() {
-            let mut tallies = coming;
-            tallies.count_all(statements, enrolment);
+        if let Some(tallies) = self.coming.take() {
             self.held.push_reserved(tallies);
         }
     }
@@ -280,52 +272,77 @@ impl Running {
 
 // ---- statements that were there before the registration
 
+// The tallies of a registration that comes behind these statements.
+fn counted(
+    alloc: Global,
+    statements: &Index,
+    enrolment: &Enrolment<'_>,
+) -> Result<Vec<Tally>, Memory>
+    requires behind { StandBehindHolders enrolment.now.nodes.now }
+    ensures { IfOk result (λ tallies.
+        AreTallies (seen enrolment.now) (marked statements.now.held) tallies.items) }
+{
+    let mut tallies = fresh(alloc, enrolment.nodes)?;
+    count_registered(alloc, statements, enrolment, tallies.as_mut_slice())?;
+    Ok(tallies)
+}
+
 // Counts those under the key of the registration: the others say nothing of it.
-fn count_registered(statements: &Index, enrolment: &Enrolment<'_>, tallies: &mut [Tally])
+fn count_registered(
+    alloc: Global,
+    statements: &Index,
+    enrolment: &Enrolment<'_>,
+    tallies: &mut [Tally],
+) -> Result<(), Memory>
     requires behind { StandBehindHolders enrolment.now.nodes.now }
     requires fresh { AreTallies (seen enrolment.now) [] tallies.old }
-    ensures counted { AreTallies (seen enrolment.now) (marked statements.now.held) tallies.new }
+    ensures counted { OnOk result (AreTallies (seen enrolment.now) (marked statements.now.held) tallies.new) }
     ensures long { length tallies.new ≡ length tallies.old }
 {
     let key = Key::Registration(*enrolment.registration);
     let positions = statements.posting(&key);
     drop(key);
-    count_each(statements, enrolment, positions, tallies);
+    count_each(alloc, statements, enrolment, positions, tallies)
 }
 
 // Counts those at these positions.
 fn count_each(
+    alloc: Global,
     statements: &Index,
     enrolment: &Enrolment<'_>,
     positions: &[u32],
     tallies: &mut [Tally],
-)
+) -> Result<(), Memory>
     requires behind { StandBehindHolders enrolment.now.nodes.now }
     requires fresh { AreTallies (seen enrolment.now) [] tallies.old }
-    ensures counted { AreTallies (seen enrolment.now) (marked_at_each statements.now.held positions.now) tallies.new }
+    ensures counted { OnOk result (
+        AreTallies (seen enrolment.now) (marked_at_each statements.now.held positions.now) tallies.new) }
     ensures long { length tallies.new ≡ length tallies.old }
 {
     for nth in 0..positions.len() {
-        count_nth(statements, enrolment, positions, nth, tallies);
+        count_nth(alloc, statements, enrolment, positions, nth, tallies)?;
     }
+    Ok(())
 }
 
 fn count_nth(
+    alloc: Global,
     statements: &Index,
     enrolment: &Enrolment<'_>,
     positions: &[u32],
     nth: usize,
     tallies: &mut [Tally],
-)
+) -> Result<(), Memory>
     requires { StandBehindHolders enrolment.now.nodes.now }
-    ensures counted { (those : List MarkedStatement) → length those + 1 < 2 ^ 64
+    ensures counted { OnOk result ((those : List MarkedStatement) → length those + 1 < 2 ^ 64
         → AreTallies (seen enrolment.now) those tallies.old
         → AreTallies (seen enrolment.now)
-        (those ++ option_map_or (marked_at statements.now.held) (slice_get positions.now nth) []) tallies.new }
+        (those ++ option_map_or (marked_at statements.now.held) (slice_get positions.now nth) []) tallies.new) }
     ensures long { length tallies.new ≡ length tallies.old }
 {
-    if let Some(position) = position_at(positions, nth) {
-        count_at(statements, enrolment, position, tallies);
+    match position_at(positions, nth) {
+        Some(position) => count_at(alloc, statements, enrolment, position, tallies),
+        None => Ok(()),
     }
 }
 
@@ -339,15 +356,44 @@ fn position_at(positions: &[u32], nth: usize) -> Option<usize>
 }
 
 // Counts the one at a position. One that is to come isn't there yet.
-fn count_at(statements: &Index, enrolment: &Enrolment<'_>, position: usize, tallies: &mut [Tally])
+fn count_at(
+    alloc: Global,
+    statements: &Index,
+    enrolment: &Enrolment<'_>,
+    position: usize,
+    tallies: &mut [Tally],
+) -> Result<(), Memory>
     requires { StandBehindHolders enrolment.now.nodes.now }
-    ensures counted { (those : List MarkedStatement) → length those + 1 < 2 ^ 64
+    ensures counted { OnOk result ((those : List MarkedStatement) → length those + 1 < 2 ^ 64
         → AreTallies (seen enrolment.now) those tallies.old
-        → AreTallies (seen enrolment.now) (those ++ marked_at statements.now.held position) tallies.new }
+        → AreTallies (seen enrolment.now) (those ++ marked_at statements.now.held position) tallies.new) }
     ensures long { length tallies.new ≡ length tallies.old }
 {
-    if let Some(statement) = statements.get(position) {
-        let voided = statements.is_voided_at(statements.len(), position);
-        count(enrolment, statement, voided, tallies);
+    match statements.get(position) {
+        Some(held) => {
+            let voided = statements.is_voided_at(statements.len(), position);
+            count_whole(alloc, enrolment, held, voided, tallies)
+        }
+        None => Ok(()),
     }
+}
+
+// Counts one that is held: its tree is read, and dropped again.
+fn count_whole(
+    alloc: Global,
+    enrolment: &Enrolment<'_>,
+    held: &HeldStatement,
+    voided: bool,
+    tallies: &mut [Tally],
+) -> Result<(), Memory>
+    requires { StandBehindHolders enrolment.now.nodes.now }
+    ensures counted { OnOk result ((those : List MarkedStatement) → length those + 1 < 2 ^ 64
+        → AreTallies (seen enrolment.now) those tallies.old
+        → AreTallies (seen enrolment.now) (those ++ mark held.now voided ∷ []) tallies.new) }
+    ensures long { length tallies.new ≡ length tallies.old }
+{
+    let statement = held.whole(alloc)?;
+    count(enrolment, &statement, voided, tallies);
+    drop(statement);
+    Ok(())
 }

@@ -1,14 +1,15 @@
 // Statements that cmi5 defines, and those of a session's own.
-ghost use Rattle.std.specs.Prelude.{◌≡◌, false, slice_get};
+ghost use Rattle.std.specs.Prelude.{◌≡◌, false, slice_get, IfOk};
 ghost use Rattle.std.specs.Option.{option_map_or};
 ghost use Rattle.cmi5_session.specs.Own.{has_own, is_cmi5_defined, is_of_session, is_own, says};
 ghost use Rattle.lrs_json.specs.View.{view};
 
 use cmi5_launch::names::CMI5_CATEGORY;
-use lrs_json::Tree;
+use lrs_json::{Memory, Tree};
 use lrs_names::Id;
+use std::alloc::Global;
 use xapi_index::Index;
-use xapi_statement::{Authority, StoredStatement, has_context_activity, verb_of};
+use xapi_statement::{Authority, HeldStatement, StoredStatement, has_context_activity, verb_of};
 
 /// Whether cmi5 defines what a statement means (cmi5 Quartz, section 9.6.2.1).
 pub fn is_cmi5_defined(statement: &Tree) -> bool
@@ -41,23 +42,55 @@ pub fn is_own(session: &Id, verb: &str, statement: &StoredStatement) -> bool
     is_of_session(session, statement.authority()) && says(verb, statement.received())
 }
 
-fn is_own_at(statements: &Index, session: &Id, verb: &str, at: usize) -> bool
-    ensures { result ≡ option_map_or (is_own session.now verb.now) (slice_get statements.now.held at) false }
+// The same of one that is held. Its tree is read only if it is under the session's authority.
+fn is_held_own(
+    alloc: Global,
+    session: &Id,
+    verb: &str,
+    held: &HeldStatement,
+) -> Result<bool, Memory>
+    ensures { IfOk result (λ own. own ≡ is_own session.now verb.now held.now) }
+{
+    if is_of_session(session, held.authority()) {
+        says_held(alloc, verb, held)
+    } else {
+        Ok(false)
+    }
+}
+
+fn says_held(alloc: Global, verb: &str, held: &HeldStatement) -> Result<bool, Memory>
+    ensures { IfOk result (λ said. said ≡ says verb.now (view held.now.received)) }
+{
+    let statement = held.received(alloc)?;
+    let said = says(verb, &statement);
+    drop(statement);
+    Ok(said)
+}
+
+fn is_own_at(
+    alloc: Global,
+    statements: &Index,
+    session: &Id,
+    verb: &str,
+    at: usize,
+) -> Result<bool, Memory>
+    ensures { IfOk result (λ own. own
+        ≡ option_map_or (is_own session.now verb.now) (slice_get statements.now.held at) false) }
 {
     match statements.get(at) {
-        Some(statement) => is_own(session, verb, statement),
-        None => false,
+        Some(held) => is_held_own(alloc, session, verb, held),
+        None => Ok(false),
     }
 }
 
 /// Whether one of the statements is the session's own, of that verb and as cmi5 defines it, voided or not.
-pub fn has_own(statements: &Index, session: &Id, verb: &str) -> bool
-    ensures { result ≡ has_own session.now verb.now statements.now.held }
+pub fn has_own(alloc: Global, statements: &Index, session: &Id, verb: &str) -> Result<bool, Memory>
+    ensures { IfOk result (λ own. own ≡ has_own session.now verb.now statements.now.held) }
 {
     for at in 0..statements.len() {
-        if is_own_at(statements, session, verb, at) {
-            return true;
+        if is_own_at(alloc, statements, session, verb, at)? {
+            return Ok(true);
         }
     }
-    false
+    Ok(false)
 }

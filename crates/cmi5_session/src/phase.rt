@@ -1,12 +1,13 @@
 // How far a session has come.
-ghost use Rattle.std.specs.Prelude.{◌≡◌};
+ghost use Rattle.std.specs.Prelude.{◌≡◌, IfOk};
 ghost use Rattle.cmi5_session.specs.Phases.{is_over, phase_behind, phase_of};
 ghost use Rattle.lrs_json.specs.View.{view};
 
 use crate::own::{has_own, says};
 use cmi5_launch::names::{INITIALIZED, TERMINATED};
-use lrs_json::Tree;
+use lrs_json::{Memory, Tree};
 use lrs_names::Id;
+use std::alloc::Global;
 use xapi_index::Index;
 
 /// How far a session has come (cmi5 Quartz, section 9.3).
@@ -53,21 +54,27 @@ impl Phase {
 }
 
 /// How far the session has come whose token was fetched or not, and which was abandoned or not.
-pub(crate) fn phase_of(statements: &Index, session: &Id, fetched: bool, abandoned: bool) -> Phase
-    ensures { result ≡ phase_of session.now fetched abandoned statements.now.held }
+pub(crate) fn phase_of(
+    alloc: Global,
+    statements: &Index,
+    session: &Id,
+    fetched: bool,
+    abandoned: bool,
+) -> Result<Phase, Memory>
+    ensures { IfOk result (λ phase. phase ≡ phase_of session.now fetched abandoned statements.now.held) }
 {
     if abandoned {
-        return Phase::Abandoned;
+        return Ok(Phase::Abandoned);
     }
-    if has_own(statements, session, TERMINATED) {
-        return Phase::Terminated;
+    if has_own(alloc, statements, session, TERMINATED)? {
+        return Ok(Phase::Terminated);
     }
-    if has_own(statements, session, INITIALIZED) {
-        return Phase::Initialized;
+    if has_own(alloc, statements, session, INITIALIZED)? {
+        return Ok(Phase::Initialized);
     }
     if fetched {
-        Phase::Fetched
+        Ok(Phase::Fetched)
     } else {
-        Phase::Launched
+        Ok(Phase::Launched)
     }
 }

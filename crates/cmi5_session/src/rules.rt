@@ -18,7 +18,7 @@ use crate::view::{is_about, is_that_id};
 use crate::{Phase, SessionView};
 use cmi5_course::{Launch, Mode};
 use cmi5_launch::names::{INITIALIZED, MASTERY_SCORE, MOVE_ON_CATEGORY, SESSION_ID};
-use lrs_json::{Text, Tree, utf8_text};
+use lrs_json::{Number, Tree, utf8_text};
 use lrs_names::{Id, Iri, is_word};
 use xapi_statement::{
     extension_of, has_context_activity, has_duration, is_actor, is_voiding, registration_of,
@@ -190,7 +190,7 @@ fn broken_by_verb(session: &SessionView<'_>, verb: Verb, statement: &Tree) -> Op
 }
 
 // C18 to C20.
-fn broken_by_values(mastery: &Option<Text>, verb: Verb, statement: &Tree) -> Option<u8>
+fn broken_by_values(mastery: &Option<Number>, verb: Verb, statement: &Tree) -> Option<u8>
     ensures { result ≡ broken_by_values mastery.now verb (view statement.now) }
 {
     if !fits_mastery(mastery, verb, statement) {
@@ -251,7 +251,7 @@ fn broken_by_earlier(session: &SessionView<'_>, verb: Verb) -> Option<u8>
     }
 }
 
-fn spelled(mastery: &Option<Text>) -> Option<&[u8]>
+fn spelled(mastery: &Option<Number>) -> Option<&[u8]>
     ensures { option_map (λ s. s.now) result ≡ mastery.now }
 {
     match mastery {
@@ -261,7 +261,7 @@ fn spelled(mastery: &Option<Text>) -> Option<&[u8]>
 }
 
 // Whether the scaled score is one with which a learner passes or fails the unit.
-fn fits_mastery(mastery: &Option<Text>, verb: Verb, statement: &Tree) -> bool
+fn fits_mastery(mastery: &Option<Number>, verb: Verb, statement: &Tree) -> bool
     ensures { result ≡ fits_mastery mastery.now verb (view statement.now) }
 {
     match verb {
@@ -271,7 +271,7 @@ fn fits_mastery(mastery: &Option<Text>, verb: Verb, statement: &Tree) -> bool
     }
 }
 
-fn quotes_mastery(mastery: &Option<Text>, statement: &Tree) -> bool
+fn quotes_mastery(mastery: &Option<Number>, statement: &Tree) -> bool
     ensures { result ≡ quotes_mastery mastery.now (view statement.now) }
 {
     match extension_of(statement, MASTERY_SCORE) {
@@ -281,7 +281,7 @@ fn quotes_mastery(mastery: &Option<Text>, statement: &Tree) -> bool
 }
 
 // Whether it is the number that the unit has.
-fn is_number_of(mastery: &Option<Text>, told: &Tree) -> bool
+fn is_number_of(mastery: &Option<Number>, told: &Tree) -> bool
     ensures { result ≡ is_number_of mastery.now (view told.now) }
 {
     match (mastery, spelling_of(told)) {

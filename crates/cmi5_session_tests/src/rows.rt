@@ -15,7 +15,7 @@
 // A line after `//` is none.
 use cmi5_session::{Forbidden, Launch, Mode, Phase, SessionView, permitted, permitted_outside};
 use lrs_agents::Ifi;
-use lrs_json::{Text, Tree};
+use lrs_json::{Number, Text, Tree};
 use lrs_json_reader::read;
 use lrs_names::{Id, Iri};
 use std::alloc::Global;
@@ -249,10 +249,25 @@ fn learner(alloc: Global) -> Result<Ifi, Fail> {
     Ok(Ifi::Account { home, name })
 }
 
-fn mastery(alloc: Global, said: &str) -> Result<Option<Text>, Fail> {
+fn mastery(alloc: Global, said: &str) -> Result<Option<Number>, Fail> {
     match told(said, "mastery").unwrap_or("0.8") {
         "none" => Ok(None),
-        spelling => Ok(Some(Text::of(alloc, spelling)?)),
+        spelling => Ok(Some(spelled(alloc, spelling)?)),
+    }
+}
+
+// The number that is spelled so.
+fn spelled(alloc: Global, spelling: &str) -> Result<Number, Fail> {
+    let tree = read(alloc, spelling.as_bytes())?;
+    let number = number_of(&tree);
+    drop(tree);
+    number
+}
+
+fn number_of(tree: &Tree) -> Result<Number, Fail> {
+    match tree {
+        Tree::Number(number) => Ok(number.clone()?),
+        _ => Err(Fail::from("no number")),
     }
 }
 

@@ -1,5 +1,5 @@
 -- What is said at positions, and that all of a registration stands under its key.
-use Rattle.std.proofs.Common.{◌≡◌, ◌∙◌, ◌&&◌, ◌||◌, ◌+◌, ◌<◌, ◌≤◌, ◌⊎◌, ℕ, zero, suc, Bool, true, false, not, cond, List, [], ◌∷◌, length, drop, get_or, Option, Some, None, inl, inr, refl, sym, ap, arith}
+use Rattle.std.proofs.Common.{◌≡◌, ◌∙◌, ◌&&◌, ◌||◌, ◌+◌, ◌<◌, ◌≤◌, ◌⊎◌, ◌^◌, ℕ, zero, suc, Bool, true, false, not, cond, List, [], ◌∷◌, length, drop, get_or, Option, Some, None, inl, inr, refl, sym, ap, arith}
 use Rattle.std.specs.Prelude.{filter, filter_map, if◌then◌else◌, slice_get}
 use Rattle.std.specs.List.{cons_option}
 use Rattle.std.specs.Option.{option_map_or}
@@ -10,7 +10,7 @@ use Rattle.std.proofs.lemmas.Option.{slice_get_past}
 use Rattle.cmi5_launch.specs.Names.{completed, passed, satisfied, waived}
 use Rattle.cmi5_session.specs.Own.{says}
 use Rattle.cmi5_verdict.specs.Nodes.{SeenEnrolment, activity_at}
-use Rattle.cmi5_verdict.specs.Said.{at_positions, counts_for, either, said_among, said_by, unsaid}
+use Rattle.cmi5_verdict.specs.Said.{at_positions, counts_for, either, said_among, said_by, said_of, unsaid}
 use Rattle.cmi5_verdict.specs.declared.said.Said.{Said}
 use Rattle.cmi5_verdict.proofs.Spoken.{among_more, among_none, either_assoc, either_unsaid, same_said, unsaid_either}
 use Rattle.lrs_json.specs.View.{view}
@@ -131,3 +131,10 @@ said_under_key e all held place positions visible =
     let own : StoredStatement → Bool = has_key (key.Registration e.registration) in
     ap (λ xs. said_among e all place xs) (sym (at_below held positions) ∙ (ap (λ ks. at_positions held ks) visible ∙ at_passing own held))
     ∙ among_passing e all place own held (λ x is. said_elsewhere e all place x (named e.registration (registration_of (view x.received)) ∙ is))
+
+-- ---- what is noted of each node, told otherwise
+
+pub noted_as : (old new : List Said) (first : ℕ) (f g : ℕ → Said) → ((p : ℕ) → f p ≡ g p)
+    → ((k : ℕ) → k < length old → first + k < 2 ^ 64 → said_of new k ≡ either (said_of old k) (f (first + k)))
+    → (k : ℕ) → k < length old → first + k < 2 ^ 64 → said_of new k ≡ either (said_of old k) (g (first + k))
+noted_as old new first f g same noted k lt small = noted k lt small ∙ ap (λ s. either (said_of old k) s) (same (first + k))

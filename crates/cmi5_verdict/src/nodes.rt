@@ -1,44 +1,73 @@
-// Nodes of a course, what holds them, and whether one is satisfied. Takes no memory.
-ghost use Rattle.std.specs.Prelude.{◌≡◌, ◌&&◌, not, option_map};
+// Nodes of a course, what holds them, and whether one is satisfied.
+ghost use Rattle.std.specs.Prelude.{◌≡◌, ◌&&◌, not, option_map, IfOk};
 ghost use Rattle.cmi5_verdict.specs.Nodes.{depth_of, is_met_at, is_satisfied, is_under, parent_of, seen, unit_in};
 ghost use Rattle.cmi5_verdict.specs.Statements.{all_of};
 
 use crate::units::is_met;
 use crate::{Enrolment, Statements};
 use cmi5_course::{Node, Unit};
+use lrs_json::Memory;
+use std::alloc::Global;
 
 /// Whether every unit under the node of that number is met, or it is itself one that is. Each call goes through the
 /// registration's statements for each unit; for more than a few nodes `verdicts` does so once for all.
-pub fn satisfied(statements: &Statements<'_>, enrolment: &Enrolment<'_>, place: u32) -> bool
-    ensures { result ≡ is_satisfied (seen enrolment.now) (all_of statements.now) place }
+pub fn satisfied(
+    alloc: Global,
+    statements: &Statements<'_>,
+    enrolment: &Enrolment<'_>,
+    place: u32,
+) -> Result<bool, Memory>
+    ensures { IfOk result (λ told. told ≡ is_satisfied (seen enrolment.now) (all_of statements.now) place) }
 {
     for other in 0..enrolment.nodes.len() {
-        if is_unmet_under(statements, enrolment, place as usize, other) {
-            return false;
+        if is_unmet_under(alloc, statements, enrolment, place as usize, other)? {
+            return Ok(false);
         }
     }
-    true
+    Ok(true)
 }
 
 // Whether the other node stands under that one, and is a unit that isn't met.
 fn is_unmet_under(
+    alloc: Global,
     statements: &Statements<'_>,
     enrolment: &Enrolment<'_>,
     place: usize,
     other: usize,
-) -> bool
-    ensures { result ≡ is_under (seen enrolment.now).nodes place other
-        && not (is_met_at (seen enrolment.now) (all_of statements.now) other) }
+) -> Result<bool, Memory>
+    ensures { IfOk result (λ unmet. unmet ≡ is_under (seen enrolment.now).nodes place other
+        && not (is_met_at (seen enrolment.now) (all_of statements.now) other)) }
 {
-    is_under(enrolment.nodes, place, other) && !is_met_at(statements, enrolment, other)
+    if is_under(enrolment.nodes, place, other) {
+        is_unmet_at(alloc, statements, enrolment, other)
+    } else {
+        Ok(false)
+    }
 }
 
-fn is_met_at(statements: &Statements<'_>, enrolment: &Enrolment<'_>, place: usize) -> bool
-    ensures { result ≡ is_met_at (seen enrolment.now) (all_of statements.now) place }
+fn is_unmet_at(
+    alloc: Global,
+    statements: &Statements<'_>,
+    enrolment: &Enrolment<'_>,
+    place: usize,
+) -> Result<bool, Memory>
+    ensures { IfOk result (λ unmet. unmet ≡ not (is_met_at (seen enrolment.now) (all_of statements.now) place)) }
+{
+    let met = is_met_at(alloc, statements, enrolment, place)?;
+    Ok(!met)
+}
+
+fn is_met_at(
+    alloc: Global,
+    statements: &Statements<'_>,
+    enrolment: &Enrolment<'_>,
+    place: usize,
+) -> Result<bool, Memory>
+    ensures { IfOk result (λ met. met ≡ is_met_at (seen enrolment.now) (all_of statements.now) place) }
 {
     match unit_in(enrolment.nodes, place) {
-        Some(unit) => is_met(statements, enrolment, place, unit.move_on),
-        None => true,
+        Some(unit) => is_met(alloc, statements, enrolment, place, unit.move_on),
+        None => Ok(true),
     }
 }
 

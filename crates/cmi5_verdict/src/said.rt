@@ -1,6 +1,6 @@
 // What the statements say of the nodes of a course. Each statement of the registration is looked at once.
 ghost use Rattle.std.specs.Prelude.{◌≡◌, ◌<◌, ◌+◌, ◌^◌, ◌==◌, ◌&&◌, ◌||◌, ℕ, IfOk, if◌then◌else◌, length, map, not};
-ghost use Rattle.std.specs.Prelude.{replicate, slice_get, slice_set};
+ghost use Rattle.std.specs.Prelude.{replicate, slice_get, slice_set, OnOk};
 ghost use Rattle.std.specs.Option.{option_map_or};
 ghost use Rattle.std.specs.Str.{bytes_eq};
 ghost use Rattle.cmi5_verdict.specs.Nodes.{places, seen};
@@ -18,7 +18,7 @@ use cmi5_course::MoveOn;
 use cmi5_launch::names::{COMPLETED, PASSED, SATISFIED, WAIVED};
 use lrs_json::Memory;
 use std::alloc::Global;
-use xapi_statement::{StoredStatement, verb_of};
+use xapi_statement::{HeldStatement, StoredStatement, verb_of};
 use xapi_statement_keys::Key;
 
 /// What was said of a node. A voided statement tells only that the node is satisfied.
@@ -93,7 +93,7 @@ pub(crate) fn said_of_each(
         (places enrolment.now.nodes.now)) }
 {
     let mut said = nothing_of_each(alloc, enrolment.nodes.len())?;
-    note_all(statements, enrolment, 0, said.as_mut_slice());
+    note_all(alloc, statements, enrolment, 0, said.as_mut_slice())?;
     Ok(said)
 }
 
@@ -103,13 +103,18 @@ fn nothing_of_each(alloc: Global, count: usize) -> Result<Vec<Said>, Memory>
     Ok(vec![in alloc; Said::nothing(); count]?)
 }
 
-/// What the statements say of the node of that number. Takes no memory.
-pub(crate) fn said_at(statements: &Statements<'_>, enrolment: &Enrolment<'_>, place: usize) -> Said
-    ensures { result ≡ said_in (seen enrolment.now) (all_of statements.now) place }
+/// What the statements say of the node of that number.
+pub(crate) fn said_at(
+    alloc: Global,
+    statements: &Statements<'_>,
+    enrolment: &Enrolment<'_>,
+    place: usize,
+) -> Result<Said, Memory>
+    ensures { IfOk result (λ said. said ≡ said_in (seen enrolment.now) (all_of statements.now) place) }
 {
     let mut said = [Said::nothing()];
-    note_all(statements, enrolment, place, &mut said);
-    said_of(&said, 0)
+    note_all(alloc, statements, enrolment, place, &mut said)?;
+    Ok(said_of(&said, 0))
 }
 
 /// What was said of the node of that number.
@@ -135,67 +140,106 @@ pub fn add_new(statements: &Statements<'_>, enrolment: &Enrolment<'_>, said: &mu
 // ---- statement by statement
 
 // Adds what all of them say of the nodes from the first one on.
-fn note_all(statements: &Statements<'_>, enrolment: &Enrolment<'_>, first: usize, said: &mut [Said])
-    ensures long { length said.new ≡ length said.old }
-    ensures noted { (k : ℕ) → k < length said.old → first + k < 2 ^ 64 → said_of said.new k
-        ≡ either (said_of said.old k) (said_in (seen enrolment.now) (all_of statements.now) (first + k)) }
-{
-    note_held(statements, enrolment, first, said);
-    note_each(statements, enrolment, statements.new, first, said);
-}
-
-// Adds what those say that are held. Only those of the registration say something.
-fn note_held(
+fn note_all(
+    alloc: Global,
     statements: &Statements<'_>,
     enrolment: &Enrolment<'_>,
     first: usize,
     said: &mut [Said],
-)
+) -> Result<(), Memory>
     ensures long { length said.new ≡ length said.old }
-    ensures noted { (k : ℕ) → k < length said.old → first + k < 2 ^ 64 → said_of said.new k
+    ensures noted { OnOk result ((k : ℕ) → k < length said.old → first + k < 2 ^ 64 → said_of said.new k
+        ≡ either (said_of said.old k) (said_in (seen enrolment.now) (all_of statements.now) (first + k))) }
+{
+    note_held(alloc, statements, enrolment, first, said)?;
+    note_each(statements, enrolment, statements.new, first, said);
+    Ok(())
+}
+
+// Adds what those say that are held. Only those of the registration say something.
+fn note_held(
+    alloc: Global,
+    statements: &Statements<'_>,
+    enrolment: &Enrolment<'_>,
+    first: usize,
+    said: &mut [Said],
+) -> Result<(), Memory>
+    ensures long { length said.new ≡ length said.old }
+    ensures noted { OnOk result ((k : ℕ) → k < length said.old → first + k < 2 ^ 64 → said_of said.new k
         ≡ either (said_of said.old k)
-        (said_among (seen enrolment.now) (all_of statements.now) (first + k) statements.now.held.now.held) }
+        (said_among (seen enrolment.now) (all_of statements.now) (first + k) statements.now.held.now.held)) }
 {
     let key = Key::Registration(*enrolment.registration);
     let positions = statements.held.posting(&key);
     drop(key);
-    note_positions(statements, enrolment, positions, first, said);
+    note_positions(alloc, statements, enrolment, positions, first, said)
 }
 
 // Adds what those say that are held at these positions.
 fn note_positions(
+    alloc: Global,
     statements: &Statements<'_>,
     enrolment: &Enrolment<'_>,
     positions: &[u32],
     first: usize,
     said: &mut [Said],
-)
+) -> Result<(), Memory>
     ensures long { length said.new ≡ length said.old }
-    ensures noted { (k : ℕ) → k < length said.old → first + k < 2 ^ 64 → said_of said.new k
+    ensures noted { OnOk result ((k : ℕ) → k < length said.old → first + k < 2 ^ 64 → said_of said.new k
         ≡ either (said_of said.old k) (said_among (seen enrolment.now) (all_of statements.now) (first + k)
-        (at_positions statements.now.held.now.held positions.now)) }
+        (at_positions statements.now.held.now.held positions.now))) }
 {
     for position in positions {
-        note_at(statements, enrolment, *position as usize, first, said);
+        note_at(
+            alloc,
+            statements,
+            enrolment,
+            *position as usize,
+            first,
+            said,
+        )?;
     }
+    Ok(())
 }
 
 fn note_at(
+    alloc: Global,
     statements: &Statements<'_>,
     enrolment: &Enrolment<'_>,
     at: usize,
     first: usize,
     said: &mut [Said],
-)
+) -> Result<(), Memory>
     ensures long { length said.new ≡ length said.old }
-    ensures noted { (k : ℕ) → k < length said.old → first + k < 2 ^ 64 → said_of said.new k
+    ensures noted { OnOk result ((k : ℕ) → k < length said.old → first + k < 2 ^ 64 → said_of said.new k
         ≡ either (said_of said.old k) (option_map_or
         (said_by (seen enrolment.now) (all_of statements.now) (first + k))
-        (slice_get statements.now.held.now.held at) unsaid) }
+        (slice_get statements.now.held.now.held at) unsaid)) }
 {
-    if let Some(statement) = statements.held.get(at) {
-        note(statements, enrolment, statement, first, said);
+    match statements.held.get(at) {
+        Some(held) => note_whole(alloc, statements, enrolment, held, first, said),
+        None => Ok(()),
     }
+}
+
+// Adds what one says that is held: its tree is read, and dropped again.
+fn note_whole(
+    alloc: Global,
+    statements: &Statements<'_>,
+    enrolment: &Enrolment<'_>,
+    held: &HeldStatement,
+    first: usize,
+    said: &mut [Said],
+) -> Result<(), Memory>
+    ensures long { length said.new ≡ length said.old }
+    ensures noted { OnOk result ((k : ℕ) → k < length said.old → first + k < 2 ^ 64 → said_of said.new k
+        ≡ either (said_of said.old k)
+        (said_by (seen enrolment.now) (all_of statements.now) (first + k) held.now)) }
+{
+    let statement = held.whole(alloc)?;
+    note(statements, enrolment, &statement, first, said);
+    drop(statement);
+    Ok(())
 }
 
 // Adds what these say.

@@ -92,10 +92,17 @@ fn told_over(alloc: Global, both: &Both) -> Result<&'static str, Fail> {
         course: 1,
         nodes: &[],
     };
-    let told = sign(
-        met(&statements, &enrolment, 23, MoveOn::Completed),
-        waived(&statements, &enrolment, 23),
-    );
+    let told = told_of(alloc, &statements, &enrolment);
     drop(base);
-    Ok(told)
+    told
+}
+
+fn told_of(
+    alloc: Global,
+    statements: &Statements<'_>,
+    enrolment: &Enrolment<'_>,
+) -> Result<&'static str, Fail> {
+    let is_met = met(alloc, statements, enrolment, 23, MoveOn::Completed)?;
+    let is_waived = waived(alloc, statements, enrolment, 23)?;
+    Ok(sign(is_met, is_waived))
 }

@@ -142,7 +142,8 @@ fn put_verdicts(
     let each = verdicts(alloc, statements, enrolment)?;
     let mut place = 0u32;
     for verdict in each.as_slice() {
-        told.push_str(sign(*verdict, satisfied(statements, enrolment, place)))?;
+        let alone = satisfied(alloc, statements, enrolment, place)?;
+        told.push_str(sign(*verdict, alone))?;
         place = place.wrapping_add(1);
     }
     Ok(())

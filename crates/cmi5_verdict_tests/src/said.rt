@@ -53,7 +53,7 @@ pub(crate) fn both_of(alloc: Global, words: &str) -> Result<Both, Fail> {
 pub(crate) fn index_of(alloc: Global, statements: Vec<StoredStatement>) -> Result<Index, Fail> {
     let mut index = Index::new(alloc);
     index.ready(statements.as_slice())?;
-    index.install(statements);
+    index.install(statements.as_slice());
     Ok(index)
 }
 

@@ -1,8 +1,8 @@
 -- Statements that are added: those that are held already change nothing.
-use Rattle.std.proofs.Common.{◌≡◌, ◌+◌, ◌<◌, List, ℕ, [], ◌∷◌, ◌++◌, length, get_or, take, append_assoc, append-nil, refl, sym, ◌∙◌, ap, Some, Bool, true, false}
+use Rattle.std.proofs.Common.{◌≡◌, ◌+◌, ◌<◌, ◌≤◌, List, ℕ, [], ◌∷◌, ◌++◌, length, get_or, take, append_assoc, append-nil, arith, refl, sym, ◌∙◌, ap, Some, Bool, true, false}
 use Rattle.std.specs.Prelude.{is_some, find, cond, if◌then◌else◌}
 use Rattle.std.specs.Str.{bytes_eq}
-use Rattle.std.proofs.lemmas.List.{take_more}
+use Rattle.std.proofs.lemmas.List.{length-append, length_push, take_more}
 use Rattle.xapi_statement.specs.Stored.{StoredStatement}
 use Rattle.xapi_index.specs.Statements.{add, add_each, is_held, new_ones}
 
@@ -68,3 +68,18 @@ extends held (x ∷ xs) = by_test (is_held x.id held) (extends held xs) (extends
     by_test : (b : Bool) → BeginsWith held (add_each held xs) → BeginsWith (held ++ x ∷ []) (add_each (held ++ x ∷ []) xs) → BeginsWith held (add_each (if b then held else held ++ x ∷ []) xs)
     by_test true old new = old
     by_test false old new = (x ∷ new.0, new.1 ∙ append_assoc held (x ∷ []) new.0)
+
+-- ---- how many are added
+
+added_few : (held xs : List StoredStatement) → length (add_each held xs) ≤ length held + length xs
+added_few held [] = omega arith
+added_few held (x ∷ xs) = by_test (is_held x.id held) (added_few held xs) (added_few (held ++ x ∷ []) xs)
+  where
+    by_test : (b : Bool) → length (add_each held xs) ≤ length held + length xs → length (add_each (held ++ x ∷ []) xs) ≤ length (held ++ x ∷ []) + length xs
+        → length (add_each (if b then held else held ++ x ∷ []) xs) ≤ length held + length (x ∷ xs)
+    by_test true old new = let few : length (add_each held xs) ≤ length held + length (x ∷ xs) = omega (arith, old) in few
+    by_test false old new = let few : length (add_each (held ++ x ∷ []) xs) ≤ length held + length (x ∷ xs) = omega (arith, new, length_push held x) in few
+
+-- no more are new than come
+pub few_new : (held xs ahead : List StoredStatement) → add_each held xs ≡ held ++ ahead → length ahead ≤ length xs
+few_new held xs ahead is = omega (arith, added_few held xs, ap (λ (ys : List StoredStatement). length ys) is, length-append held ahead)

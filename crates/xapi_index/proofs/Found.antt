@@ -1,9 +1,7 @@
 -- The first item that passes and its place, and the first number of a list of places.
-use Rattle.std.proofs.Common.{◌≡◌, ◌==◌, ◌<◌, ◌≤◌, ◌+◌, suc, ℕ, List, [], ◌∷◌, ◌++◌, length, refl, sym, ◌∙◌, ap, append_assoc, arith, eq-eqb, true≢false, Option, Some, None, Bool, true, false, cond, slice_get}
+use Rattle.std.proofs.Common.{◌≡◌, ◌<◌, ◌≤◌, ◌+◌, suc, ℕ, List, [], ◌∷◌, refl, sym, ◌∙◌, ap, arith, Option, Some, None, Bool, true, false, cond, slice_get}
 use Rattle.std.specs.Prelude.{option_and_then, option_map, position, find, is_some}
 use Rattle.std.specs.List.{AllByRecursion, position_from}
-use Rattle.std.specs.Option.{option_map_or, option_or}
-use Rattle.std.proofs.lemmas.Bool.Decides.{nat_tests}
 use Rattle.std.proofs.lemmas.Iterator.Adapters.{position_from-zero}
 use Rattle.std.proofs.lemmas.Option.{none-some, same_Some}
 use Rattle.xapi_index.proofs.Firsts.{from_suc, lt_no, lt_yes}
@@ -44,52 +42,6 @@ found_from p i (x ∷ xs) = by_test (p x) (found_from p (i + 1) xs)
 -- something is found exactly where it has a place
 pub found_at : {A : Type 0} (p : A → Bool) (xs : List A) (o : Option ℕ) → o ≡ position p xs → is_some o ≡ is_some (find p xs)
 found_at p xs o is = ap (λ q. is_some q) (is ∙ position_from-zero p xs) ∙ found_from p 0 xs
-
-no_value : (o : Option ℕ) → is_some o ≡ false → o ≡ None
-no_value None is = refl
-no_value (Some k) is = absurd (true≢false is)
-
--- the place of what is found lies within the list
-found_within : {A : Type 0} (p : A → Bool) (i : ℕ) (xs : List A) → is_some (find p xs) ≡ true → (k : ℕ) × (position_from p i xs ≡ Some k) × (k < i + length xs)
-found_within p i [] is = absurd (true≢false (sym is))
-found_within p i (x ∷ xs) is = by_test (p x) (λ rest. found_within p (i + 1) xs rest) is
-  where
-    by_test : (b : Bool) → (is_some (find p xs) ≡ true → ((k : ℕ) × (position_from p (i + 1) xs ≡ Some k) × (k < i + 1 + length xs)))
-        → is_some (cond b (Some x) (find p xs)) ≡ true → ((k : ℕ) × (cond b (Some i) (position_from p (i + 1) xs) ≡ Some k) × (k < i + length (x ∷ xs)))
-    by_test true more is = (i, refl, omega arith)
-    by_test false more is = let rest = more is in (rest.0, rest.1, omega (arith, rest.2))
-
--- ---- in two lists, one behind the other
-
-from_append : {A : Type 0} (p : A → Bool) (i : ℕ) (xs ys : List A) → position_from p i (xs ++ ys) ≡ option_or (position_from p i xs) (position_from p (i + length xs) ys)
-from_append p i [] ys = ap (λ k. position_from p k ys) (omega arith)
-from_append p i (x ∷ xs) ys = by_test (p x) (from_append p (i + 1) xs ys)
-  where
-    by_test : (b : Bool) → position_from p (i + 1) (xs ++ ys) ≡ option_or (position_from p (i + 1) xs) (position_from p (i + 1 + length xs) ys)
-        → cond b (Some i) (position_from p (i + 1) (xs ++ ys)) ≡ option_or (cond b (Some i) (position_from p (i + 1) xs)) (position_from p (i + length (x ∷ xs)) ys)
-    by_test true more = refl
-    by_test false more = more ∙ ap (λ k. option_or (position_from p (i + 1) xs) (position_from p k ys)) (omega arith)
-
-not_it : (k n : ℕ) → k < n → (k == n) ≡ false
-not_it k n less = grind (arith, nat_tests)
-
--- What is found in the first list doesn't stand first behind it.
-pub stands_before : {A : Type 0} (p : A → Bool) (xs ys : List A) → is_some (find p xs) ≡ true → option_map_or (λ k. k == length xs) (position_from p 0 (xs ++ ys)) false ≡ false
-stands_before p xs ys is =
-    let at = found_within p 0 xs is in
-    ap (λ o. option_map_or (λ k. k == length xs) o false) (from_append p 0 xs ys ∙ ap (λ o. option_or o (position_from p (0 + length xs) ys)) at.1)
-    ∙ not_it at.0 (length xs) (omega (arith, at.2))
-
--- What isn't found in the first list stands first behind it.
-pub stands_next : {A : Type 0} (p : A → Bool) (xs : List A) (y : A) (ys : List A) → is_some (find p xs) ≡ false → p y ≡ true
-    → option_map_or (λ k. k == length xs) (position_from p 0 ((xs ++ y ∷ []) ++ ys)) false ≡ true
-stands_next p xs y ys none is =
-    ap (λ o. option_map_or (λ k. k == length xs) o false)
-    (ap (λ zs. position_from p 0 zs) (append_assoc xs (y ∷ []) ys)
-    ∙ (from_append p 0 xs (y ∷ ys)
-    ∙ (ap (λ o. option_or o (position_from p (0 + length xs) (y ∷ ys))) (no_value (position_from p 0 xs) (found_from p 0 xs ∙ none))
-    ∙ ap (λ b. cond b (Some (0 + length xs)) (position_from p (0 + length xs + 1) ys)) is)))
-    ∙ eq-eqb (0 + length xs) (length xs) (omega arith)
 
 -- ---- the first of a list of places that is below a bound
 

@@ -1,7 +1,7 @@
 -- Positions of statements that are to come: what is true of the postings while some stand ahead, and when none does.
-use Rattle.std.proofs.Common.{◌≡◌, ◌⊎◌, ◌+◌, ◌<◌, ◌≤◌, ℕ, List, [], ◌∷◌, ◌++◌, length, append-nil, refl, sym, ◌∙◌, ap, subst, arith, inl, inr, true≢false, Bool, true, false, cond, ◌||◌, nat_lt}
+use Rattle.std.proofs.Common.{◌≡◌, ◌⊎◌, ◌+◌, ◌<◌, ◌≤◌, ℕ, List, [], ◌∷◌, ◌++◌, length, append-nil, append_assoc, refl, sym, ◌∙◌, ap, subst, arith, inl, inr, true≢false, Bool, true, false, cond, ◌||◌, nat_lt, take}
 use Rattle.std.specs.List.{AllByRecursion}
-use Rattle.std.proofs.lemmas.List.{length_push, take-append-le, take_all}
+use Rattle.std.proofs.lemmas.List.{length-append, length_push, take-append-le, take_all}
 use Rattle.std.proofs.lemmas.List.Elements.{filter-append}
 use Rattle.std.proofs.lemmas.Option.{none-some}
 use Rattle.xapi_index.specs.Ahead.{ChangesEach, ChangesSome, StandAhead}
@@ -47,12 +47,20 @@ posting_more held n key ks position at is = record {
   bounded = each_push (λ k. k < length held + (n + 1)) ks position (each_still (λ k. k < length held + n) (λ k. k < length held + (n + 1)) (λ k less. omega arith) ks is.bounded) (omega arith);
 }
 
-posting_ahead : (held all : List StoredStatement) (postings : List (Key × List ℕ)) (coming : List (List Key)) → StandAhead held all postings coming
-    → (key : Key) → IsPosting held (length coming) key (positions_with (has_key key) all)
-posting_ahead held all postings coming stand key = record {
-  visible = positions-below (has_key key) (length held) all ∙ ap (λ xs. positions_with (has_key key) xs) stand.front;
-  ascending = positions-ascending (has_key key) all;
-  bounded = subst (λ n. AllByRecursion (λ k. k < n) (positions_with (has_key key) all)) stand.long (positions-bounded (has_key key) all);
+-- ---- those that are held, and others behind them
+
+pub front_stays : (held ahead : List StoredStatement) → take (length held) (held ++ ahead) ≡ held
+front_stays held ahead = take-append-le (length held) held ahead (omega arith) ∙ take_all (length held) held (omega arith)
+
+long_by : (held ahead : List StoredStatement) (n : ℕ) → length ahead ≡ n → length (held ++ ahead) ≡ length held + n
+long_by held ahead n is = length-append held ahead ∙ ap (λ m. length held + m) is
+
+posting_ahead : (held ahead : List StoredStatement) (postings : List (Key × List ℕ)) (coming : List (List Key)) → StandAhead held ahead postings coming
+    → (key : Key) → IsPosting held (length coming) key (positions_with (has_key key) (held ++ ahead))
+posting_ahead held ahead postings coming stand key = record {
+  visible = positions-below (has_key key) (length held) (held ++ ahead) ∙ ap (λ (xs : List StoredStatement). positions_with (has_key key) xs) (front_stays held ahead);
+  ascending = positions-ascending (has_key key) (held ++ ahead);
+  bounded = subst (λ n. AllByRecursion (λ k. k < n) (positions_with (has_key key) (held ++ ahead))) (long_by held ahead (length coming) stand.long) (positions-bounded (has_key key) (held ++ ahead));
 }
 
 posted_last : (key : Key) (all : List StoredStatement) (position : ℕ) → position ≡ length all → posted position (positions_with (has_key key) all) ≡ positions_with (has_key key) all ++ position ∷ []
@@ -61,49 +69,55 @@ posted_last key all position at =
 
 -- ---- some stand ahead
 
-pub stand_start : (held : List StoredStatement) (postings : List (Key × List ℕ)) (coming : List (List Key)) → ArePosted held postings → coming ≡ [] → StandAhead held held postings coming
-stand_start held postings coming are nothing = record {
-  posted = are;
-  front = take_all (length held) held (omega arith);
-  long = omega (arith, ap length nothing);
-  others = λ key none. refl;
+pub stand_start : (held ahead : List StoredStatement) (postings : List (Key × List ℕ)) (coming : List (List Key)) → ArePosted held postings → ahead ≡ [] → coming ≡ [] → StandAhead held ahead postings coming
+stand_start held ahead postings coming are none_ahead nothing = record {
+  posted = λ key. are key ∙ ap (λ (xs : List StoredStatement). positions_with (has_key key) xs) (sym alone);
+  long = omega (arith, ap length none_ahead, ap length nothing);
+  others = λ key none. ap (λ (xs : List StoredStatement). positions_with (has_key key) xs) alone;
 }
+  where
+    alone : held ++ ahead ≡ held
+    alone = ap (λ (xs : List StoredStatement). held ++ xs) none_ahead ∙ append-nil held
 
 -- one more that is to come, of which all keys are noted, and its position under each
-pub stand_more : (held all : List StoredStatement) (old new : List (Key × List ℕ)) (coming : List (List Key)) (keys : List Key) (s : StoredStatement) (position : ℕ) → position ≡ length held + length coming
-    → ((k : Key) → is_among k keys ≡ has_key k s) → ChangesEach (λ k. is_among k keys) (posted position) old new → StandAhead held all old coming → StandAhead held (all ++ s ∷ []) new (coming ++ keys ∷ [])
-stand_more held all old new coming keys s position at told each stand = record {
+pub stand_more : (held ahead : List StoredStatement) (old new : List (Key × List ℕ)) (coming : List (List Key)) (keys : List Key) (s : StoredStatement) (position : ℕ) → position ≡ length held + length coming
+    → ((k : Key) → is_among k keys ≡ has_key k s) → ChangesEach (λ k. is_among k keys) (posted position) old new → StandAhead held ahead old coming
+    → StandAhead held (ahead ++ s ∷ []) new (coming ++ keys ∷ [])
+stand_more held ahead old new coming keys s position at told each stand = record {
   posted = λ key.
       each key
       ∙ (ap (λ ks. cond (is_among key keys) (posted position ks) ks) (stand.posted key)
-      ∙ (ap (λ b. cond b (posted position (positions_with (has_key key) all)) (positions_with (has_key key) all)) (told key)
-      ∙ (ap (λ ks. cond (has_key key s) ks (positions_with (has_key key) all)) (posted_last key all position last ∙ ap (λ k. positions_with (has_key key) all ++ k ∷ []) last)
-      ∙ sym (positions-append (has_key key) all s))));
-  front = take-append-le (length held) all (s ∷ []) (omega (arith, stand.long)) ∙ stand.front;
-  long = omega (arith, stand.long, length_push all s, length_push coming keys);
+      ∙ (ap (λ b. cond b (posted position (positions_with (has_key key) (held ++ ahead))) (positions_with (has_key key) (held ++ ahead))) (told key)
+      ∙ (ap (λ ks. cond (has_key key s) ks (positions_with (has_key key) (held ++ ahead))) (posted_last key (held ++ ahead) position last ∙ ap (λ k. positions_with (has_key key) (held ++ ahead) ++ k ∷ []) last)
+      ∙ (sym (positions-append (has_key key) (held ++ ahead) s) ∙ ap (λ (xs : List StoredStatement). positions_with (has_key key) xs) behind))));
+  long = omega (arith, stand.long, length_push ahead s, length_push coming keys);
   others = λ key none.
-      positions-append (has_key key) all s
-      ∙ (ap (λ b. cond b (positions_with (has_key key) all ++ length all ∷ []) (positions_with (has_key key) all))
+      ap (λ (xs : List StoredStatement). positions_with (has_key key) xs) (sym behind)
+      ∙ (positions-append (has_key key) (held ++ ahead) s
+      ∙ (ap (λ b. cond b (positions_with (has_key key) (held ++ ahead) ++ length (held ++ ahead) ∷ []) (positions_with (has_key key) (held ++ ahead)))
       (sym (told key) ∙ right_none (is_coming key coming) (is_among key keys) (sym (coming_push key coming keys) ∙ none))
-      ∙ stand.others key (left_none (is_coming key coming) (is_among key keys) (sym (coming_push key coming keys) ∙ none)));
+      ∙ stand.others key (left_none (is_coming key coming) (is_among key keys) (sym (coming_push key coming keys) ∙ none))));
 }
   where
-    last : position ≡ length all
-    last = at ∙ sym stand.long
+    last : position ≡ length (held ++ ahead)
+    last = at ∙ sym (long_by held ahead (length coming) stand.long)
+
+    behind : (held ++ ahead) ++ s ∷ [] ≡ held ++ (ahead ++ s ∷ [])
+    behind = append_assoc held ahead (s ∷ [])
 
 -- ---- what is true whatever stands ahead
 
-pub stand_index : (held all : List StoredStatement) (postings : List (Key × List ℕ)) (coming : List (List Key)) → StandAhead held all postings coming → IsIndex held postings coming false
-stand_index held all postings coming stand = record {
-  posted = λ key. subst (λ ks. IsPosting held (length coming) key ks) (sym (stand.posted key)) (posting_ahead held all postings coming stand key);
+pub stand_index : (held ahead : List StoredStatement) (postings : List (Key × List ℕ)) (coming : List (List Key)) → StandAhead held ahead postings coming → IsIndex held postings coming false
+stand_index held ahead postings coming stand = record {
+  posted = λ key. subst (λ ks. IsPosting held (length coming) key ks) (sym (stand.posted key)) (posting_ahead held ahead postings coming stand key);
   others = λ key none. stand.posted key ∙ stand.others key none;
   rising = λ is. absurd (true≢false (sym is));
 }
 
 -- The keys of one more are noted, and its position stands under some of them.
-pub part_index : (held all : List StoredStatement) (old new : List (Key × List ℕ)) (coming : List (List Key)) (keys : List Key) (position : ℕ) → position ≡ length held + length coming
-    → ChangesSome (λ k. is_among k keys) (posted position) old new → StandAhead held all old coming → IsIndex held new (coming ++ keys ∷ []) false
-part_index held all old new coming keys position at some stand = record {
+pub part_index : (held ahead : List StoredStatement) (old new : List (Key × List ℕ)) (coming : List (List Key)) (keys : List Key) (position : ℕ) → position ≡ length held + length coming
+    → ChangesSome (λ k. is_among k keys) (posted position) old new → StandAhead held ahead old coming → IsIndex held new (coming ++ keys ∷ []) false
+part_index held ahead old new coming keys position at some stand = record {
   posted = λ key. by_change key (some key);
   others = λ key none. by_others key none (some key);
   rising = λ is. absurd (true≢false (sym is));
@@ -113,11 +127,11 @@ part_index held all old new coming keys position at some stand = record {
         → IsPosting held (length (coming ++ keys ∷ [])) key (posting_of key new)
     by_change key (inl same) =
         subst (λ ks. IsPosting held (length (coming ++ keys ∷ [])) key ks) (sym (same ∙ stand.posted key))
-        (posting_wider held (length coming) (length (coming ++ keys ∷ [])) key (positions_with (has_key key) all) (omega (arith, length_push coming keys)) (posting_ahead held all old coming stand key))
+        (posting_wider held (length coming) (length (coming ++ keys ∷ [])) key (positions_with (has_key key) (held ++ ahead)) (omega (arith, length_push coming keys)) (posting_ahead held ahead old coming stand key))
     by_change key (inr put) =
         subst (λ n. IsPosting held n key (posting_of key new)) (sym (length_push coming keys))
-        (subst (λ ks. IsPosting held (length coming + 1) key ks) (sym (put.1 ∙ (ap (λ ks. posted position ks) (stand.posted key) ∙ posted_last key all position (at ∙ sym stand.long))))
-        (posting_more held (length coming) key (positions_with (has_key key) all) position at (posting_ahead held all old coming stand key)))
+        (subst (λ ks. IsPosting held (length coming + 1) key ks) (sym (put.1 ∙ (ap (λ ks. posted position ks) (stand.posted key) ∙ posted_last key (held ++ ahead) position (at ∙ sym (long_by held ahead (length coming) stand.long)))))
+        (posting_more held (length coming) key (positions_with (has_key key) (held ++ ahead)) position at (posting_ahead held ahead old coming stand key)))
 
     by_others : (key : Key) → is_coming key (coming ++ keys ∷ []) ≡ false → (posting_of key new ≡ posting_of key old) ⊎ ((is_among key keys ≡ true) × (posting_of key new ≡ posted position (posting_of key old)))
         → posting_of key new ≡ positions_with (has_key key) held
@@ -141,7 +155,7 @@ with_rising held postings coming rises index up = record { posted = index.posted
 
 pub rest_index : (held : List StoredStatement) (postings : List (Key × List ℕ)) (coming : List (List Key)) (rises : Bool) → ArePosted held postings → coming ≡ [] → (rises ≡ true → IsRising held)
     → IsIndex held postings coming rises
-rest_index held postings coming rises are nothing up = with_rising held postings coming rises (stand_index held held postings coming (stand_start held postings coming are nothing)) up
+rest_index held postings coming rises are nothing up = with_rising held postings coming rises (stand_index held [] postings coming (stand_start held [] postings coming are refl nothing)) up
 
 pub empty_index : (held : List StoredStatement) (postings : List (Key × List ℕ)) (coming : List (List Key)) (rises : Bool) → held ≡ [] → postings ≡ [] → coming ≡ [] → IsIndex held postings coming rises
 empty_index held postings coming rises no_held no_postings nothing =

@@ -1,6 +1,5 @@
 -- How positions are written ahead for statements that are to come, and taken back.
-use Rattle.std.specs.Prelude.{◌≡◌, ◌⊎◌, ◌+◌, ◌==◌, ℕ, Bool, true, false, List, length, slice_get, take, if◌then◌else◌}
-use Rattle.std.specs.Option.{option_map_or}
+use Rattle.std.specs.Prelude.{◌≡◌, ◌⊎◌, ◌++◌, ℕ, Bool, true, false, List, length, if◌then◌else◌}
 use Rattle.xapi_index.specs.Index.{ArePosted, is_coming}
 use Rattle.xapi_postings.specs.Ascending.{positions_with}
 use Rattle.xapi_postings.specs.Postings.{posting_of}
@@ -22,15 +21,10 @@ ChangesSome passes change old new = (key : Key) → (posting_of key new ≡ post
 
 -- ---- statements that are to come
 
--- All of a list stand under their keys: first those that are held, then as many as are to come, whose keys are noted.
-pub record StandAhead (held all : List StoredStatement) (postings : List (Key × List ℕ))
+-- Those that are held stand under their keys, and behind them those that are to come, whose keys are noted.
+pub record StandAhead (held ahead : List StoredStatement) (postings : List (Key × List ℕ))
     (coming : List (List Key)) : Type 0 where
-  pub posted : ArePosted all postings
-  pub front : take (length held) all ≡ held
-  pub long : length all ≡ length held + length coming
+  pub posted : ArePosted (held ++ ahead) postings
+  pub long : length ahead ≡ length coming
   pub others : (key : Key) → is_coming key coming ≡ false
-      → positions_with (has_key key) all ≡ positions_with (has_key key) held
-
--- the first of these positions is that number
-abbrev pub is_first : ℕ → List ℕ → Bool
-is_first n positions = option_map_or (λ k. k == n) (slice_get positions 0) false
+      → positions_with (has_key key) (held ++ ahead) ≡ positions_with (has_key key) held

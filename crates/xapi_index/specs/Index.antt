@@ -1,5 +1,5 @@
 -- What is seen of the statements in memory, and when statements that are to come are ready.
-use Rattle.std.specs.Prelude.{◌≡◌, ◌≤◌, ◌+◌, ◌<◌, ℕ, Bool, true, false, List, [], length, map, slice_get, Some}
+use Rattle.std.specs.Prelude.{◌≡◌, ◌≤◌, ◌+◌, ◌<◌, ◌++◌, ℕ, Bool, true, false, List, [], length, map, slice_get, Some}
 use Rattle.std.specs.List.{AllByRecursion, list_any}
 use Rattle.xapi_index.specs.Statements.{add_each}
 use Rattle.xapi_postings.specs.Ascending.{IsAscending, below, positions_with}
@@ -9,12 +9,13 @@ use Rattle.xapi_statement_keys.specs.Keys.{has_key, is_among}
 use Rattle.xapi_statement_keys.specs.declared.key.Key.{Key}
 use Rattle.xapi_statement_keys.specs.declared.keys.Keys.{Keys}
 
--- Their list, the positions under each key, the keys of those that are to come, and for how many more there is room in
--- the list. Positions that aren't below the length of the list are of statements that are to come.
+-- Their list, the positions under each key, the keys of those that are to come, these themselves, and for how many more
+-- there is room in the list. Positions that aren't below the length of the list are of statements that are to come.
 pub record Indexed : Type 0 where
   pub held : List StoredStatement
   pub postings : List (Key × List ℕ)
   pub coming : List (List Key)
+  pub ahead : List StoredStatement
   pub spare : ℕ
 
 -- the keys in each of them
@@ -53,8 +54,11 @@ pub record IsIndex (held : List StoredStatement) (postings : List (Key × List �
 pub record HoldsNothingAhead (index : Indexed) : Type 0 where
   pub posted : ArePosted index.held index.postings
   pub coming : index.coming ≡ []
+  pub ahead : index.ahead ≡ []
 
--- These statements are ready: they stand under their keys, and there is room for them in the list.
+-- These statements are ready: they stand under their keys, there is room for them in the list, and those of them that
+-- are new are at hand, in their order.
 pub record IsIndexReadyFor (index : Indexed) (statements : List StoredStatement) : Type 0 where
   pub posted : ArePosted (add_each index.held statements) index.postings
   pub spare : length statements ≤ index.spare
+  pub ahead : add_each index.held statements ≡ index.held ++ index.ahead

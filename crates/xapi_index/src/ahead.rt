@@ -1,4 +1,5 @@
-// Positions of statements that are to come: written ahead, where memory may run out, and taken back.
+// Statements that are to come: their held forms are made and their positions written ahead, where memory may run out.
+// The positions are taken back here where the statements don't come.
 ghost use Rattle.std.specs.Prelude.{◌≡◌, ◌<◌, ◌≤◌, ◌+◌, ◌-◌, [], ◌∷◌, ◌++◌, false, length, List, IfOk, OnOk};
 ghost use Rattle.std.specs.Prelude.{vec_len, vec_capacity};
 ghost use Rattle.xapi_index.specs.Ahead.{ChangesEach, ChangesSome, StandAhead};
@@ -9,42 +10,51 @@ ghost use Rattle.xapi_postings.specs.Postings.{posted};
 ghost use Rattle.xapi_statement.specs.Stored.{StoredStatement as SpecStatement};
 ghost use Rattle.xapi_statement_keys.specs.Keys.{is_among};
 
-use crate::held::HeldStatement;
 use crate::positions::first_under;
 use lrs_json::Memory;
 use xapi_postings::Postings;
-use xapi_statement::StoredStatement;
+use xapi_statement::{HeldStatement, StoredStatement};
 use xapi_statement_keys::{Key, Keys};
 
 // ---- written ahead
 
-/// Makes room for statements in the list, and writes the positions of those that are new. Where memory runs out in the
-/// middle, what was written stays, and its keys are noted.
+/// Makes room for statements in the list, and of those that are new makes the held forms and writes the positions.
+/// Where memory runs out in the middle, what was written stays, and its keys are noted.
 pub(crate) fn ready_each(
     held: &mut Vec<HeldStatement>,
     postings: &mut Postings,
     coming: &mut Vec<Keys>,
+    ahead: &mut Vec<HeldStatement>,
     statements: &[StoredStatement],
 ) -> Result<(), Memory>
     requires posted { ArePosted held.old.items postings.old }
     requires nothing { lists_of coming.old.items ≡ [] }
+    requires none_ahead { ahead.old.items ≡ [] }
     ensures held { held.new.items ≡ held.old.items }
     ensures index { IsIndex held.old.items postings.new (lists_of coming.new.items) false }
     ensures posted { OnOk result (ArePosted (add_each held.new.items statements.now) postings.new) }
+    ensures ahead { OnOk result (add_each held.new.items statements.now ≡ held.new.items ++ ahead.new.items) }
     ensures spare { OnOk result (length statements.now ≤ vec_capacity held.new - vec_len held.new) }
 {
-    make_room(held, coming, statements.len())?;
-    write_each(held.as_slice(), postings, coming, statements)
+    make_room(held, coming, ahead, statements.len())?;
+    write_each(held.as_slice(), postings, coming, ahead, statements)
 }
 
-fn make_room(held: &mut Vec<HeldStatement>, coming: &mut Vec<Keys>, n: usize) -> Result<(), Memory>
+fn make_room(
+    held: &mut Vec<HeldStatement>,
+    coming: &mut Vec<Keys>,
+    ahead: &mut Vec<HeldStatement>,
+    n: usize,
+) -> Result<(), Memory>
     ensures held { held.new.items ≡ held.old.items }
     ensures coming { coming.new.items ≡ coming.old.items }
+    ensures ahead { ahead.new.items ≡ ahead.old.items }
     ensures for_held { OnOk result (n ≤ vec_capacity held.new - vec_len held.new) }
     ensures for_coming { OnOk result (n ≤ vec_capacity coming.new - vec_len coming.new) }
 {
     held.reserve(n)?;
     coming.reserve(n)?;
+    ahead.reserve(n)?;
     Ok(())
 }
 
@@ -52,40 +62,71 @@ fn write_each(
     held: &[HeldStatement],
     postings: &mut Postings,
     coming: &mut Vec<Keys>,
+    ahead: &mut Vec<HeldStatement>,
     statements: &[StoredStatement],
 ) -> Result<(), Memory>
     requires posted { ArePosted held.now postings.old }
     requires nothing { lists_of coming.old.items ≡ [] }
+    requires none_ahead { ahead.old.items ≡ [] }
     requires room { length statements.now ≤ vec_capacity coming.old - vec_len coming.old }
     ensures index { IsIndex held.now postings.new (lists_of coming.new.items) false }
     ensures posted { OnOk result (ArePosted (add_each held.now statements.now) postings.new) }
+    ensures ahead { OnOk result (add_each held.now statements.now ≡ held.now ++ ahead.new.items) }
 {
     for statement in statements {
-        write_one(held, postings, coming, statement)?;
+        write_one(held, postings, coming, ahead, statement)?;
     }
     Ok(())
 }
 
-// Writes the position of a statement, unless one stands under its id, held or to come.
+// Does nothing with a statement if one stands under its id, held or to come.
 fn write_one(
     held: &[HeldStatement],
     postings: &mut Postings,
     coming: &mut Vec<Keys>,
+    ahead: &mut Vec<HeldStatement>,
     statement: &StoredStatement,
 ) -> Result<(), Memory>
-    requires { vec_len coming.old < vec_capacity coming.old }
-    ensures stands { OnOk result ((all : List SpecStatement)
-        → StandAhead held.now all postings.old (lists_of coming.old.items)
-        → StandAhead held.now (add all statement.now) postings.new (lists_of coming.new.items)) }
-    ensures index { (all : List SpecStatement) → StandAhead held.now all postings.old (lists_of coming.old.items)
-        → IsIndex held.now postings.new (lists_of coming.new.items) false }
+    requires room { vec_len coming.old < vec_capacity coming.old }
+    requires stands { StandAhead held.now ahead.old.items postings.old (lists_of coming.old.items) }
+    ensures stands { OnOk result (StandAhead held.now ahead.new.items postings.new (lists_of coming.new.items)) }
+    ensures added { OnOk result (held.now ++ ahead.new.items ≡ add (held.now ++ ahead.old.items) statement.now) }
+    ensures index { IsIndex held.now postings.new (lists_of coming.new.items) false }
     ensures capacity { vec_capacity coming.new ≡ vec_capacity coming.old }
     ensures longer { vec_len coming.new ≤ vec_len coming.old + 1 }
 {
     match first_under(postings, statement.id()) {
         Some(_) => Ok(()),
-        None => write_new(held, postings, coming, statement),
+        None => keep_new(held, postings, coming, ahead, statement),
     }
+}
+
+// Makes the held form of a statement, and writes its position.
+fn keep_new(
+    held: &[HeldStatement],
+    postings: &mut Postings,
+    coming: &mut Vec<Keys>,
+    ahead: &mut Vec<HeldStatement>,
+    statement: &StoredStatement,
+) -> Result<(), Memory>
+    requires room { vec_len coming.old < vec_capacity coming.old }
+    requires stands { StandAhead held.now ahead.old.items postings.old (lists_of coming.old.items) }
+    ensures stands { OnOk result (StandAhead held.now ahead.new.items postings.new (lists_of coming.new.items)) }
+    ensures ahead { OnOk result (ahead.new.items ≡ ahead.old.items ++ statement.now ∷ []) }
+    ensures index { IsIndex held.now postings.new (lists_of coming.new.items) false }
+    ensures capacity { vec_capacity coming.new ≡ vec_capacity coming.old }
+    ensures longer { vec_len coming.new ≤ vec_len coming.old + 1 }
+{
+    push_ahead(ahead, statement)?;
+    write_new(held, postings, coming, statement)
+}
+
+fn push_ahead(ahead: &mut Vec<HeldStatement>, statement: &StoredStatement) -> Result<(), Memory>
+    ensures { OnOk result (ahead.new.items ≡ ahead.old.items ++ statement.now ∷ []) }
+{
+    let held = HeldStatement::of(*ahead.allocator(), statement)?;
+    ahead.push(held)?;
+    Ok(())
 }
 
 // Writes the position behind all others under each key of a statement. Its keys are noted also if some fail.
@@ -96,10 +137,10 @@ fn write_new(
     statement: &StoredStatement,
 ) -> Result<(), Memory>
     requires { vec_len coming.old < vec_capacity coming.old }
-    ensures stands { OnOk result ((all : List SpecStatement)
-        → StandAhead held.now all postings.old (lists_of coming.old.items)
-        → StandAhead held.now (all ++ statement.now ∷ []) postings.new (lists_of coming.new.items)) }
-    ensures index { (all : List SpecStatement) → StandAhead held.now all postings.old (lists_of coming.old.items)
+    ensures stands { OnOk result ((ahead : List SpecStatement)
+        → StandAhead held.now ahead postings.old (lists_of coming.old.items)
+        → StandAhead held.now (ahead ++ statement.now ∷ []) postings.new (lists_of coming.new.items)) }
+    ensures index { (ahead : List SpecStatement) → StandAhead held.now ahead postings.old (lists_of coming.old.items)
         → IsIndex held.now postings.new (lists_of coming.new.items) false }
     ensures capacity { vec_capacity coming.new ≡ vec_capacity coming.old }
     ensures longer { vec_len coming.new ≤ vec_len coming.old + 1 }

@@ -10,7 +10,6 @@ ghost use Rattle.xapi_statement.specs.Stored.{StoredStatement as SpecStatement};
 ghost use Rattle.xapi_statement_keys.specs.Keys.{has_key};
 
 use crate::ahead::{cut_each, ready_each};
-use crate::held::HeldStatement;
 use crate::installing::install_each;
 use crate::positions::first_below;
 use crate::times::later_in;
@@ -21,7 +20,7 @@ use lrs_time::Instant;
 use std::alloc::Global;
 use std::marker::Model;
 use xapi_postings::Postings;
-use xapi_statement::StoredStatement;
+use xapi_statement::{HeldStatement, StoredStatement};
 use xapi_statement_keys::{Key, Keys};
 
 /// The statements in their order, and the positions under each of their keys.
@@ -32,6 +31,8 @@ pub struct Index {
     postings: Postings,
     // The keys of the statements that are to come.
     coming: Vec<Keys>,
+    // Those of them that are new, in their order.
+    ahead: Vec<HeldStatement>,
     // Whether no statement is older than one before it.
     rising: bool,
 }
@@ -50,6 +51,7 @@ impl Model for Index {
       held = i.held.items;
       postings = i.postings;
       coming = lists_of i.coming.items;
+      ahead = i.ahead.items;
       spare = vec_capacity i.held -
           vec_len i.held;
     } };
@@ -64,10 +66,12 @@ impl Index {
         let held = Vec::new(alloc);
         let postings = Postings::new(alloc);
         let coming = Vec::new(alloc);
+        let ahead = Vec::new(alloc);
         Index {
             held,
             postings,
             coming,
+            ahead,
             rising: true,
         }
     }
@@ -97,7 +101,7 @@ impl Index {
     }
 
     /// The statement that is held under an id.
-    pub fn find(&self, id: &Id) -> Option<&StoredStatement>
+    pub fn find(&self, id: &Id) -> Option<&HeldStatement>
         ensures { option_copied result ≡ held_under id.now self.now.held }
     {
         match self.position_of(id) {
@@ -114,13 +118,10 @@ impl Index {
     }
 
     /// The statement at a position.
-    pub fn get(&self, at: usize) -> Option<&StoredStatement>
+    pub fn get(&self, at: usize) -> Option<&HeldStatement>
         ensures { option_copied result ≡ slice_get self.now.held at }
     {
-        match self.held.get(at) {
-            Some(held) => Some(held.statement()),
-            None => None,
-        }
+        self.held.get(at)
     }
 
     // The position of the statement under an id among the first n.
@@ -166,7 +167,7 @@ impl Index {
     }
 
     /// Whether a statement is voided by one that is held.
-    pub fn is_voided(&self, statement: &StoredStatement) -> bool
+    pub fn is_voided(&self, statement: &HeldStatement) -> bool
         ensures { result ≡ is_voided self.now.held statement.now }
     {
         !statement.is_voiding() && self.is_target(&statement.id())
@@ -253,7 +254,8 @@ impl Index {
 
     // ---- what is to come
 
-    /// Makes room for these statements, and writes their positions ahead. What was written before is taken back.
+    /// Makes room for these statements, makes the held forms of those that are new, and writes their positions ahead.
+    /// What was made before is taken back.
     pub fn ready(&mut self, statements: &[StoredStatement]) -> Result<(), Memory>
         ensures held { self.new.held ≡ self.old.held }
         ensures ready { OnOk result (IsIndexReadyFor self.new statements.now) }
@@ -263,11 +265,12 @@ impl Index {
             &mut self.held,
             &mut self.postings,
             &mut self.coming,
+            &mut self.ahead,
             statements,
         )
     }
 
-    /// Takes back what was written ahead for statements that don't come. It takes no memory.
+    /// Takes back what was made ahead for statements that don't come. It takes no memory.
     pub fn release(&mut self)
         ensures held { self.new.held ≡ self.old.held }
         ensures nothing { HoldsNothingAhead self.new }
@@ -275,15 +278,17 @@ impl Index {
         let held = self.held.len();
         cut_each(&mut self.postings, self.coming.as_slice(), held);
         self.coming.clear();
+        self.ahead.clear();
     }
 
-    /// Takes statements in that are ready, each but for one whose id is held. It takes no memory.
-    pub fn install(&mut self, statements: Vec<StoredStatement>)
-        requires { IsIndexReadyFor self.old statements.items }
-        ensures held { self.new.held ≡ add_each self.old.held statements.items }
+    /// Takes statements in that are ready, each but for one whose id is held: their held forms are moved into the list.
+    /// It takes no memory.
+    pub fn install(&mut self, statements: &[StoredStatement])
+        requires { IsIndexReadyFor self.old statements.now }
+        ensures held { self.new.held ≡ add_each self.old.held statements.now }
         ensures nothing { HoldsNothingAhead self.new }
     {
-        install_each(&self.postings, &mut self.held, &mut self.rising, statements);
+        install_each(&mut self.held, &mut self.rising, &mut self.ahead);
         self.coming.clear();
     }
 }

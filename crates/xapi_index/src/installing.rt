@@ -1,64 +1,44 @@
-// Statements whose positions stand ahead are taken into the list. Nothing here takes memory.
-ghost use Rattle.std.specs.Prelude.{◌≡◌, ◌≤◌, ◌+◌, ◌-◌, [], ◌∷◌, ◌++◌, true, not, length, vec_len, vec_capacity};
-ghost use Rattle.xapi_index.specs.Ahead.{is_first};
-ghost use Rattle.xapi_index.specs.Index.{ArePosted, IsRising};
-ghost use Rattle.xapi_index.specs.Statements.{add, add_each, is_held};
-ghost use Rattle.xapi_postings.specs.Postings.{posting_of};
-ghost use Rattle.xapi_statement_keys.specs.declared.key.Key.TheVariants as key;
+// Statements that are ready are moved into the list. Nothing here takes memory.
+ghost use Rattle.std.specs.Prelude.{◌≡◌, ◌≤◌, ◌-◌, [], ◌++◌, true, length, take, vec_len, vec_capacity};
+ghost use Rattle.xapi_index.specs.Index.{IsRising};
 
-use crate::held::HeldStatement;
-use crate::positions::is_first_under;
 use crate::times::still_rising;
-use xapi_postings::Postings;
-use xapi_statement::StoredStatement;
+use xapi_statement::HeldStatement;
 
-/// Takes statements in, each but for one whose id is held.
+/// Moves statements behind those that are held.
 pub(crate) fn install_each(
-    postings: &Postings,
     held: &mut Vec<HeldStatement>,
     rising: &mut bool,
-    statements: Vec<StoredStatement>,
+    ahead: &mut Vec<HeldStatement>,
 )
-    requires posted { ArePosted (add_each held.old.items statements.items) postings.now }
-    requires spare { length statements.items ≤ vec_capacity held.old - vec_len held.old }
+    requires spare { length ahead.old.items ≤ vec_capacity held.old - vec_len held.old }
     requires rising { rising.old ≡ true → IsRising held.old.items }
-    ensures held { held.new.items ≡ add_each held.old.items statements.items }
+    ensures held { held.new.items ≡ held.old.items ++ ahead.old.items }
+    ensures nothing { ahead.new.items ≡ [] }
     ensures rising { rising.new ≡ true → IsRising held.new.items }
 {
-    for statement in statements {
-        install_one(postings, held, rising, statement);
-    }
+    let before = held.len();
+    append_each(held, ahead);
+    *rising = are_rising(held.as_slice(), before, *rising);
 }
 
-// Of a statement that is new, the position under its id is the next one; of another it lies before.
-fn install_one(
-    postings: &Postings,
-    held: &mut Vec<HeldStatement>,
-    rising: &mut bool,
-    statement: StoredStatement,
-)
-    requires told { is_first (length held.old.items) (posting_of (key.Statement statement.id) postings.now)
-        ≡ not (is_held statement.id held.old.items) }
-    requires spare { 1 ≤ vec_capacity held.old - vec_len held.old }
-    requires rising { rising.old ≡ true → IsRising held.old.items }
-    ensures held { held.new.items ≡ add held.old.items statement }
-    ensures rising { rising.new ≡ true → IsRising held.new.items }
-    ensures spare { (vec_capacity held.new ≡ vec_capacity held.old) × (vec_len held.new ≤ vec_len held.old + 1) }
+fn append_each(held: &mut Vec<HeldStatement>, ahead: &mut Vec<HeldStatement>)
+    requires { length ahead.old.items ≤ vec_capacity held.old - vec_len held.old }
+    ensures held { held.new.items ≡ held.old.items ++ ahead.old.items }
+    ensures nothing { ahead.new.items ≡ [] }
 {
-    if is_first_under(postings, statement.id(), held.len()) {
-        push_next(held, rising, HeldStatement::of(statement));
-    } else {
-        drop(statement);
-    }
+    let _ = held.append(ahead);
 }
 
-fn push_next(held: &mut Vec<HeldStatement>, rising: &mut bool, statement: HeldStatement)
-    requires spare { 1 ≤ vec_capacity held.old - vec_len held.old }
-    requires rising { rising.old ≡ true → IsRising held.old.items }
-    ensures held { held.new.items ≡ held.old.items ++ statement ∷ [] }
-    ensures rising { rising.new ≡ true → IsRising held.new.items }
-    ensures spare { (vec_capacity held.new ≡ vec_capacity held.old) × (vec_len held.new ≤ vec_len held.old + 1) }
+// Whether none is older than one before it, where that is known of the first n or not.
+fn are_rising(held: &[HeldStatement], n: usize, known: bool) -> bool
+    requires within { n ≤ length held.now }
+    requires known { known ≡ true → IsRising (take n held.now) }
+    ensures { result ≡ true → IsRising held.now }
 {
-    *rising = still_rising(*rising, held.as_slice(), &statement);
-    held.push_reserved(statement);
+    let mut rising = known;
+    for at in n..held.len() {
+        rising = still_rising(rising, &held[..at], &held[at]);
+    }
+    rising
 }

@@ -3,7 +3,6 @@
 #![tactic(auto)]
 
 mod ahead;
-mod held;
 mod index;
 mod installing;
 mod naming;

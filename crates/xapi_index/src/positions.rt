@@ -1,6 +1,5 @@
 // The first positions of lists.
 ghost use Rattle.std.specs.Prelude.{◌≡◌, slice_get};
-ghost use Rattle.xapi_index.specs.Ahead.{is_first};
 ghost use Rattle.xapi_postings.specs.Ascending.{IsAscending, below};
 ghost use Rattle.xapi_postings.specs.Postings.{posting_of};
 
@@ -36,14 +35,4 @@ pub(crate) fn first_under(postings: &Postings, id: Id) -> Option<usize>
     let position = first_in(postings.get(&key));
     drop(key);
     position
-}
-
-/// Whether the first position under an id is that one.
-pub(crate) fn is_first_under(postings: &Postings, id: Id, n: usize) -> bool
-    ensures { result ≡ is_first n (posting_of (Key.Statement id) postings.now) }
-{
-    match first_under(postings, id) {
-        Some(position) => position == n,
-        None => false,
-    }
 }

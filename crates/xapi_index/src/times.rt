@@ -5,8 +5,8 @@ ghost use Rattle.xapi_index.specs.Index.{IsRising};
 ghost use Rattle.xapi_index.specs.Times.{AreLaterFrom, is_until, stands_behind};
 ghost use Rattle.xapi_statement.specs.Stored.{StoredStatement as SpecStatement};
 
-use crate::held::HeldStatement;
 use lrs_time::Instant;
+use xapi_statement::HeldStatement;
 
 // ---- no statement is older than one before it
 

@@ -10,7 +10,7 @@ use lrs_json::{Memory, Tree, write};
 use std::alloc::Global;
 use xapi_index::Index;
 use xapi_query::{Query, Sight, link_text};
-use xapi_statement::{Format, StoredStatement};
+use xapi_statement::{Format, HeldStatement};
 
 /// The body of the page after a position, in the list as of the first `asof` statements.
 pub fn page_text(
@@ -50,8 +50,8 @@ fn body_text(
     Ok(body)
 }
 
-// What a statement of a page has room in at first: fewer bytes than most take.
-const STATEMENT_ROOM: usize = 256;
+// What a statement of a page has room in at first: more bytes than most take.
+const STATEMENT_ROOM: usize = 1024;
 
 // The beginning of the body of a page of so many statements.
 fn begun(alloc: Global, count: usize) -> Result<Vec<u8>, Memory>
@@ -102,7 +102,7 @@ fn put_at(
 
 fn put_statement(
     format: Format,
-    statement: &StoredStatement,
+    statement: &HeldStatement,
     later: bool,
     body: &mut Vec<u8>,
 ) -> Result<(), Memory>

@@ -1,5 +1,6 @@
-//! What a list of statements is asked for: the query, which statements pass its filters, which of them a caller sees,
-//! and the links from page to page. Another crate reads them from parameters.
+//! What a list of statements is asked for: the query, which statements were stored within its times, which of them a
+//! caller sees, and the links from page to page. Another crate reads them from parameters, another one looks the other
+//! filters up in lists by keys.
 #![tactic(auto)]
 
 mod filters;
@@ -9,7 +10,7 @@ mod query;
 mod sight;
 mod wanted;
 
-pub use filters::{direct, in_time};
+pub use filters::in_time;
 pub use link::{MoreLink, link_text};
 pub use query::{Given, MOST_OF_PAGE, Query};
 pub use sight::{Sight, sees};

@@ -2,7 +2,7 @@ ghost use Rattle.std.specs.Prelude.{◌≡◌};
 ghost use Rattle.xapi_query.specs.Filters.{is_of_provider, is_registered, sees};
 
 use lrs_names::Id;
-use xapi_statement::{Authority, StoredStatement};
+use xapi_statement::{Authority, HeldStatement};
 
 /// What a caller sees of the statements.
 #[derive(Clone, Copy, PartialEq, Eq)]
@@ -18,7 +18,7 @@ pub enum Sight {
 }
 
 /// Whether a caller of that sight sees the statement.
-pub fn sees(sight: &Sight, statement: &StoredStatement) -> bool
+pub fn sees(sight: &Sight, statement: &HeldStatement) -> bool
     ensures { result ≡ sees sight.now statement.now }
 {
     match sight {
@@ -41,8 +41,8 @@ fn is_of_provider(number: u32, authority: &Authority) -> bool
     }
 }
 
-/// Whether the statement's context names that registration.
-pub fn is_registered(id: &Id, statement: &StoredStatement) -> bool
+// Whether the statement's context names that registration.
+fn is_registered(id: &Id, statement: &HeldStatement) -> bool
     ensures { result ≡ is_registered id.now statement.now }
 {
     match statement.registration() {

@@ -5,8 +5,8 @@ use lrs_time::Moment;
 use std::alloc::Global;
 use std::test::Fail;
 use xapi_parameters::{Pair, QueryRefused, no_parameters, pairs, put_id, read_link, read_wanted};
-use xapi_query::{MoreLink, Query, Sight, Wanted, direct, in_time, sees};
-use xapi_statement::{Authority, Statement, StoredStatement};
+use xapi_query::{MoreLink, Query, Sight, Wanted, in_time, sees};
+use xapi_statement::{Authority, HeldStatement, Statement, StoredStatement};
 
 fn found_pairs(alloc: Global, query: &str) -> Result<Vec<Pair>, Fail> {
     Ok(pairs(alloc, &Text::of(alloc, query)?)?)
@@ -386,83 +386,13 @@ fn links_are_held_against_their_form(rt: HostRuntime) -> Result<(), Fail> {
     Ok(())
 }
 
-// ---- filters
+// ---- times and sight
 
 const DID: &str =
     r#"{"actor":{"mbox":"mailto:a@b"},"verb":{"id":"http://v/1"},"object":{"id":"http://a/1"},"context":{"registration":"AAAAAAAA-1111-4111-8111-111111111111","instructor":{"mbox":"mailto:i@j"},"contextActivities":{"parent":{"id":"http://p/1"}}}}"#;
 
 const REFERS: &str =
     r#"{"actor":{"mbox":"mailto:c@d"},"verb":{"id":"http://v/2"},"object":{"objectType":"StatementRef","id":"11111111-1111-4111-8111-111111111111"}}"#;
-
-// Each filter, alone and beside others: whether the first statement, of a session, and the second, which the store made
-// itself, pass it.
-const FILTERS: [(&str, bool, bool); 21] = [
-    ("", true, true),
-    ("verb=http://v/1", true, false),
-    ("verb=http://v/2", false, true),
-    ("verb=http://v/", false, false),
-    ("activity=http://a/1", true, false),
-    ("activity=http://p/1", false, false),
-    ("activity=http://p/1&related_activities=true", true, false),
-    ("agent=%7B%22mbox%22:%22mailto:a@b%22%7D", true, false),
-    ("agent=%7B%22mbox%22:%22mailto:i@j%22%7D", false, false),
-    (
-        "agent=%7B%22mbox%22:%22mailto:i@j%22%7D&related_agents=true",
-        true,
-        false,
-    ),
-    (
-        "agent=%7B%22mbox%22:%22mailto:c@d%22%7D&related_agents=true",
-        false,
-        true,
-    ),
-    (
-        "agent=%7B%22account%22:%7B%22homePage%22:%22https://lrs.invalid/callers%22,%22name%22:%22admin%22%7D%7D&related_agents=true",
-        false,
-        false,
-    ),
-    (
-        "agent=%7B%22account%22:%7B%22homePage%22:%22https://lrs.invalid/callers%22,%22name%22:%22session:bbbbbbbb-1111-4111-8111-111111111111%22%7D%7D&related_agents=true",
-        true,
-        false,
-    ),
-    (
-        "agent=%7B%22account%22:%7B%22homePage%22:%22https://lrs.invalid/callers%22,%22name%22:%22session:bbbbbbbb-1111-4111-8111-111111111111%22%7D%7D",
-        false,
-        false,
-    ),
-    (
-        "agent=%7B%22account%22:%7B%22homePage%22:%22https://lrs.invalid/callers%22,%22name%22:%22session:BBBBBBBB-1111-4111-8111-111111111111%22%7D%7D&related_agents=true",
-        false,
-        false,
-    ),
-    (
-        "agent=%7B%22account%22:%7B%22homePage%22:%22https://lrs.invalid/callers%22,%22name%22:%22desk%22%7D%7D&related_agents=true",
-        false,
-        true,
-    ),
-    (
-        "registration=aaaaaaaa-1111-4111-8111-111111111111",
-        true,
-        false,
-    ),
-    (
-        "registration=11111111-1111-4111-8111-111111111111",
-        false,
-        false,
-    ),
-    (
-        "registration=aaaaaaaa-1111-4111-8111-111111111111&verb=http://v/1",
-        true,
-        false,
-    ),
-    ("verb=http://v/1&activity=http://a/2", false, false),
-    (
-        "verb=http://v/2&agent=%7B%22mbox%22:%22mailto:a@b%22%7D",
-        false,
-        false,
-    ),
-];
 
 // Whether what was stored at 2023-11-14T22:13:20Z is within the times.
 const TIMES: [(&str, bool); 8] = [
@@ -488,6 +418,13 @@ fn kept(alloc: Global, text: &str, by: Authority) -> Result<StoredStatement, Fai
     Ok(statement.complete(id, Moment::clamp(1_700_000_000_000), by))
 }
 
+fn held(alloc: Global, text: &str, by: Authority) -> Result<HeldStatement, Fail> {
+    let kept = kept(alloc, text, by)?;
+    let held = HeldStatement::of(alloc, &kept);
+    drop(kept);
+    Ok(held?)
+}
+
 fn asked(alloc: Global, query: &str) -> Result<Query, Fail> {
     let found = found_pairs(alloc, query)?;
     match read_wanted(alloc, found.as_slice()) {
@@ -497,41 +434,7 @@ fn asked(alloc: Global, query: &str) -> Result<Query, Fail> {
     }
 }
 
-fn first_wrong_filter(
-    alloc: Global,
-    did: &StoredStatement,
-    refers: &StoredStatement,
-) -> Result<Option<usize>, Fail> {
-    for (i, (query, first, second)) in FILTERS.iter().enumerate() {
-        let query = asked(alloc, query)?;
-        let right = direct(&query, did) == *first && direct(&query, refers) == *second;
-        drop(query);
-        if !right {
-            return Ok(Some(i));
-        }
-    }
-    Ok(None)
-}
-
-fn first_wrong_filter_of(alloc: Global, did: &StoredStatement) -> Result<Option<usize>, Fail> {
-    let refers = kept(alloc, REFERS, Authority::Desk)?;
-    let wrong = first_wrong_filter(alloc, did, &refers);
-    drop(refers);
-    wrong
-}
-
-#[test]
-fn filters_are_held_against_one_statement(rt: HostRuntime) -> Result<(), Fail> {
-    let alloc = rt.alloc();
-    let session = Id::read(b"bbbbbbbb-1111-4111-8111-111111111111").ok_or("no id")?;
-    let did = kept(alloc, DID, Authority::Session(session))?;
-    let wrong = first_wrong_filter_of(alloc, &did);
-    drop(did);
-    assert_eq!(rt; wrong?, None);
-    Ok(())
-}
-
-fn first_wrong_time(alloc: Global, did: &StoredStatement) -> Result<Option<usize>, Fail> {
+fn first_wrong_time(alloc: Global, did: &HeldStatement) -> Result<Option<usize>, Fail> {
     for (i, (query, within)) in TIMES.iter().enumerate() {
         let query = asked(alloc, query)?;
         let right = in_time(&query, did) == *within;
@@ -546,7 +449,7 @@ fn first_wrong_time(alloc: Global, did: &StoredStatement) -> Result<Option<usize
 #[test]
 fn times_are_held_at_their_edges(rt: HostRuntime) -> Result<(), Fail> {
     let alloc = rt.alloc();
-    let did = kept(alloc, DID, Authority::Admin)?;
+    let did = held(alloc, DID, Authority::Admin)?;
     let wrong = first_wrong_time(alloc, &did);
     drop(did);
     assert_eq!(rt; wrong?, None);
@@ -555,10 +458,7 @@ fn times_are_held_at_their_edges(rt: HostRuntime) -> Result<(), Fail> {
 
 // The place of the first sight that doesn't see the first or the second as it should. What a session sees hangs on the
 // registration alone, and not on who sent a statement.
-fn first_wrong_sight(
-    first: &StoredStatement,
-    second: &StoredStatement,
-) -> Result<Option<usize>, Fail> {
+fn first_wrong_sight(first: &HeldStatement, second: &HeldStatement) -> Result<Option<usize>, Fail> {
     let named = Id::read(b"aaaaaaaa-1111-4111-8111-111111111111").ok_or("no id")?;
     let other = Id::read(b"11111111-1111-4111-8111-111111111111").ok_or("no id")?;
     let rows = [
@@ -577,9 +477,9 @@ fn first_wrong_sight(
     Ok(None)
 }
 
-fn first_wrong_sight_of(alloc: Global, first: &StoredStatement) -> Result<Option<usize>, Fail> {
+fn first_wrong_sight_of(alloc: Global, first: &HeldStatement) -> Result<Option<usize>, Fail> {
     let session = Id::read(b"bbbbbbbb-1111-4111-8111-111111111111").ok_or("no id")?;
-    let own = kept(alloc, REFERS, Authority::Session(session))?;
+    let own = held(alloc, REFERS, Authority::Session(session))?;
     let wrong = first_wrong_sight(first, &own);
     drop(own);
     wrong
@@ -589,7 +489,7 @@ fn first_wrong_sight_of(alloc: Global, first: &StoredStatement) -> Result<Option
 fn a_sight_sees_what_is_its_own(rt: HostRuntime) -> Result<(), Fail> {
     let alloc = rt.alloc();
     let name = Text::of(alloc, "p")?;
-    let given = kept(alloc, DID, Authority::Provider { number: 3, name })?;
+    let given = held(alloc, DID, Authority::Provider { number: 3, name })?;
     let wrong = first_wrong_sight_of(alloc, &given);
     drop(given);
     assert_eq!(rt; wrong?, None);

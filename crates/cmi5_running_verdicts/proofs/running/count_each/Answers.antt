@@ -15,7 +15,7 @@ loop-nth-preserved c =
     record {
       long = c.count_nth.ensures.long ∙ at.invariant.long;
       counted = counting_next (seen c.args.enrolment.now) c.args.statements.now.held c.args.positions.now at.nth at.tallies c.count_nth.new.tallies (omega arith) (omega arith)
-          c.count_nth.ensures.counted at.invariant.counted;
+          c.in_ok-count_nth.ensures.counted at.invariant.counted;
     }
 
 pub returns-clause-counted : goal.returns-clause-counted

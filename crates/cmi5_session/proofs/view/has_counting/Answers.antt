@@ -10,14 +10,14 @@ loop-at-preserved c =
     let held = c.args.statements.now.held in
     let test = counts_still c.args.launch.now c.args.verb.now held in
     sym (any_from test held c.loop-at.at (omega arith)
-    ∙ ap (λ b. b || list_any test (drop (c.loop-at.at + 1) held)) (sym c.counts_still_at.ensures ∙ c.if-counts_still_at.false)) ∙ c.loop-at.invariant
+    ∙ ap (λ b. b || list_any test (drop (c.loop-at.at + 1) held)) (sym c.in_ok-counts_still_at.ensures ∙ c.if-branch.false)) ∙ c.loop-at.invariant
 
-pub returns-then-counts_still_at : goal.returns-then-counts_still_at
-returns-then-counts_still_at c =
+pub returns-then-branch : goal.returns-then-branch
+returns-then-branch c =
     let held = c.args.statements.now.held in
     let test = counts_still c.args.launch.now c.args.verb.now held in
     sym (any_from test held c.loop-at.at (omega arith)
-    ∙ ap (λ b. b || list_any test (drop (c.loop-at.at + 1) held)) (sym c.counts_still_at.ensures ∙ c.if-counts_still_at.true)) ∙ c.loop-at.invariant
+    ∙ ap (λ b. b || list_any test (drop (c.loop-at.at + 1) held)) (sym c.in_ok-counts_still_at.ensures ∙ c.if-branch.true)) ∙ c.loop-at.invariant
 
 pub returns : goal.returns
 returns c =

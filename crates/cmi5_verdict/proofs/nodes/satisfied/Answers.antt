@@ -15,13 +15,13 @@ pub loop-other-preserved : goal.loop-other-preserved
 loop-other-preserved c =
     let e = seen c.args.enrolment.now in
     under_next (is_met_at e (all_of c.args.statements.now)) (is_under e.nodes c.args.place) (length e.nodes) c.loop-other.other _ (omega arith)
-    (sym c.is_unmet_under.ensures ∙ c.if-is_unmet_under.false) c.loop-other.invariant
+    (sym c.in_ok-is_unmet_under.ensures ∙ c.if-branch.false) c.loop-other.invariant
 
-pub returns-then-is_unmet_under : goal.returns-then-is_unmet_under
-returns-then-is_unmet_under c =
+pub returns-then-branch : goal.returns-then-branch
+returns-then-branch c =
     let e = seen c.args.enrolment.now in
     unmet_found (is_met_at e (all_of c.args.statements.now)) (is_under e.nodes c.args.place) (length e.nodes) c.loop-other.other _ (omega arith)
-    (sym c.is_unmet_under.ensures ∙ c.if-is_unmet_under.true) c.loop-other.invariant
+    (sym c.in_ok-is_unmet_under.ensures ∙ c.if-branch.true) c.loop-other.invariant
 
 pub returns : goal.returns
 returns c =

@@ -14,5 +14,5 @@ returns-clause-noted c = λ k lt small.
     let new = c.args.statements.now.new.now in
     let old = said_of c.args.said.now k in
     c.note_each.ensures.noted k (subst (λ n. k < n) (sym c.note_held.ensures.long) lt) small
-    ∙ (ap (λ s. either s (said_among e all place new)) (c.note_held.ensures.noted k lt small)
+    ∙ (ap (λ s. either s (said_among e all place new)) (c.in_ok-note_held.ensures.noted k lt small)
     ∙ (either_assoc old (said_among e all place held) (said_among e all place new) ∙ ap (λ s. either old s) (sym (among_both e all place held new))))

@@ -12,7 +12,7 @@ loop-position-preserved c =
       long = c.note_at.ensures.long ∙ at.invariant.long;
       noted = λ k lt small.
           position_next (seen c.args.enrolment.now) (all_of c.args.statements.now) (c.args.first + k) c.args.statements.now.held.now.held c.args.positions.now at.position-index (said_of at.said k) (said_of c.note_at.new.said k) _ (omega arith)
-          (c.note_at.ensures.noted k (subst (λ n. k < n) (sym at.invariant.long) lt) small) (at.invariant.noted k lt small);
+          (c.in_ok-note_at.ensures.noted k (subst (λ n. k < n) (sym at.invariant.long) lt) small) (at.invariant.noted k lt small);
     }
 
 pub returns-clause-noted : goal.returns-clause-noted

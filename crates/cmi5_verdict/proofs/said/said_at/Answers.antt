@@ -12,6 +12,6 @@ returns c =
     let told = said_in (seen c.args.enrolment.now) (all_of c.args.statements.now) in
     let here : c.args.place + 0 ≡ c.args.place = omega arith in
     c.said_of.ensures
-    ∙ (c.note_all.ensures.noted 0 (omega arith) (omega arith)
+    ∙ (c.in_ok-note_all.ensures.noted 0 (omega arith) (omega arith)
     ∙ (ap (λ (s : Said). either s (told (c.args.place + 0))) c.nothing.ensures
     ∙ (unsaid_either (told (c.args.place + 0)) ∙ ap told here)))

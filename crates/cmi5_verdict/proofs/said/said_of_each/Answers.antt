@@ -15,4 +15,4 @@ returns c =
     ∙ said_from_none (seen c.args.enrolment.now) (all_of c.args.statements.now) n c.as_mut_slice.result.now c.note_all.new.said few
     (c.as_mut_slice.ensures.value ∙ c.in_ok-said.ensures) c.note_all.ensures.long
     (λ p lt small. let here : 0 + p ≡ p = omega arith in
-    c.note_all.ensures.noted p lt (omega arith) ∙ ap (λ q. either (said_of c.as_mut_slice.result.now p) (told q)) here)
+    c.in_ok-note_all.ensures.noted p lt (omega arith) ∙ ap (λ q. either (said_of c.as_mut_slice.result.now p) (told q)) here)

@@ -4,4 +4,4 @@ use Rattle.cmi5_verdict.proofs.units.is_met.Goals as goal
 
 pub returns : goal.returns
 unfolding said_among
-returns c = c.meets.ensures ∙ ap (meets c.args.asked) c.said_at.ensures
+returns c = c.meets.ensures ∙ ap (meets c.args.asked) c.in_ok-said.ensures

@@ -5,4 +5,4 @@ use Rattle.cmi5_verdict.proofs.units.waived.Goals as goal
 
 pub returns : goal.returns
 unfolding said_among
-returns c = ap (λ (s : Said). s.waived) c.said_at.ensures
+returns c = ap (λ (s : Said). s.waived) c.in_ok-said.ensures

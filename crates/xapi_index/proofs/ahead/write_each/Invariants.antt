@@ -1,4 +1,4 @@
-use Rattle.std.proofs.Common.{◌+◌, ◌-◌, ◌≤◌, length, take, vec_capacity, vec_len}
+use Rattle.std.proofs.Common.{◌≡◌, ◌+◌, ◌++◌, ◌-◌, ◌≤◌, length, take, vec_capacity, vec_len}
 use Rattle.xapi_index.specs.Ahead.{StandAhead}
 use Rattle.xapi_index.specs.Index.{lists_of}
 use Rattle.xapi_index.specs.Statements.{add_each}
@@ -7,6 +7,7 @@ use Rattle.xapi_index.proofs.ahead.write_each.Given as goal
 -- those so far stand ahead, and for each that is left there is room
 abbrev pub invariant-loop-statement : goal.invariant-loop-statement
 invariant-loop-statement l = record {
-  stand : StandAhead l.held (add_each l.held (take l.statement-index l.statements)) l.postings (lists_of l.coming.items);
+  stand : StandAhead l.held l.ahead.items l.postings (lists_of l.coming.items);
+  added : l.held ++ l.ahead.items ≡ add_each l.held (take l.statement-index l.statements);
   room : length l.statements ≤ (vec_capacity l.coming - vec_len l.coming) + l.statement-index;
 }

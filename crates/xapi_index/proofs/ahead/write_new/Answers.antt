@@ -9,10 +9,10 @@ use Rattle.xapi_statement_keys.specs.Keys.{is_among}
 use Rattle.xapi_index.proofs.ahead.write_new.Goals as goal
 
 pub returns-in_err-position-clause-index : goal.returns-in_err-position-clause-index
-returns-in_err-position-clause-index c = λ all stand. stand_index c.args.held.now all c.args.postings.now (lists_of c.args.coming.now.items) stand
+returns-in_err-position-clause-index c = λ ahead stand. stand_index c.args.held.now ahead c.args.postings.now (lists_of c.args.coming.now.items) stand
 
 pub returns-in_err-keys-clause-index : goal.returns-in_err-keys-clause-index
-returns-in_err-keys-clause-index c = λ all stand. stand_index c.args.held.now all c.args.postings.now (lists_of c.args.coming.now.items) stand
+returns-in_err-keys-clause-index c = λ ahead stand. stand_index c.args.held.now ahead c.args.postings.now (lists_of c.args.coming.now.items) stand
 
 pub returns-clause-stands : goal.returns-clause-stands
 returns-clause-stands c =
@@ -25,9 +25,9 @@ returns-clause-stands c =
     let at : position ≡ length held + length (lists_of coming) = c.in_ok-position.ensures ∙ ap (λ n. length held + n) (long ∙ sym (lists_length coming)) in
     let lists : lists_of c.push_reserved.new.self.items ≡ lists_of coming ++ keys.items.items ∷ [] = ap (λ xs. lists_of xs) c.push_reserved.ensures.items ∙ lists_push coming keys in
     on_ok_weaker c.post_each-written.result
-    (λ each all stand.
-    subst (λ ls. StandAhead held (all ++ c.args.statement.now ∷ []) new ls) (sym lists)
-    (stand_more held all c.args.postings.now new (lists_of coming) keys.items.items c.args.statement.now position at c.in_ok-keys.ensures
+    (λ each ahead stand.
+    subst (λ ls. StandAhead held (ahead ++ c.args.statement.now ∷ []) new ls) (sym lists)
+    (stand_more held ahead c.args.postings.now new (lists_of coming) keys.items.items c.args.statement.now position at c.in_ok-keys.ensures
     (subst (λ ks. ChangesEach (λ k. is_among k ks) (posted position) c.args.postings.now new) c.as_slice.ensures.value each) stand))
     c.post_each-written.ensures.each
 
@@ -41,7 +41,7 @@ returns-clause-index c =
     let long : c.len.result ≡ length coming = search rules in
     let at : position ≡ length held + length (lists_of coming) = c.in_ok-position.ensures ∙ ap (λ n. length held + n) (long ∙ sym (lists_length coming)) in
     let lists : lists_of c.push_reserved.new.self.items ≡ lists_of coming ++ keys.items.items ∷ [] = ap (λ xs. lists_of xs) c.push_reserved.ensures.items ∙ lists_push coming keys in
-    λ all stand.
+    λ ahead stand.
     subst (λ ls. IsIndex held new ls false) (sym lists)
-    (part_index held all c.args.postings.now new (lists_of coming) keys.items.items position at
+    (part_index held ahead c.args.postings.now new (lists_of coming) keys.items.items position at
     (subst (λ ks. ChangesSome (λ k. is_among k ks) (posted position) c.args.postings.now new) c.as_slice.ensures.value c.post_each-written.ensures.some) stand)

@@ -1,44 +1,29 @@
-use Rattle.std.proofs.Common.{◌≡◌, ◌∷◌, ◌∙◌, ap, sym, length, arith}
-use Rattle.std.specs.Vec.Iter.{into_iter_items}
-use Rattle.xapi_index.specs.Statements.{add_each}
-use Rattle.xapi_index.proofs.Coming.{told_first}
+use Rattle.std.proofs.Common.{◌≡◌, ◌++◌, ◌∙◌, List, ap, arith, length, subst, sym, take}
+use Rattle.std.proofs.lemmas.List.{length-append}
+use Rattle.xapi_index.specs.Index.{IsRising}
+use Rattle.xapi_index.proofs.Standing.{front_stays}
+use Rattle.xapi_statement.specs.Stored.{StoredStatement}
 use Rattle.xapi_index.proofs.installing.install_each.Goals as goal
 
-pub install_one-requires-clause-told : goal.install_one-requires-clause-told
-install_one-requires-clause-told c =
-    let at = c.loop-statement in
-    let rest = into_iter_items c.next.new.self in
-    let steps : into_iter_items at.statement-iterator ≡ c.in-Some.statement ∷ rest = c.in-Some.ensures.steps.0 in
-    told_first c.args.postings.now at.held.items c.in-Some.statement rest (add_each c.args.held.now.items c.args.statements.items) (ap (λ xs. add_each at.held.items xs) (sym steps) ∙ at.invariant.added) c.requires.posted
+pub are_rising-requires-clause-within : goal.are_rising-requires-clause-within
+are_rising-requires-clause-within c =
+    let held = c.args.held.now in
+    let all = c.append_each.ensures.held in
+    omega (arith, c.len-before.ensures, held.ok.0, ap length c.as_slice.ensures.value, ap length all, length-append held.items c.args.ahead.now.items)
 
-pub install_one-requires-clause-spare : goal.install_one-requires-clause-spare
-install_one-requires-clause-spare c =
-    let at = c.loop-statement in
-    let steps : into_iter_items at.statement-iterator ≡ c.in-Some.statement ∷ into_iter_items c.next.new.self = c.in-Some.ensures.steps.0 in
-    let short = ap length steps in
-    let roomy = at.invariant.spare in
-    omega arith
+pub are_rising-requires-clause-known : goal.are_rising-requires-clause-known
+are_rising-requires-clause-known c =
+    let held = c.args.held.now in
+    let front : take c.len-before.result c.as_slice.result.now ≡ held.items =
+    ap (λ (xs : List StoredStatement). take c.len-before.result xs) (c.as_slice.ensures.value ∙ c.append_each.ensures.held)
+    ∙ (ap (λ n. take n (held.items ++ c.args.ahead.now.items)) (c.len-before.ensures ∙ held.ok.0) ∙ front_stays held.items c.args.ahead.now.items) in
+    λ is. subst (λ (xs : List StoredStatement). IsRising xs) (sym front) (c.requires.rising is)
 
-pub install_one-requires-clause-rising : goal.install_one-requires-clause-rising
-install_one-requires-clause-rising c = c.loop-statement.invariant.rising
+pub returns-clause-held : goal.returns-clause-held
+returns-clause-held c = c.append_each.ensures.held
 
-pub loop-statement-preserved : goal.loop-statement-preserved
-loop-statement-preserved c =
-    let at = c.loop-statement in
-    let rest = into_iter_items c.next.new.self in
-    let steps : into_iter_items at.statement-iterator ≡ c.in-Some.statement ∷ rest = c.in-Some.ensures.steps.0 in
-    let gone = c.in-Some.ensures.steps.1 in
-    let short = ap length steps in
-    let was = at.invariant.left in
-    let roomy = at.invariant.spare in
-    let same = c.install_one.ensures.spare.0 in
-    let more = c.install_one.ensures.spare.1 in
-    record {
-      added = ap (λ held. add_each held rest) c.install_one.ensures.held ∙ (ap (λ xs. add_each at.held.items xs) (sym steps) ∙ at.invariant.added);
-      rising = c.install_one.ensures.rising;
-      spare = omega arith;
-      left = omega arith;
-    }
+pub returns-clause-nothing : goal.returns-clause-nothing
+returns-clause-nothing c = c.append_each.ensures.nothing
 
 pub returns-clause-rising : goal.returns-clause-rising
-returns-clause-rising c = c.loop-statement.invariant.rising
+returns-clause-rising c = λ is. subst (λ (xs : List StoredStatement). IsRising xs) c.as_slice.ensures.value (c.are_rising.ensures is)

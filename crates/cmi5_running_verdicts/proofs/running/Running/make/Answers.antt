@@ -5,6 +5,6 @@ pub returns-clause-ready : goal.returns-clause-ready
 returns-clause-ready c = record {
   tallies = c.in_ok-made.made.items;
   coming = ap Some c.of.ensures;
-  fresh = c.in_ok-made.ensures;
+  are = c.in_ok-made.ensures;
   room = omega (arith, c.in_ok-reserve.ensures.ok);
 }

@@ -28,4 +28,5 @@ returns-clause-nothing c =
     record {
       posted = cut_posted held old new (lists_of c.self.inside.coming.items) c.self.inside.rising c.len-held.result c.self.invariant long each;
       coming = ap (λ xs. lists_of xs) c.clear.ensures.items;
+      ahead = c.clear-2.ensures.items;
     }
