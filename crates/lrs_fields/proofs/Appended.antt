@@ -10,10 +10,10 @@ use Rattle.lrs_json.specs.Written.{comma_if, elements_text, members_text, writte
 use Rattle.lrs_json.specs.declared.tree.Tree.{Tree}
 use Rattle.lrs_fields.specs.Values.{Value, members_for, value_json}
 
-not_first : (i : ℕ) → nat_lt 0 (i + 1) ≡ true
+pub not_first : (i : ℕ) → nat_lt 0 (i + 1) ≡ true
 not_first i = grind (arith, nat_tests)
 
-left_from : {A : Type 0} (xs : List A) (i : ℕ) (x : A) → i < length xs → x ≡ get_or xs i x → drop i xs ≡ x ∷ drop (i + 1) xs
+pub left_from : {A : Type 0} (xs : List A) (i : ℕ) (x : A) → i < length xs → x ≡ get_or xs i x → drop i xs ≡ x ∷ drop (i + 1) xs
 left_from xs i x within at = rw add-one (drop-cons xs i x within ∙ ap (λ z. z ∷ drop (suc i) xs) (sym at))
 
 -- ---- the items of an array
@@ -42,7 +42,7 @@ items_end ts i before after whole end closed all =
 
 -- ---- the fields of an object, each of which is seen as its name and its value
 
-first_member : (later : Bool) (name : List ℕ) (j : Json) (ms : Members) → members_text later (member name j ms) ≡ member_text later name j ++ members_text true ms
+pub first_member : (later : Bool) (name : List ℕ) (j : Json) (ms : Members) → members_text later (member name j ms) ≡ member_text later name j ++ members_text true ms
 first_member later name j ms = simp append_assoc
 
 member_more : (name : List ℕ) (j : Json) (ms : Members) (later : Bool) (before after whole : List ℕ) → after ≡ before ++ member_text later name j → before ++ members_text later (member name j ms) ≡ whole

@@ -1,6 +1,7 @@
 pub mod Kept
 pub mod Joined
 pub mod Appended
+pub mod Matched
 pub mod Words
 pub mod Counts
 pub mod SameParts

@@ -20,8 +20,8 @@ use lrs_names::{Id, Iri};
 use std::alloc::Global;
 use std::collections::VecDeque;
 
-/// The fields of a write that are still to be read. Their names aren't looked at: the entry that is read is written
-/// again, and its text compared.
+/// The fields of a write that are still to be read. Their names aren't looked at: the bytes are compared with the text
+/// of the entry that is read.
 #[derive(Drop)]
 pub struct Fields {
     left: VecDeque<Member>,

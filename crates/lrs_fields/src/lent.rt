@@ -57,8 +57,9 @@ fn put_field(later: bool, name: &str, value: &Lent<'_>, into: &mut Vec<u8>) -> R
     put_value(value, into)
 }
 
+/// Appends the value, or a part of it if memory runs out in the middle.
 #[tactic(auto, using(lrs_json::proofs::Extending::extends_trans))]
-fn put_value(value: &Lent<'_>, into: &mut Vec<u8>) -> Result<(), Memory>
+pub(crate) fn put_value(value: &Lent<'_>, into: &mut Vec<u8>) -> Result<(), Memory>
     ensures ok { OnOk result (into.new.items ≡ into.old.items ++ written (value_json (lent value.now))) }
     ensures kept { Extends into.old.items into.new.items }
     ensures holds { OnOk result (HoldsValue (lent value.now)) }

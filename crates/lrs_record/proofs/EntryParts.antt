@@ -1,13 +1,18 @@
--- The four members of an entry's text.
-use Rattle.std.proofs.Common.{◌≡◌, ℕ, List, [], ◌∷◌, Some, codes, ap}
+-- The four members of an entry's text, and what stands before and behind the fields of its write.
+use Rattle.std.proofs.Common.{◌≡◌, ℕ, List, [], ◌∷◌, ◌++◌, Some, true, false, codes, ap}
 use Rattle.std.specs.Fmt.{decimal}
 use Rattle.lrs_json.specs.Json.{Json, number, object, string}
+use Rattle.lrs_json.specs.Texts.{member_text}
 use Rattle.lrs_json.specs.View.{members_of}
+use Rattle.lrs_json.specs.Written.{comma_if, members_text, quoted}
 use Rattle.lrs_fields.specs.Digits.{draw_text}
-use Rattle.lrs_record.specs.Entries.{caller_text, write_json, entry_json}
+use Rattle.lrs_fields.specs.Values.{members_for}
+use Rattle.lrs_record.specs.Entries.{caller_text, closing_text, entry_json, heading_text, write_json, written_entry}
+use Rattle.lrs_record.specs.Writes.{write_fields, write_name}
 use Rattle.lrs_record.specs.declared.entry.Entry.{Entry}
 use Rattle.lrs_fields.specs.Widths.{width}
 use Rattle.lrs_fields.proofs.SameParts.{four_parts}
+use Rattle.lrs_record.proofs.Joined.{in_parts}
 
 pub record MemberTexts (a b c d : List ℕ × Json) (entry : Entry) : Type 0 where
   pub caller : a ≡ (codes "caller", string (caller_text entry.caller))
@@ -26,3 +31,10 @@ member_texts seen a b c d entry x y =
 pub four_wide : (seen : Json) (entry : Entry) → seen ≡ entry_json entry → width seen ≡ Some 4
 unfolding entry_json
 four_wide seen entry is = ap width is
+
+pub entry_parts : (entry : Entry) → written_entry entry ≡ heading_text entry ++ closing_text entry.write
+unfolding written_entry entry_json heading_text
+entry_parts entry =
+    in_parts (member_text false (codes "caller") (string (caller_text entry.caller))) (member_text true (codes "moment") (number (decimal entry.moment)))
+    (member_text true (codes "draw") (string (draw_text entry.draw))) (comma_if true ++ quoted (codes "command")) (comma_if false ++ quoted (write_name entry.write))
+    (members_text false (members_of (members_for (write_fields entry.write))))

@@ -1,9 +1,6 @@
 -- `BadEntry` comes exactly where the bytes are the text of no lawful entry.
-use Rattle.std.proofs.Common.{◌≡◌, ◌⊎◌, ℕ, List, Result, Ok, Err, IfOk, IsErrAnd, MatchResult, inl, inr, refl, ap, ◌∙◌}
-use Rattle.lrs_json_reader.specs.declared.reading.ReadRefused.{ReadRefused}
-use Rattle.lrs_json_reader.specs.declared.reading.ReadRefused.TheVariants as read
+use Rattle.std.proofs.Common.{◌≡◌, ◌⊎◌, ℕ, List, Result, Ok, Err, IfOk, IsErrAnd, MatchResult, inl, inr, refl, ◌∙◌}
 use Rattle.lrs_record.specs.Entries.{IsEntryText, IsLawful, written_entry}
-use Rattle.lrs_record.specs.Refusals.{refused_as}
 use Rattle.lrs_record.specs.declared.entry.Entry.{Entry}
 use Rattle.lrs_record.specs.declared.refused.EntryRefused.{EntryRefused}
 use Rattle.lrs_record.specs.declared.refused.EntryRefused.TheVariants.{BadEntry, Memory}
@@ -24,8 +21,7 @@ bad_always bytes (Ok entry) found none = absurd (none (entry, found.0, found.1))
 bad_always bytes (Err BadEntry) found none = inl refl
 bad_always bytes (Err Memory) found none = inr refl
 
--- Where JSON is read again, a refusal says that memory ran out.
-pub refused_for_memory : (P : Entry → Type 0) (refused : ReadRefused) (result : Result Entry EntryRefused) → IsErrAnd result (λ e. e ≡ refused_as refused) → refused ≡ read.Memory
-    → MatchResult result P (λ e. e ≡ Memory)
+-- Where the text is read again, a refusal says that memory ran out.
+pub refused_for_memory : (P : Entry → Type 0) (refused : EntryRefused) (result : Result Entry EntryRefused) → IsErrAnd result (λ e. e ≡ refused) → refused ≡ Memory → MatchResult result P (λ e. e ≡ Memory)
 refused_for_memory P refused (Ok entry) is memory = absurd is
-refused_for_memory P refused (Err e) is memory = is ∙ ap refused_as memory
+refused_for_memory P refused (Err e) is memory = is ∙ memory

@@ -5,4 +5,5 @@ pub mod DocumentWrites
 pub mod DeskWrites
 pub mod Writes
 pub mod Readable
+pub mod Reread
 pub mod Told

@@ -1,5 +1,5 @@
--- The text of a lawful entry is one that reading takes.
-use Rattle.std.proofs.Common.{◌≡◌, ◌≤◌, ℕ, List, [], IsUtf8, codes, arith, refl, subst}
+-- The text of a lawful entry is written from a value that can be read.
+use Rattle.std.proofs.Common.{◌≡◌, ◌≤◌, ℕ, List, [], IsUtf8, codes, arith, refl}
 use Rattle.std.specs.Fmt.{decimal}
 use Rattle.std.proofs.lemmas.Str.{IsUtf8-nil}
 use Rattle.lrs_fields.proofs.Apart.{are_apart}
@@ -9,8 +9,7 @@ use Rattle.lrs_fields.proofs.Words.{IsUtf8-draw_text, IsUtf8-small, are_small, b
 use Rattle.lrs_json.specs.Depth.{depth}
 use Rattle.lrs_json.specs.Fits.{Fits, IsReadable}
 use Rattle.lrs_json.specs.Json.{number}
-use Rattle.lrs_json_reader.specs.Refusals.{Spells}
-use Rattle.lrs_json_reader.proofs.WrittenLemmas.{written-Spells}
+use Rattle.lrs_json.specs.Written.{written}
 use Rattle.lrs_record.specs.Entries.{HoldsCaller, HoldsWrite, IsLawful, IsLawfulWrite, caller_text, write_json, entry_json, written_entry}
 use Rattle.lrs_record.specs.Writes.{write_fields, write_name}
 use Rattle.lrs_record.specs.declared.entry.Caller.{Caller}
@@ -61,6 +60,6 @@ readable entry lawful =
       omega (arith, shallow_write entry.write lawful.write),
     )
 
-pub entry_is_spelled : (entry : Entry) (bytes : List ℕ) → IsLawful entry → written_entry entry ≡ bytes → Spells ENTRY_DEPTH bytes (entry_json entry)
+pub entry_is_written : (entry : Entry) (bytes : List ℕ) → written_entry entry ≡ bytes → written (entry_json entry) ≡ bytes
 unfolding written_entry
-entry_is_spelled entry bytes lawful is = subst (λ text. Spells ENTRY_DEPTH text (entry_json entry)) is (written-Spells ENTRY_DEPTH (entry_json entry) (readable entry lawful))
+entry_is_written entry bytes is = is

@@ -1,12 +1,13 @@
 -- The text of an entry: `{"caller":C,"moment":MS,"draw":HEX64,"command":{NAME:ARGS}}`, in the written form of JSON.
-use Rattle.std.specs.Prelude.{◌≡◌, ◌≢◌, ◌≤◌, ℕ, List, [], ◌∷◌, codes, IsUtf8}
+use Rattle.std.specs.Prelude.{◌≡◌, ◌≢◌, ◌≤◌, ℕ, List, [], ◌∷◌, ◌++◌, true, false, codes, IsUtf8}
 use Rattle.std.specs.Fmt.{decimal}
 use Rattle.std.specs.List.{AllByRecursion}
 use Rattle.lrs_fields.specs.Digits.{HoldsDraw, draw_text}
 use Rattle.lrs_fields.specs.Values.{HoldsValue, IsLawfulValue, members_for}
 use Rattle.lrs_json.specs.Json.{Json, number, string, object}
+use Rattle.lrs_json.specs.Texts.{member_text, name_text}
 use Rattle.lrs_json.specs.View.{members_of}
-use Rattle.lrs_json.specs.Written.{written}
+use Rattle.lrs_json.specs.Written.{members_text, written}
 use Rattle.lrs_record.specs.Writes.{write_fields, write_name}
 use Rattle.lrs_record.specs.declared.entry.Caller.{Caller}
 use Rattle.lrs_record.specs.declared.entry.Caller.TheVariants.{Nobody, Operator, Token}
@@ -38,6 +39,21 @@ entry_json entry =
 unfoldable pub written_entry : Entry → List ℕ
 written_entry entry = written (entry_json entry)
 
+-- what opens the fields of a command of that name
+abbrev pub opening_text : List ℕ → List ℕ
+opening_text name = name_text true (codes "command") ++ (123 ∷ (name_text false name ++ 123 ∷ []))
+
+-- what stands before the fields of the entry's write
+unfoldable pub heading_text : Entry → List ℕ
+heading_text entry =
+    123 ∷ (member_text false (codes "caller") (string (caller_text entry.caller))
+    ++ (member_text true (codes "moment") (number (decimal entry.moment))
+    ++ (member_text true (codes "draw") (string (draw_text entry.draw)) ++ opening_text (write_name entry.write))))
+
+-- the fields of a write, and what closes them, the command and the entry
+abbrev pub closing_text : Write → List ℕ
+closing_text write = members_text false (members_of (members_for (write_fields write))) ++ 125 ∷ 125 ∷ []
+
 -- A token is written as itself, so it is not what is written for nobody and for the operator.
 abbrev pub IsLawfulCaller : Caller → Type 0
 IsLawfulCaller Nobody = Unit {0}
@@ -56,6 +72,10 @@ HoldsCaller (Token token) = IsUtf8 token
 
 abbrev pub HoldsWrite : Write → Type 0
 HoldsWrite write = AllByRecursion (λ field. HoldsValue field.1) (write_fields write)
+
+-- what holds of the caller, the moment and the draw of every entry of the program
+abbrev pub HoldsHeading : Entry → Type 0
+HoldsHeading entry = HoldsCaller entry.caller × (entry.moment ≤ LATEST) × HoldsDraw entry.draw
 
 -- what holds of every entry of the program, by the types of its parts
 pub record HasValues (entry : Entry) : Type 0 where

@@ -5,6 +5,7 @@
 
 mod desk_writes;
 mod entry;
+mod matching;
 mod pieces;
 mod reading;
 mod refused;

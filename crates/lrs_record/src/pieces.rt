@@ -21,7 +21,7 @@ use lrs_json::{Member, Memory, Text, Tree};
 use lrs_names::Draw;
 use std::alloc::Global;
 
-// What these read may be spelled in other ways than an entry's text: the text, written again, tells.
+// What these read may be spelled in other ways than an entry's text: the bytes, compared with the text, tell.
 
 /// The entry whose text the tree is.
 pub fn entry_of(alloc: Global, tree: Tree) -> Result<Option<Entry>, Memory>

@@ -1,5 +1,4 @@
 use lrs_json::Memory;
-use lrs_json_reader::ReadRefused;
 
 /// Why a text is refused as an entry.
 #[derive(Clone, Copy, Debug, PartialEq, Eq)]
@@ -18,19 +17,5 @@ impl From<Memory> for EntryRefused {
 
     fn from(_: Memory) -> EntryRefused {
         EntryRefused::Memory
-    }
-}
-
-impl From<ReadRefused> for EntryRefused {
-    ghost use Rattle.std.specs.Prelude.{◌≡◌};
-    ghost use Rattle.lrs_record.specs.Refusals.{refused_as};
-
-    ghost from_gives = { λ refused e. e ≡ refused_as refused };
-
-    fn from(refused: ReadRefused) -> EntryRefused {
-        match refused {
-            ReadRefused::Memory => EntryRefused::Memory,
-            _ => EntryRefused::BadEntry,
-        }
     }
 }

@@ -3,11 +3,11 @@ ghost use Rattle.std.specs.Fmt.{decimal};
 ghost use Rattle.lrs_json.specs.Json.{number};
 ghost use Rattle.lrs_json.specs.Texts.{member_text};
 ghost use Rattle.lrs_json.specs.Written.{Extends};
-ghost use Rattle.lrs_record.specs.Entries.{HasValues, HoldsWrite, IsLawful, IsLawfulCaller, IsLawfulWrite, write_json, written_entry};
+ghost use Rattle.lrs_record.specs.Entries.{HasValues, HoldsHeading, IsLawful, IsLawfulCaller, IsLawfulWrite, heading_text, opening_text, written_entry};
 ghost use Rattle.lrs_time.specs.declared.moments.TheConstants.{LATEST};
 ghost use Rattle.lrs_record.specs.declared.entry.Entry.{Entry as SpecEntry};
 
-use crate::{Entry, Moment, Write};
+use crate::{Entry, Moment};
 use itoa::Buffer;
 use lrs_fields::draw_digits;
 use lrs_json::appending::{put, put_name, put_text};
@@ -42,13 +42,23 @@ fn put_entry(entry: &Entry, into: &mut Vec<u8>) -> Result<(), Memory>
     ensures kept { Extends into.old.items into.new.items }
     ensures values { OnOk result (HasValues entry.now) }
 {
+    put_heading(entry, into)?;
+    entry.write.put_fields(into)?;
+    put(b"}}", into)
+}
+
+// What stands before the fields of the entry's write.
+pub(crate) fn put_heading(entry: &Entry, into: &mut Vec<u8>) -> Result<(), Memory>
+    ensures ok { OnOk result (into.new.items ≡ into.old.items ++ heading_text entry.now) }
+    ensures kept { Extends into.old.items into.new.items }
+    ensures holds { OnOk result (HoldsHeading entry.now) }
+{
     put(b"{", into)?;
     put_text(false, "caller", entry.caller.text(), into)?;
     put_moment(entry.moment, into)?;
     let digits = draw_digits(entry.draw);
     put_text(true, "draw", utf8_text(&digits), into)?;
-    put_command(&entry.write, into)?;
-    put(b"}", into)
+    put_opening(entry.write.name(), into)
 }
 
 fn put_moment(moment: Moment, into: &mut Vec<u8>) -> Result<(), Memory>
@@ -63,16 +73,13 @@ fn put_moment(moment: Moment, into: &mut Vec<u8>) -> Result<(), Memory>
     put(digits.as_bytes(), into)
 }
 
-fn put_command(write: &Write, into: &mut Vec<u8>) -> Result<(), Memory>
-    ensures ok { OnOk result (into.new.items ≡ into.old.items
-        ++ member_text true (codes "command") (write_json write.now)) }
+// What opens the fields of a command of that name.
+fn put_opening(name: &str, into: &mut Vec<u8>) -> Result<(), Memory>
+    ensures ok { OnOk result (into.new.items ≡ into.old.items ++ opening_text name.now) }
     ensures kept { Extends into.old.items into.new.items }
-    ensures holds { OnOk result (HoldsWrite write.now) }
 {
     put_name(true, "command", into)?;
     put(b"{", into)?;
-    put_name(false, write.name(), into)?;
-    put(b"{", into)?;
-    write.put_fields(into)?;
-    put(b"}", into)
+    put_name(false, name, into)?;
+    put(b"{", into)
 }

@@ -300,8 +300,8 @@ const NOBODY: &str =
     "{\"caller\":\"\",\"moment\":1,\"draw\":\"0000000000000000000000000000000000000000000000000000000000000000\",\"command\":";
 
 // What stands before and after so many nested arrays, and whether that is an entry: a statement has 64 levels at
-// most, an id is written in lower case, and statements are an array.
-const NESTED: [(&str, usize, &str, bool); 6] = [
+// most, an id is written in lower case, statements are an array, and each stands in its written form.
+const NESTED: [(&str, usize, &str, bool); 12] = [
     (
         "{\"put\":{\"id\":\"aaaaaaaa-1111-4111-8111-111111111111\",\"statement\":",
         64,
@@ -323,6 +323,32 @@ const NESTED: [(&str, usize, &str, bool); 6] = [
     ("{\"post\":{\"statements\":[1,", 64, "]}}}", true),
     ("{\"post\":{\"statements\":[1,", 65, "]}}}", false),
     ("{\"post\":{\"statements\":{", 0, "}}}}", false),
+    (
+        "{\"post\":{\"statements\":[{\"\u{e9}\":\"/\\n\"},",
+        1,
+        "]}}}",
+        true,
+    ),
+    (
+        "{\"post\":{\"statements\":[{\"\\u00e9\":\"/\\n\"},",
+        1,
+        "]}}}",
+        false,
+    ),
+    (
+        "{\"post\":{\"statements\":[{\"\u{e9}\":\"\\/\\n\"},",
+        1,
+        "]}}}",
+        false,
+    ),
+    (
+        "{\"post\":{\"statements\":[{\"\u{e9}\":\"/\\u000a\"},",
+        1,
+        "]}}}",
+        false,
+    ),
+    ("{\"post\":{\"statements\":[1, ", 1, "]}}}", false),
+    ("{\"post\":{\"statements\":[1,", 1, " ]}}}", false),
 ];
 
 fn nested(alloc: Global, front: &str, levels: usize, back: &str) -> Result<String, Fail> {
