@@ -21,7 +21,7 @@ use cmi5_course::{Launch, Mode};
 use cmi5_launch::names::LAUNCH_DATA;
 use cmi5_launch::{Made, launch_address, launch_data};
 use lrs_ids::IdSupply;
-use lrs_json::{Items, Memory, Text};
+use lrs_json::{Items, Memory, Number, Text};
 use lrs_made::{LentTarget, make_one, make_under, statement_of, target};
 use lrs_names::{Draw, Id, Iri};
 use lrs_parts::{Acceptance, Effect, HeldKey, KeysChange, LaunchesChange, Parts, SessionsChange};
@@ -430,7 +430,7 @@ fn launch_at(
 }
 
 // The score that passes the unit, as its course spells it.
-fn mastery_of(target: &LentTarget<'_>) -> Result<Option<Text>, Memory>
+fn mastery_of(target: &LentTarget<'_>) -> Result<Option<Number>, Memory>
     ensures { IfOk result (λ mastery. mastery ≡ (seen_target target.now).unit.mastery_text) }
 {
     let unit = target.unit;

@@ -42,7 +42,8 @@ pub fn waiving(
     let Some(found) = target(parts, &registration, &unit) else {
         return Ok(Effect::no_change(alloc, moment));
     };
-    if is_waived(parts, &found) {
+    let already = is_waived(alloc, parts, &found)?;
+    if already {
         return Ok(Effect::no_change(alloc, moment));
     }
     waiving_as(alloc, parts, moment, draw, &found, reason)

@@ -18,16 +18,21 @@ use std::alloc::Global;
 use xapi_statement::Statement;
 
 /// Whether the unit is waived: a statement stands that says so.
-pub fn is_waived(parts: &Parts, target: &LentTarget<'_>) -> bool
+pub fn is_waived(alloc: Global, parts: &Parts, target: &LentTarget<'_>) -> Result<bool, Memory>
     requires { IsTargetOf (state_of parts.now) target.now }
-    ensures { result ≡ is_waived (state_of parts.now) (seen_target target.now) }
+    ensures { IfOk result (λ waived. waived ≡ is_waived (state_of parts.now) (seen_target target.now)) }
 {
     let enrolled = LentEnrolled {
         base: target.base,
         registration: target.registration,
         course: target.course,
     };
-    parts.is_waived(target.registration, &enrolled.enrolment(), target.place)
+    parts.is_waived(
+        alloc,
+        target.registration,
+        &enrolled.enrolment(),
+        target.place,
+    )
 }
 
 /// The statement that the unit was waived, in that session (cmi5 Quartz, section 9.3.7).

@@ -42,4 +42,5 @@ none_more parts = record {
   documents = λ k has. has;
   sessions = record { own = λ id has. has; unit = λ registration activity has. has; units = λ registration has. has };
   running = inr refl;
+  targets = inr refl;
 }

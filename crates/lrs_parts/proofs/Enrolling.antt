@@ -241,11 +241,11 @@ enrolled_on founding later new courses more change founded came stay r e is =
     ap (λ (x : Option Founding). enrolment_in x more r) founded ∙ (ap (λ (cs : List Course). enrolment_in (founding_after founding new) cs r) came ∙ enrolled_after founding new courses change stay r e is)
 
 pub ready_on : (running : SeenRunning) (founding later new : Option Founding) (courses more : List Course) (change : Change Course) → later ≡ founding_after founding new → more ≡ courses_after courses change
-    → change.replaced ≡ None → (r : HeldRegistration) → IsReadyToEnrol running founding courses r → IsReadyToEnrol running later more r
-ready_on running founding later new courses more change founded came stay r ready = record {
+    → change.replaced ≡ None → (r : HeldRegistration) (those : List MarkedStatement) → IsReadyToEnrol running founding courses r those → IsReadyToEnrol running later more r those
+ready_on running founding later new courses more change founded came stay r those ready = record {
   enrolment = ready.enrolment;
   enrolled = enrolled_on founding later new courses more change founded came stay r ready.enrolment ready.enrolled;
-  room = ready.room;
+  counted = ready.counted;
 }
 
 pub registered : (registrations : List HeldRegistration) (change : Change HeldRegistration) → change.replaced ≡ None → registrations_after registrations change ≡ with_new registrations change.new

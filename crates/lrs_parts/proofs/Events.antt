@@ -1,14 +1,14 @@
 -- What changes among marked statements where one comes: it stands behind the others, and may void one of them.
 use Rattle.std.proofs.Common.{◌≡◌, ◌<◌, ◌≤◌, ◌+◌, ◌^◌, zero, suc, ℕ, List, [], ◌∷◌, ◌++◌, length, length-append, take, append_assoc, refl, sym, ◌∙◌, ap, subst, arith, true≢false, Option, Some, None, Bool, true, false, cond, not, ◌&&◌, ◌||◌, nat_lt, slice_get}
 use Rattle.std.specs.Prelude.{option_and_then, position, find, is_some, if◌then◌else◌}
-use Rattle.std.specs.List.{AllByRecursion, position_from}
+use Rattle.std.specs.List.{position_from}
 use Rattle.std.specs.Option.{option_map_or}
 use Rattle.std.specs.Str.{bytes_eq}
 use Rattle.std.proofs.lemmas.Grind.{common_steps}
 use Rattle.std.proofs.lemmas.Iterator.Adapters.{position_from-zero}
 use Rattle.std.proofs.lemmas.List.{take_more}
 use Rattle.std.proofs.lemmas.List.Folds.{list_any-append}
-use Rattle.std.proofs.lemmas.Option.{cond_some, get_or_from_slice_get, none-some, same_Some, slice_get_past, slice_get_within}
+use Rattle.std.proofs.lemmas.Option.{cond_some, get_or_from_slice_get, none-some, same_Some, slice_get_within}
 use Rattle.std.proofs.lemmas.Slice.Eq.{bytes_eq-Decides}
 use Rattle.cmi5_session.specs.Marked.{MarkedStatement, mark, marked, marked_by, statements_of}
 use Rattle.lrs_ids.specs.Ids.{are_distinct}
@@ -39,13 +39,13 @@ neither false b is = (refl, is)
 pub same_bytes : (a b : List ℕ) → bytes_eq a b ≡ true → a ≡ b
 same_bytes a b is = (bytes_eq-Decides a b).0 is
 
-bytes_same : (a b : List ℕ) → a ≡ b → bytes_eq a b ≡ true
+pub bytes_same : (a b : List ℕ) → a ≡ b → bytes_eq a b ≡ true
 bytes_same a b is = (bytes_eq-Decides a b).1 is
 
 -- ---- lists
 
 -- what stands among the first n
-within_front : {A : Type 0} (n : ℕ) (xs : List A) (k : ℕ) (x : A) → slice_get (take n xs) k ≡ Some x → (k < n) × (slice_get xs k ≡ Some x)
+pub within_front : {A : Type 0} (n : ℕ) (xs : List A) (k : ℕ) (x : A) → slice_get (take n xs) k ≡ Some x → (k < n) × (slice_get xs k ≡ Some x)
 within_front zero xs k x at = absurd (none-some x at)
 within_front (suc n) [] k x at = absurd (none-some x at)
 within_front (suc n) (y ∷ ys) zero x at = (omega arith, at)
@@ -53,7 +53,7 @@ within_front (suc n) (y ∷ ys) (suc k) x at =
     let rest : (k < n) × (slice_get ys k ≡ Some x) = within_front n ys k x at in
     (omega (arith, rest.0), rest.1)
 
-take_next : {A : Type 0} (xs : List A) (at : ℕ) (x : A) → slice_get xs at ≡ Some x → take (at + 1) xs ≡ take at xs ++ x ∷ []
+pub take_next : {A : Type 0} (xs : List A) (at : ℕ) (x : A) → slice_get xs at ≡ Some x → take (at + 1) xs ≡ take at xs ++ x ∷ []
 take_next xs at x there = take_more xs at x (slice_get_within xs at x there) ∙ ap (λ y. take at xs ++ y ∷ []) (get_or_from_slice_get xs at x x there)
 
 take_front : {A : Type 0} (xs ys : List A) → take (length xs) (xs ++ ys) ≡ xs
@@ -68,11 +68,6 @@ front_few : {A : Type 0} (n : ℕ) (xs : List A) → length (take n xs) ≤ n
 front_few zero xs = omega arith
 front_few (suc n) [] = omega arith
 front_few (suc n) (x ∷ xs) = omega (arith, front_few n xs)
-
-pub get_within : {A : Type 0} (xs : List A) (k : ℕ) → k < length xs → (x : A) × (slice_get xs k ≡ Some x)
-get_within [] k less = absurd (omega (arith, less))
-get_within (x ∷ xs) zero less = (x, refl)
-get_within (x ∷ xs) (suc k) less = get_within xs k (omega (arith, less))
 
 -- something stands at the first place that passes
 pub stands_there : {A : Type 0} (p : A → Bool) (xs : List A) (k : ℕ) → position p xs ≡ Some k → (y : A) × (slice_get xs k ≡ Some y)
@@ -128,13 +123,13 @@ place_from i (x ∷ xs) distinct (suc k) t at =
     (bytes_eq x.id t.id) refl
 
 -- each stands at the first place of its id
-place_of_id : (xs : List StoredStatement) → are_distinct (ids_of xs) ≡ true → (k : ℕ) (t : StoredStatement) → slice_get xs k ≡ Some t
+pub place_of_id : (xs : List StoredStatement) → are_distinct (ids_of xs) ≡ true → (k : ℕ) (t : StoredStatement) → slice_get xs k ≡ Some t
     → position (λ (u : StoredStatement). bytes_eq u.id t.id) xs ≡ Some k
 place_of_id xs distinct k t at =
     let place : 0 + k ≡ k = omega arith in
     position_from-zero (λ (u : StoredStatement). bytes_eq u.id t.id) xs ∙ (place_from 0 xs distinct k t at ∙ ap (λ (n : ℕ). Some n) place)
 
-same_place : (xs : List StoredStatement) → are_distinct (ids_of xs) ≡ true → (j k : ℕ) (s t : StoredStatement) → slice_get xs j ≡ Some s → slice_get xs k ≡ Some t → s.id ≡ t.id → j ≡ k
+pub same_place : (xs : List StoredStatement) → are_distinct (ids_of xs) ≡ true → (j k : ℕ) (s t : StoredStatement) → slice_get xs j ≡ Some s → slice_get xs k ≡ Some t → s.id ≡ t.id → j ≡ k
 same_place xs distinct j k s t one other same =
     same_Some j k (sym (place_of_id xs distinct j s one) ∙ (ap (λ (id : List ℕ). position (λ (u : StoredStatement). bytes_eq u.id id) xs) same ∙ place_of_id xs distinct k t other))
 
@@ -189,35 +184,10 @@ front_of held xs =
     let behind = extends held xs in
     ap (λ (ys : List StoredStatement). take (length held) ys) behind.1 ∙ take_front held behind.0
 
-next_added : (held xs : List StoredStatement) (x : StoredStatement) → slice_get (add_each (held ++ x ∷ []) xs) (length held) ≡ Some x
+pub next_added : (held xs : List StoredStatement) (x : StoredStatement) → slice_get (add_each (held ++ x ∷ []) xs) (length held) ≡ Some x
 next_added held xs x =
     let behind = extends (held ++ x ∷ []) xs in
     ap (λ (ys : List StoredStatement). slice_get ys (length held)) (behind.1 ∙ append_assoc held (x ∷ []) behind.0) ∙ get_behind held x behind.0
-
-added_new : (P : StoredStatement → Type 0) (held xs : List StoredStatement) (x : StoredStatement) → P x → (k : ℕ) (s : StoredStatement) → length held ≤ k
-    → ((front : List StoredStatement) → length front ≤ k → slice_get (add_each front xs) k ≡ Some s → P s)
-    → (b : Bool) → nat_lt (length held) k ≡ b → slice_get (add_each (held ++ x ∷ []) xs) k ≡ Some s → P s
-added_new P held xs x holds k s past rest true is there =
-    let before : length held < k = grind (arith, common_steps) in
-    rest (held ++ x ∷ []) (omega (arith, before, length-append held (x ∷ []))) there
-added_new P held xs x holds k s past rest false is there =
-    let behind : k ≤ length held = grind (arith, common_steps) in
-    let here : length held ≡ k = omega (arith, behind, past) in
-    subst (λ (t : StoredStatement). P t)
-    (same_Some x s (sym (next_added held xs x) ∙ (ap (λ (n : ℕ). slice_get (add_each (held ++ x ∷ []) xs) n) here ∙ there))) holds
-
-added_by : (P : StoredStatement → Type 0) (held xs : List StoredStatement) (x : StoredStatement) → P x → (k : ℕ) (s : StoredStatement) → length held ≤ k
-    → ((front : List StoredStatement) → length front ≤ k → slice_get (add_each front xs) k ≡ Some s → P s)
-    → (b : Bool) → slice_get (add_each (if b then held else held ++ x ∷ []) xs) k ≡ Some s → P s
-added_by P held xs x holds k s past rest true there = rest held past there
-added_by P held xs x holds k s past rest false there = added_new P held xs x holds k s past rest (nat_lt (length held) k) refl there
-
--- what holds of each that comes holds of those that stand behind the others
-pub added_from : (P : StoredStatement → Type 0) (held xs : List StoredStatement) → AllByRecursion P xs → (k : ℕ) (s : StoredStatement) → length held ≤ k
-    → slice_get (add_each held xs) k ≡ Some s → P s
-added_from P held [] each k s past at = absurd (none-some s (sym (slice_get_past held k past) ∙ at))
-added_from P held (x ∷ xs) each k s past at =
-    added_by P held xs x each.0 k s past (λ front long there. added_from P front xs each.1 k s long there) (is_held x.id held) at
 
 -- ---- marks
 
@@ -373,6 +343,7 @@ no_event all at s distinct there none =
 pub record Voiding (all : List StoredStatement) (at : ℕ) (s : StoredStatement) (q : ℕ) : Type 0 where
   pub voided : StoredStatement
   pub there : slice_get all q ≡ Some voided
+  pub by : voids voided.id s ≡ true
   pub front : List MarkedStatement
   pub rest : List MarkedStatement
   pub old : marked (take at all) ≡ front ++ mark voided false ∷ rest
@@ -434,6 +405,7 @@ pub voiding_at : (all : List StoredStatement) (at : ℕ) (s : StoredStatement) (
 voiding_at all at s q distinct there is = record {
   voided = found.item;
   there = found.there;
+  by = only.0;
   front = parts.front;
   rest = parts.rest;
   old = parts.by_b ∙ ap (λ (v : Bool). parts.front ++ mark found.item v ∷ parts.rest) found.old;

@@ -18,7 +18,7 @@ use Rattle.cmi5_session.specs.Marked.{MarkedStatement, marked, statements_of}
 use Rattle.lrs_ids.specs.Ids.{are_distinct}
 use Rattle.lrs_parts.specs.Courses.{courses_after}
 use Rattle.lrs_parts.specs.Founding.{founding_after}
-use Rattle.lrs_parts.specs.Progress.{AreCounted, HasTallies, IsKept}
+use Rattle.lrs_parts.specs.Progress.{AreCounted, Follows, HasTallies, IsKept}
 use Rattle.lrs_parts.specs.Registrations.{registrations_after}
 use Rattle.lrs_parts.specs.State.{State}
 use Rattle.lrs_parts.specs.declared.founding.Founding.{Founding}
@@ -112,6 +112,14 @@ counted_same old new founding courses registrations those same counted = record 
       };
 }
 
+-- what stands ahead is let go
+pub settled : (old new : Progress) (founding : Option Founding) (courses : List Course) (registrations : List HeldRegistration) (those : List MarkedStatement)
+    → new.sessions ≡ old.sessions → new.running.held ≡ old.running.held → Follows old founding courses registrations those → Follows new founding courses registrations those
+settled old new founding courses registrations those sessions held follows = record {
+  sessions = subst (λ (s : SeenSessions). StandsFor s those) (sym sessions) follows.sessions;
+  counted = counted_same old.running new.running founding courses registrations those held follows.counted;
+}
+
 -- places alone change
 pub kept_still : (old new : Progress) (founding : Option Founding) (courses courses_now : List Course) (registrations registrations_now : List HeldRegistration)
     (statements statements_now : List StoredStatement) → KeepsSame old.sessions new.sessions → new.running.held ≡ old.running.held → courses_now ≡ courses
@@ -135,7 +143,7 @@ pub kept_enrolled : (p : Progress) (running : SeenRunning) (founding later new :
     (registrations registrations_now : List HeldRegistration) (change : Change HeldRegistration) (statements : List StoredStatement) → later ≡ founding_after founding new
     → more ≡ courses_after courses coming → coming.replaced ≡ None → registrations_now ≡ registrations_after registrations change → change.replaced ≡ None
     → ((rs : List HeldRegistration) → AreCounted p.running later more rs (marked statements) → AreCounted running later more (with_new rs change.new) (marked statements))
-    → IsKept p founding courses registrations statements → IsKept (record { sessions = p.sessions; running = running }) later more registrations_now statements
+    → IsKept p founding courses registrations statements → IsKept (record { sessions = p.sessions; running = running; targets = p.targets }) later more registrations_now statements
 kept_enrolled p running founding later new courses more coming registrations registrations_now change statements founded came stay made made_stay step kept = record {
   distinct = kept.distinct;
   follows = record {

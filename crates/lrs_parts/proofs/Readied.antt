@@ -1,12 +1,15 @@
 -- What is kept of progress is ready for an effect.
-use Rattle.std.proofs.Common.{◌≡◌, List, IfOk, IfSome, OnOk, Option, Some, None, Result, Ok, Err, subst, Bor}
+use Rattle.std.proofs.Common.{◌≡◌, List, IfOk, IfSome, OnOk, Option, Some, None, Result, Ok, Err, subst, sym, Bor, option_copied}
 use Rattle.std.specs.Prelude.{option_map}
 use Rattle.std.proofs.lemmas.Option.{none-some, same_Some}
 use Rattle.cmi5_course.specs.Courses.{Course}
-use Rattle.cmi5_course.specs.declared.course.Node.{Node}
 use Rattle.cmi5_running_sessions.specs.Room.{HasPlacesForEach}
-use Rattle.cmi5_running_verdicts.specs.Running.{HasRoomFor, SeenRunning}
-use Rattle.lrs_parts.specs.Progress.{AreNodesOf, IsProgressReadyFor, IsReadyToEnrol}
+use Rattle.cmi5_running_verdicts.specs.Running.{HasCounted, SeenRunning}
+use Rattle.cmi5_session.specs.Marked.{MarkedStatement, marked}
+use Rattle.cmi5_verdict.specs.Nodes.{SeenEnrolment, seen}
+use Rattle.cmi5_verdict.specs.declared.enrolment.Enrolment.{Enrolment}
+use Rattle.lrs_parts.specs.Progress.{IsEnrolmentOf, IsProgressReadyFor, IsReadyToEnrol}
+use Rattle.lrs_parts.specs.Trees.{AreTargets}
 use Rattle.lrs_parts.specs.declared.effect.Effect.{Effect}
 use Rattle.lrs_parts.specs.declared.founding.Founding.{Founding}
 use Rattle.lrs_parts.specs.declared.progress.Progress.{Progress}
@@ -18,24 +21,34 @@ pub always : {T E X : Type 0} (r : Result T E) → X → IfOk r (λ _. X)
 always (Ok t) x = x
 always (Err e) x = tt
 
--- there are tallies for the nodes of its course
-ready_with : (running : SeenRunning) (founding : Option Founding) (courses : List Course) (r : HeldRegistration) (nodes : Option (Bor (List Node)))
-    → AreNodesOf founding courses r (option_map (λ (n : Bor (List Node)). n.now) nodes) → IfSome nodes (λ (n : Bor (List Node)). HasRoomFor running n.now) → IsReadyToEnrol running founding courses r
-ready_with running founding courses r None its room = absurd (none-some its.0.nodes its.2)
-ready_with running founding courses r (Some n) its room = record {
+-- what holds of a value holds of it where it is lent
+pub lent : {A : Type 0} (P : A → Type 0) (o : Option (Bor A)) → IfSome (option_copied o) P → IfSome o (λ (b : Bor A). P b.now)
+lent P None holds = tt
+lent P (Some b) holds = holds
+
+-- what the statements say of it is counted
+ready_with : (running : SeenRunning) (founding : Option Founding) (courses : List Course) (r : HeldRegistration) (those : List MarkedStatement) (enrolment : Option (Bor Enrolment))
+    → IsEnrolmentOf founding courses r (option_map seen (option_copied enrolment)) → IfSome enrolment (λ (e : Bor Enrolment). HasCounted running those (seen e.now))
+    → IsReadyToEnrol running founding courses r those
+ready_with running founding courses r those None its counted = absurd (none-some its.0 its.2)
+ready_with running founding courses r those (Some e) its counted = record {
   enrolment = its.0;
   enrolled = its.1;
-  room = subst (λ (ns : List Node). HasRoomFor running ns) (same_Some n.now its.0.nodes its.2) room;
+  counted = subst (λ (x : SeenEnrolment). HasCounted running those x) (same_Some (seen e.now) its.0 its.2) counted;
 }
 
-pub readied : {T E : Type 0} (p : Progress) (founding : Option Founding) (courses : List Course) (effect : Effect) (nodes : Option (Bor (List Node))) (statements : List StoredStatement) (result : Result T E)
-    → statements ≡ effect.statements → effect.courses.replaced ≡ None → effect.registrations.replaced ≡ None
-    → ((r : HeldRegistration) → effect.registrations.new ≡ Some r → AreNodesOf founding courses r (option_map (λ (n : Bor (List Node)). n.now) nodes))
-    → OnOk result (HasPlacesForEach p.sessions statements) → OnOk result (IfSome nodes (λ (n : Bor (List Node)). HasRoomFor p.running n.now)) → OnOk result (IsProgressReadyFor p founding courses effect)
-readied p founding courses effect nodes statements (Ok t) same courses_stay registrations_stay its places room = record {
+pub readied : {T E : Type 0} (p : Progress) (founding : Option Founding) (courses : List Course) (statements : List StoredStatement) (effect : Effect) (enrolment : Option Enrolment)
+    (given : Option (Bor Enrolment)) (coming : List StoredStatement) (result : Result T E) → option_copied given ≡ enrolment → coming ≡ effect.statements → effect.courses.replaced ≡ None
+    → effect.registrations.replaced ≡ None → ((r : HeldRegistration) → effect.registrations.new ≡ Some r → IsEnrolmentOf founding courses r (option_map seen enrolment))
+    → OnOk result (HasPlacesForEach p.sessions coming) → OnOk result (IfSome given (λ (e : Bor Enrolment). HasCounted p.running (marked statements) (seen e.now)))
+    → OnOk result (AreTargets p.targets statements coming) → OnOk result (IsProgressReadyFor p founding courses statements effect)
+readied p founding courses statements effect enrolment given coming (Ok t) is same courses_stay registrations_stay its places counted trees = record {
   sessions = subst (λ (ss : List StoredStatement). HasPlacesForEach p.sessions ss) same places;
+  targets = subst (λ (ss : List StoredStatement). AreTargets p.targets statements ss) same trees;
   courses_stay = courses_stay;
   registrations_stay = registrations_stay;
-  running = λ r comes. ready_with p.running founding courses r nodes (its r comes) room;
+  running = λ r comes.
+      ready_with p.running founding courses r (marked statements) given
+      (subst (λ (o : Option Enrolment). IsEnrolmentOf founding courses r (option_map seen o)) (sym is) (its r comes)) counted;
 }
-readied p founding courses effect nodes statements (Err e) same courses_stay registrations_stay its places room = tt
+readied p founding courses statements effect enrolment given coming (Err e) is same courses_stay registrations_stay its places counted trees = tt

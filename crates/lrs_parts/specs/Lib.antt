@@ -8,5 +8,6 @@ pub mod Launches
 pub mod Sessions
 pub mod State
 pub mod Learning
+pub mod Trees
 pub mod Progress
 pub mod Parts

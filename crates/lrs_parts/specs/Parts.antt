@@ -1,5 +1,5 @@
 -- The parts in memory, as the definitions see them, and room for an effect in each.
-use Rattle.std.specs.Prelude.{◌≡◌, ◌⊎◌, ◌+◌, ◌<◌, ◌^◌, ℕ, List, Option, None}
+use Rattle.std.specs.Prelude.{◌≡◌, ◌⊎◌, ◌+◌, ◌<◌, ◌^◌, ℕ, List, [], Option, None}
 use Rattle.std.specs.Cmp.Lexicographic.{slice_cmp}
 use Rattle.std.specs.Ordering.{nat_cmp}
 use Rattle.lrs_ids.specs.Ids.{Used, either, those}
@@ -66,7 +66,8 @@ pub record IsReadyFor (parts : SeenParts) (effect : Effect) : Type 0 where
   pub statements : IsIndexReadyFor parts.statements effect.statements
   pub documents : HasRoomForDocuments parts.documents effect.documents
   pub learning : IsLearningReadyFor parts.learning effect
-  pub progress : IsProgressReadyFor parts.progress parts.founding parts.learning.courses.held effect
+  pub progress : IsProgressReadyFor parts.progress parts.founding parts.learning.courses.held parts.statements.held
+      effect
   pub length : parts.length + 1 < 2 ^ 64
 
 -- ---- places that are made ahead
@@ -79,7 +80,14 @@ pub record MakesPlacesFor (old new : SeenParts) (effect : Effect) : Type 0 where
   pub learning : MakesLearningPlaces old.learning new.learning effect
   pub sessions : room.MakesPlaces effect.statements old.progress.sessions new.progress.sessions
 
--- No part has a place that it hadn't. The statements are as they were, or hold nothing ahead; so are the tallies.
+-- Nothing stands ahead of statements that are to come, of tallies or of the trees of what statements void.
+pub record HoldsNothingMore (parts : SeenParts) : Type 0 where
+  pub statements : HoldsNothingAhead parts.statements
+  pub running : parts.progress.running.coming ≡ None
+  pub targets : parts.progress.targets ≡ []
+
+-- No part has a place that it hadn't. The statements are as they were, or hold nothing ahead; so are the tallies and
+-- the trees of what statements void.
 pub record AddsNoPlaces (old new : SeenParts) : Type 0 where
   pub providers : AddsNone (slice_cmp nat_cmp) old.providers new.providers
   pub statements : HoldsNothingAhead new.statements ⊎ (new.statements ≡ old.statements)
@@ -87,3 +95,4 @@ pub record AddsNoPlaces (old new : SeenParts) : Type 0 where
   pub learning : AddsNoLearningPlaces old.learning new.learning
   pub sessions : room.AddsNoPlaces old.progress.sessions new.progress.sessions
   pub running : (new.progress.running.coming ≡ None) ⊎ (new.progress.running ≡ old.progress.running)
+  pub targets : (new.progress.targets ≡ []) ⊎ (new.progress.targets ≡ old.progress.targets)

@@ -1,19 +1,20 @@
 -- What is kept from entry to entry of how far sessions and registrations have come, what it stands for, and what a
 -- statement that comes changes of what came before it.
-use Rattle.std.specs.Prelude.{◌≡◌, ◌≤◌, ◌+◌, ◌==◌, ℕ, ◌&&◌, Bool, false, not, List, length, take, Option, Some, None}
+use Rattle.std.specs.Prelude.{◌≡◌, ◌+◌, ◌==◌, ℕ, ◌&&◌, Bool, false, not, List, length, take, Option, Some, None}
 use Rattle.std.specs.Prelude.{IsTrue, option_and_then, option_map, slice_get, if◌then◌else◌}
 use Rattle.std.specs.Option.{option_map_or}
+use Rattle.std.specs.Str.{bytes_eq}
 use Rattle.cmi5_course.specs.Courses.{Course}
-use Rattle.cmi5_course.specs.declared.course.Node.{Node}
 use Rattle.cmi5_running_sessions.specs.Kept.{SeenSessions, StandsFor}
-use Rattle.cmi5_running_sessions.specs.Room.{HasPlacesFor, HasPlacesForEach}
-use Rattle.cmi5_running_verdicts.specs.Running.{HasRoomFor, SeenRunning, Stands}
+use Rattle.cmi5_running_sessions.specs.Room.{HasPlacesForEach}
+use Rattle.cmi5_running_verdicts.specs.Running.{HasCounted, SeenRunning, Stands}
 use Rattle.cmi5_session.specs.Marked.{MarkedStatement, marked}
 use Rattle.cmi5_verdict.specs.Nodes.{SeenEnrolment}
 use Rattle.lrs_ids.specs.Ids.{are_distinct}
 use Rattle.lrs_json.specs.View.{view}
 use Rattle.lrs_parts.specs.Counted.{place_under}
 use Rattle.lrs_parts.specs.Registrations.{registration_key}
+use Rattle.lrs_parts.specs.Trees.{AreTargets}
 use Rattle.lrs_parts.specs.declared.effect.Effect.{Effect}
 use Rattle.lrs_parts.specs.declared.founding.Founding.{Founding}
 use Rattle.lrs_parts.specs.declared.progress.Progress.{Progress}
@@ -104,31 +105,36 @@ voided_anew statements at = option_and_then
     (λ position. if is_voided_anew statements at position then Some position else None)
     (referred_at (take (at + 1) statements) at)
 
--- what the statements from a position on say has places
-abbrev pub ArePlacedFrom : SeenSessions → List StoredStatement → ℕ → Type 0
-ArePlacedFrom sessions statements first = (k : ℕ) → (s : StoredStatement) → first ≤ k
-    → slice_get statements k ≡ Some s → HasPlacesFor sessions s
+-- a statement that came is the one at a position
+abbrev pub is_at : StoredStatement → List StoredStatement → ℕ → Bool
+is_at s statements at = option_map_or (λ (t : StoredStatement). bytes_eq t.id s.id) (slice_get statements at) false
+
+-- where the next one stands: behind that position, or there if this one's id was held
+abbrev pub place_behind : StoredStatement → List StoredStatement → ℕ → ℕ
+place_behind s statements at = if is_at s statements at then at + 1 else at
 
 -- ---- room
 
--- the nodes of a registration's course
-abbrev pub AreNodesOf : Option Founding → List Course → HeldRegistration → Option (List Node) → Type 0
-AreNodesOf founding courses r nodes = (e : SeenEnrolment) × (enrolment_in founding courses r ≡ Some e)
-    × (nodes ≡ Some e.nodes)
+-- this is what verdicts look at of a registration that has its course
+abbrev pub IsEnrolmentOf : Option Founding → List Course → HeldRegistration → Option SeenEnrolment → Type 0
+IsEnrolmentOf founding courses r enrolment = (e : SeenEnrolment) × (enrolment_in founding courses r ≡ Some e)
+    × (enrolment ≡ Some e)
 
--- the registration has its course, and there are tallies for it
+-- the registration has its course, and what these statements say of it is counted
 pub record IsReadyToEnrol (running : SeenRunning) (founding : Option Founding) (courses : List Course)
-    (r : HeldRegistration) : Type 0 where
+    (r : HeldRegistration) (those : List MarkedStatement) : Type 0 where
   pub enrolment : SeenEnrolment
   pub enrolled : enrolment_in founding courses r ≡ Some enrolment
-  pub room : HasRoomFor running enrolment.nodes
+  pub counted : HasCounted running those enrolment
 
--- A registration comes only to a founded store with its course, of which nothing is replaced, and there are tallies for
--- it. What the statements say has places.
+-- A registration comes only to a founded store with its course, of which nothing is replaced, and what the statements
+-- that are held say of it is counted. What those that come say has places, and the trees of those that they void are
+-- there.
 pub record IsProgressReadyFor (p : Progress) (founding : Option Founding) (courses : List Course)
-    (effect : Effect) : Type 0 where
+    (statements : List StoredStatement) (effect : Effect) : Type 0 where
   pub sessions : HasPlacesForEach p.sessions effect.statements
+  pub targets : AreTargets p.targets statements effect.statements
   pub courses_stay : effect.courses.replaced ≡ None
   pub registrations_stay : effect.registrations.replaced ≡ None
   pub running : (r : HeldRegistration) → effect.registrations.new ≡ Some r
-      → IsReadyToEnrol p.running founding courses r
+      → IsReadyToEnrol p.running founding courses r (marked statements)

@@ -1,26 +1,31 @@
 // How what is kept of progress follows the other parts: registration by registration, and statement by statement.
 // Nothing here takes memory.
-ghost use Rattle.std.specs.Prelude.{◌≡◌, ◌≤◌, ◌<◌, ◌+◌, ◌^◌, ◌++◌, ◌∷◌, [], ℕ, List, IfSome, IsTrue, None, Some, false};
-ghost use Rattle.std.specs.Prelude.{true, length, option_map, slice_get, take};
+ghost use Rattle.std.specs.Prelude.{◌≡◌, ◌≤◌, ◌<◌, ◌+◌, ◌^◌, ◌++◌, ◌∷◌, [], ℕ, List, Option, IfSome, IsTrue, None};
+ghost use Rattle.std.specs.Prelude.{Some, false, true, is_some, length, option_map, slice_get, take};
+ghost use Rattle.std.specs.Option.{option_copied};
+ghost use Rattle.cmi5_course.specs.Courses.{Course as SpecCourse};
 ghost use Rattle.cmi5_running_sessions.specs.Room.{HasPlacesFor, HasPlacesForEach, KeepsPlaces};
 ghost use Rattle.cmi5_running_verdicts.specs.Holding.{StandBehindHolders};
+ghost use Rattle.cmi5_running_verdicts.specs.Running.{HasCounted};
 ghost use Rattle.cmi5_session.specs.Marked.{MarkedStatement, mark, marked};
-ghost use Rattle.cmi5_verdict.specs.Nodes.{seen};
+ghost use Rattle.cmi5_verdict.specs.Nodes.{SeenEnrolment, seen};
 ghost use Rattle.lrs_ids.specs.Ids.{are_distinct};
-ghost use Rattle.lrs_parts.specs.Progress.{AreCounted, ArePlacedFrom, Follows, IsKept, IsReadyToEnrol};
-ghost use Rattle.lrs_parts.specs.Progress.{enrolment_at, enrolment_in, enrolment_with, is_voided_anew};
-ghost use Rattle.lrs_parts.specs.Progress.{number_named, voided_anew};
+ghost use Rattle.lrs_parts.specs.Progress.{AreCounted, Follows, IsKept, IsReadyToEnrol};
+ghost use Rattle.lrs_parts.specs.Progress.{enrolment_at, enrolment_in, enrolment_with, is_at, is_voided_anew};
+ghost use Rattle.lrs_parts.specs.Progress.{number_named, place_behind, voided_anew};
+ghost use Rattle.lrs_parts.specs.Trees.{AreTargets, voided_in};
+ghost use Rattle.lrs_parts.specs.declared.founding.Founding.{Founding as SpecFounding};
 ghost use Rattle.lrs_parts.specs.declared.registrations.HeldRegistration.{HeldRegistration as SpecRegistration};
 ghost use Rattle.lrs_register.specs.Register.{with_new};
-ghost use Rattle.xapi_index.specs.Index.{IsIndexReadyFor};
+ghost use Rattle.xapi_index.specs.Index.{HoldsNothingAhead, IsIndexReadyFor};
 ghost use Rattle.xapi_index.specs.Statements.{add_each, ids_of, is_voided};
 ghost use Rattle.xapi_statement.specs.Stored.{StoredStatement as SpecStatement};
 
+use crate::trees::{is_same_id, take_out, tree_voided_by};
 use crate::{Courses, Founding, HeldRegistration, Learning, Progress, Registrations};
 use cmi5_course::Course;
 use cmi5_running_verdicts::Running;
 use cmi5_verdict::Enrolment;
-use lrs_json::Items;
 use xapi_index::Index;
 use xapi_statement::{StoredStatement, registration_of};
 
@@ -99,45 +104,22 @@ fn number_named(registrations: &Registrations, statement: &StoredStatement) -> O
 
 // ---- a registration comes
 
-/// Counts for a registration that comes, if one does, what the statements say of it already.
-pub(crate) fn enrol_new(
-    running: &mut Running,
-    founding: &Option<Founding>,
-    courses: &Courses,
-    statements: &Index,
-    coming: &Option<HeldRegistration>,
-)
+/// Takes a registration in that comes, if one does: what the statements say of it is counted already.
+pub(crate) fn enrol_new(running: &mut Running, coming: &Option<HeldRegistration>)
     requires { (r : SpecRegistration) → coming.now ≡ Some r
-        → IsReadyToEnrol running.old founding.now courses.now.held r }
-    ensures { (registrations : List SpecRegistration)
-        → AreCounted running.old founding.now courses.now.held registrations (marked statements.now.held)
-        → AreCounted running.new founding.now courses.now.held (with_new registrations coming.now)
-        (marked statements.now.held) }
+        → (those : List MarkedStatement) × (e : SeenEnrolment) × HasCounted running.old those e }
+    ensures { (founding : Option SpecFounding) → (courses : List SpecCourse)
+        → (registrations : List SpecRegistration) → (those : List MarkedStatement)
+        → ((r : SpecRegistration) → coming.now ≡ Some r → IsReadyToEnrol running.old founding courses r those)
+        → AreCounted running.old founding courses registrations those
+        → AreCounted running.new founding courses (with_new registrations coming.now) those }
 {
-    if let Some(registration) = coming {
-        enrol(running, founding, courses, statements, registration);
+    if coming.is_some() {
+        running.enrol();
     }
 }
 
-fn enrol(
-    running: &mut Running,
-    founding: &Option<Founding>,
-    courses: &Courses,
-    statements: &Index,
-    registration: &HeldRegistration,
-)
-    requires { IsReadyToEnrol running.old founding.now courses.now.held registration.now }
-    ensures { (registrations : List SpecRegistration)
-        → AreCounted running.old founding.now courses.now.held registrations (marked statements.now.held)
-        → AreCounted running.new founding.now courses.now.held (registrations ++ registration.now ∷ [])
-        (marked statements.now.held) }
-{
-    if let Some(enrolment) = enrolment_in(founding, courses, registration) {
-        running.enrol(statements, &enrolment);
-    }
-}
-
-// ---- a statement comes
+// ---- statements come
 
 /// Takes statements in that are ready, each but for one whose id is held.
 pub(crate) fn take_in_each(
@@ -145,66 +127,164 @@ pub(crate) fn take_in_each(
     founding: &Option<Founding>,
     learning: &Learning,
     statements: &mut Index,
-    coming: Items<StoredStatement>,
+    coming: &[StoredStatement],
 )
-    requires ready { IsIndexReadyFor statements.old coming }
-    requires places { HasPlacesForEach progress.old.sessions coming }
+    requires ready { IsIndexReadyFor statements.old coming.now }
+    requires places { HasPlacesForEach progress.old.sessions coming.now }
+    requires targets { AreTargets progress.old.targets statements.old.held coming.now }
     requires kept { IsKept progress.old founding.now learning.now.courses.held learning.now.registrations.held
         statements.old.held }
-    ensures held { statements.new.held ≡ add_each statements.old.held coming }
+    ensures held { statements.new.held ≡ add_each statements.old.held coming.now }
     ensures kept { IsKept progress.new founding.now learning.now.courses.held learning.now.registrations.held
         statements.new.held }
+    ensures nothing { HoldsNothingAhead statements.new }
+    ensures no_tallies { progress.new.running.coming ≡ None }
+    ensures no_targets { progress.new.targets ≡ [] }
 {
+    let trees = take_out(&mut progress.targets);
     let first = statements.len();
-    statements.install(coming.into_vec());
-    follow_each(progress, founding, learning, statements, first);
+    statements.install(coming);
+    follow_each(
+        progress,
+        founding,
+        learning,
+        statements,
+        trees.as_slice(),
+        coming,
+        first,
+    );
+    drop(trees);
+    progress.settle();
 }
 
-// Follows the statements from that position on.
+// Follows those that came: they stand from that position on, but for those whose ids were held. The trees are those of
+// what they void among the ones before.
 fn follow_each(
     progress: &mut Progress,
     founding: &Option<Founding>,
     learning: &Learning,
     statements: &Index,
+    trees: &[StoredStatement],
+    coming: &[StoredStatement],
     first: usize,
 )
     requires within { first ≤ length statements.now.held }
     requires distinct { IsTrue (are_distinct (ids_of statements.now.held)) }
-    requires places { ArePlacedFrom progress.old.sessions statements.now.held first }
+    requires added { statements.now.held ≡ add_each (take first statements.now.held) coming.now }
+    requires places { HasPlacesForEach progress.old.sessions coming.now }
+    requires targets { AreTargets trees.now (take first statements.now.held) coming.now }
     ensures { Follows progress.old founding.now learning.now.courses.held learning.now.registrations.held
         (marked (take first statements.now.held))
         → Follows progress.new founding.now learning.now.courses.held learning.now.registrations.held
         (marked statements.now.held) }
 {
-    for at in first..statements.len() {
-        follow(progress, founding, learning, statements, at);
+    let mut position = first;
+    for statement in coming {
+        let voided = tree_voided_by(trees, coming, statement);
+        position = follow_next(
+            progress, founding, learning, statements, statement, voided, position,
+        );
     }
 }
 
-// Follows the statement at a position: it comes, and may void one that stands.
+// Follows a statement that came, if it is the one at a position: else its id was held. Gives the position of the next.
+fn follow_next(
+    progress: &mut Progress,
+    founding: &Option<Founding>,
+    learning: &Learning,
+    statements: &Index,
+    statement: &StoredStatement,
+    voided: Option<&StoredStatement>,
+    at: usize,
+) -> usize
+    requires distinct { IsTrue (are_distinct (ids_of statements.now.held)) }
+    requires there { is_at statement.now statements.now.held at ≡ true
+        → slice_get statements.now.held at ≡ Some statement.now }
+    requires places { HasPlacesFor progress.old.sessions statement.now }
+    requires voided { option_copied voided ≡ voided_in statements.now.held statement.now }
+    ensures next { result ≡ place_behind statement.now statements.now.held at }
+    ensures follows { Follows progress.old founding.now learning.now.courses.held learning.now.registrations.held
+        (marked (take at statements.now.held))
+        → Follows progress.new founding.now learning.now.courses.held learning.now.registrations.held
+        (marked (take result statements.now.held)) }
+    ensures places { KeepsPlaces progress.old.sessions progress.new.sessions }
+{
+    let long = statements.len();
+    if at < long {
+        follow_at(
+            progress, founding, learning, statements, statement, voided, at,
+        )
+    } else {
+        at
+    }
+}
+
+fn follow_at(
+    progress: &mut Progress,
+    founding: &Option<Founding>,
+    learning: &Learning,
+    statements: &Index,
+    statement: &StoredStatement,
+    voided: Option<&StoredStatement>,
+    at: usize,
+) -> usize
+    requires few { at + 1 < 2 ^ 64 }
+    requires distinct { IsTrue (are_distinct (ids_of statements.now.held)) }
+    requires there { is_at statement.now statements.now.held at ≡ true
+        → slice_get statements.now.held at ≡ Some statement.now }
+    requires places { HasPlacesFor progress.old.sessions statement.now }
+    requires voided { option_copied voided ≡ voided_in statements.now.held statement.now }
+    ensures next { result ≡ place_behind statement.now statements.now.held at }
+    ensures follows { Follows progress.old founding.now learning.now.courses.held learning.now.registrations.held
+        (marked (take at statements.now.held))
+        → Follows progress.new founding.now learning.now.courses.held learning.now.registrations.held
+        (marked (take result statements.now.held)) }
+    ensures places { KeepsPlaces progress.old.sessions progress.new.sessions }
+{
+    if is_at(statements, statement, at) {
+        follow(
+            progress, founding, learning, statements, statement, voided, at,
+        );
+        at + 1
+    } else {
+        at
+    }
+}
+
+// Whether a statement that came is the one at a position.
+fn is_at(statements: &Index, statement: &StoredStatement, at: usize) -> bool
+    ensures { result ≡ is_at statement.now statements.now.held at }
+{
+    match statements.get(at) {
+        Some(held) => is_same_id(held.id(), statement.id()),
+        None => false,
+    }
+}
+
+// Follows the statement at a position: it comes, and may void one that stands, whose tree is there.
 fn follow(
     progress: &mut Progress,
     founding: &Option<Founding>,
     learning: &Learning,
     statements: &Index,
+    statement: &StoredStatement,
+    voided: Option<&StoredStatement>,
     at: usize,
 )
     requires few { at + 1 < 2 ^ 64 }
     requires distinct { IsTrue (are_distinct (ids_of statements.now.held)) }
-    requires places { (s : SpecStatement) → slice_get statements.now.held at ≡ Some s
-        → HasPlacesFor progress.old.sessions s }
-    ensures follows { at < length statements.now.held
-        → Follows progress.old founding.now learning.now.courses.held learning.now.registrations.held
+    requires there { slice_get statements.now.held at ≡ Some statement.now }
+    requires places { HasPlacesFor progress.old.sessions statement.now }
+    requires voided { option_copied voided ≡ voided_in statements.now.held statement.now }
+    ensures follows { Follows progress.old founding.now learning.now.courses.held learning.now.registrations.held
         (marked (take at statements.now.held))
         → Follows progress.new founding.now learning.now.courses.held learning.now.registrations.held
         (marked (take (at + 1) statements.now.held)) }
     ensures places { KeepsPlaces progress.old.sessions progress.new.sessions }
 {
-    if let Some(statement) = statements.get(at) {
-        let voided = statements.is_voided_at(at + 1, at);
-        take_in(progress, founding, learning, statement, voided);
-        void_by(progress, founding, learning, statements, at);
-    }
+    let already = statements.is_voided_at(at + 1, at);
+    take_in(progress, founding, learning, statement, already);
+    void_by(progress, founding, learning, statements, voided, at);
 }
 
 // A statement comes, voided or not.
@@ -265,17 +345,20 @@ fn count_in(
 
 // ---- a statement is voided
 
-// The statement that the one at a position voids stands no more. If one before voids it already, its counts were taken
-// back then.
+// The statement that the one at a position voids stands no more: this is its tree. If one before voids it already, its
+// counts were taken back then.
 fn void_by(
     progress: &mut Progress,
     founding: &Option<Founding>,
     learning: &Learning,
     statements: &Index,
+    voided: Option<&StoredStatement>,
     at: usize,
 )
     requires few { at + 1 < 2 ^ 64 }
     requires distinct { IsTrue (are_distinct (ids_of statements.now.held)) }
+    requires voided { (s : SpecStatement) → slice_get statements.now.held at ≡ Some s
+        → option_copied voided ≡ voided_in statements.now.held s }
     ensures follows { (s : SpecStatement) → slice_get statements.now.held at ≡ Some s
         → Follows progress.old founding.now learning.now.courses.held learning.now.registrations.held
         (marked (take at statements.now.held)
@@ -284,9 +367,17 @@ fn void_by(
         (marked (take (at + 1) statements.now.held)) }
     ensures places { KeepsPlaces progress.old.sessions progress.new.sessions }
 {
-    if let Some(position) = voided_anew(statements, at) {
-        void_at(progress, founding, learning, statements, position);
+    if voids_anew(statements, at) {
+        void_tree(progress, founding, learning, voided);
     }
+}
+
+// Whether the one at a position is the first to void one that stands.
+fn voids_anew(statements: &Index, at: usize) -> bool
+    requires { at + 1 < 2 ^ 64 }
+    ensures { result ≡ is_some (voided_anew statements.now.held at) }
+{
+    voided_anew(statements, at).is_some()
 }
 
 // The position of the statement that the one at a position is the first to void.
@@ -313,23 +404,22 @@ fn is_voided_anew(statements: &Index, at: usize, position: usize) -> bool
     !statements.is_voided_at(at, position) && statements.is_voided_at(at + 1, position)
 }
 
-// The statement at a position is voided.
-fn void_at(
+// The statement of this tree is voided.
+fn void_tree(
     progress: &mut Progress,
     founding: &Option<Founding>,
     learning: &Learning,
-    statements: &Index,
-    position: usize,
+    voided: Option<&StoredStatement>,
 )
     ensures follows { (s : SpecStatement) (before behind : List MarkedStatement)
-        → slice_get statements.now.held position ≡ Some s
+        → option_copied voided.entry ≡ Some s
         → Follows progress.old founding.now learning.now.courses.held learning.now.registrations.held
         (before ++ mark s false ∷ behind)
         → Follows progress.new founding.now learning.now.courses.held learning.now.registrations.held
         (before ++ mark s true ∷ behind) }
     ensures places { KeepsPlaces progress.old.sessions progress.new.sessions }
 {
-    if let Some(statement) = statements.get(position) {
+    if let Some(statement) = voided {
         void(progress, founding, learning, statement);
     }
 }

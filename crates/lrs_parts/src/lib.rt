@@ -19,6 +19,7 @@ mod readying;
 mod registrations;
 mod sessions;
 mod told;
+mod trees;
 
 pub use acceptance::Acceptance;
 pub use counted::Counted;

@@ -1,7 +1,8 @@
 // All parts together.
 ghost use Rattle.std.specs.Prelude.{◌≡◌, ◌<◌, ◌^◌, OnOk};
 ghost use Rattle.lrs_parts.specs.Founding.{founding_after};
-ghost use Rattle.lrs_parts.specs.Parts.{state_of, used_with, AddsNoPlaces, IsReadyFor, MakesPlacesFor, SeenParts};
+ghost use Rattle.lrs_parts.specs.Parts.{state_of, used_with, AddsNoPlaces, HoldsNothingMore, IsReadyFor};
+ghost use Rattle.lrs_parts.specs.Parts.{MakesPlacesFor, SeenParts};
 ghost use Rattle.lrs_parts.specs.State.{apply, nothing};
 
 use crate::following::{enrol_new, take_in_each};
@@ -114,7 +115,8 @@ impl Parts {
     /// Takes an effect in for which there is room. It takes no memory.
     pub fn install(&mut self, effect: Effect)
         requires { IsReadyFor self.old effect }
-        ensures { state_of self.new ≡ apply (state_of self.old) effect }
+        ensures state { state_of self.new ≡ apply (state_of self.old) effect }
+        ensures nothing { HoldsNothingMore self.new }
     {
         let Effect {
             founding,
@@ -133,21 +135,16 @@ impl Parts {
         } = effect;
         found(&mut self.founding, founding);
         self.learning.courses.install(courses);
-        enrol_new(
-            &mut self.progress.running,
-            &self.founding,
-            &self.learning.courses,
-            &self.statements,
-            &registrations.new,
-        );
+        enrol_new(&mut self.progress.running, &registrations.new);
         self.learning.registrations.install(registrations);
         take_in_each(
             &mut self.progress,
             &self.founding,
             &self.learning,
             &mut self.statements,
-            statements,
+            statements.as_slice(),
         );
+        drop(statements);
         self.providers.install(providers);
         self.documents.install_change(documents);
         self.learning.launches.install(launches);

@@ -4,9 +4,10 @@ ghost use Rattle.std.specs.Cmp.Lexicographic.{slice_cmp};
 ghost use Rattle.std.specs.Ordering.{nat_cmp};
 ghost use Rattle.cmi5_running_sessions.specs.Room as room;
 ghost use Rattle.cmi5_running_verdicts.specs.Holding.{StandBehindHolders};
+ghost use Rattle.cmi5_verdict.specs.Nodes.{seen};
 ghost use Rattle.lrs_parts.specs.Counted.{HasRoomToCount, MakesPlaceFor};
 ghost use Rattle.lrs_parts.specs.Learning.{IsLearningReadyFor, KeepsLearning, MakesLearningPlaces};
-ghost use Rattle.lrs_parts.specs.Progress.{AreNodesOf, IsProgressReadyFor};
+ghost use Rattle.lrs_parts.specs.Progress.{IsEnrolmentOf, IsProgressReadyFor};
 ghost use Rattle.lrs_parts.specs.Providers.{token_of};
 ghost use Rattle.lrs_parts.specs.declared.registrations.HeldRegistration.{HeldRegistration as SpecRegistration};
 ghost use Rattle.xapi_docs.specs.Docs as docs;
@@ -17,7 +18,7 @@ use crate::following::enrolment_in;
 use crate::{
     Courses, Effect, Founding, HeldRegistration, Learning, Progress, Providers, RegistrationsChange,
 };
-use cmi5_course::Node;
+use cmi5_verdict::Enrolment;
 use lrs_json::Memory;
 use xapi_docs::Docs;
 use xapi_index::Index;
@@ -30,76 +31,78 @@ pub(crate) fn ready_progress(
     progress: &mut Progress,
     founding: &Option<Founding>,
     courses: &Courses,
+    statements: &Index,
     effect: &Effect,
 ) -> Result<(), Memory>
     ensures made { room.MakesPlaces effect.now.statements progress.old.sessions progress.new.sessions }
     ensures held { progress.new.running.held ≡ progress.old.running.held }
-    ensures ready { OnOk result (IsProgressReadyFor progress.new founding.now courses.now.held effect.now) }
+    ensures ready { OnOk result (IsProgressReadyFor progress.new founding.now courses.now.held statements.now.held
+        effect.now) }
 {
-    let nodes = nodes_of_effect(founding, courses, effect)?;
-    progress.ready(effect.statements.as_slice(), nodes)
+    let enrolment = enrolment_of_effect(founding, courses, effect)?;
+    progress.ready(statements, effect.statements.as_slice(), enrolment.as_ref())
 }
 
-// The nodes of the course of a registration that comes, if one does.
-fn nodes_of_effect<'a>(
+// What verdicts look at of a registration that comes, if one does.
+fn enrolment_of_effect<'a>(
     founding: &'a Option<Founding>,
     courses: &'a Courses,
     effect: &'a Effect,
-) -> Result<Option<&'a [Node]>, Memory>
+) -> Result<Option<Enrolment<'a>>, Memory>
     ensures courses { IfOk result (λ _. effect.now.courses.replaced ≡ None) }
     ensures registrations { IfOk result (λ _. effect.now.registrations.replaced ≡ None) }
-    ensures nodes { IfOk result (λ ns. (r : SpecRegistration) → effect.now.registrations.new ≡ Some r
-        → AreNodesOf founding.now courses.now.held r (option_map (λ n. n.now) ns)) }
-    ensures behind { IfOk result (λ ns. IfSome ns (λ n. StandBehindHolders n.now)) }
+    ensures enrolment { IfOk result (λ e. (r : SpecRegistration) → effect.now.registrations.new ≡ Some r
+        → IsEnrolmentOf founding.now courses.now.held r (option_map seen e)) }
+    ensures behind { IfOk result (λ e. IfSome e (λ its. StandBehindHolders its.nodes.now)) }
 {
     match &effect.courses.replaced {
         Some(_) => Err(Memory),
-        None => nodes_of_change(founding, courses, &effect.registrations),
+        None => enrolment_of_change(founding, courses, &effect.registrations),
     }
 }
 
-fn nodes_of_change<'a>(
+fn enrolment_of_change<'a>(
     founding: &'a Option<Founding>,
     courses: &'a Courses,
     change: &'a RegistrationsChange,
-) -> Result<Option<&'a [Node]>, Memory>
+) -> Result<Option<Enrolment<'a>>, Memory>
     ensures registrations { IfOk result (λ _. change.now.replaced ≡ None) }
-    ensures nodes { IfOk result (λ ns. (r : SpecRegistration) → change.now.new ≡ Some r
-        → AreNodesOf founding.now courses.now.held r (option_map (λ n. n.now) ns)) }
-    ensures behind { IfOk result (λ ns. IfSome ns (λ n. StandBehindHolders n.now)) }
+    ensures enrolment { IfOk result (λ e. (r : SpecRegistration) → change.now.new ≡ Some r
+        → IsEnrolmentOf founding.now courses.now.held r (option_map seen e)) }
+    ensures behind { IfOk result (λ e. IfSome e (λ its. StandBehindHolders its.nodes.now)) }
 {
     match &change.replaced {
         Some(_) => Err(Memory),
-        None => nodes_of_new(founding, courses, &change.new),
+        None => enrolment_of_new(founding, courses, &change.new),
     }
 }
 
-fn nodes_of_new<'a>(
+fn enrolment_of_new<'a>(
     founding: &'a Option<Founding>,
     courses: &'a Courses,
     coming: &'a Option<HeldRegistration>,
-) -> Result<Option<&'a [Node]>, Memory>
-    ensures nodes { IfOk result (λ ns. (r : SpecRegistration) → coming.now ≡ Some r
-        → AreNodesOf founding.now courses.now.held r (option_map (λ n. n.now) ns)) }
-    ensures behind { IfOk result (λ ns. IfSome ns (λ n. StandBehindHolders n.now)) }
+) -> Result<Option<Enrolment<'a>>, Memory>
+    ensures enrolment { IfOk result (λ e. (r : SpecRegistration) → coming.now ≡ Some r
+        → IsEnrolmentOf founding.now courses.now.held r (option_map seen e)) }
+    ensures behind { IfOk result (λ e. IfSome e (λ its. StandBehindHolders its.nodes.now)) }
 {
     match coming {
-        Some(registration) => nodes_of(founding, courses, registration),
+        Some(registration) => enrolment_of(founding, courses, registration),
         None => Ok(None),
     }
 }
 
-fn nodes_of<'a>(
+fn enrolment_of<'a>(
     founding: &'a Option<Founding>,
     courses: &'a Courses,
     registration: &'a HeldRegistration,
-) -> Result<Option<&'a [Node]>, Memory>
-    ensures nodes { IfOk result (λ ns.
-        AreNodesOf founding.now courses.now.held registration.now (option_map (λ n. n.now) ns)) }
-    ensures behind { IfOk result (λ ns. IfSome ns (λ n. StandBehindHolders n.now)) }
+) -> Result<Option<Enrolment<'a>>, Memory>
+    ensures enrolment { IfOk result (λ e.
+        IsEnrolmentOf founding.now courses.now.held registration.now (option_map seen e)) }
+    ensures behind { IfOk result (λ e. IfSome e (λ its. StandBehindHolders its.nodes.now)) }
 {
     match enrolment_in(founding, courses, registration) {
-        Some(enrolment) => Ok(Some(enrolment.nodes)),
+        Some(enrolment) => Ok(Some(enrolment)),
         None => Err(Memory),
     }
 }
@@ -123,8 +126,8 @@ pub(crate) fn ready_each(
     ensures same_statements { statements.new.held ≡ statements.old.held }
     ensures same_documents { documents_in documents.new ≡ documents_in documents.old }
     ensures same_learning { KeepsLearning learning.old learning.new }
-    ensures ready_progress { OnOk result
-        (IsProgressReadyFor progress.new founding.now learning.old.courses.held effect.now) }
+    ensures ready_progress { OnOk result (IsProgressReadyFor progress.new founding.now learning.old.courses.held
+        statements.old.held effect.now) }
     ensures ready_providers { OnOk result
         (HasRoomToCount (slice_cmp nat_cmp) token_of providers.new effect.now.providers) }
     ensures ready_statements { OnOk result (IsIndexReadyFor statements.new effect.now.statements) }
@@ -137,7 +140,7 @@ pub(crate) fn ready_each(
     ensures made_documents { docs.MakesPlaces (is_written effect.now.documents) documents.old documents.new }
     ensures made_learning { MakesLearningPlaces learning.old learning.new effect.now }
 {
-    ready_progress(progress, founding, &learning.courses, effect)?;
+    ready_progress(progress, founding, &learning.courses, statements, effect)?;
     if entries == u64::MAX {
         return Err(Memory);
     }

@@ -83,19 +83,20 @@ impl Parts {
     /// Whether the unit of that number is waived in the registration: a statement stands that says so.
     pub fn is_waived(
         &self,
+        alloc: Global,
         registration: &HeldRegistration,
         enrolment: &Enrolment<'_>,
         place: u32,
-    ) -> bool
+    ) -> Result<bool, Memory>
         requires enrolled { enrolment_in self.now.founding self.now.learning.courses.held registration.now
             ≡ Some (seen enrolment.now) }
         requires place { place < length enrolment.now.nodes.now }
-        ensures { result ≡ stands self.now.statements.held enrolment.now.registration.now
-            (activity_at (seen enrolment.now) place) waived }
+        ensures { IfOk result (λ told. told ≡ stands self.now.statements.held enrolment.now.registration.now
+            (activity_at (seen enrolment.now) place) waived) }
     {
         match number_held(&self.learning.registrations, registration) {
-            Some(number) => self.progress.running.is_waived(number, place),
-            None => self.waived_by_fold(enrolment, place),
+            Some(number) => Ok(self.progress.running.is_waived(number, place)),
+            None => self.waived_by_fold(alloc, enrolment, place),
         }
     }
 
@@ -150,11 +151,16 @@ impl Parts {
         verdicts(alloc, &self.held_alone(), enrolment)
     }
 
-    fn waived_by_fold(&self, enrolment: &Enrolment<'_>, place: u32) -> bool
-        ensures { result ≡ stands self.now.statements.held enrolment.now.registration.now
-            (activity_at (seen enrolment.now) place) waived }
+    fn waived_by_fold(
+        &self,
+        alloc: Global,
+        enrolment: &Enrolment<'_>,
+        place: u32,
+    ) -> Result<bool, Memory>
+        ensures { IfOk result (λ told. told ≡ stands self.now.statements.held enrolment.now.registration.now
+            (activity_at (seen enrolment.now) place) waived) }
     {
-        waived(&self.held_alone(), enrolment, place)
+        waived(alloc, &self.held_alone(), enrolment, place)
     }
 
     fn owed_by_fold(

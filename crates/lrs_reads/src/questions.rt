@@ -29,7 +29,7 @@ use xapi_docs::Document;
 use xapi_keys::WantedDocuments;
 use xapi_pages::page_text;
 use xapi_query::{MoreLink, Query, Wanted, sees};
-use xapi_statement::{Format, StoredStatement};
+use xapi_statement::{Format, HeldStatement};
 
 /// What is said to a caller who asks.
 #[tactic(auto, using(crate::proofs::Late::late_alone))]
@@ -228,7 +228,7 @@ fn one_said(
     })
 }
 
-fn is_shown(parts: &Parts, who: Who, voided: bool, held: &StoredStatement) -> bool
+fn is_shown(parts: &Parts, who: Who, voided: bool, held: &HeldStatement) -> bool
     ensures { result ≡ is_shown (state_of parts.now) who voided held.now }
 {
     sees(&sight_of(parts, who), held) && parts.statements.is_voided(held) == voided
@@ -238,7 +238,7 @@ fn is_shown(parts: &Parts, who: Who, voided: bool, held: &StoredStatement) -> bo
 const BODY_ROOM: usize = 1_024;
 
 // A statement as it is shown.
-fn statement_text(alloc: Global, format: Format, held: &StoredStatement) -> Result<Vec<u8>, Memory>
+fn statement_text(alloc: Global, format: Format, held: &HeldStatement) -> Result<Vec<u8>, Memory>
     ensures { IfOk result (λ body. body.items ≡ shown_text format held.now) }
 {
     let mut body = Vec::with_capacity(alloc, BODY_ROOM)?;

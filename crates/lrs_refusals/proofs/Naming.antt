@@ -1,12 +1,13 @@
 -- Statements with the ids that were found for them are those that go under them.
-use Rattle.std.proofs.Common.{◌≡◌, ℕ, ◌+◌, ◌≤◌, List, [], ◌∷◌, length, drop, Some, None, inl, inr, refl, sym, ap, ◌∙◌}
+use Rattle.std.proofs.Common.{◌≡◌, zero, suc, ℕ, ◌+◌, ◌≤◌, List, [], ◌∷◌, length, drop, Some, None, inl, inr, refl, sym, ap, subst, ◌∙◌}
 use Rattle.std.specs.Prelude.{slice_get}
 use Rattle.std.proofs.lemmas.List.{at_drop_all}
-use Rattle.std.proofs.lemmas.Option.{get_or_from_slice_get, slice_get_cases, slice_get_within}
+use Rattle.std.proofs.lemmas.Option.{get_or_from_slice_get, none-some, same_Some, slice_get_cases, slice_get_within}
 use Rattle.lrs_ids.proofs.Turns.{turn}
 use Rattle.lrs_refusals.specs.Naming.{with_these_ids}
 use Rattle.lrs_json.specs.View.{view}
 use Rattle.lrs_json.specs.declared.tree.Tree.{Tree}
+use Rattle.lrs_record.specs.Entries.{AreLawfulTrees, IsLawfulTree}
 use Rattle.xapi_index.specs.Batches.{id_for, with_ids, ids_under, supply_behind}
 use Rattle.lrs_ids.specs.Ids.{Supply}
 use Rattle.xapi_statement.specs.Statement.{own_id}
@@ -37,3 +38,10 @@ no_ids_left ids ts at none = at_drop_all (λ is. with_these_ids is (drop at ts))
 
 pub no_trees_left : (ids : List (List ℕ)) (ts : List Tree) (at : ℕ) → length ts ≤ at → with_these_ids (drop at ids) (drop at ts) ≡ []
 no_trees_left ids ts at end = at_drop_all (λ rest. with_these_ids (drop at ids) rest) ts at end ∙ none_of (drop at ids)
+
+-- ---- one of several
+
+pub lawful_at : (ts : List Tree) (at : ℕ) (t : Tree) → AreLawfulTrees ts → slice_get ts at ≡ Some t → IsLawfulTree (view t)
+lawful_at [] at t each is = absurd (none-some t is)
+lawful_at (u ∷ ts) zero t each is = subst (λ (x : Tree). IsLawfulTree (view x)) (same_Some u t is) each.0
+lawful_at (u ∷ ts) (suc at) t each is = lawful_at ts at t each.1 is

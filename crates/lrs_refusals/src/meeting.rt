@@ -6,6 +6,7 @@ ghost use Rattle.lrs_history.specs.Refusals.{conflict, forbidden, refused_under,
 ghost use Rattle.lrs_ids.specs.Choices.{when};
 ghost use Rattle.lrs_json.specs.View.{view};
 ghost use Rattle.lrs_parts.specs.Parts.{state_of};
+ghost use Rattle.lrs_record.specs.Entries.{AreLawfulTrees, IsLawfulTree};
 ghost use Rattle.lrs_record.specs.declared.entry.Write.TheVariants as write;
 ghost use Rattle.lrs_refusals.specs.Meeting.{occasion_of, refused_behind, refused_each, refused_from, session_behind};
 ghost use Rattle.lrs_refusals.specs.Meeting.{told_if_held, was_abandoned};
@@ -27,7 +28,7 @@ use lrs_rules::Rule;
 use std::alloc::Global;
 use xapi_alike::same_received;
 use xapi_index::batch_ids;
-use xapi_statement::{StoredStatement, own_id};
+use xapi_statement::{HeldStatement, own_id};
 
 // ---- a new statement
 
@@ -78,45 +79,83 @@ fn forbidden(parts: &Parts, who: Who, statement: &Tree) -> Option<Refusal>
 
 // ---- a statement under an id
 
-// Why a statement isn't kept that comes under an id under which that one is held.
-fn refused_beside(id: &Id, statement: &Tree, held: &StoredStatement) -> Option<Refusal>
-    ensures { result ≡ when (not (same (view held.now.received) (view statement.now))) (refusal.Conflict id.now) }
+// Why a statement isn't kept that comes under an id under which that one is held. What was written as the held one was
+// is the same: then its tree isn't read.
+fn refused_beside(
+    alloc: Global,
+    id: &Id,
+    statement: &Tree,
+    held: &HeldStatement,
+) -> Result<Option<Refusal>, Memory>
+    requires { IsLawfulTree (view statement.now) }
+    ensures { IfOk result (λ refused. refused
+        ≡ when (not (same (view held.now.received) (view statement.now))) (refusal.Conflict id.now)) }
 {
-    if same_received(held.received(), statement) {
-        None
+    if held.is_received_as(statement) {
+        Ok(None)
     } else {
-        Some(Refusal::Conflict(*id))
+        refused_unless_same(alloc, id, statement, held)
+    }
+}
+
+fn refused_unless_same(
+    alloc: Global,
+    id: &Id,
+    statement: &Tree,
+    held: &HeldStatement,
+) -> Result<Option<Refusal>, Memory>
+    ensures { IfOk result (λ refused. refused
+        ≡ when (not (same (view held.now.received) (view statement.now))) (refusal.Conflict id.now)) }
+{
+    let received = held.received(alloc)?;
+    let is_same = same_received(&received, statement);
+    drop(received);
+    if is_same {
+        Ok(None)
+    } else {
+        Ok(Some(Refusal::Conflict(*id)))
     }
 }
 
 // What is told of a statement that comes under the id of one that is held. Of a new one nothing is told here.
-fn told_if_held(parts: &Parts, id: Option<Id>, statement: &Tree) -> Option<Option<Refusal>>
-    ensures { result ≡ told_if_held (state_of parts.now) id (view statement.now) }
+fn told_if_held(
+    alloc: Global,
+    parts: &Parts,
+    id: Option<Id>,
+    statement: &Tree,
+) -> Result<Option<Option<Refusal>>, Memory>
+    requires { IsLawfulTree (view statement.now) }
+    ensures { IfOk result (λ told. told ≡ told_if_held (state_of parts.now) id (view statement.now)) }
 {
     let Some(id) = id else {
-        return None;
+        return Ok(None);
     };
     match parts.statements.find(&id) {
-        Some(held) => Some(refused_beside(&id, statement, held)),
-        None => None,
+        Some(held) => {
+            let refused = refused_beside(alloc, &id, statement, held)?;
+            Ok(Some(refused))
+        }
+        None => Ok(None),
     }
 }
 
 /// Why a statement isn't kept that comes under that id, or under none.
 pub(crate) fn refused_under(
+    alloc: Global,
     parts: &Parts,
     who: Who,
     id: Option<Id>,
     statement: &Tree,
-) -> Option<Refusal>
-    ensures { result ≡ refused_under (state_of parts.now)
+) -> Result<Option<Refusal>, Memory>
+    requires { IsLawfulTree (view statement.now) }
+    ensures { IfOk result (λ refused. refused ≡ refused_under (state_of parts.now)
         (forbidden (state_of parts.now) who parts.now.statements.held (view statement.now))
-        id (view statement.now) }
+        id (view statement.now)) }
 {
-    match told_if_held(parts, id, statement) {
-        Some(told) => told,
-        None => forbidden(parts, who, statement),
+    if let Some(told) = told_if_held(alloc, parts, id, statement)? {
+        return Ok(told);
     }
+    Ok(forbidden(parts, who, statement))
 }
 
 // ---- statements that come together
@@ -129,6 +168,7 @@ pub(crate) fn refused_together(
     draw: &Draw,
     statements: &[Tree],
 ) -> Result<Option<Refusal>, Memory>
+    requires { AreLawfulTrees statements.now }
     ensures { IfOk result (λ refused. (moment : ℕ) (token : List ℕ) → refused ≡ conflict (state_of parts.now)
         (occasion_of (state_of parts.now) who draw.now (write.Post statements.now) moment token)
         (write.Post statements.now)) }
@@ -137,88 +177,111 @@ pub(crate) fn refused_together(
         Some(launch) => {
             let ids = batch_ids(alloc, parts, statements, draw)?;
             let session = session_of(parts, who, launch);
-            Ok(refused_behind(parts, session, ids.as_slice(), statements))
+            refused_behind(alloc, parts, session, ids.as_slice(), statements)
         }
-        None => Ok(refused_each(parts, who, statements)),
+        None => refused_each(alloc, parts, who, statements),
     }
 }
 
 // ---- of a caller whose statements are looked at one by one
 
-fn refused_own(parts: &Parts, who: Who, statement: &Tree) -> Option<Refusal>
-    ensures { result ≡ refused_under (state_of parts.now)
+fn refused_own(
+    alloc: Global,
+    parts: &Parts,
+    who: Who,
+    statement: &Tree,
+) -> Result<Option<Refusal>, Memory>
+    requires { IsLawfulTree (view statement.now) }
+    ensures { IfOk result (λ refused. refused ≡ refused_under (state_of parts.now)
         (forbidden (state_of parts.now) who parts.now.statements.held (view statement.now))
-        (own_id (view statement.now)) (view statement.now) }
+        (own_id (view statement.now)) (view statement.now)) }
 {
-    refused_under(parts, who, own_id(statement), statement)
+    refused_under(alloc, parts, who, own_id(statement), statement)
 }
 
-fn refused_each(parts: &Parts, who: Who, statements: &[Tree]) -> Option<Refusal>
-    ensures { result ≡ refused_each (state_of parts.now) who statements.now }
+fn refused_each(
+    alloc: Global,
+    parts: &Parts,
+    who: Who,
+    statements: &[Tree],
+) -> Result<Option<Refusal>, Memory>
+    requires { AreLawfulTrees statements.now }
+    ensures { IfOk result (λ refused. refused ≡ refused_each (state_of parts.now) who statements.now) }
 {
     for statement in statements {
-        if let Some(refusal) = refused_own(parts, who, statement) {
-            return Some(refusal);
+        if let Some(refusal) = refused_own(alloc, parts, who, statement)? {
+            return Ok(Some(refusal));
         }
     }
-    None
+    Ok(None)
 }
 
 // ---- of a session
 
 fn refused_behind(
+    alloc: Global,
     parts: &Parts,
     session: SessionView<'_>,
     ids: &[Id],
     statements: &[Tree],
-) -> Option<Refusal>
-    ensures { result ≡ refused_behind (state_of parts.now) (seen session.entry)
-        (with_these_ids ids.now statements.now) }
+) -> Result<Option<Refusal>, Memory>
+    requires { AreLawfulTrees statements.now }
+    ensures { IfOk result (λ refused. refused ≡ refused_behind (state_of parts.now) (seen session.entry)
+        (with_these_ids ids.now statements.now)) }
 {
     let mut session = session;
     for at in 0..statements.len() {
-        match behind_next(parts, session, ids, statements, at) {
+        let behind = behind_next(alloc, parts, session, ids, statements, at)?;
+        match behind {
             Ok(next) => session = next,
-            Err(told) => return told,
+            Err(told) => return Ok(told),
         }
     }
-    None
+    Ok(None)
 }
 
 // The session behind the statement at that place, if that isn't refused; else what all from there on are told.
-#[tactic(auto, using(crate::proofs::Naming::next_with_id, crate::proofs::Naming::no_ids_left))]
+#[tactic(auto, using(crate::proofs::Naming::next_with_id, crate::proofs::Naming::no_ids_left, crate::proofs::Naming::lawful_at))]
 fn behind_next<'a>(
+    alloc: Global,
     parts: &Parts,
     session: SessionView<'a>,
     ids: &[Id],
     statements: &[Tree],
     at: usize,
-) -> Result<SessionView<'a>, Option<Refusal>>
-    requires { at < length statements.now }
-    ensures { MatchResult result
+) -> Result<Result<SessionView<'a>, Option<Refusal>>, Memory>
+    requires within { at < length statements.now }
+    requires lawful { AreLawfulTrees statements.now }
+    ensures { IfOk result (λ behind. MatchResult behind
         (λ next. refused_from (state_of parts.now) (seen session.entry) ids.now statements.now at
         ≡ refused_from (state_of parts.now) (seen next) ids.now statements.now (at + 1))
-        (λ told. refused_from (state_of parts.now) (seen session.entry) ids.now statements.now at ≡ told) }
+        (λ told. refused_from (state_of parts.now) (seen session.entry) ids.now statements.now at ≡ told)) }
 {
     let (Some(id), Some(statement)) = (ids.get(at), statements.get(at)) else {
-        return Err(None);
+        return Ok(Err(None));
     };
-    match refused_of_session(parts, &session, statement) {
-        Some(refusal) => Err(Some(refusal)),
-        None => Ok(session_behind(parts, session, id, statement)),
+    match refused_of_session(alloc, parts, &session, statement)? {
+        Some(refusal) => Ok(Err(Some(refusal))),
+        None => Ok(Ok(session_behind(parts, session, id, statement))),
     }
 }
 
 // Why the next statement of a session isn't kept, under its own id or a made one.
-fn refused_of_session(parts: &Parts, session: &SessionView<'_>, statement: &Tree) -> Option<Refusal>
-    ensures { result ≡ refused_under (state_of parts.now)
+fn refused_of_session(
+    alloc: Global,
+    parts: &Parts,
+    session: &SessionView<'_>,
+    statement: &Tree,
+) -> Result<Option<Refusal>, Memory>
+    requires { IsLawfulTree (view statement.now) }
+    ensures { IfOk result (λ refused. refused ≡ refused_under (state_of parts.now)
         (told_forbidden (broken_rule (seen session.now) (view statement.now)))
-        (own_id (view statement.now)) (view statement.now) }
+        (own_id (view statement.now)) (view statement.now)) }
 {
-    match told_if_held(parts, own_id(statement), statement) {
-        Some(told) => told,
-        None => forbidden_to(session, statement),
+    if let Some(told) = told_if_held(alloc, parts, own_id(statement), statement)? {
+        return Ok(told);
     }
+    Ok(forbidden_to(session, statement))
 }
 
 // The session behind a statement that comes under that id.

@@ -151,7 +151,7 @@ fn conflict(
         (occasion_of (state_of parts.now) who draw.now write.now moment token) write.now) }
 {
     match write {
-        Write::Put { id, statement } => Ok(refused_under(parts, who, Some(*id), statement)),
+        Write::Put { id, statement } => refused_under(alloc, parts, who, Some(*id), statement),
         Write::Post { statements } => {
             refused_together(alloc, parts, who, draw, statements.as_slice())
         }

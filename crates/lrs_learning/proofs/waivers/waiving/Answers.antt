@@ -24,4 +24,4 @@ returns c =
     (λ made. (by : Who) → made ≡ waiving_as st (occasion_at st by c.args.moment c.args.draw.now) t (waived_at t c.args.reason (supply 0) (rest_of supply) c.args.moment))
     (λ made. (by : Who) → made ≡ waiving st (occasion_at st by c.args.moment c.args.draw.now) c.args.reason o)
     (λ made known. λ by. known by ∙ waiver_is st (occasion_at st by c.args.moment c.args.draw.now) c.args.reason t o (sym c.in-Some.ensures.found)
-    (sym c.is_waived.ensures ∙ c.if-is_waived.false)) c.waiving_as.ensures
+    (sym c.in_ok-already.ensures ∙ c.if-already.false)) c.waiving_as.ensures

@@ -1,5 +1,5 @@
 -- The parts find the unit's registration with its course.
-use Rattle.std.proofs.Common.{◌<◌, ◌∙◌, length, ap, subst, sym}
+use Rattle.std.proofs.Common.{◌≡◌, ◌<◌, IfOk, length, subst, sym}
 use Rattle.cmi5_launch.specs.Names.{waived}
 use Rattle.cmi5_verdict.specs.Nodes.{SeenEnrolment, activity_at, seen}
 use Rattle.cmi5_verdict.specs.Units.{stands}
@@ -20,4 +20,5 @@ is_waived-requires-clause-place c =
 pub returns : goal.returns
 returns c =
     let place = c.args.target.now.place in
-    c.is_waived.ensures ∙ ap (λ (e : SeenEnrolment). stands (state_of c.args.parts.now).statements e.registration (activity_at e place) waived) c.enrolment.ensures
+    subst (λ (e : SeenEnrolment). IfOk c.is_waived.result (λ told. told
+    ≡ stands (state_of c.args.parts.now).statements e.registration (activity_at e place) waived)) c.enrolment.ensures c.is_waived.ensures

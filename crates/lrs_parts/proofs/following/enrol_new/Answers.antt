@@ -1,19 +1,24 @@
-use Rattle.std.proofs.Common.{Option, subst, sym}
-use Rattle.cmi5_session.specs.Marked.{marked}
-use Rattle.lrs_parts.specs.Progress.{AreCounted}
+use Rattle.std.proofs.Common.{◌∙◌, Option, subst, sym}
+use Rattle.lrs_parts.specs.Progress.{AreCounted, IsReadyToEnrol}
 use Rattle.lrs_parts.specs.declared.registrations.HeldRegistration.{HeldRegistration}
+use Rattle.lrs_parts.proofs.Enrolling.{counted_more}
+use Rattle.lrs_parts.proofs.Voided.{no_item, some_item}
 use Rattle.lrs_register.specs.Register.{with_new}
 use Rattle.lrs_parts.proofs.following.enrol_new.Goals as goal
 
 pub enrol-requires : goal.enrol-requires
-enrol-requires c = c.requires c.in-Some.registration c.in-Some.is
+enrol-requires c =
+    let it = some_item c.args.coming.now (sym c.is_some.ensures ∙ c.if-is_some.true) in c.requires it.0 it.1
 
-pub returns-in-Some : goal.returns-in-Some
-returns-in-Some c = λ registrations counted.
-    subst (λ (o : Option HeldRegistration). AreCounted c.enrol.new.running c.args.founding.now c.args.courses.now.held (with_new registrations o) (marked c.args.statements.now.held))
-    (sym c.in-Some.is) (c.enrol.ensures registrations counted)
+pub returns-then-is_some : goal.returns-then-is_some
+returns-then-is_some c = λ founding courses registrations those ready counted.
+    let it = some_item c.args.coming.now (sym c.is_some.ensures ∙ c.if-is_some.true) in
+    let its : IsReadyToEnrol c.args.running.now founding courses it.0 those = ready it.0 it.1 in
+    subst (λ (o : Option HeldRegistration). AreCounted c.enrol.new.self founding courses (with_new registrations o) those) (sym it.1)
+    (counted_more c.args.running.now c.enrol.new.self founding courses registrations those it.0 its.enrolment its.enrolled (c.enrol.ensures.stands those its.enrolment its.counted)
+    c.enrol.ensures.others c.enrol.ensures.long counted)
 
-pub returns-in_default : goal.returns-in_default
-returns-in_default c = λ registrations counted.
-    subst (λ (o : Option HeldRegistration). AreCounted c.args.running.now c.args.founding.now c.args.courses.now.held (with_new registrations o) (marked c.args.statements.now.held))
-    (sym c.in_default.is) counted
+pub returns-else-is_some : goal.returns-else-is_some
+returns-else-is_some c = λ founding courses registrations those ready counted.
+    subst (λ (o : Option HeldRegistration). AreCounted c.args.running.now founding courses (with_new registrations o) those)
+    (sym (no_item c.args.coming.now (sym c.is_some.ensures ∙ c.if-is_some.false))) counted

@@ -1,13 +1,16 @@
-use Rattle.std.proofs.Common.{take}
+use Rattle.std.proofs.Common.{◌≡◌, ◌≤◌, drop, length, take}
 use Rattle.cmi5_running_sessions.specs.Room.{KeepsPlaces}
 use Rattle.cmi5_session.specs.Marked.{marked}
 use Rattle.lrs_parts.specs.Progress.{Follows}
+use Rattle.xapi_index.specs.Statements.{add_each}
 use Rattle.lrs_parts.proofs.following.follow_each.Given as goal
 
--- the statements so far are followed
-abbrev pub invariant-loop-at : goal.invariant-loop-at
-invariant-loop-at l = record {
+-- the statements before the position are followed, and behind them stand those that are left
+abbrev pub invariant-loop-statement : goal.invariant-loop-statement
+invariant-loop-statement l = record {
+  within : l.position ≤ length l.statements.held;
+  added : l.statements.held ≡ add_each (take l.position l.statements.held) (drop l.statement-index l.coming);
   follows : Follows l.fn.progress l.founding l.learning.courses.held l.learning.registrations.held (marked (take l.first l.statements.held))
-      → Follows l.progress l.founding l.learning.courses.held l.learning.registrations.held (marked (take l.at l.statements.held));
+      → Follows l.progress l.founding l.learning.courses.held l.learning.registrations.held (marked (take l.position l.statements.held));
   places : KeepsPlaces l.fn.progress.sessions l.progress.sessions;
 }

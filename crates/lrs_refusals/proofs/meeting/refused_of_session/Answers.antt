@@ -18,14 +18,14 @@ returns-in-Some c =
     let new = told_forbidden (broken_rule (seen c.args.session.now) j) in
     sym (held_or_new st new (own_id j) j
     ∙ ap (λ (told : Option (Option Refusal)). unwrap_or told new)
-    (ap (λ (id : Option (List ℕ)). told_if_held st id j) (sym c.own_id.ensures) ∙ (sym c.told_if_held.ensures ∙ c.in-Some.is)))
+    (ap (λ (id : Option (List ℕ)). told_if_held st id j) (sym c.own_id.ensures) ∙ (sym c.in_ok-told.ensures ∙ c.in-Some.is)))
 
-pub returns-in-None : goal.returns-in-None
-returns-in-None c =
+pub returns : goal.returns
+returns c =
     let st = state_of c.args.parts.now in
     let j = view c.args.statement.now in
     let new = told_forbidden (broken_rule (seen c.args.session.now) j) in
     c.forbidden_to.ensures
     ∙ sym (held_or_new st new (own_id j) j
     ∙ ap (λ (told : Option (Option Refusal)). unwrap_or told new)
-    (ap (λ (id : Option (List ℕ)). told_if_held st id j) (sym c.own_id.ensures) ∙ (sym c.told_if_held.ensures ∙ c.in-None.is)))
+    (ap (λ (id : Option (List ℕ)). told_if_held st id j) (sym c.own_id.ensures) ∙ (sym c.in_ok-told.ensures ∙ c.in_default.is)))

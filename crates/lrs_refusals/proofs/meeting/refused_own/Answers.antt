@@ -1,4 +1,4 @@
-use Rattle.std.proofs.Common.{ℕ, List, Option, ap, ◌∙◌}
+use Rattle.std.proofs.Common.{◌≡◌, ℕ, List, Option, IfOk, subst}
 use Rattle.lrs_history.specs.Refusals.{forbidden, refused_under}
 use Rattle.lrs_json.specs.View.{view}
 use Rattle.lrs_parts.specs.Parts.{state_of}
@@ -8,4 +8,5 @@ pub returns : goal.returns
 returns c =
     let st = state_of c.args.parts.now in
     let j = view c.args.statement.now in
-    c.refused_under.ensures ∙ ap (λ (id : Option (List ℕ)). refused_under st (forbidden st c.args.who c.args.parts.now.statements.held j) id j) c.own_id.ensures
+    subst (λ (id : Option (List ℕ)). IfOk c.refused_under.result (λ refused. refused
+    ≡ refused_under st (forbidden st c.args.who c.args.parts.now.statements.held j) id j)) c.own_id.ensures c.refused_under.ensures

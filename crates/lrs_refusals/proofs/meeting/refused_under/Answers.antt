@@ -12,12 +12,12 @@ returns-in-Some c =
     let st = state_of c.args.parts.now in
     let j = view c.args.statement.now in
     let new = forbidden st c.args.who c.args.parts.now.statements.held j in
-    sym (held_or_new st new c.args.id j ∙ ap (λ (told : Option (Option Refusal)). unwrap_or told new) (sym c.told_if_held.ensures ∙ c.in-Some.is))
+    sym (held_or_new st new c.args.id j ∙ ap (λ (told : Option (Option Refusal)). unwrap_or told new) (sym c.in_ok-told.ensures ∙ c.in-Some.is))
 
-pub returns-in-None : goal.returns-in-None
-returns-in-None c =
+pub returns : goal.returns
+returns c =
     let st = state_of c.args.parts.now in
     let j = view c.args.statement.now in
     let new = forbidden st c.args.who c.args.parts.now.statements.held j in
     c.forbidden.ensures
-    ∙ sym (held_or_new st new c.args.id j ∙ ap (λ (told : Option (Option Refusal)). unwrap_or told new) (sym c.told_if_held.ensures ∙ c.in-None.is))
+    ∙ sym (held_or_new st new c.args.id j ∙ ap (λ (told : Option (Option Refusal)). unwrap_or told new) (sym c.in_ok-told.ensures ∙ c.in_default.is))

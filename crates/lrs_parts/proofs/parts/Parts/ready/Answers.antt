@@ -12,6 +12,7 @@ use Rattle.lrs_parts.specs.Providers.{token_of}
 use Rattle.lrs_parts.proofs.Kept.{all_ok, kept_still, same_states}
 use Rattle.xapi_docs.specs.Docs as docs
 use Rattle.xapi_docs.specs.Docs.{documents_in, is_written}
+use Rattle.xapi_statement.specs.Stored.{StoredStatement}
 use Rattle.lrs_parts.proofs.parts.Parts.ready.Goals as goal
 
 pub invariant_of-self : goal.invariant_of-self
@@ -42,7 +43,10 @@ returns-clause-ready c =
       statements = statements;
       documents = documents;
       learning = learning;
-      progress = subst (λ (cs : List Course). IsProgressReadyFor c.ready_each.new.progress c.self.inside.founding cs c.args.effect.now) (sym does.same_learning.courses) progress;
+      progress =
+          subst (λ (ss : List StoredStatement). IsProgressReadyFor c.ready_each.new.progress c.self.inside.founding c.ready_each.new.learning.courses.held ss c.args.effect.now) (sym does.same_statements)
+          (subst (λ (cs : List Course). IsProgressReadyFor c.ready_each.new.progress c.self.inside.founding cs c.self.inside.statements.held c.args.effect.now) (sym does.same_learning.courses)
+          progress);
       length = countable;
     })
 

@@ -39,4 +39,5 @@ returns-clause-undone c = λ before made_before.
       sessions = said_back x.statements before.progress.sessions old.progress.sessions c.release-4.new.self.sessions made.sessions
           (subst (λ (ss : List StoredStatement). room.TakesPlacesBack ss old.progress.sessions c.release-4.new.self.sessions) c.as_slice.ensures c.release-4.ensures.back);
       running = inl c.release-4.ensures.nothing;
+      targets = inl c.release-4.ensures.targets;
     }

@@ -1,4 +1,4 @@
-use Rattle.std.proofs.Common.{◌∙◌, List, ap}
+use Rattle.std.proofs.Common.{◌≡◌, IfOk, List, subst}
 use Rattle.cmi5_launch.specs.Names.{waived}
 use Rattle.cmi5_verdict.specs.Nodes.{activity_at, seen}
 use Rattle.cmi5_verdict.specs.Units.{stands}
@@ -8,4 +8,4 @@ use Rattle.lrs_parts.proofs.parts.Parts.waived_by_fold.Goals as goal
 pub returns : goal.returns
 returns c =
     let e = seen c.args.enrolment.now in
-    c.waived.ensures ∙ ap (λ (ss : List StoredStatement). stands ss e.registration (activity_at e c.args.place) waived) c.held_alone.ensures
+    subst (λ (ss : List StoredStatement). IfOk c.waived.result (λ told. told ≡ stands ss e.registration (activity_at e c.args.place) waived)) c.held_alone.ensures c.waived.ensures

@@ -1,0 +1,25 @@
+use Rattle.std.proofs.Common.{◌∙◌, ◌+◌, Bool, ap, sym}
+use Rattle.std.specs.Prelude.{if◌then◌else◌}
+use Rattle.lrs_parts.proofs.Kept.{places_kept}
+use Rattle.lrs_parts.proofs.following.follow_at.Goals as goal
+
+pub follow-requires-clause-there : goal.follow-requires-clause-there
+follow-requires-clause-there c = c.requires.there (sym c.is_at.ensures ∙ c.if-is_at.true)
+
+pub returns-then-is_at-clause-next : goal.returns-then-is_at-clause-next
+returns-then-is_at-clause-next c = sym (ap (λ (b : Bool). if b then c.args.at + 1 else c.args.at) (sym c.is_at.ensures ∙ c.if-is_at.true))
+
+pub returns-then-is_at-clause-follows : goal.returns-then-is_at-clause-follows
+returns-then-is_at-clause-follows c = c.follow.ensures.follows
+
+pub returns-then-is_at-clause-places : goal.returns-then-is_at-clause-places
+returns-then-is_at-clause-places c = c.follow.ensures.places
+
+pub returns-else-is_at-clause-next : goal.returns-else-is_at-clause-next
+returns-else-is_at-clause-next c = sym (ap (λ (b : Bool). if b then c.args.at + 1 else c.args.at) (sym c.is_at.ensures ∙ c.if-is_at.false))
+
+pub returns-else-is_at-clause-follows : goal.returns-else-is_at-clause-follows
+returns-else-is_at-clause-follows c = λ follows. follows
+
+pub returns-else-is_at-clause-places : goal.returns-else-is_at-clause-places
+returns-else-is_at-clause-places c = places_kept c.args.progress.now.sessions

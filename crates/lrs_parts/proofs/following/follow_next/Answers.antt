@@ -1,0 +1,22 @@
+use Rattle.std.proofs.Common.{arith}
+use Rattle.lrs_parts.proofs.Arrivals.{past_last}
+use Rattle.lrs_parts.proofs.Kept.{places_kept}
+use Rattle.lrs_parts.proofs.following.follow_next.Goals as goal
+
+pub follow_at-requires-clause-there : goal.follow_at-requires-clause-there
+follow_at-requires-clause-there c = c.requires.there
+
+pub returns-then-at-long-clause-follows : goal.returns-then-at-long-clause-follows
+returns-then-at-long-clause-follows c = c.follow_at.ensures.follows
+
+pub returns-then-at-long-clause-places : goal.returns-then-at-long-clause-places
+returns-then-at-long-clause-places c = c.follow_at.ensures.places
+
+pub returns-else-at-long-clause-next : goal.returns-else-at-long-clause-next
+returns-else-at-long-clause-next c = past_last c.args.statements.now.held c.args.at c.args.statement.now (omega (arith, c.if-at-long.false, c.len-long.ensures))
+
+pub returns-else-at-long-clause-follows : goal.returns-else-at-long-clause-follows
+returns-else-at-long-clause-follows c = λ follows. follows
+
+pub returns-else-at-long-clause-places : goal.returns-else-at-long-clause-places
+returns-else-at-long-clause-places c = places_kept c.args.progress.now.sessions

@@ -1,9 +1,0 @@
-use Rattle.std.proofs.Common.{◌∙◌, Option, refl, sym, ap}
-use Rattle.std.specs.Prelude.{option_map}
-use Rattle.cmi5_verdict.specs.Nodes.{seen}
-use Rattle.cmi5_verdict.specs.declared.enrolment.Enrolment.{Enrolment}
-use Rattle.lrs_parts.proofs.readying.nodes_of.Goals as goal
-
-pub returns-in-Some-clause-nodes : goal.returns-in-Some-clause-nodes
-returns-in-Some-clause-nodes c =
-    (seen c.in-Some.enrolment, sym c.enrolment_in.ensures.value ∙ ap (λ (o : Option Enrolment). option_map seen o) c.in-Some.is, refl)

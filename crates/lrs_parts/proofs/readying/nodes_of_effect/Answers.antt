@@ -1,5 +1,0 @@
-use Rattle.lrs_parts.proofs.Readied.{always}
-use Rattle.lrs_parts.proofs.readying.nodes_of_effect.Goals as goal
-
-pub returns-in-None-clause-courses : goal.returns-in-None-clause-courses
-returns-in-None-clause-courses c = always c.nodes_of_change.result c.in-None.is
