@@ -144,12 +144,12 @@ load_app = with_rule
     (with_rule (with_rule (new_app (codes "load")) (required (codes "file"))) (required (codes "seed")))
     (required (codes "count"))
 
+-- the program with the first two of its commands
+abbrev pub program_begun : App
+program_begun = with_subcommand (with_subcommand (new_app (codes "kilnlime")) init_app.top) intake_app.top
+
 abbrev pub program : App
-program = with_subcommand
-    (with_subcommand
-    (with_subcommand (with_subcommand (new_app (codes "kilnlime")) init_app.top) intake_app.top)
-    serve_app.top)
-    load_app.top
+program = with_subcommand (with_subcommand program_begun serve_app.top) load_app.top
 
 -- the words with the program's name before them
 abbrev pub whole_line : List Text → List Text

@@ -114,13 +114,8 @@ impl<D: Disk> Desk<D> {
         ensures faults { IfErr result (λ e. D.fault_count disk ≤ D.fault_count e.1) }
         ensures cause { IfErr result (λ e. e.0 ≡ FoundRefused.Failed → Rises (D.fault_count disk) (D.fault_count e.1)) }
     {
-        let (entry, frame) = match founding(alloc, admin, base, clock) {
-            Ok(founding) => founding,
-            Err(_) => return Err((FoundRefused::Memory, disk)),
-        };
-        let opening = Noted::new().and(&entry);
-        let fold = match founded(alloc, entry) {
-            Ok(fold) => fold,
+        let (frame, fold, opening) = match begun(alloc, admin, base, clock) {
+            Ok(begun) => begun,
             Err(_) => return Err((FoundRefused::Memory, disk)),
         };
         match Journal::create(disk, limit, &frame) {
@@ -255,6 +250,29 @@ fn founding_refusal(refused: CreateRefused) -> FoundRefused
         CreateRefused::Foreign => FoundRefused::Foreign,
         CreateRefused::Full { need, limit } => FoundRefused::Full { need, limit },
         CreateRefused::Failed => FoundRefused::Failed,
+    }
+}
+
+// What a new store begins with: the founding entry's text, what the entry gives, and the list of it alone.
+fn begun(
+    alloc: Global,
+    admin: &Text,
+    base: &Text,
+    clock: u64,
+) -> Result<(Vec<u8>, Fold, Noted<Entry>), Memory>
+    requires admin { IsToken admin.now }
+    requires base { IsBase base.now }
+    ensures frame { IfOk result (λ begun. begun.0.items ≡ written_entry (founding_entry admin.now base.now clock)) }
+    ensures short { IfOk result (λ begun. length begun.0.items ≤ MOST_BYTES) }
+    ensures lawful { IfOk result (λ begun. IsLawful (founding_entry admin.now base.now clock)) }
+    ensures folded { IfOk result (λ begun. state_of begun.1 ≡ state (founding_entry admin.now base.now clock ∷ [])) }
+    ensures opening { IfOk result (λ begun. begun.2.items ≡ founding_entry admin.now base.now clock ∷ []) }
+{
+    let (entry, frame) = founding(alloc, admin, base, clock)?;
+    let opening = Noted::new().and(&entry);
+    match founded(alloc, entry) {
+        Ok(fold) => Ok((frame, fold, opening)),
+        Err(refused) => Err(refused),
     }
 }
 

@@ -47,6 +47,26 @@ fn what_is_voided_is_found_as_such(rt: HostRuntime) -> Result<(), Fail> {
     check_rows(rt.alloc(), VOIDING)
 }
 
+// In one batch: one voids what stands before it, one what is held, one that again, one what comes behind it, and one
+// what isn't there.
+const VOIDING_TOGETHER: &str = r#"
+admin put Z1 v/1 a/1 Z1 => 204 kept
+admin post v/1 a/1 Z2;voided Z2 Z3;voided Z1 Z4;voided Z1 Z5;voided Z8 Z6;voided Z9 Z7;v/1 a/1 Z8 => 200 ["Z2","Z3","Z4","Z5","Z6","Z7","Z8"] kept
+admin get ?statementId=Z1 => 404 {"error":"404"}
+admin get ?statementId=Z2 => 404 {"error":"404"}
+admin get ?statementId=Z8 => 404 {"error":"404"}
+admin get ?voidedStatementId=Z1 => 200 {"actor":{"mbox":"mailto:a@b"},"verb":{"id":"http://v/1"},"object":{"id":"http://a/1"},"id":"Z1","timestamp":"2023-11-14T22:13:20.000Z","stored":"2023-11-14T22:13:20.000Z","authority":{"objectType":"Agent","name":"admin","account":{"homePage":"https://lrs.invalid/callers","name":"admin"}},"version":"1.0.0"}
+admin get ?voidedStatementId=Z2 => 200 {"actor":{"mbox":"mailto:a@b"},"verb":{"id":"http://v/1"},"object":{"id":"http://a/1"},"id":"Z2","timestamp":"2023-11-14T22:13:20.000Z","stored":"2023-11-14T22:13:20.000Z","authority":{"objectType":"Agent","name":"admin","account":{"homePage":"https://lrs.invalid/callers","name":"admin"}},"version":"1.0.0"}
+admin get ?voidedStatementId=Z8 => 200 {"actor":{"mbox":"mailto:a@b"},"verb":{"id":"http://v/1"},"object":{"id":"http://a/1"},"id":"Z8","timestamp":"2023-11-14T22:13:20.000Z","stored":"2023-11-14T22:13:20.000Z","authority":{"objectType":"Agent","name":"admin","account":{"homePage":"https://lrs.invalid/callers","name":"admin"}},"version":"1.0.0"}
+admin get ?voidedStatementId=Z9 => 404 {"error":"404"}
+admin get ? => 200 [76543]
+"#;
+
+#[test]
+fn a_batch_voids_what_is_held_and_its_own(rt: HostRuntime) -> Result<(), Fail> {
+    check_rows(rt.alloc(), VOIDING_TOGETHER)
+}
+
 // An admin voids a provider's statement. In a batch the first refusal is told, a conflict or a voiding.
 const OF_PROVIDERS: &str = r#"
 admin provider p.1 => 200 {"caller":0,"token":"00000000000000000000000000000005-1"} kept

@@ -3,7 +3,7 @@
 ghost use Rattle.std.specs.Prelude.{◌≡◌, true, false, map, IfOk, MatchOption, option_map, option_and_then};
 ghost use Rattle.std.specs.Option.{option_copied};
 ghost use Rattle.clap.specs.Words.{App, app_of, first_of, found_of, rows_of, rule_of, subcommand_of, subcommand_rows_of, with_rule, with_subcommand};
-ghost use Rattle.lrs_command_line.specs.CommandLine.{required, needed, optional, init_app, intake_app, load_app, serve_app, program, whole_line};
+ghost use Rattle.lrs_command_line.specs.CommandLine.{required, needed, optional, init_app, intake_app, load_app, serve_app, program, program_begun, whole_line};
 ghost use Rattle.lrs_command_line.specs.Shapes.{IsOf, IsReadAs, command_in, command_of, init_in, intake_in, is_faulty, load_in, serve_in, taken};
 
 use crate::words::{CommandLine, ProgramCommand, test_named};
@@ -103,13 +103,20 @@ fn with_command<'a>(
     }
 }
 
+// The program with the first two of its commands.
+fn program_begun<'a>(alloc: Global) -> Result<Command<'a>, Memory>
+    ensures { IfOk result (λ c. app_of c ≡ program_begun) }
+{
+    let program = Command::new(alloc, "kilnlime");
+    let program = with_command(program, init_command(alloc))?;
+    with_command(program, intake_command(alloc))
+}
+
 // The program's words, as clap has them.
 fn program<'a>(alloc: Global) -> Result<Command<'a>, Memory>
     ensures { IfOk result (λ c. app_of c ≡ program) }
 {
-    let program = Command::new(alloc, "kilnlime");
-    let program = with_command(program, init_command(alloc))?;
-    let program = with_command(program, intake_command(alloc))?;
+    let program = program_begun(alloc)?;
     let program = with_command(program, serve_command(alloc))?;
     with_command(program, load_command(alloc))
 }
