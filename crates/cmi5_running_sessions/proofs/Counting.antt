@@ -8,7 +8,7 @@ use Rattle.std.proofs.Math.Nat.{min-eq_left}
 use Rattle.std.proofs.lemmas.Bool.{false≢true}
 use Rattle.std.proofs.lemmas.List.Sums.{count_by-le-length, sum_by-append, sum_by-cons, sum_by_push}
 use Rattle.cmi5_course.specs.declared.launch.Launch.{Launch}
-use Rattle.cmi5_launch.specs.Names.{completed, passed}
+use Rattle.cmi5_session.specs.Cmi5LaunchNames.{completed, passed}
 use Rattle.cmi5_running_sessions.specs.Entries.{ChangesUnits, UnitsByRegistration, is_empty_place, is_nothing_reached, is_same_unit, kept_in, one_less, one_more, reached_behind, reached_without, taken_back, unit_at}
 use Rattle.cmi5_running_sessions.specs.Kept.{SeenSessions, counts_still_for, is_same, nothing_reached, reached_in, reached_of, says_of}
 use Rattle.cmi5_running_sessions.specs.Room.{needs_unit}
@@ -20,7 +20,7 @@ use Rattle.cmi5_session.specs.Own.{is_cmi5_defined, says}
 use Rattle.cmi5_session.specs.Views.{counts_still, has_counting}
 use Rattle.lrs_json.specs.Json.{Json}
 use Rattle.lrs_json.specs.View.{view}
-use Rattle.xapi_index.specs.Statements.{is_that_id, is_voided}
+use Rattle.cmi5_session.specs.XapiIndexStatements.{is_that_id, is_voided}
 use Rattle.xapi_statement.specs.Statement.{activity_of, registration_of, verb_of}
 use Rattle.xapi_statement.specs.Stored.{StoredStatement}
 

@@ -5,7 +5,7 @@ use Rattle.std.specs.Map.{lookup}
 use Rattle.std.specs.Option.{option_or}
 use Rattle.std.proofs.lemmas.Bool.{false≢true}
 use Rattle.std.proofs.lemmas.List.Folds.{find-append, list_any-append}
-use Rattle.cmi5_launch.specs.Names.{initialized, terminated}
+use Rattle.cmi5_session.specs.Cmi5LaunchNames.{initialized, terminated}
 use Rattle.cmi5_running_sessions.specs.Entries.{ChangesAt, kept_in, own_behind}
 use Rattle.cmi5_running_sessions.specs.Kept.{SeenSessions, is_same, last_said, nothing_said, own_of, own_said}
 use Rattle.cmi5_running_sessions.specs.Room.{needs_own}
@@ -16,7 +16,7 @@ use Rattle.cmi5_session.specs.Moments.{began_at, last_own}
 use Rattle.cmi5_session.specs.Own.{has_own, is_of_session, is_own, says}
 use Rattle.lrs_json.specs.View.{view}
 use Rattle.xapi_format.specs.declared.authority.Authority.{Authority}
-use Rattle.xapi_index.specs.Statements.{is_that_id}
+use Rattle.cmi5_session.specs.XapiIndexStatements.{is_that_id}
 use Rattle.xapi_statement.specs.Stored.{StoredStatement}
 
 -- ---- options

@@ -1,7 +1,7 @@
 -- What is seen of a session, by what is kept.
 use Rattle.std.proofs.Common.{◌≡◌, ℕ, nat_lt, Bool, if◌then◌else◌, List, ap, ◌∙◌}
 use Rattle.cmi5_course.specs.declared.launch.Launch.{Launch}
-use Rattle.cmi5_launch.specs.Names.{completed, passed, terminated}
+use Rattle.cmi5_session.specs.Cmi5LaunchNames.{completed, passed, terminated}
 use Rattle.cmi5_running_sessions.specs.Entries.{phase_by}
 use Rattle.cmi5_running_sessions.specs.Kept.{SeenSessions, StandsFor, own_of, own_said, reached_of}
 use Rattle.cmi5_running_sessions.specs.declared.own.OwnSaid.{OwnSaid}

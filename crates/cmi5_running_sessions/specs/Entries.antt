@@ -3,7 +3,7 @@ use Rattle.std.specs.Prelude.{◌≡◌, ◌⊎◌, ◌==◌, ℕ, ◌+◌, ◌-
 use Rattle.std.specs.Prelude.{IsTrue, is_some, Option, Some, None, if◌then◌else◌}
 use Rattle.std.specs.Map.{lookup}
 use Rattle.std.specs.Option.{option_map_or, option_or}
-use Rattle.cmi5_launch.specs.Names.{completed, initialized, passed, terminated}
+use Rattle.cmi5_session.specs.Cmi5LaunchNames.{completed, initialized, passed, terminated}
 use Rattle.cmi5_running_sessions.specs.Kept.{is_same, nothing_reached, units_of}
 use Rattle.cmi5_running_sessions.specs.declared.own.OwnSaid.{OwnSaid}
 use Rattle.cmi5_running_sessions.specs.declared.units.Reached.{Reached}

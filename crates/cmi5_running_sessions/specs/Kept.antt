@@ -8,7 +8,7 @@ use Rattle.std.specs.Map.{lookup}
 use Rattle.std.specs.Option.{option_map_or, option_or}
 use Rattle.std.specs.Ordering.{nat_cmp}
 use Rattle.std.specs.Str.{bytes_eq}
-use Rattle.cmi5_launch.specs.Names.{completed, passed, terminated}
+use Rattle.cmi5_session.specs.Cmi5LaunchNames.{completed, passed, terminated}
 use Rattle.cmi5_running_sessions.specs.declared.own.OwnSaid.{OwnSaid}
 use Rattle.cmi5_running_sessions.specs.declared.units.Reached.{Reached}
 use Rattle.cmi5_session.specs.Marked.{MarkedStatement, statements_of}
@@ -16,7 +16,7 @@ use Rattle.cmi5_session.specs.Moments.{began_at}
 use Rattle.cmi5_session.specs.Own.{has_own, is_cmi5_defined, is_of_session}
 use Rattle.lrs_json.specs.Json.{Json}
 use Rattle.lrs_json.specs.View.{view}
-use Rattle.xapi_index.specs.Statements.{is_that_id}
+use Rattle.cmi5_session.specs.XapiIndexStatements.{is_that_id}
 use Rattle.xapi_statement.specs.Statement.{activity_of, registration_of, verb_of}
 use Rattle.xapi_statement.specs.Stored.{StoredStatement}
 

@@ -2,12 +2,12 @@
 use Rattle.std.specs.Prelude.{◌≡◌, ◌⊎◌, ℕ, ◌&&◌, ◌||◌, Bool, true, List, IsTrue, is_some}
 use Rattle.std.specs.List.{AllByRecursion, list_any}
 use Rattle.std.specs.Map.{lookup}
-use Rattle.cmi5_launch.specs.Names.{completed, passed}
+use Rattle.cmi5_session.specs.Cmi5LaunchNames.{completed, passed}
 use Rattle.cmi5_running_sessions.specs.Kept.{SeenSessions, is_same, nothing_reached, nothing_said, own_of, reached_of}
 use Rattle.cmi5_running_sessions.specs.Kept.{units_of}
 use Rattle.cmi5_session.specs.Own.{is_of_session, says}
 use Rattle.lrs_json.specs.View.{view}
-use Rattle.xapi_index.specs.Statements.{is_that_id}
+use Rattle.cmi5_session.specs.XapiIndexStatements.{is_that_id}
 use Rattle.xapi_statement.specs.Statement.{activity_of, registration_of}
 use Rattle.xapi_statement.specs.Stored.{StoredStatement}
 

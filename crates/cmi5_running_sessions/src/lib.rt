@@ -10,6 +10,7 @@ mod sessions;
 mod told;
 mod units;
 
+pub use cmi5_session;
 pub use own::OwnSaid;
 pub use sessions::Sessions;
 pub use units::Reached;

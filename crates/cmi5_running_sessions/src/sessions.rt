@@ -1,6 +1,6 @@
 // What is kept of sessions.
 ghost use Rattle.std.specs.Prelude.{◌≡◌, ◌<◌, ◌+◌, ◌^◌, [], ◌∷◌, ◌++◌, List, true, false, length, OnOk};
-ghost use Rattle.cmi5_launch.specs.Names.{terminated};
+ghost use Rattle.cmi5_session.specs.Cmi5LaunchNames.{terminated};
 ghost use Rattle.cmi5_running_sessions.specs.Entries.{phase_by};
 ghost use Rattle.cmi5_running_sessions.specs.Kept.{StandsFor};
 ghost use Rattle.cmi5_running_sessions.specs.Room.{HasPlacesFor, HasPlacesForEach, KeepsPlaces, MakesPlaces};

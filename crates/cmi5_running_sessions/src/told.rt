@@ -2,14 +2,14 @@
 ghost use Rattle.std.specs.Prelude.{◌≡◌, ◌&&◌, ◌||◌, ℕ, List, false};
 ghost use Rattle.std.specs.Option.{option_map_or};
 ghost use Rattle.std.specs.Str.{bytes_eq};
-ghost use Rattle.cmi5_launch.specs.Names.{completed, passed};
+ghost use Rattle.cmi5_session.specs.Cmi5LaunchNames.{completed, passed};
 ghost use Rattle.cmi5_running_sessions.specs.Room.{needs_unit};
 ghost use Rattle.cmi5_session.specs.Own.{is_of_session, says};
 ghost use Rattle.lrs_json.specs.View.{view};
-ghost use Rattle.xapi_index.specs.Statements.{is_that_id};
+ghost use Rattle.cmi5_session.specs.XapiIndexStatements.{is_that_id};
 ghost use Rattle.xapi_statement.specs.Statement.{activity_of, registration_of};
 
-use cmi5_launch::names::{COMPLETED, PASSED};
+use cmi5_session::cmi5_launch::names::{COMPLETED, PASSED};
 use cmi5_session::is_cmi5_defined;
 use lrs_json::{Text, Tree};
 use lrs_names::Id;

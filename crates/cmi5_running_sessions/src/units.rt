@@ -7,7 +7,7 @@ ghost use Rattle.cmi5_running_sessions.specs.Kept.{is_same, nothing_reached};
 ghost use Rattle.lrs_json.specs.View.{view};
 
 use crate::told::says;
-use cmi5_launch::names::{COMPLETED, PASSED};
+use cmi5_session::cmi5_launch::names::{COMPLETED, PASSED};
 use lrs_json::{Memory, Text, Tree};
 use std::collections::BTreeMap;
 use std::marker::Model;

@@ -4,8 +4,8 @@ use Rattle.cmi5_running_verdicts.specs.Changes.{is_about}
 use Rattle.cmi5_running_verdicts.specs.Tallies.{AreTallies}
 use Rattle.cmi5_running_verdicts.specs.declared.tally.Tally.{Tally}
 use Rattle.cmi5_running_verdicts.proofs.Settled.{none_counted, none_voided}
-use Rattle.cmi5_session.specs.Marked.{MarkedStatement, mark}
-use Rattle.cmi5_session.specs.Own.{is_cmi5_defined}
+use Rattle.cmi5_verdict.specs.Cmi5SessionMarked.{MarkedStatement, mark}
+use Rattle.cmi5_verdict.specs.Cmi5SessionOwn.{is_cmi5_defined}
 use Rattle.cmi5_verdict.specs.Nodes.{SeenEnrolment, activity_at}
 use Rattle.lrs_json.specs.Json.{Json}
 use Rattle.lrs_json.specs.View.{view}

@@ -7,7 +7,7 @@ use Rattle.std.proofs.lemmas.Option.{get_or_from_slice_get, none-some, same_Some
 use Rattle.cmi5_running_verdicts.specs.Running.{HasCounted, SeenRunning, Stands}
 use Rattle.cmi5_running_verdicts.specs.Tallies.{AreTallies}
 use Rattle.cmi5_running_verdicts.specs.declared.tally.Tally.{Tally}
-use Rattle.cmi5_session.specs.Marked.{MarkedStatement}
+use Rattle.cmi5_verdict.specs.Cmi5SessionMarked.{MarkedStatement}
 use Rattle.cmi5_verdict.specs.Nodes.{SeenEnrolment}
 
 -- ---- in place of another

@@ -6,12 +6,12 @@ use Rattle.std.specs.Option.{option_map_or}
 use Rattle.std.specs.Str.{bytes_eq}
 use Rattle.std.proofs.lemmas.List.Folds.{list_any-append}
 use Rattle.std.proofs.lemmas.List.Sums.{count_by-le-length}
-use Rattle.cmi5_launch.specs.Names.{completed, passed, satisfied, waived}
+use Rattle.cmi5_verdict.specs.Cmi5LaunchNames.{completed, passed, satisfied, waived}
 use Rattle.cmi5_running_verdicts.specs.Changes.{added, is_about, is_met_with, one_if, one_less, one_more, removed}
 use Rattle.cmi5_running_verdicts.specs.Tallies.{IsTally, how_many_say, is_met_by_all, said_by_all, said_in_tally, says_of_node, says_still}
 use Rattle.cmi5_running_verdicts.specs.declared.tally.Tally.{Tally}
-use Rattle.cmi5_session.specs.Marked.{MarkedStatement, mark}
-use Rattle.cmi5_session.specs.Own.{is_cmi5_defined}
+use Rattle.cmi5_verdict.specs.Cmi5SessionMarked.{MarkedStatement, mark}
+use Rattle.cmi5_verdict.specs.Cmi5SessionOwn.{is_cmi5_defined}
 use Rattle.cmi5_verdict.specs.Nodes.{SeenEnrolment, activity_at, unit_in}
 use Rattle.cmi5_verdict.specs.Said.{meets, said_with}
 use Rattle.cmi5_verdict.specs.declared.said.Said.{Said}

@@ -8,7 +8,7 @@ use Rattle.cmi5_running_verdicts.specs.Tallies.{AreTallies, IsTally, is_met_by_a
 use Rattle.cmi5_running_verdicts.specs.declared.tally.Tally.{Tally}
 use Rattle.cmi5_running_verdicts.proofs.Counts.{count_alike, count_moved, few_pass}
 use Rattle.cmi5_running_verdicts.proofs.Marks.{IsSaid, added_unmet, counted_elsewhere, counted_here, met_alike, removed_unmet, said_part, voided_elsewhere, voided_here}
-use Rattle.cmi5_session.specs.Marked.{MarkedStatement, mark}
+use Rattle.cmi5_verdict.specs.Cmi5SessionMarked.{MarkedStatement, mark}
 use Rattle.cmi5_verdict.specs.Nodes.{SeenEnrolment, is_under}
 use Rattle.cmi5_verdict.specs.Said.{said_with}
 use Rattle.cmi5_verdict.specs.declared.said.Said.{Said}

@@ -8,12 +8,12 @@ use Rattle.std.proofs.lemmas.List.Folds.{list_any-append}
 use Rattle.std.proofs.lemmas.List.FromFn.{fill_by_all, get_or-map-range_with_len, length-map-range_with_len}
 use Rattle.std.proofs.lemmas.List.Sums.{length-filter}
 use Rattle.std.proofs.lemmas.Option.{slice_get-get_or}
-use Rattle.cmi5_launch.specs.Names.{completed, passed, satisfied, waived}
+use Rattle.cmi5_verdict.specs.Cmi5LaunchNames.{completed, passed, satisfied, waived}
 use Rattle.cmi5_running_verdicts.specs.Changes.{tally_of, untold}
 use Rattle.cmi5_running_verdicts.specs.Tallies.{AreTallies, is_met_by_all, said_by_all, said_in_tally, says_of_node, says_still, unmet_under}
 use Rattle.cmi5_running_verdicts.specs.Told.{any_voids, is_all_met_at, is_waived_at, said_at, voids_one}
 use Rattle.cmi5_running_verdicts.specs.declared.tally.Tally.{Tally}
-use Rattle.cmi5_session.specs.Marked.{mark, marked}
+use Rattle.cmi5_verdict.specs.Cmi5SessionMarked.{mark, marked}
 use Rattle.cmi5_verdict.specs.Nodes.{SeenEnrolment, activity_at, is_met_at, is_satisfied, is_under, places, under, unit_in, verdicts}
 use Rattle.cmi5_verdict.specs.Said.{counts_for, either, meets, said_among, said_in, said_of, unsaid}
 use Rattle.cmi5_verdict.specs.Units.{counts, stands}

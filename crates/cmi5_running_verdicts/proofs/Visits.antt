@@ -9,12 +9,12 @@ use Rattle.std.proofs.lemmas.Bool.{le-ltb, lt-ltb, ltb-false}
 use Rattle.std.proofs.lemmas.List.{drop_all, drop_more, take_all}
 use Rattle.std.proofs.lemmas.List.Sums.{length-filter}
 use Rattle.std.proofs.lemmas.Option.{slice_get-get_or, slice_get_past}
-use Rattle.cmi5_launch.specs.Names.{completed, passed, satisfied, waived}
+use Rattle.cmi5_verdict.specs.Cmi5LaunchNames.{completed, passed, satisfied, waived}
 use Rattle.cmi5_running_verdicts.specs.Positions.{marked_at, marked_at_each}
 use Rattle.cmi5_running_verdicts.specs.Tallies.{AreTallies, how_many_say, is_met_by_all, said_by_all, says_of_node, says_still, unmet_under}
 use Rattle.cmi5_running_verdicts.specs.declared.tally.Tally.{Tally}
-use Rattle.cmi5_session.specs.Marked.{MarkedStatement, mark, marked, marked_by}
-use Rattle.cmi5_session.specs.Own.{says}
+use Rattle.cmi5_verdict.specs.Cmi5SessionMarked.{MarkedStatement, mark, marked, marked_by}
+use Rattle.cmi5_verdict.specs.Cmi5SessionOwn.{says}
 use Rattle.cmi5_verdict.specs.Nodes.{SeenEnrolment, activity_at, is_under, places, unit_in}
 use Rattle.cmi5_verdict.specs.Said.{meets}
 use Rattle.cmi5_verdict.specs.declared.said.Said.{Said}
@@ -22,7 +22,7 @@ use Rattle.cmi5_verdict.proofs.Spoken.{same_said}
 use Rattle.lrs_json.specs.View.{view}
 use Rattle.xapi_index.specs.Index.{IsPosting}
 use Rattle.xapi_index.specs.Statements.{is_that_id, is_voided}
-use Rattle.xapi_postings.specs.Ascending.{below, positions_from}
+use Rattle.xapi_index.specs.XapiPostingsAscending.{below, positions_from}
 use Rattle.xapi_statement.specs.Statement.{activity_of, registration_of}
 use Rattle.xapi_statement.specs.Stored.{StoredStatement}
 use Rattle.xapi_statement_keys.specs.Keys.{has_key}

@@ -6,7 +6,7 @@ use Rattle.cmi5_course.specs.declared.course.Node.{Node}
 use Rattle.cmi5_running_verdicts.specs.Holding.{failing_under}
 use Rattle.cmi5_running_verdicts.specs.Tallies.{said_in_tally}
 use Rattle.cmi5_running_verdicts.specs.declared.tally.Tally.{Tally}
-use Rattle.cmi5_session.specs.Own.{is_cmi5_defined}
+use Rattle.cmi5_verdict.specs.Cmi5SessionOwn.{is_cmi5_defined}
 use Rattle.cmi5_verdict.specs.Nodes.{SeenEnrolment, activity_at, is_under, unit_in}
 use Rattle.cmi5_verdict.specs.Said.{meets}
 use Rattle.cmi5_verdict.specs.declared.said.Said.{Said}

@@ -1,7 +1,7 @@
 -- Statements by their positions, with marks.
 use Rattle.std.specs.Prelude.{ℕ, List, [], ◌∷◌, ◌++◌, slice_get}
 use Rattle.std.specs.Option.{option_map_or}
-use Rattle.cmi5_session.specs.Marked.{MarkedStatement, mark}
+use Rattle.cmi5_verdict.specs.Cmi5SessionMarked.{MarkedStatement, mark}
 use Rattle.xapi_index.specs.Statements.{is_voided}
 use Rattle.xapi_statement.specs.Stored.{StoredStatement}
 

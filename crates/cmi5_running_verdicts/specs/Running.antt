@@ -2,7 +2,7 @@
 use Rattle.std.specs.Prelude.{◌≡◌, ◌≤◌, ℕ, List, Option, Some, slice_get}
 use Rattle.cmi5_running_verdicts.specs.Tallies.{AreTallies}
 use Rattle.cmi5_running_verdicts.specs.declared.tally.Tally.{Tally}
-use Rattle.cmi5_session.specs.Marked.{MarkedStatement}
+use Rattle.cmi5_verdict.specs.Cmi5SessionMarked.{MarkedStatement}
 use Rattle.cmi5_verdict.specs.Nodes.{SeenEnrolment}
 
 -- The tallies of each registration, those of one that is to come, and for how many more there is room.

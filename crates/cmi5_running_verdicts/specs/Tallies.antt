@@ -3,10 +3,10 @@ use Rattle.std.specs.Prelude.{◌≡◌, ℕ, ◌&&◌, Bool, true, not, List, l
 use Rattle.std.specs.Prelude.{slice_get, Some}
 use Rattle.std.specs.List.{count_by, list_any}
 use Rattle.std.specs.Option.{option_map_or}
-use Rattle.cmi5_launch.specs.Names.{completed, passed, satisfied, waived}
+use Rattle.cmi5_verdict.specs.Cmi5LaunchNames.{completed, passed, satisfied, waived}
 use Rattle.cmi5_running_verdicts.specs.Holding.{failing_under}
 use Rattle.cmi5_running_verdicts.specs.declared.tally.Tally.{Tally}
-use Rattle.cmi5_session.specs.Marked.{MarkedStatement}
+use Rattle.cmi5_verdict.specs.Cmi5SessionMarked.{MarkedStatement}
 use Rattle.cmi5_verdict.specs.Nodes.{SeenEnrolment, activity_at, unit_in}
 use Rattle.cmi5_verdict.specs.Said.{meets}
 use Rattle.cmi5_verdict.specs.Units.{counts}

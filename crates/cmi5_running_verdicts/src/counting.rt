@@ -6,7 +6,7 @@ ghost use Rattle.cmi5_running_verdicts.specs.Changes.{added, fails_untold, fresh
 ghost use Rattle.cmi5_running_verdicts.specs.Changes.{moved_if, removed, settled, tally_of, untold};
 ghost use Rattle.cmi5_running_verdicts.specs.Holding.{StandBehindHolders};
 ghost use Rattle.cmi5_running_verdicts.specs.Tallies.{AreTallies};
-ghost use Rattle.cmi5_session.specs.Marked.{MarkedStatement, mark};
+ghost use Rattle.cmi5_verdict.specs.Cmi5SessionMarked.{MarkedStatement, mark};
 ghost use Rattle.cmi5_verdict.specs.Nodes.{SeenEnrolment, seen};
 ghost use Rattle.cmi5_verdict.specs.Places.{is_place};
 ghost use Rattle.cmi5_verdict.specs.Said.{said_with};
@@ -16,7 +16,7 @@ ghost use Rattle.xapi_statement.specs.Statement.{verb_of};
 use crate::holding::{follow, is_met_with, settle};
 use crate::tally::{Tally, tally_of};
 use cmi5_course::Node;
-use cmi5_launch::names::{COMPLETED, PASSED, SATISFIED, WAIVED};
+use cmi5_verdict::cmi5_launch::names::{COMPLETED, PASSED, SATISFIED, WAIVED};
 use cmi5_verdict::{Enrolment, Said, place_meant};
 use lrs_json::Memory;
 use std::alloc::Global;

@@ -8,5 +8,6 @@ mod running;
 mod tally;
 mod telling;
 
+pub use cmi5_verdict;
 pub use running::Running;
 pub use tally::Tally;

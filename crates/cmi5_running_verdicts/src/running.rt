@@ -3,12 +3,12 @@
 ghost use Rattle.std.specs.Prelude.{◌≡◌, ◌<◌, ◌+◌, ◌^◌, ◌==◌, [], ◌∷◌, ◌++◌, ℕ, List, None, false, true, length};
 ghost use Rattle.std.specs.Prelude.{slice_get, IfNone, IfOk, IfSome, OnErr, OnOk};
 ghost use Rattle.std.specs.Option.{option_map_or};
-ghost use Rattle.cmi5_launch.specs.Names.{waived};
+ghost use Rattle.cmi5_verdict.specs.Cmi5LaunchNames.{waived};
 ghost use Rattle.cmi5_running_verdicts.specs.Holding.{StandBehindHolders};
 ghost use Rattle.cmi5_running_verdicts.specs.Positions.{marked_at, marked_at_each};
 ghost use Rattle.cmi5_running_verdicts.specs.Running.{HasCounted, Stands};
 ghost use Rattle.cmi5_running_verdicts.specs.Tallies.{AreTallies};
-ghost use Rattle.cmi5_session.specs.Marked.{MarkedStatement, mark, marked};
+ghost use Rattle.cmi5_verdict.specs.Cmi5SessionMarked.{MarkedStatement, mark, marked};
 ghost use Rattle.cmi5_verdict.specs.Nodes.{SeenEnrolment, activity_at, is_satisfied, owed, seen, verdicts};
 ghost use Rattle.cmi5_verdict.specs.Statements.{all_of};
 ghost use Rattle.cmi5_verdict.specs.Units.{stands};

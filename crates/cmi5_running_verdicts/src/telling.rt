@@ -4,7 +4,7 @@ ghost use Rattle.std.specs.Prelude.{◌≡◌, ◌<◌, ◌^◌, IfOk, OnOk, fal
 ghost use Rattle.std.specs.List.{range_with_len};
 ghost use Rattle.cmi5_running_verdicts.specs.Tallies.{AreTallies};
 ghost use Rattle.cmi5_running_verdicts.specs.Told.{any_voids, is_all_met_at, is_waived_at, said_at};
-ghost use Rattle.cmi5_session.specs.Marked.{marked};
+ghost use Rattle.cmi5_verdict.specs.Cmi5SessionMarked.{marked};
 ghost use Rattle.cmi5_verdict.specs.Nodes.{owed, seen};
 ghost use Rattle.cmi5_verdict.specs.Statements.{all_of};
 

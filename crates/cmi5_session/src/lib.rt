@@ -9,7 +9,9 @@ mod verb;
 mod view;
 
 pub use cmi5_course::{Launch, Mode};
+pub use cmi5_launch;
 pub use own::{has_own, is_cmi5_defined, is_of_session, is_own};
 pub use phase::Phase;
 pub use rules::{Forbidden, permitted, permitted_outside};
 pub use view::{SessionView, is_that_id, view_of};
+pub use xapi_index;

@@ -14,6 +14,7 @@ mod said;
 mod statements;
 mod units;
 
+pub use cmi5_launch;
 pub use enrolment::Enrolment;
 pub use marking::verdicts;
 pub use names::place_meant;

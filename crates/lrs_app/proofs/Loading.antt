@@ -10,10 +10,10 @@ use Rattle.lrs_hall.proofs.Lines.{begins_more, entries_begin, sure_begins}
 use Rattle.lrs_history.specs.History.{Answer, state, with_entry}
 use Rattle.lrs_json.specs.View.{view}
 use Rattle.lrs_json.specs.declared.tree.Tree.{Tree}
-use Rattle.lrs_machine.specs.Acts.{Acts, Receipt}
-use Rattle.lrs_machine.specs.Desk.{Desk, history}
-use Rattle.lrs_machine.specs.Line.{Record, in_doubt}
-use Rattle.lrs_machine.proofs.Prefixes.{stops_then}
+use Rattle.lrs_hall.specs.LrsMachineActs.{Acts, Receipt}
+use Rattle.lrs_hall.specs.LrsMachineDesk.{Desk, history}
+use Rattle.lrs_hall.specs.LrsMachineLine.{Record, in_doubt}
+use Rattle.lrs_hall.specs.LrsMachinePrefixesProofs.{stops_then}
 use Rattle.lrs_names.specs.declared.draw.Draw.{Draw}
 use Rattle.lrs_record.specs.declared.entry.Entry.{Entry}
 use Rattle.lrs_replies.specs.declared.answered.Answered.{Answered}

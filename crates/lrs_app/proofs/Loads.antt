@@ -11,8 +11,8 @@ use Rattle.lrs_hall.proofs.Lines.{entries_begin}
 use Rattle.lrs_history.specs.History.{IsLegal}
 use Rattle.lrs_journal.specs.Journal.{IsSynced, TellsAlike}
 use Rattle.lrs_journal.specs.Store.{Stands}
-use Rattle.lrs_machine.specs.Desk.{Desk, HoldsPrefix, IsStoreOf, LeavesStore, OpensOnly, history}
-use Rattle.lrs_machine.specs.Line.{in_doubt, opened_line, sure}
+use Rattle.lrs_hall.specs.LrsMachineDesk.{Desk, HoldsPrefix, IsStoreOf, LeavesStore, OpensOnly, history}
+use Rattle.lrs_hall.specs.LrsMachineLine.{in_doubt, opened_line, sure}
 use Rattle.lrs_record.specs.Entries.{written_entry}
 use Rattle.lrs_record.specs.declared.entry.Entry.{Entry}
 use Rattle.lrs_app.specs.ClosingSteps.{StopsFrom}

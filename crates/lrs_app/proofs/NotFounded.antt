@@ -10,11 +10,11 @@ use Rattle.lrs_journal.specs.Store.{Stands}
 use Rattle.lrs_record.specs.Entries.{written_entry}
 use Rattle.lrs_record.specs.declared.entry.Entry.{Entry}
 use Rattle.lrs_history.specs.History.{IsLegal}
-use Rattle.lrs_machine.specs.Desk.{Desk, HoldsPrefix, IsNotFounded, LeavesStore, MakesOnly, history}
-use Rattle.lrs_machine.specs.Line.{entries, opened_line, sure}
-use Rattle.lrs_machine.specs.declared.opening.FoundRefused.{FoundRefused}
-use Rattle.lrs_machine.specs.declared.opening.FoundRefused.TheVariants as found
-use Rattle.lrs_machine.proofs.Lines.{some_same}
+use Rattle.lrs_hall.specs.LrsMachineDesk.{Desk, HoldsPrefix, IsNotFounded, LeavesStore, MakesOnly, history}
+use Rattle.lrs_hall.specs.LrsMachineLine.{entries, opened_line, sure}
+use Rattle.lrs_hall.specs.LrsMachineOpeningFoundRefused.{FoundRefused}
+use Rattle.lrs_hall.specs.LrsMachineOpeningFoundRefusedTheVariants as found
+use Rattle.lrs_hall.specs.LrsMachineLinesProofs.{some_same}
 use Rattle.lrs_app.specs.Disks.{AnyStopLeaves, Holds, taken_now}
 use Rattle.lrs_app.specs.Run.{InitEnds, InitOnDisk, InitStops, InitTells}
 use Rattle.lrs_app.specs.Steps.{ending_of_found}

@@ -10,17 +10,17 @@ use Rattle.lrs_json.specs.declared.tree.Tree.{Tree}
 use Rattle.lrs_record.specs.Entries.{written_entry}
 use Rattle.lrs_record.specs.declared.entry.Entry.{Entry}
 use Rattle.lrs_history.specs.History.{Answer, IsLegal, with_entry}
-use Rattle.lrs_machine.specs.Acts.{Acts, HasDiskCause, Receipt, line_behind, made_by, place_where, record_of}
-use Rattle.lrs_machine.specs.Desk.{Desk, HoldsPrefix, LeavesStore, history}
-use Rattle.lrs_machine.specs.Line.{BeginsWith, Record, entries, in_doubt, sure}
+use Rattle.lrs_hall.specs.LrsMachineActs.{Acts, HasDiskCause, Receipt, line_behind, made_by, place_where, record_of}
+use Rattle.lrs_hall.specs.LrsMachineDesk.{Desk, HoldsPrefix, LeavesStore, history}
+use Rattle.lrs_hall.specs.LrsMachineLine.{BeginsWith, Record, entries, in_doubt, sure}
 use Rattle.lrs_replies.specs.declared.answered.Answered.{Answered}
 use Rattle.lrs_replies.specs.declared.answered.Answered.TheVariants as said
 use Rattle.lrs_replies.specs.declared.answered.Refusal.{Refusal}
 use Rattle.lrs_replies.specs.declared.answered.Refusal.TheVariants as refusal
 use Rattle.lrs_replies.specs.declared.reply.Trouble.{Trouble}
 use Rattle.lrs_replies.specs.declared.reply.Trouble.TheVariants as trouble
-use Rattle.lrs_machine.proofs.Lines.{entries_append, entries_one, none_some}
-use Rattle.lrs_machine.specs.Steps.{one_of}
+use Rattle.lrs_hall.specs.LrsMachineLinesProofs.{entries_append, entries_one, none_some}
+use Rattle.lrs_hall.specs.LrsMachineSteps.{one_of}
 use Rattle.lrs_hall.proofs.Lines.{entries_begin}
 use Rattle.lrs_console.specs.Reading.{ForInput}
 use Rattle.lrs_console.specs.Asking.{with_id, HasInputCause, IsNotTaken, IsTakenFor, EndsSaying, EndsRefused, put_answer}

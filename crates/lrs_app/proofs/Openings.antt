@@ -9,10 +9,10 @@ use Rattle.lrs_journal.specs.Journal.{IsSynced, StandsForFrames, TellsAlike}
 use Rattle.lrs_record.specs.Entries.{written_entry}
 use Rattle.lrs_record.specs.declared.entry.Entry.{Entry}
 use Rattle.lrs_history.specs.History.{IsLegal}
-use Rattle.lrs_machine.specs.Desk.{Desk, HoldsPrefix, IsOnDisk, IsStoreOf, OpensOnly, history}
-use Rattle.lrs_machine.specs.Line.{BeginsWith, Record, entries, in_doubt, opened_line, sure}
-use Rattle.lrs_machine.proofs.Lines.{doubt_opened, entries_opened, none_some}
-use Rattle.lrs_machine.proofs.Prefixes.{prefix_less}
+use Rattle.lrs_hall.specs.LrsMachineDesk.{Desk, HoldsPrefix, IsOnDisk, IsStoreOf, OpensOnly, history}
+use Rattle.lrs_hall.specs.LrsMachineLine.{BeginsWith, Record, entries, in_doubt, opened_line, sure}
+use Rattle.lrs_hall.specs.LrsMachineLinesProofs.{doubt_opened, entries_opened, none_some}
+use Rattle.lrs_hall.specs.LrsMachinePrefixesProofs.{prefix_less}
 use Rattle.lrs_hall.proofs.Lines.{begins_length, begins_self, begins_take, sure_begins}
 use Rattle.lrs_app.specs.ClosingSteps.{StopsFrom}
 use Rattle.lrs_app.specs.Disks.{AnyStopLeaves, LeavesFinal, taken_now}

@@ -19,7 +19,7 @@ use Rattle.lrs_command_line.specs.Shapes.{Denotes}
 use Rattle.lrs_command_line.specs.declared.words.ProgramCommand.{ProgramCommand}
 use Rattle.lrs_command_line.specs.declared.words.ProgramCommand.TheVariants as words
 use Rattle.lrs_console.specs.declared.ending.Ending.{Ending}
-use Rattle.lrs_fold.specs.Own.{founding_entry}
+use Rattle.lrs_hall.specs.LrsFoldOwn.{founding_entry}
 use Rattle.lrs_parts.specs.Founding.{IsBase}
 use Rattle.lrs_hall.specs.Talks.{Talk}
 use Rattle.lrs_app.specs.Disks.{Taken, taken_now}

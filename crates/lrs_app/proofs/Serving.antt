@@ -15,11 +15,11 @@ use Rattle.lrs_journal.specs.Store.{Stands}
 use Rattle.lrs_record.specs.Entries.{written_entry}
 use Rattle.lrs_record.specs.declared.entry.Entry.{Entry}
 use Rattle.lrs_history.specs.History.{IsLegal}
-use Rattle.lrs_machine.specs.Acts.{Receipt}
-use Rattle.lrs_machine.specs.Desk.{Desk, HoldsPrefix, IsStoreOf, KeepsLine, LeavesStore, OpensOnly, history}
-use Rattle.lrs_machine.specs.Line.{BeginsWith, Record, entries, in_doubt, sure}
-use Rattle.lrs_machine.specs.declared.opening.DeskRefused.{DeskRefused}
-use Rattle.lrs_machine.specs.declared.opening.DeskRefused.TheVariants as refused
+use Rattle.lrs_hall.specs.LrsMachineActs.{Receipt}
+use Rattle.lrs_hall.specs.LrsMachineDesk.{Desk, HoldsPrefix, IsStoreOf, KeepsLine, LeavesStore, OpensOnly, history}
+use Rattle.lrs_hall.specs.LrsMachineLine.{BeginsWith, Record, entries, in_doubt, sure}
+use Rattle.lrs_hall.specs.LrsMachineOpeningDeskRefused.{DeskRefused}
+use Rattle.lrs_hall.specs.LrsMachineOpeningDeskRefusedTheVariants as refused
 use Rattle.lrs_hall.specs.Acts.{ActsIn}
 use Rattle.lrs_hall.specs.Draws.{start_of}
 use Rattle.lrs_hall.specs.Laws.{entries_in}

@@ -5,10 +5,10 @@ use Rattle.lrs_disk.specs.declared.disk.Disk as disks
 use Rattle.lrs_journal.specs.Journal.{IsSynced, TellsAlike}
 use Rattle.lrs_names.specs.declared.draw.Draw.{Draw}
 use Rattle.lrs_record.specs.declared.entry.Entry.{Entry}
-use Rattle.lrs_machine.specs.Desk.{Desk, IsDeskRefused, IsSameStore, IsStoreOf, OpensOnly, history}
-use Rattle.lrs_machine.specs.Line.{opened_line}
-use Rattle.lrs_machine.specs.declared.opening.DeskRefused.{DeskRefused}
-use Rattle.lrs_machine.specs.declared.opening.DeskRefused.TheVariants as refused
+use Rattle.lrs_hall.specs.LrsMachineDesk.{Desk, IsDeskRefused, IsSameStore, IsStoreOf, OpensOnly, history}
+use Rattle.lrs_hall.specs.LrsMachineLine.{opened_line}
+use Rattle.lrs_hall.specs.LrsMachineOpeningDeskRefused.{DeskRefused}
+use Rattle.lrs_hall.specs.LrsMachineOpeningDeskRefusedTheVariants as refused
 use Rattle.lrs_app.specs.ClosingSteps.{ClosesTaken}
 use Rattle.lrs_app.specs.Disks.{AnyStopLeaves, EndsUnopened, HoldsAsBefore, IsSpared, LeavesUnopened, taken_now}
 use Rattle.lrs_app.specs.Run.{IntakeOpened}

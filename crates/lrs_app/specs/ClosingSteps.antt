@@ -5,8 +5,8 @@ use Rattle.lrs_disk.specs.Disk.{LeavesOnly}
 use Rattle.lrs_disk.specs.declared.disk.Disk as disks
 use Rattle.lrs_names.specs.declared.draw.Draw.{Draw}
 use Rattle.lrs_record.specs.declared.entry.Entry.{Entry}
-use Rattle.lrs_machine.specs.Desk.{Desk, HoldsPrefix, history}
-use Rattle.lrs_machine.specs.Line.{BeginsWith}
+use Rattle.lrs_hall.specs.LrsMachineDesk.{Desk, HoldsPrefix, history}
+use Rattle.lrs_hall.specs.LrsMachineLine.{BeginsWith}
 use Rattle.lrs_app.specs.Disks.{LeavesFinal, taken_now}
 use Rattle.lrs_app.specs.Run.{EndsOpened}
 use Rattle.lrs_console.specs.Reading.{ForInput}

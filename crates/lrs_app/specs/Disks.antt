@@ -6,9 +6,9 @@ use Rattle.lrs_journal.specs.Journal.{TellsStore}
 use Rattle.lrs_record.specs.Entries.{written_entry}
 use Rattle.lrs_record.specs.declared.entry.Entry.{Entry}
 use Rattle.lrs_history.specs.History.{IsLegal}
-use Rattle.lrs_machine.specs.Desk.{HoldsPrefix, IsDeskRefused, IsSameStore, IsStoreOf}
-use Rattle.lrs_machine.specs.declared.opening.DeskRefused.{DeskRefused}
-use Rattle.lrs_machine.specs.declared.opening.DeskRefused.TheVariants as refused
+use Rattle.lrs_hall.specs.LrsMachineDesk.{HoldsPrefix, IsDeskRefused, IsSameStore, IsStoreOf}
+use Rattle.lrs_hall.specs.LrsMachineOpeningDeskRefused.{DeskRefused}
+use Rattle.lrs_hall.specs.LrsMachineOpeningDeskRefusedTheVariants as refused
 use Rattle.lrs_hall.specs.Serving.{Mark, mark_of}
 use Rattle.lrs_app.specs.Steps.{ending_of}
 use Rattle.lrs_console.specs.declared.ending.Ending.{Ending}

@@ -8,8 +8,8 @@ use Rattle.lrs_hall.specs.Serving.{AddsReadings}
 use Rattle.lrs_history.specs.History.{Answer, with_entry}
 use Rattle.lrs_json.specs.View.{view}
 use Rattle.lrs_json.specs.declared.tree.Tree.{Tree}
-use Rattle.lrs_machine.specs.Desk.{Desk, history}
-use Rattle.lrs_machine.specs.Line.{BeginsWith, in_doubt}
+use Rattle.lrs_hall.specs.LrsMachineDesk.{Desk, history}
+use Rattle.lrs_hall.specs.LrsMachineLine.{BeginsWith, in_doubt}
 use Rattle.lrs_record.specs.declared.entry.Entry.{Entry}
 use Rattle.lrs_replies.specs.declared.answered.Answered.{Answered}
 use Rattle.lrs_replies.specs.declared.answered.Answered.TheVariants as said

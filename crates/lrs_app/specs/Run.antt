@@ -14,8 +14,8 @@ use Rattle.lrs_journal.specs.Create.{IsStore, IsForeign, IsMade, IsOpenTo, need_
 use Rattle.lrs_record.specs.Entries.{written_entry}
 use Rattle.lrs_record.specs.declared.entry.Entry.{Entry}
 use Rattle.lrs_history.specs.History.{IsLegal, with_entry}
-use Rattle.lrs_fold.specs.Own.{founding_entry}
-use Rattle.lrs_machine.specs.Desk.{IsStoreOf}
+use Rattle.lrs_hall.specs.LrsFoldOwn.{founding_entry}
+use Rattle.lrs_hall.specs.LrsMachineDesk.{IsStoreOf}
 use Rattle.lrs_generator.specs.Generated.{batch_count}
 use Rattle.lrs_hall.specs.Draws.{Draws, draw_at, start_of}
 use Rattle.lrs_hall.specs.Serving.{AddsReadings}

@@ -4,8 +4,8 @@ use Rattle.lrs_disk.specs.Door.{DoorState, IsFresh, Returned}
 use Rattle.lrs_disk.specs.declared.disk.Disk as disks
 use Rattle.lrs_disk.specs.declared.lobby.DoorsRefused.{DoorsRefused}
 use Rattle.lrs_disk.specs.declared.lobby.DoorsRefused.TheVariants as refusals
-use Rattle.lrs_machine.specs.Desk.{Desk, history}
-use Rattle.lrs_machine.specs.Line.{BeginsWith, entries}
+use Rattle.lrs_hall.specs.LrsMachineDesk.{Desk, history}
+use Rattle.lrs_hall.specs.LrsMachineLine.{BeginsWith, entries}
 use Rattle.lrs_hall.specs.Draws.{start_of}
 use Rattle.lrs_hall.specs.Serving.{AddsReadings, AreConversations, EndsServing, Passes, all_receipts, clocks}
 use Rattle.lrs_hall.specs.Talks.{Talk}

@@ -10,9 +10,9 @@ use Rattle.lrs_disk.specs.declared.disk.Disk as disks
 use Rattle.lrs_disk.specs.declared.lobby.Lobby as lobbies
 use Rattle.lrs_record.specs.declared.entry.Entry.{Entry}
 use Rattle.lrs_history.specs.History.{IsLegal}
-use Rattle.lrs_machine.specs.Acts.{Receipt}
-use Rattle.lrs_machine.specs.Desk.{HoldsPrefix, IsStoreOf}
-use Rattle.lrs_machine.specs.Line.{BeginsWith, Record, entries, in_doubt, opened_line, sure}
+use Rattle.lrs_hall.specs.LrsMachineActs.{Receipt}
+use Rattle.lrs_hall.specs.LrsMachineDesk.{HoldsPrefix, IsStoreOf}
+use Rattle.lrs_hall.specs.LrsMachineLine.{BeginsWith, Record, entries, in_doubt, opened_line, sure}
 use Rattle.lrs_hall.specs.Acts.{ActsIn}
 use Rattle.lrs_hall.specs.Draws.{Draws, start_of}
 use Rattle.lrs_hall.specs.Laws.{IsKept, entries_at}

@@ -5,12 +5,12 @@ use Rattle.lrs_disk.specs.declared.disk.Disk as disks
 use Rattle.lrs_journal.specs.Journal.{TellsAlike}
 use Rattle.lrs_record.specs.declared.entry.Entry.{Entry}
 use Rattle.lrs_history.specs.History.{Answer, IsLegal, with_entry}
-use Rattle.lrs_machine.specs.Desk.{Desk, IsOnDisk, StopsWithin, history}
-use Rattle.lrs_machine.specs.Line.{BeginsWith, in_doubt, opened_line}
-use Rattle.lrs_machine.specs.declared.opening.FoundRefused.{FoundRefused}
-use Rattle.lrs_machine.specs.declared.opening.FoundRefused.TheVariants as found
-use Rattle.lrs_machine.specs.declared.opening.DeskRefused.{DeskRefused}
-use Rattle.lrs_machine.specs.declared.opening.DeskRefused.TheVariants as desk
+use Rattle.lrs_hall.specs.LrsMachineDesk.{Desk, IsOnDisk, StopsWithin, history}
+use Rattle.lrs_hall.specs.LrsMachineLine.{BeginsWith, in_doubt, opened_line}
+use Rattle.lrs_hall.specs.LrsMachineOpeningFoundRefused.{FoundRefused}
+use Rattle.lrs_hall.specs.LrsMachineOpeningFoundRefusedTheVariants as found
+use Rattle.lrs_hall.specs.LrsMachineOpeningDeskRefused.{DeskRefused}
+use Rattle.lrs_hall.specs.LrsMachineOpeningDeskRefusedTheVariants as desk
 use Rattle.lrs_replies.specs.declared.reply.Trouble.{Trouble}
 use Rattle.lrs_replies.specs.declared.reply.Trouble.TheVariants as trouble
 use Rattle.lrs_command_line.specs.CommandLine.{CommandLine, IsInRange}

@@ -4,14 +4,14 @@ ghost use Rattle.lrs_parts.specs.Founding.{IsToken, IsBase};
 ghost use Rattle.lrs_app.specs.Steps.{ending_of_found};
 ghost use Rattle.lrs_app.specs.Disks.{taken_now};
 ghost use Rattle.lrs_app.specs.Run.{InitOnDisk, HasEndingCause};
-ghost use Rattle.lrs_fold.specs.Own.{founding_entry};
+ghost use Rattle.lrs_hall.specs.LrsFoldOwn.{founding_entry};
 ghost use Rattle.lrs_journal.specs.Journal.{IsSynced};
 ghost use Rattle.lrs_journal.specs.Store.{IsLimit};
 
 use lrs_console::Ending;
 use lrs_disk::Disk;
+use lrs_hall::lrs_machine::{Desk, FoundRefused};
 use lrs_json::Text;
-use lrs_machine::{Desk, FoundRefused};
 use std::alloc::Global;
 
 // How a command ends if no store is made.

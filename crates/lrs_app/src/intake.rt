@@ -4,9 +4,9 @@ ghost use Rattle.lrs_journal.specs.Journal.{IsSynced};
 ghost use Rattle.lrs_json.specs.Fits.{IsReadable};
 ghost use Rattle.lrs_json.specs.View.{view};
 ghost use Rattle.lrs_json.specs.declared.limits.TheConstants.{DEPTH};
-ghost use Rattle.lrs_fold.specs.Own.{IsOfPut, MayRefusePut};
-ghost use Rattle.lrs_machine.specs.Desk.{history};
-ghost use Rattle.lrs_machine.specs.Line.{in_doubt};
+ghost use Rattle.lrs_hall.specs.LrsFoldOwn.{IsOfPut, MayRefusePut};
+ghost use Rattle.lrs_hall.specs.LrsMachineDesk.{history};
+ghost use Rattle.lrs_hall.specs.LrsMachineLine.{in_doubt};
 ghost use Rattle.lrs_console.specs.Reading.{ForInput};
 ghost use Rattle.lrs_console.specs.Asking.{EndsSaying, EndsRefused, put_answer};
 ghost use Rattle.lrs_app.specs.Disks.{taken_now};
@@ -16,8 +16,8 @@ ghost use Rattle.lrs_app.specs.Run.{EndsOpened, IntakeEnds, HasEndingCause};
 
 use lrs_console::{Ending, take_statement};
 use lrs_disk::{Disk, Source};
+use lrs_hall::lrs_machine::{Answered, Desk, DeskRefused, Refusal, Trouble};
 use lrs_json::Tree;
-use lrs_machine::{Answered, Desk, DeskRefused, Refusal, Trouble};
 use lrs_names::{Draw, Id};
 use std::alloc::Global;
 

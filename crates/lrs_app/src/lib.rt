@@ -8,4 +8,5 @@ mod load;
 mod program;
 mod serve;
 
+pub use lrs_hall;
 pub use program::{Ended, Report, run};

@@ -1,5 +1,5 @@
 ghost use Rattle.std.specs.Prelude.{◌≡◌, [], IfOk};
-ghost use Rattle.lrs_fold.specs.Own.{founding_entry};
+ghost use Rattle.lrs_hall.specs.LrsFoldOwn.{founding_entry};
 ghost use Rattle.lrs_journal.specs.Journal.{IsSynced};
 ghost use Rattle.lrs_journal.specs.Store.{IsLimit};
 ghost use Rattle.lrs_parts.specs.Founding.{IsToken, IsBase};

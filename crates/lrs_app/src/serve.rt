@@ -12,9 +12,9 @@ ghost use Rattle.lrs_app.specs.Run.{HasEndingCause, ServesDisk};
 use crate::intake::unopened;
 use lrs_console::Ending;
 use lrs_disk::{Disk, Door, DoorsRefused, Lobby};
+use lrs_hall::lrs_machine::Desk;
 use lrs_hall::{ServeEnd, Talk, serve_all};
 use lrs_json::{Items, Text};
-use lrs_machine::Desk;
 use std::alloc::Global;
 
 /// The number of responses of these talks. It stands still at the last value of u64.

@@ -3,8 +3,8 @@ ghost use Rattle.std.specs.Prelude.{IfOk};
 ghost use Rattle.lrs_in_memory.specs.MemDoor.{IsUntouched};
 ghost use Rattle.lrs_in_memory.specs.MemLink.{IsUnused};
 
+use lrs_app::lrs_hall::Talk;
 use lrs_app::{Ended, Report, run};
-use lrs_hall::Talk;
 use lrs_in_memory::{MemDisk, MemDoor, MemLink, MemLobby, MemShelf, MemSink, MemSource};
 use lrs_json::{Items, Text};
 use std::alloc::Global;

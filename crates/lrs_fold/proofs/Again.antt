@@ -3,11 +3,11 @@ use Rattle.std.proofs.Common.{◌≡◌, ◌<◌, ◌≤◌, ℕ, List, [], ◌�
 use Rattle.std.specs.Prelude.{if◌then◌else◌}
 use Rattle.lrs_command.specs.declared.command.Command.{Command}
 use Rattle.lrs_command.specs.declared.command.Command.TheVariants as command
-use Rattle.lrs_history.specs.Answers.{acceptance_said, write_said}
-use Rattle.lrs_history.specs.Effects.{effect}
-use Rattle.lrs_history.specs.History.{Accepted, answer, answer_of, end_place, need, state, outcome, ComesNext, IsLegal}
-use Rattle.lrs_history.proofs.Room.{room_is}
-use Rattle.lrs_history.proofs.Outcomes.{accepts, again}
+use Rattle.lrs_reads.specs.LrsHistoryAnswers.{acceptance_said, write_said}
+use Rattle.lrs_reads.specs.LrsHistoryEffects.{effect}
+use Rattle.lrs_reads.specs.LrsHistoryHistory.{Accepted, answer, answer_of, end_place, need, state, outcome, ComesNext, IsLegal}
+use Rattle.lrs_reads.specs.LrsHistoryRoomProofs.{room_is}
+use Rattle.lrs_reads.specs.LrsHistoryOutcomesProofs.{accepts, again}
 use Rattle.lrs_names.specs.declared.draw.Draw.{Draw}
 use Rattle.lrs_parts.specs.State.{State, changes_nothing}
 use Rattle.lrs_parts.specs.declared.acceptance.Acceptance.{Acceptance}

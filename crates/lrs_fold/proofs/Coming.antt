@@ -3,10 +3,10 @@ use Rattle.std.proofs.Common.{◌≡◌, Bool, true, false, not, ◌&&◌, ◌||
 use Rattle.std.specs.Prelude.{is_none, nat_le, option_map}
 use Rattle.std.specs.Option.{option_or}
 use Rattle.lrs_fold.specs.Next.{may_be_next, may_come, Changes, Comes}
-use Rattle.lrs_history.specs.Answers.{write_said}
-use Rattle.lrs_history.specs.Effects.{effect}
-use Rattle.lrs_history.specs.History.{is_founding, refused}
-use Rattle.lrs_history.specs.Refusals.{refusal}
+use Rattle.lrs_reads.specs.LrsHistoryAnswers.{write_said}
+use Rattle.lrs_reads.specs.LrsHistoryEffects.{effect}
+use Rattle.lrs_reads.specs.LrsHistoryHistory.{is_founding, refused}
+use Rattle.lrs_reads.specs.LrsHistoryRefusals.{refusal}
 use Rattle.lrs_parts.specs.State.{State, changes_nothing}
 use Rattle.lrs_parts.specs.declared.effect.Effect.{Effect}
 use Rattle.lrs_record.specs.declared.entry.Entry.{Entry}

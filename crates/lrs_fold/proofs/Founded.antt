@@ -2,8 +2,8 @@
 use Rattle.std.proofs.Common.{◌≡◌, ℕ, List, Bool, true, false, ◌&&◌, refl}
 use Rattle.std.specs.Prelude.{IsTrue, codes, nat_eq}
 use Rattle.std.specs.List.{list_all, ends_with}
-use Rattle.lrs_refusals.specs.Judged.{IsJudged}
-use Rattle.lrs_history.specs.History.{IsFounding, founds, is_operator, is_zero}
+use Rattle.lrs_reads.specs.LrsRefusalsJudged.{IsJudged}
+use Rattle.lrs_reads.specs.LrsHistoryHistory.{IsFounding, founds, is_operator, is_zero}
 use Rattle.lrs_names.specs.Iris.{is_iri}
 use Rattle.lrs_parts.specs.Founding.{IsBase, has_base_form, is_base, is_no_separator, is_of_the_web, is_token}
 use Rattle.lrs_record.specs.declared.entry.Entry.{Entry}

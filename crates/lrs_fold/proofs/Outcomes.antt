@@ -5,10 +5,10 @@ use Rattle.std.specs.Option.{option_or}
 use Rattle.lrs_fold.specs.Outcomes.{IsOutcome, made_of}
 use Rattle.lrs_fold.specs.declared.outcome.Accepted.{Accepted as Made}
 use Rattle.lrs_fold.specs.declared.outcome.Outcome.TheVariants as made
-use Rattle.lrs_history.specs.Answers.{write_said}
-use Rattle.lrs_history.specs.Effects.{effect}
-use Rattle.lrs_history.specs.History.{Outcome, refused, outcome_by, write_outcome}
-use Rattle.lrs_history.specs.Refusals.{refusal}
+use Rattle.lrs_reads.specs.LrsHistoryAnswers.{write_said}
+use Rattle.lrs_reads.specs.LrsHistoryEffects.{effect}
+use Rattle.lrs_reads.specs.LrsHistoryHistory.{Outcome, refused, outcome_by, write_outcome}
+use Rattle.lrs_reads.specs.LrsHistoryRefusals.{refusal}
 use Rattle.lrs_parts.specs.State.{State, changes_nothing}
 use Rattle.lrs_parts.specs.declared.effect.Effect.{Effect}
 use Rattle.lrs_record.specs.Entries.{IsLawful, written_entry}

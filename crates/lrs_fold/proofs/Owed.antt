@@ -2,14 +2,14 @@
 use Rattle.std.proofs.Common.{◌≡◌, ℕ, List, [], ◌∷◌, ◌++◌, Option, Some, None, slice_get, refl, sym, ap, ◌∙◌, subst, append-nil}
 use Rattle.cmi5_course.specs.declared.launch.Launch.{Launch}
 use Rattle.lrs_command.specs.declared.who.Who.{Who}
-use Rattle.lrs_refusals.proofs.Naming.{with_ids_again}
-use Rattle.lrs_refusals.specs.Naming.{with_these_ids}
+use Rattle.lrs_reads.specs.LrsRefusalsNamingProofs.{with_ids_again}
+use Rattle.lrs_reads.specs.LrsRefusalsNaming.{with_these_ids}
 use Rattle.lrs_fold.specs.Written.{effect_by, speaks_in}
-use Rattle.lrs_history.specs.Effects.{new_by, owed_in_session}
-use Rattle.lrs_history.specs.Enrolments.{enrolled}
-use Rattle.lrs_history.specs.Made.{owed_made}
-use Rattle.lrs_history.specs.Occasions.{supply_in}
-use Rattle.lrs_history.specs.Whose.{launch_of}
+use Rattle.lrs_reads.specs.LrsHistoryEffects.{new_by, owed_in_session}
+use Rattle.lrs_reads.specs.LrsHistoryEnrolments.{enrolled}
+use Rattle.lrs_reads.specs.LrsHistoryMade.{owed_made}
+use Rattle.lrs_reads.specs.LrsHistoryOccasions.{supply_in}
+use Rattle.lrs_reads.specs.LrsHistoryWhose.{launch_of}
 use Rattle.lrs_ids.specs.IdSupply.{GiveSame}
 use Rattle.lrs_ids.specs.Ids.{Supply, supply_of}
 use Rattle.lrs_json.specs.declared.tree.Tree.{Tree}

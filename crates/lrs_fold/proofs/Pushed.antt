@@ -3,9 +3,9 @@ use Rattle.std.proofs.Common.{◌≡◌, ℕ, ◌+◌, ◌≤◌, List, [], ◌�
 use Rattle.std.specs.Prelude.{if◌then◌else◌}
 use Rattle.std.proofs.lemmas.List.{at_drop_all}
 use Rattle.lrs_command.specs.declared.who.Who.{Who}
-use Rattle.lrs_refusals.specs.Naming.{with_these_ids}
-use Rattle.lrs_history.specs.Effects.{new_by}
-use Rattle.lrs_history.specs.Whose.{authority_of}
+use Rattle.lrs_reads.specs.LrsRefusalsNaming.{with_these_ids}
+use Rattle.lrs_reads.specs.LrsHistoryEffects.{new_by}
+use Rattle.lrs_reads.specs.LrsHistoryWhose.{authority_of}
 use Rattle.lrs_json.specs.declared.tree.Tree.{Tree}
 use Rattle.lrs_parts.specs.State.{State}
 use Rattle.xapi_index.specs.Batches.{WithId, held_of, kept_by}

@@ -10,9 +10,9 @@ use Rattle.lrs_command.specs.declared.command.Command.{Command}
 use Rattle.lrs_command.specs.declared.command.Command.TheVariants as command
 use Rattle.lrs_rules.specs.declared.rule.Rule.TheVariants as rule
 use Rattle.lrs_fold.specs.Own.{IsPut, MayRefusePut, SaysOfPut}
-use Rattle.lrs_history.specs.Effects.{effect}
-use Rattle.lrs_history.specs.History.{next_entry, refused, outcome, outcome_by}
-use Rattle.lrs_history.specs.Refusals.{broken, other_id, refused_form, refused_over, told_forbidden}
+use Rattle.lrs_reads.specs.LrsHistoryEffects.{effect}
+use Rattle.lrs_reads.specs.LrsHistoryHistory.{next_entry, refused, outcome, outcome_by}
+use Rattle.lrs_reads.specs.LrsHistoryRefusals.{broken, other_id, refused_form, refused_over, told_forbidden}
 use Rattle.lrs_json.specs.Json.{Json}
 use Rattle.lrs_json.specs.View.{view}
 use Rattle.lrs_names.specs.declared.draw.Draw.{Draw}

@@ -1,8 +1,8 @@
 -- Whether an entry comes next, by the fold alone.
 use Rattle.std.specs.Prelude.{◌≡◌, ◌&&◌, ◌||◌, Bool, true, false, not, is_none, nat_le, Option, Some, None}
-use Rattle.lrs_history.specs.Effects.{effect}
-use Rattle.lrs_history.specs.History.{is_founding, said_at_once}
-use Rattle.lrs_history.specs.Refusals.{refusal}
+use Rattle.lrs_reads.specs.LrsHistoryEffects.{effect}
+use Rattle.lrs_reads.specs.LrsHistoryHistory.{is_founding, said_at_once}
+use Rattle.lrs_reads.specs.LrsHistoryRefusals.{refusal}
 use Rattle.lrs_parts.specs.State.{State, changes_nothing}
 use Rattle.lrs_parts.specs.declared.effect.Effect.{Effect}
 use Rattle.lrs_record.specs.declared.entry.Entry.{Entry}

@@ -2,7 +2,7 @@
 use Rattle.std.specs.Prelude.{◌≡◌, ℕ, List}
 use Rattle.lrs_command.specs.declared.command.Command.{Command}
 use Rattle.lrs_command.specs.declared.command.Command.TheVariants as command
-use Rattle.lrs_history.specs.History.{Outcome, Said, Accepted, entry_at}
+use Rattle.lrs_reads.specs.LrsHistoryHistory.{Outcome, Said, Accepted, entry_at}
 use Rattle.lrs_json.specs.declared.tree.Tree.{Tree}
 use Rattle.lrs_time.specs.Moments.{clamped}
 use Rattle.lrs_record.specs.declared.entry.Caller.{Caller}

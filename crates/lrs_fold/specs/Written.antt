@@ -2,8 +2,8 @@
 use Rattle.std.specs.Prelude.{ℕ, List, [], ◌∷◌, Option, None}
 use Rattle.cmi5_course.specs.declared.launch.Launch.{Launch}
 use Rattle.lrs_command.specs.declared.who.Who.{Who}
-use Rattle.lrs_refusals.specs.Meeting.{occasion_of}
-use Rattle.lrs_history.specs.Effects.{effect_of}
+use Rattle.lrs_reads.specs.LrsRefusalsMeeting.{occasion_of}
+use Rattle.lrs_reads.specs.LrsHistoryEffects.{effect_of}
 use Rattle.lrs_names.specs.declared.draw.Draw.{Draw}
 use Rattle.lrs_parts.specs.State.{State}
 use Rattle.lrs_parts.specs.declared.effect.Effect.{Effect}

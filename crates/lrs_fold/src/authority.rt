@@ -1,6 +1,6 @@
 // Under whose authority a caller's statements stand.
 ghost use Rattle.std.specs.Prelude.{◌≡◌, IfOk};
-ghost use Rattle.lrs_history.specs.Whose.{authority_of};
+ghost use Rattle.lrs_reads.specs.LrsHistoryWhose.{authority_of};
 ghost use Rattle.lrs_parts.specs.Parts.{state_of};
 
 use lrs_command::Who;

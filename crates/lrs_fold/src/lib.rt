@@ -17,5 +17,6 @@ mod saying;
 
 pub use fold::Fold;
 pub use listed::post_of;
+pub use lrs_reads::{lrs_history, lrs_refusals};
 pub use outcome::{Accepted, Outcome, entry_text};
 pub use own::{founding_entry, put_of};

@@ -2,13 +2,13 @@
 ghost use Rattle.std.specs.Prelude.{◌≡◌};
 ghost use Rattle.lrs_fold.specs.Posted.{post_of};
 ghost use Rattle.lrs_parts.specs.Parts.{state_of};
-ghost use Rattle.xapi_pages.specs.Listings.{listed_of_all};
+ghost use Rattle.lrs_reads.specs.XapiPagesListings.{listed_of_all};
 
 use crate::Fold;
 use lrs_command::Command;
 use lrs_json::{Items, Tree};
+use lrs_reads::xapi_pages::count_listed;
 use lrs_record::Write;
-use xapi_pages::count_listed;
 
 /// The post of statements.
 pub fn post_of(statements: Items<Tree>) -> Command

@@ -1,16 +1,16 @@
 // Whether an entry comes next, and what it changes then.
 ghost use Rattle.std.specs.Prelude.{◌≡◌, ◌&&◌, is_none, nat_le, nat_lt, IfOk, Ok, true};
-ghost use Rattle.lrs_refusals.specs.Judged.{IsJudged};
+ghost use Rattle.lrs_reads.specs.LrsRefusalsJudged.{IsJudged};
 ghost use Rattle.lrs_fold.specs.Next.{may_be_next, Changes, Comes};
-ghost use Rattle.lrs_history.specs.History.{founds, is_founding};
+ghost use Rattle.lrs_reads.specs.LrsHistoryHistory.{founds, is_founding};
 ghost use Rattle.lrs_parts.specs.Parts.{state_of};
 ghost use Rattle.lrs_record.specs.Entries.{IsLawfulWrite};
 
 use crate::Fold;
 use lrs_json::Memory;
 use lrs_parts::{Effect, is_base, is_token};
+use lrs_reads::lrs_refusals::refusal;
 use lrs_record::{Caller, Entry, Write};
-use lrs_refusals::refusal;
 use std::alloc::Global;
 
 impl Fold {

@@ -2,10 +2,10 @@
 ghost use Rattle.std.specs.Prelude.{◌≡◌, ◌∷◌, ◌++◌, [], OnOk};
 ghost use Rattle.std.specs.Option.{option_copied};
 ghost use Rattle.lrs_fold.specs.Written.{speaks_in};
-ghost use Rattle.lrs_history.specs.Effects.{owed_in_session};
-ghost use Rattle.lrs_history.specs.Enrolments.{enrolled};
-ghost use Rattle.lrs_history.specs.Made.{owed_made};
-ghost use Rattle.lrs_history.specs.Whose.{launch_of};
+ghost use Rattle.lrs_reads.specs.LrsHistoryEffects.{owed_in_session};
+ghost use Rattle.lrs_reads.specs.LrsHistoryEnrolments.{enrolled};
+ghost use Rattle.lrs_reads.specs.LrsHistoryMade.{owed_made};
+ghost use Rattle.lrs_reads.specs.LrsHistoryWhose.{launch_of};
 ghost use Rattle.lrs_ids.specs.Ids.{supply_of};
 ghost use Rattle.lrs_ids.specs.IdSupply.{left_of};
 ghost use Rattle.lrs_parts.specs.Parts.{state_of};
@@ -16,10 +16,10 @@ use cmi5_course::Launch;
 use lrs_command::Who;
 use lrs_ids::IdSupply;
 use lrs_json::Memory;
-use lrs_made::{add_owed, enrolled};
 use lrs_names::{Draw, Id};
+use lrs_reads::lrs_made::{add_owed, enrolled};
+use lrs_reads::lrs_refusals::launch_of;
 use lrs_record::Moment;
-use lrs_refusals::launch_of;
 use std::alloc::Global;
 use xapi_statement::StoredStatement;
 

@@ -1,6 +1,6 @@
 // What is said of a write that isn't refused.
 ghost use Rattle.std.specs.Prelude.{◌≡◌, ℕ, List, None, IfOk, if◌then◌else◌};
-ghost use Rattle.lrs_history.specs.Answers.{acceptance_said, write_said};
+ghost use Rattle.lrs_reads.specs.LrsHistoryAnswers.{acceptance_said, write_said};
 ghost use Rattle.lrs_replies.specs.declared.answered.Answered.TheVariants.{Kept, Same, Shown};
 
 use lrs_json::{Items, Memory};

@@ -16,5 +16,6 @@ pub use laws::{
     law_of_entries, law_of_one_stream, law_of_order, law_of_own_entries, law_of_points,
     law_of_receipts, law_of_unread_requests,
 };
+pub use lrs_machine;
 pub use serving::{ServeEnd, serve_all};
 pub use talk::{Finish, Talk};

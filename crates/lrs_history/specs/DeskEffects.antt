@@ -4,7 +4,7 @@ use Rattle.cmi5_course.specs.Courses.{Course, course_key}
 use Rattle.cmi5_course.specs.declared.launch.Mode.{Mode}
 use Rattle.cmi5_course.specs.declared.reason.Reason.{Reason}
 use Rattle.cmi5_launch.specs.Names.{waived}
-use Rattle.cmi5_verdict.specs.Units.{stands}
+use Rattle.lrs_parts.specs.Cmi5VerdictUnits.{stands}
 use Rattle.lrs_agents.specs.declared.agents.Agent.{Agent}
 use Rattle.lrs_history.specs.Endings.{abandoned_jsons, idle_ones, is_open, open_of, sessions_at}
 use Rattle.lrs_history.specs.Enrolments.{enrolled_as}

@@ -2,7 +2,7 @@
 -- they are satisfied.
 use Rattle.std.specs.Prelude.{ℕ, Bool, List, ◌++◌, Option, option_and_then, option_map, slice_get}
 use Rattle.cmi5_course.specs.Courses.{Course}
-use Rattle.cmi5_verdict.specs.Nodes.{SeenEnrolment, owed, verdicts}
+use Rattle.lrs_parts.specs.Cmi5VerdictNodes.{SeenEnrolment, owed, verdicts}
 use Rattle.lrs_parts.specs.Registrations.{registration_under}
 use Rattle.lrs_parts.specs.State.{State}
 use Rattle.lrs_parts.specs.declared.founding.Founding.{Founding}

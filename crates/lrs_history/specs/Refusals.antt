@@ -13,9 +13,9 @@ use Rattle.std.specs.Str.{bytes_eq}
 use Rattle.cmi5_course.specs.Courses.{Course, course_key, course_of, same_course}
 use Rattle.cmi5_course.specs.Rules as course
 use Rattle.cmi5_course.specs.declared.launch.Launch.{Launch}
-use Rattle.cmi5_session.specs.Rules.{broken_outside}
-use Rattle.cmi5_session.specs.Rules as session
-use Rattle.cmi5_session.specs.Views.{view_of}
+use Rattle.lrs_parts.specs.Cmi5SessionRules.{broken_outside}
+use Rattle.lrs_parts.specs.Cmi5SessionRules as session
+use Rattle.lrs_parts.specs.Cmi5SessionViews.{view_of}
 use Rattle.lrs_record.specs.declared.entry.Area.{Area}
 use Rattle.lrs_record.specs.declared.entry.Area.TheVariants.{Free, Store, Desk}
 use Rattle.lrs_command.specs.Areas.{read_area}

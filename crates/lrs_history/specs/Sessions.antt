@@ -4,7 +4,7 @@ use Rattle.std.specs.Option.{option_map_or}
 use Rattle.std.specs.Str.{bytes_eq}
 use Rattle.cmi5_course.specs.declared.launch.Launch.{Launch}
 use Rattle.cmi5_launch.specs.Names.{launch_data_state, terminated}
-use Rattle.cmi5_session.specs.Own.{has_own}
+use Rattle.lrs_parts.specs.Cmi5SessionOwn.{has_own}
 use Rattle.lrs_agents.specs.Identifiers.{same_ifi}
 use Rattle.lrs_agents.specs.declared.identifiers.Ifi.{Ifi}
 use Rattle.lrs_ids.specs.Choices.{first_some, when}

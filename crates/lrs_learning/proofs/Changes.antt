@@ -5,19 +5,19 @@ use Rattle.cmi5_course.specs.declared.launch.Mode.{Mode}
 use Rattle.cmi5_course.specs.declared.reason.Reason.{Reason}
 use Rattle.lrs_agents.specs.declared.agents.Agent.{Agent}
 use Rattle.lrs_command.specs.declared.who.Who.{Who}
-use Rattle.lrs_history.specs.DeskEffects.{session_begun, coming, enrolling, fetching, giving, launching, made_session, telling}
-use Rattle.lrs_history.specs.DeskEffects.{abandoning_each, abandoning_one, is_waived, sweeping, waiving, waiving_as}
-use Rattle.lrs_history.specs.Endings.{abandoned_jsons, idle_ones, is_open, open_of, sessions_at}
-use Rattle.lrs_history.specs.Enrolments.{Enrolled, enrolled_as}
-use Rattle.lrs_history.specs.Launches.{Target, activity_at, address_at, data_at, data_key, launch_at, launched_at}
-use Rattle.lrs_history.specs.Made.{left_behind, made_under, owed_made, waived_at, waived_json}
-use Rattle.lrs_history.specs.Occasions.{Occasion}
-use Rattle.lrs_history.specs.Sessions.{is_closed}
+use Rattle.lrs_sessions.specs.LrsHistoryDeskEffects.{session_begun, coming, enrolling, fetching, giving, launching, made_session, telling}
+use Rattle.lrs_sessions.specs.LrsHistoryDeskEffects.{abandoning_each, abandoning_one, is_waived, sweeping, waiving, waiving_as}
+use Rattle.lrs_sessions.specs.LrsHistoryEndings.{abandoned_jsons, idle_ones, is_open, open_of, sessions_at}
+use Rattle.lrs_sessions.specs.LrsHistoryEnrolments.{Enrolled, enrolled_as}
+use Rattle.lrs_sessions.specs.LrsHistoryLaunches.{Target, activity_at, address_at, data_at, data_key, launch_at, launched_at}
+use Rattle.lrs_sessions.specs.LrsHistoryMade.{left_behind, made_under, owed_made, waived_at, waived_json}
+use Rattle.lrs_sessions.specs.LrsHistoryOccasions.{Occasion}
+use Rattle.lrs_sessions.specs.LrsHistorySessions.{is_closed}
 use Rattle.lrs_ids.specs.Ids.{Supply, rest_of}
 use Rattle.lrs_ids.specs.IdSupply.{GiveSame}
 use Rattle.lrs_json.specs.Json.{Json}
 use Rattle.lrs_learning.specs.Occasions.{occasion_at, supply_at}
-use Rattle.lrs_made.proofs.Same.{made_same, owed_same, rest_same}
+use Rattle.lrs_sessions.specs.LrsMadeSameProofs.{made_same, owed_same, rest_same}
 use Rattle.lrs_names.specs.declared.draw.Draw.{Draw}
 use Rattle.lrs_parts.specs.State.{State, no_change}
 use Rattle.lrs_parts.specs.declared.acceptance.Acceptance.TheVariants as acceptance

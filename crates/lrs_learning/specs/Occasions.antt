@@ -1,7 +1,7 @@
 -- What an entry has beside a write that brings no ids itself.
 use Rattle.std.specs.Prelude.{ℕ, []}
 use Rattle.lrs_command.specs.declared.who.Who.{Who}
-use Rattle.lrs_history.specs.Occasions.{Occasion}
+use Rattle.lrs_sessions.specs.LrsHistoryOccasions.{Occasion}
 use Rattle.lrs_ids.specs.Ids.{Supply, supply_of}
 use Rattle.lrs_names.specs.declared.draw.Draw.{Draw}
 use Rattle.lrs_parts.specs.State.{State, used_in}

@@ -1,9 +1,9 @@
 // Abandonments: sessions end that didn't say so.
 ghost use Rattle.std.specs.Prelude.{◌≡◌, IfOk};
 ghost use Rattle.lrs_command.specs.declared.who.Who.{Who as SpecWho};
-ghost use Rattle.lrs_history.specs.DeskEffects.{sessions_abandoned, abandoning_each, abandoning_one, sweeping};
-ghost use Rattle.lrs_history.specs.Endings.{abandoned_jsons};
-ghost use Rattle.lrs_history.specs.Made.{made_under};
+ghost use Rattle.lrs_sessions.specs.LrsHistoryDeskEffects.{sessions_abandoned, abandoning_each, abandoning_one, sweeping};
+ghost use Rattle.lrs_sessions.specs.LrsHistoryEndings.{abandoned_jsons};
+ghost use Rattle.lrs_sessions.specs.LrsHistoryMade.{made_under};
 ghost use Rattle.lrs_learning.specs.Occasions.{occasion_at, supply_at};
 ghost use Rattle.lrs_parts.specs.Launches.{place_of_session};
 ghost use Rattle.lrs_parts.specs.Parts.{state_of};
@@ -11,10 +11,10 @@ ghost use Rattle.lrs_parts.specs.State.{no_change};
 
 use crate::ids::supply_of;
 use lrs_json::{Items, Memory};
-use lrs_made::make_under;
 use lrs_names::{Draw, Id};
 use lrs_parts::{Acceptance, Effect, Parts, SessionsChange};
 use lrs_record::Moment;
+use lrs_sessions::lrs_made::make_under;
 use lrs_sessions::{abandoned_statements, idle_ones, is_open, sessions_at};
 use std::alloc::Global;
 use xapi_statement::StoredStatement;

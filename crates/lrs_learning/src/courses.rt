@@ -2,7 +2,7 @@
 ghost use Rattle.std.specs.Prelude.{◌≡◌, IfOk, None};
 ghost use Rattle.cmi5_course.specs.Courses.{course_of};
 ghost use Rattle.cmi5_course.specs.Rules.{broken_rule};
-ghost use Rattle.lrs_history.specs.DeskEffects.{new_course, taking};
+ghost use Rattle.lrs_sessions.specs.LrsHistoryDeskEffects.{new_course, taking};
 ghost use Rattle.lrs_json.specs.Fits.{Fits};
 ghost use Rattle.lrs_json.specs.View.{view};
 ghost use Rattle.lrs_parts.specs.Courses.{course_under};

@@ -1,9 +1,9 @@
 // Enrolments: a learner is enrolled in a course, and a registration comes of it.
 ghost use Rattle.std.specs.Prelude.{◌≡◌, [], IfOk, IsTrue, Some};
 ghost use Rattle.lrs_command.specs.declared.who.Who.{Who as SpecWho};
-ghost use Rattle.lrs_history.specs.DeskEffects.{coming, enrolling, made_session};
-ghost use Rattle.lrs_history.specs.Enrolments.{enrolled_as};
-ghost use Rattle.lrs_history.specs.Made.{owed_made};
+ghost use Rattle.lrs_sessions.specs.LrsHistoryDeskEffects.{coming, enrolling, made_session};
+ghost use Rattle.lrs_sessions.specs.LrsHistoryEnrolments.{enrolled_as};
+ghost use Rattle.lrs_sessions.specs.LrsHistoryMade.{owed_made};
 ghost use Rattle.lrs_ids.specs.IdSupply.{left_of};
 ghost use Rattle.lrs_learning.specs.Occasions.{occasion_at};
 ghost use Rattle.lrs_parts.specs.Courses.{place_of_course};
@@ -16,13 +16,13 @@ use crate::ids::first_two;
 use lrs_agents::Agent;
 use lrs_ids::IdSupply;
 use lrs_json::{Items, Memory};
-use lrs_made::{add_owed, enrolled_as};
 use lrs_names::{Draw, Id, Iri};
 use lrs_parts::{
     Acceptance, Effect, HeldRegistration, Learner, MadeSession, MadeSessionsChange, Parts,
     RegistrationsChange, place_of_course,
 };
 use lrs_record::Moment;
+use lrs_sessions::lrs_made::{add_owed, enrolled_as};
 use std::alloc::Global;
 use xapi_statement::StoredStatement;
 

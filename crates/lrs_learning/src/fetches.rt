@@ -1,7 +1,7 @@
 // What a fetch does: it gives the token of a session away.
 ghost use Rattle.std.specs.Prelude.{◌≡◌, IfOk};
 ghost use Rattle.lrs_command.specs.declared.who.Who.{Who as SpecWho};
-ghost use Rattle.lrs_history.specs.DeskEffects.{fetching, giving, telling};
+ghost use Rattle.lrs_sessions.specs.LrsHistoryDeskEffects.{fetching, giving, telling};
 ghost use Rattle.lrs_learning.specs.Occasions.{occasion_at};
 ghost use Rattle.lrs_parts.specs.Launches.{key_under};
 ghost use Rattle.lrs_parts.specs.Parts.{state_of};

@@ -1,15 +1,15 @@
 // Waivers: a unit counts as met in a registration.
 ghost use Rattle.std.specs.Prelude.{◌≡◌, ◌∷◌, ◌++◌, [], IfOk};
 ghost use Rattle.lrs_command.specs.declared.who.Who.{Who as SpecWho};
-ghost use Rattle.lrs_history.specs.DeskEffects.{coming, waiving, waiving_as};
-ghost use Rattle.lrs_history.specs.Enrolments.{enrolled_as};
-ghost use Rattle.lrs_history.specs.Launches.{target};
-ghost use Rattle.lrs_history.specs.Made.{made_under, owed_made, waived_at};
+ghost use Rattle.lrs_sessions.specs.LrsHistoryDeskEffects.{coming, waiving, waiving_as};
+ghost use Rattle.lrs_sessions.specs.LrsHistoryEnrolments.{enrolled_as};
+ghost use Rattle.lrs_sessions.specs.LrsHistoryLaunches.{target};
+ghost use Rattle.lrs_sessions.specs.LrsHistoryMade.{made_under, owed_made, waived_at};
 ghost use Rattle.lrs_ids.specs.Ids.{rest_of};
 ghost use Rattle.lrs_ids.specs.IdSupply.{left_of};
 ghost use Rattle.lrs_json.specs.View.{view};
 ghost use Rattle.lrs_learning.specs.Occasions.{occasion_at, supply_at};
-ghost use Rattle.lrs_made.specs.Lent.{seen_target};
+ghost use Rattle.lrs_sessions.specs.LrsMadeLent.{seen_target};
 ghost use Rattle.lrs_parts.specs.Parts.{state_of};
 ghost use Rattle.lrs_parts.specs.State.{no_change, used_in};
 
@@ -17,10 +17,12 @@ use crate::ids::supply_of;
 use cmi5_course::Reason;
 use lrs_ids::IdSupply;
 use lrs_json::{Items, Memory};
-use lrs_made::{LentTarget, add_owed, enrolled_as, is_waived, make_one, target, waived_statement};
 use lrs_names::{Draw, Id, Iri};
 use lrs_parts::{Effect, MadeSession, MadeSessionsChange, Parts};
 use lrs_record::Moment;
+use lrs_sessions::lrs_made::{
+    LentTarget, add_owed, enrolled_as, is_waived, make_one, target, waived_statement,
+};
 use std::alloc::Global;
 use xapi_statement::{Statement, StoredStatement};
 

@@ -7,8 +7,8 @@ use Rattle.lrs_disk.specs.declared.failed.Failed.{Failed}
 use Rattle.lrs_fold.specs.Outcomes.{IsAccepted, IsOutcome}
 use Rattle.lrs_fold.specs.declared.outcome.Accepted.{Accepted as Made}
 use Rattle.lrs_fold.specs.declared.outcome.Outcome.TheVariants as made
-use Rattle.lrs_history.specs.History.{Answer, Outcome, Said, Accepted, answer_of, refused}
-use Rattle.lrs_history.proofs.Room.{room_is, full_is}
+use Rattle.lrs_fold.specs.LrsHistoryHistory.{Answer, Outcome, Said, Accepted, answer_of, refused}
+use Rattle.lrs_fold.specs.LrsHistoryRoomProofs.{room_is, full_is}
 use Rattle.lrs_journal.specs.Journal.{need_of, Journal, frames_of, IsJournal, IsUnchanged, IsAppended, IsAppendFailed, StandsForFrames}
 use Rattle.lrs_journal.specs.Store.{IsBeforeOrAfter, Stands, need_at, need_told}
 use Rattle.lrs_journal.specs.declared.sizes.TheConstants.{FRAME_HEAD}

@@ -7,7 +7,7 @@ use Rattle.lrs_journal.specs.declared.sizes.TheConstants.{MOST_BYTES}
 use Rattle.lrs_command.specs.declared.command.Command.TheVariants as command
 use Rattle.lrs_record.specs.Entries.{written_entry}
 use Rattle.lrs_record.specs.declared.entry.Entry.{Entry}
-use Rattle.lrs_history.specs.History.{Answer, end_place, outcome, state, ComesNext, IsLegal, IsLegalFrom}
+use Rattle.lrs_fold.specs.LrsHistoryHistory.{Answer, end_place, outcome, state, ComesNext, IsLegal, IsLegalFrom}
 use Rattle.lrs_replies.specs.declared.answered.Answered.{Answered}
 use Rattle.lrs_replies.specs.declared.reply.Trouble.{Trouble}
 use Rattle.lrs_machine.specs.Acts.{landed_among}

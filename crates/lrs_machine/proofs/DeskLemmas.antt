@@ -6,8 +6,8 @@ use Rattle.lrs_command.specs.declared.command.Command.{Command}
 use Rattle.lrs_fold.specs.Own.{IsOfPut, IsPut, SaysOfPut}
 use Rattle.lrs_fold.proofs.Again.{acceptance_no_refusal}
 use Rattle.lrs_fold.proofs.Puts.{put_says}
-use Rattle.lrs_history.specs.History.{Outcome, Said, Accepted, Answer, answer, answer_of, need, end_place, state, outcome}
-use Rattle.lrs_history.proofs.Room.{no_room, kept_answer}
+use Rattle.lrs_fold.specs.LrsHistoryHistory.{Outcome, Said, Accepted, Answer, answer, answer_of, need, end_place, state, outcome}
+use Rattle.lrs_fold.specs.LrsHistoryRoomProofs.{no_room, kept_answer}
 use Rattle.lrs_machine.specs.Acts.{Acts, HasDiskCause, Receipt, Tells, landed_among, line_behind, made_by, place_where}
 use Rattle.lrs_machine.specs.Desk.{Desk, added_place, history, landed_place, receipt_of}
 use Rattle.lrs_machine.specs.Line.{Record, entries, in_doubt}

@@ -5,11 +5,11 @@ use Rattle.std.specs.Bool.{Decides}
 use Rattle.std.proofs.lemmas.Grind.{common_steps}
 use Rattle.lrs_command.specs.declared.command.Command.TheVariants as command
 use Rattle.lrs_fold.specs.Next.{may_come}
-use Rattle.lrs_history.specs.Answers.{write_said}
-use Rattle.lrs_history.specs.Effects.{effect}
-use Rattle.lrs_history.specs.History.{Answer, answer_of, said_at_once, entry_at, need, end_place, state, outcome, outcome_by, ComesNext, is_founding}
-use Rattle.lrs_history.proofs.Room.{no_room, kept_answer}
-use Rattle.lrs_history.proofs.Outcomes.{accepted_again}
+use Rattle.lrs_fold.specs.LrsHistoryAnswers.{write_said}
+use Rattle.lrs_fold.specs.LrsHistoryEffects.{effect}
+use Rattle.lrs_fold.specs.LrsHistoryHistory.{Answer, answer_of, said_at_once, entry_at, need, end_place, state, outcome, outcome_by, ComesNext, is_founding}
+use Rattle.lrs_fold.specs.LrsHistoryRoomProofs.{no_room, kept_answer}
+use Rattle.lrs_fold.specs.LrsHistoryOutcomesProofs.{accepted_again}
 use Rattle.lrs_machine.specs.Replays.{has_room, may_follow}
 use Rattle.lrs_parts.specs.State.{State}
 use Rattle.lrs_record.specs.Entries.{written_entry}

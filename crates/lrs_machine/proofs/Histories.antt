@@ -5,7 +5,7 @@ use Rattle.lrs_record.specs.declared.entry.Entry.{Entry}
 use Rattle.lrs_record.specs.Entries.{IsLawful, written_entry}
 use Rattle.lrs_record.proofs.Told.{written_entry_injective}
 use Rattle.lrs_parts.specs.State.{State}
-use Rattle.lrs_history.specs.History.{state_from, step, IsLegal, IsLegalFrom, ComesNext}
+use Rattle.lrs_fold.specs.LrsHistoryHistory.{state_from, step, IsLegal, IsLegalFrom, ComesNext}
 
 pub state_from-more : (st : State) (h : List Entry) (e : Entry) → state_from st (h ++ e ∷ []) ≡ step (state_from st h) e
 state_from-more st [] e = refl

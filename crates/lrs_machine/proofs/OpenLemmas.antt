@@ -18,10 +18,10 @@ use Rattle.lrs_journal.specs.declared.create.CreateRefused.{CreateRefused}
 use Rattle.lrs_journal.specs.declared.create.CreateRefused.TheVariants as create
 use Rattle.lrs_journal.specs.declared.replay.RecoverRefused.{RecoverRefused}
 use Rattle.lrs_journal.specs.declared.replay.RecoverRefused.TheVariants as recover
-use Rattle.lrs_history.specs.History.{state, end_place, IsLegal, IsFounding}
+use Rattle.lrs_fold.specs.LrsHistoryHistory.{state, end_place, IsLegal, IsFounding}
 use Rattle.lrs_parts.specs.Founding.{IsBase, IsToken, is_base, is_token}
 use Rattle.lrs_parts.specs.State.{State}
-use Rattle.lrs_refusals.specs.Judged.{IsJudged}
+use Rattle.lrs_fold.specs.LrsRefusalsJudged.{IsJudged}
 use Rattle.lrs_fold.specs.Own.{founding_entry}
 use Rattle.lrs_fold.proofs.Founded.{founding_judged}
 use Rattle.lrs_machine.specs.declared.opening.FoundRefused.TheVariants as found

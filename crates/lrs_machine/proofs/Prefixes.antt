@@ -4,7 +4,7 @@ use Rattle.std.specs.Prelude.{Option, Some, None}
 use Rattle.std.specs.Option.{ForSome}
 use Rattle.std.proofs.lemmas.List.{take-append-le, length-map}
 use Rattle.lrs_disk.specs.Disk.{LeavesOnly}
-use Rattle.lrs_history.specs.History.{IsLegal, IsLegalFrom}
+use Rattle.lrs_fold.specs.LrsHistoryHistory.{IsLegal, IsLegalFrom}
 use Rattle.lrs_journal.specs.Journal.{StandsForFrames, TellsAlike}
 use Rattle.lrs_journal.specs.Store.{IsBeforeOrAfter, Stands}
 use Rattle.lrs_record.specs.Entries.{written_entry}

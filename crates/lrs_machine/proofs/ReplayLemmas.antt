@@ -2,7 +2,7 @@
 use Rattle.std.proofs.Common.{◌≡◌, ◌+◌, ℕ, List, [], ◌∷◌, ◌++◌, length, map, drop, refl, sym, ◌∙◌, ap, subst, inl, inr, arith, append_assoc, length-append, Option, Bool, true, false, Err}
 use Rattle.std.specs.Prelude.{◌==◌}
 use Rattle.std.specs.Option.{ForSome}
-use Rattle.lrs_history.specs.History.{end_place, step, IsLegalFrom, ComesNext}
+use Rattle.lrs_fold.specs.LrsHistoryHistory.{end_place, step, IsLegalFrom, ComesNext}
 use Rattle.lrs_journal.specs.Store.{store, header, frames, body, Stands, IsDamaged}
 use Rattle.lrs_journal.specs.Replay.{Replay, HasReadTo, HasRead, IsNextPlace, IsSamePlace}
 use Rattle.lrs_journal.specs.declared.replay.ReplayRefused.{ReplayRefused}

@@ -9,7 +9,7 @@ use Rattle.lrs_journal.specs.declared.sizes.TheConstants.{HEADER}
 use Rattle.lrs_record.specs.declared.entry.Entry.{Entry}
 use Rattle.lrs_record.specs.Entries.{IsLawful, written_entry}
 use Rattle.lrs_record.proofs.Told.{written_entry_injective}
-use Rattle.lrs_history.specs.History.{IsLegal, IsLegalFrom, ComesNext}
+use Rattle.lrs_fold.specs.LrsHistoryHistory.{IsLegal, IsLegalFrom, ComesNext}
 use Rattle.lrs_machine.specs.declared.opening.DeskRefused.{DeskRefused}
 use Rattle.lrs_machine.specs.declared.opening.DeskRefused.TheVariants as desk
 use Rattle.lrs_machine.specs.Desk.{IsIllegalBehind, IsDeskRefused, SparesLegal}

@@ -7,8 +7,8 @@ use Rattle.std.proofs.lemmas.List.{append-nil, length-map, map-append, take-appe
 use Rattle.lrs_command.specs.declared.command.Command.{Command}
 use Rattle.lrs_disk.specs.Disk.{LeavesOnly}
 use Rattle.lrs_fold.proofs.Again.{kept_again}
-use Rattle.lrs_history.proofs.Room.{no_room, kept_answer}
-use Rattle.lrs_history.specs.History.{Answer, Outcome, Said, Accepted, answer, answer_of, end_place, need, outcome, state, ComesNext, IsLegal}
+use Rattle.lrs_fold.specs.LrsHistoryRoomProofs.{no_room, kept_answer}
+use Rattle.lrs_fold.specs.LrsHistoryHistory.{Answer, Outcome, Said, Accepted, answer, answer_of, end_place, need, outcome, state, ComesNext, IsLegal}
 use Rattle.lrs_journal.specs.Journal.{Journal, frames_of, settled, IsJournal, IsAppended, IsUnchanged, StandsForFrames, TellsAlike}
 use Rattle.lrs_journal.specs.Store.{payloads_in, store}
 use Rattle.lrs_journal.specs.declared.sizes.TheConstants.{FRAME_HEAD}

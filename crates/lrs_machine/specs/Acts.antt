@@ -2,7 +2,7 @@
 use Rattle.std.specs.Prelude.{◌≡◌, ◌⊎◌, ◌≤◌, ◌-◌, ◌==◌, ◌&&◌, ◌||◌, not, ℕ, List, [], ◌∷◌, ◌++◌, length, Option, Some}
 use Rattle.std.specs.Prelude.{None, IsSome, is_some, Bool, true, false, if◌then◌else◌, Result, Ok, Err}
 use Rattle.lrs_disk.specs.Faults.{Rises}
-use Rattle.lrs_history.specs.History.{Answer}
+use Rattle.lrs_fold.specs.LrsHistoryHistory.{Answer}
 use Rattle.lrs_record.specs.declared.entry.Entry.{Entry}
 use Rattle.lrs_replies.specs.declared.answered.Answered.{Answered}
 use Rattle.lrs_replies.specs.declared.reply.Trouble.{Trouble}

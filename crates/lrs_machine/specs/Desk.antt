@@ -10,9 +10,9 @@ use Rattle.lrs_record.specs.declared.entry.Entry.{Entry}
 use Rattle.lrs_record.specs.Entries.{IsLawful, written_entry}
 use Rattle.lrs_journal.specs.Create.{IsStore, IsForeign, IsOpenTo, IsMade, need_of_first}
 use Rattle.lrs_record.specs.declared.entry.Area.{Area}
-use Rattle.lrs_history.specs.History.{state, ComesNext, IsLegal, IsLegalFrom}
-use Rattle.lrs_history.specs.Refusals.{barred}
-use Rattle.lrs_history.specs.Whose.{who_is}
+use Rattle.lrs_fold.specs.LrsHistoryHistory.{state, ComesNext, IsLegal, IsLegalFrom}
+use Rattle.lrs_fold.specs.LrsHistoryRefusals.{barred}
+use Rattle.lrs_fold.specs.LrsHistoryWhose.{who_is}
 use Rattle.lrs_record.specs.declared.entry.Caller.{Caller}
 use Rattle.lrs_parts.specs.Parts.{AddsNoPlaces, SeenParts as Parts}
 use Rattle.lrs_machine.specs.Line.{Record, entries, in_doubt, sure, opened_line, AreBefore, BeginsWith}

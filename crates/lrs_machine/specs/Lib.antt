@@ -1,3 +1,4 @@
+pub use Rattle.lrs_fold.specs.Own as LrsFoldOwn
 pub mod Line
 pub mod Acts
 pub mod Desk

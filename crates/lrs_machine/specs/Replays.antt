@@ -13,7 +13,7 @@ use Rattle.lrs_journal.specs.declared.create.CreateRefused.TheVariants as create
 use Rattle.lrs_record.specs.declared.entry.Entry.{Entry}
 use Rattle.lrs_record.specs.Entries.{IsLawful, written_entry}
 use Rattle.lrs_fold.specs.Next.{may_come}
-use Rattle.lrs_history.specs.History.{end_place, state, step, IsLegalFrom}
+use Rattle.lrs_fold.specs.LrsHistoryHistory.{end_place, state, step, IsLegalFrom}
 use Rattle.lrs_parts.specs.State.{State}
 use Rattle.lrs_machine.specs.declared.opening.FoundRefused.{FoundRefused}
 use Rattle.lrs_machine.specs.declared.opening.FoundRefused.TheVariants as found

@@ -4,7 +4,7 @@ use Rattle.std.specs.Prelude.{Option, Some, None, IsSome, is_some, is_ok, Bool, 
 use Rattle.std.specs.Prelude.{Err}
 use Rattle.std.specs.Option.{ForSome}
 use Rattle.lrs_disk.specs.Disk.{LeavesOnly}
-use Rattle.lrs_history.specs.History.{Answer, Outcome, answer_of, end_place, state, step, IsLegal}
+use Rattle.lrs_fold.specs.LrsHistoryHistory.{Answer, Outcome, answer_of, end_place, state, step, IsLegal}
 use Rattle.lrs_journal.specs.Journal.{Journal, frames_of, IsJournal, IsUnchanged, IsAppended}
 use Rattle.lrs_journal.specs.Store.{Stands}
 use Rattle.lrs_parts.specs.State.{State}

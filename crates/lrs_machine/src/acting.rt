@@ -1,7 +1,7 @@
 // An act on the journal and the fold: first a doubt is ended, then the command is answered.
 ghost use Rattle.std.specs.Prelude.{◌≡◌, option_map, IsNone, false};
 ghost use Rattle.lrs_command.specs.Commands.{HasReadTrees};
-ghost use Rattle.lrs_history.specs.History.{outcome};
+ghost use Rattle.lrs_fold.specs.LrsHistoryHistory.{outcome};
 ghost use Rattle.lrs_journal.specs.Journal.{IsJournal};
 ghost use Rattle.lrs_machine.specs.Acts.{HasDiskCause};
 ghost use Rattle.lrs_machine.specs.Fold.{state_of};

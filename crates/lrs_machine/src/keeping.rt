@@ -2,7 +2,7 @@
 ghost use Rattle.std.specs.Prelude.{◌≡◌, ◌≤◌, option_map, IsNone, false};
 ghost use Rattle.lrs_fold.specs.Outcomes.{IsOutcome};
 ghost use Rattle.lrs_fold.specs.declared.outcome.Outcome.TheVariants as made;
-ghost use Rattle.lrs_history.specs.History.{Outcome};
+ghost use Rattle.lrs_fold.specs.LrsHistoryHistory.{Outcome};
 ghost use Rattle.lrs_journal.specs.Journal.{need_of, IsJournal};
 ghost use Rattle.lrs_machine.specs.Acts.{HasDiskCause};
 ghost use Rattle.lrs_machine.specs.Fold.{state_of};

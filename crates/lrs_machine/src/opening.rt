@@ -10,7 +10,7 @@ ghost use Rattle.lrs_record.specs.declared.entry.Entry.{Entry};
 ghost use Rattle.lrs_record.specs.Entries.{IsLawful, IsLawfulCaller, IsLawfulWrite, written_entry};
 ghost use Rattle.lrs_parts.specs.Founding.{IsToken, IsBase};
 ghost use Rattle.lrs_parts.specs.State.{nothing};
-ghost use Rattle.lrs_history.specs.History.{state, IsFounding, IsLegal};
+ghost use Rattle.lrs_fold.specs.LrsHistoryHistory.{state, IsFounding, IsLegal};
 ghost use Rattle.lrs_machine.specs.declared.opening.DeskRefused.TheVariants as DeskRefused;
 ghost use Rattle.lrs_machine.specs.declared.opening.FoundRefused.TheVariants as FoundRefused;
 ghost use Rattle.lrs_machine.specs.Line.{in_doubt, opened_line};

@@ -4,17 +4,17 @@ use Rattle.std.proofs.lemmas.Option.{slice_get_within}
 use Rattle.cmi5_course.specs.Courses.{Course, unit_at}
 use Rattle.cmi5_course.specs.Units.{AssignableUnit}
 use Rattle.cmi5_course.specs.declared.course.Node.{Node}
-use Rattle.cmi5_verdict.specs.Nodes.{SeenEnrolment}
+use Rattle.lrs_history.specs.Cmi5VerdictNodes.{SeenEnrolment}
 use Rattle.lrs_history.specs.Enrolments.{Enrolled, enrolled, enrolled_as, enrolled_from, enrolment_of}
 use Rattle.lrs_history.specs.Launches.{Target, target, target_in, target_of}
 use Rattle.lrs_made.specs.Lent.{IsLentBy, IsTargetOf, enrolled_of, seen_enrolled}
 use Rattle.lrs_made.specs.declared.enrolments.LentEnrolled.{LentEnrolled}
 use Rattle.lrs_made.specs.declared.targets.LentTarget.{LentTarget}
-use Rattle.lrs_parts.specs.Progress.{enrolment_in, enrolment_with}
-use Rattle.lrs_parts.specs.Registrations.{registration_under}
-use Rattle.lrs_parts.specs.State.{State}
-use Rattle.lrs_parts.specs.declared.founding.Founding.{Founding}
-use Rattle.lrs_parts.specs.declared.registrations.HeldRegistration.{HeldRegistration}
+use Rattle.lrs_history.specs.LrsPartsProgress.{enrolment_in, enrolment_with}
+use Rattle.lrs_history.specs.LrsPartsRegistrations.{registration_under}
+use Rattle.lrs_history.specs.LrsPartsState.{State}
+use Rattle.lrs_history.specs.LrsPartsFoundingFounding.{Founding}
+use Rattle.lrs_history.specs.LrsPartsRegistrationsHeldRegistration.{HeldRegistration}
 
 abbrev in_course : Founding → HeldRegistration → Course → Enrolled
 in_course f r = λ (course : Course). record { base = f.base; registration = r; course = course }

@@ -14,6 +14,8 @@ mod targets;
 mod waivers;
 
 pub use enrolments::{LentEnrolled, enrolled, enrolled_as, verdicts_of};
+pub use lrs_history;
+pub use lrs_history::{cmi5_verdict, lrs_parts, xapi_pages};
 pub use making::{make_one, make_under};
 pub use owing::add_owed;
 pub use saying::statement_of;

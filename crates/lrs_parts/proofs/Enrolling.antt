@@ -11,8 +11,8 @@ use Rattle.cmi5_course.specs.declared.course.Node.{Node}
 use Rattle.cmi5_running_verdicts.specs.Running.{SeenRunning, Stands}
 use Rattle.cmi5_running_verdicts.specs.Tallies.{AreTallies}
 use Rattle.cmi5_running_verdicts.specs.declared.tally.Tally.{Tally}
-use Rattle.cmi5_session.specs.Marked.{MarkedStatement}
-use Rattle.cmi5_verdict.specs.Nodes.{SeenEnrolment}
+use Rattle.cmi5_running_sessions.specs.Cmi5SessionMarked.{MarkedStatement}
+use Rattle.cmi5_running_verdicts.specs.Cmi5VerdictNodes.{SeenEnrolment}
 use Rattle.lrs_json.specs.View.{view}
 use Rattle.lrs_parts.specs.Counted.{has_key_of, place_under}
 use Rattle.lrs_parts.specs.Courses.{courses_after}

@@ -10,7 +10,7 @@ use Rattle.std.proofs.lemmas.List.{take_more}
 use Rattle.std.proofs.lemmas.List.Folds.{list_any-append}
 use Rattle.std.proofs.lemmas.Option.{cond_some, get_or_from_slice_get, none-some, same_Some, slice_get_within}
 use Rattle.std.proofs.lemmas.Slice.Eq.{bytes_eq-Decides}
-use Rattle.cmi5_session.specs.Marked.{MarkedStatement, mark, marked, marked_by, statements_of}
+use Rattle.cmi5_running_sessions.specs.Cmi5SessionMarked.{MarkedStatement, mark, marked, marked_by, statements_of}
 use Rattle.lrs_ids.specs.Ids.{are_distinct}
 use Rattle.lrs_json.specs.View.{view}
 use Rattle.lrs_names.specs.Members.{is_one_of}

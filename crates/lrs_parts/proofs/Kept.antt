@@ -14,7 +14,7 @@ use Rattle.cmi5_running_sessions.specs.declared.units.Reached.{Reached}
 use Rattle.cmi5_running_sessions.proofs.Making.{units_back}
 use Rattle.cmi5_running_verdicts.specs.Running.{SeenRunning}
 use Rattle.cmi5_running_verdicts.specs.declared.tally.Tally.{Tally}
-use Rattle.cmi5_session.specs.Marked.{MarkedStatement, marked, statements_of}
+use Rattle.cmi5_running_sessions.specs.Cmi5SessionMarked.{MarkedStatement, marked, statements_of}
 use Rattle.lrs_ids.specs.Ids.{are_distinct}
 use Rattle.lrs_parts.specs.Courses.{courses_after}
 use Rattle.lrs_parts.specs.Founding.{founding_after}

@@ -5,9 +5,9 @@ use Rattle.std.proofs.lemmas.Option.{none-some, same_Some}
 use Rattle.cmi5_course.specs.Courses.{Course}
 use Rattle.cmi5_running_sessions.specs.Room.{HasPlacesForEach}
 use Rattle.cmi5_running_verdicts.specs.Running.{HasCounted, SeenRunning}
-use Rattle.cmi5_session.specs.Marked.{MarkedStatement, marked}
-use Rattle.cmi5_verdict.specs.Nodes.{SeenEnrolment, seen}
-use Rattle.cmi5_verdict.specs.declared.enrolment.Enrolment.{Enrolment}
+use Rattle.cmi5_running_sessions.specs.Cmi5SessionMarked.{MarkedStatement, marked}
+use Rattle.cmi5_running_verdicts.specs.Cmi5VerdictNodes.{SeenEnrolment, seen}
+use Rattle.cmi5_running_verdicts.specs.Cmi5VerdictEnrolmentEnrolment.{Enrolment}
 use Rattle.lrs_parts.specs.Progress.{IsEnrolmentOf, IsProgressReadyFor, IsReadyToEnrol}
 use Rattle.lrs_parts.specs.Trees.{AreTargets}
 use Rattle.lrs_parts.specs.declared.effect.Effect.{Effect}

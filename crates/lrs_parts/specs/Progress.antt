@@ -8,8 +8,8 @@ use Rattle.cmi5_course.specs.Courses.{Course}
 use Rattle.cmi5_running_sessions.specs.Kept.{SeenSessions, StandsFor}
 use Rattle.cmi5_running_sessions.specs.Room.{HasPlacesForEach}
 use Rattle.cmi5_running_verdicts.specs.Running.{HasCounted, SeenRunning, Stands}
-use Rattle.cmi5_session.specs.Marked.{MarkedStatement, marked}
-use Rattle.cmi5_verdict.specs.Nodes.{SeenEnrolment}
+use Rattle.cmi5_running_sessions.specs.Cmi5SessionMarked.{MarkedStatement, marked}
+use Rattle.cmi5_running_verdicts.specs.Cmi5VerdictNodes.{SeenEnrolment}
 use Rattle.lrs_ids.specs.Ids.{are_distinct}
 use Rattle.lrs_json.specs.View.{view}
 use Rattle.lrs_parts.specs.Counted.{place_under}

@@ -22,6 +22,7 @@ mod told;
 mod trees;
 
 pub use acceptance::Acceptance;
+pub use cmi5_running_verdicts::cmi5_verdict;
 pub use counted::Counted;
 pub use courses::{Courses, CoursesChange, course_id, place_of_course};
 pub use effect::Effect;

@@ -3,14 +3,14 @@ ghost use Rattle.std.specs.Prelude.{◌≡◌, [], None, IfSome, OnOk};
 ghost use Rattle.cmi5_running_sessions.specs.Room.{HasPlacesForEach, MakesPlaces, TakesPlacesBack};
 ghost use Rattle.cmi5_running_verdicts.specs.Holding.{StandBehindHolders};
 ghost use Rattle.cmi5_running_verdicts.specs.Running.{HasCounted};
-ghost use Rattle.cmi5_session.specs.Marked.{marked};
-ghost use Rattle.cmi5_verdict.specs.Nodes.{seen};
+ghost use Rattle.cmi5_running_sessions.specs.Cmi5SessionMarked.{marked};
+ghost use Rattle.cmi5_running_verdicts.specs.Cmi5VerdictNodes.{seen};
 ghost use Rattle.lrs_parts.specs.Trees.{AreTargets};
 
 use crate::trees::{clear, read_targets};
 use cmi5_running_sessions::Sessions;
 use cmi5_running_verdicts::Running;
-use cmi5_verdict::Enrolment;
+use cmi5_running_verdicts::cmi5_verdict::Enrolment;
 use lrs_json::{Items, Memory};
 use std::alloc::Global;
 use xapi_index::Index;

@@ -4,7 +4,7 @@ ghost use Rattle.std.specs.Cmp.Lexicographic.{slice_cmp};
 ghost use Rattle.std.specs.Ordering.{nat_cmp};
 ghost use Rattle.cmi5_running_sessions.specs.Room as room;
 ghost use Rattle.cmi5_running_verdicts.specs.Holding.{StandBehindHolders};
-ghost use Rattle.cmi5_verdict.specs.Nodes.{seen};
+ghost use Rattle.cmi5_running_verdicts.specs.Cmi5VerdictNodes.{seen};
 ghost use Rattle.lrs_parts.specs.Counted.{HasRoomToCount, MakesPlaceFor};
 ghost use Rattle.lrs_parts.specs.Learning.{IsLearningReadyFor, KeepsLearning, MakesLearningPlaces};
 ghost use Rattle.lrs_parts.specs.Progress.{IsEnrolmentOf, IsProgressReadyFor};
@@ -18,7 +18,7 @@ use crate::following::enrolment_in;
 use crate::{
     Courses, Effect, Founding, HeldRegistration, Learning, Progress, Providers, RegistrationsChange,
 };
-use cmi5_verdict::Enrolment;
+use cmi5_running_verdicts::cmi5_verdict::Enrolment;
 use lrs_json::Memory;
 use xapi_docs::Docs;
 use xapi_index::Index;

@@ -1,20 +1,20 @@
 // What is told of sessions and of registrations. Of what is held it is told without going through the statements.
 ghost use Rattle.std.specs.Prelude.{◌≡◌, ◌==◌, ◌<◌, ◌++◌, IfOk, Some, length};
-ghost use Rattle.cmi5_launch.specs.Names.{terminated, waived};
+ghost use Rattle.cmi5_running_sessions.specs.Cmi5LaunchNames.{terminated, waived};
 ghost use Rattle.cmi5_running_verdicts.specs.Running.{Stands};
-ghost use Rattle.cmi5_session.specs.Marked.{marked};
-ghost use Rattle.cmi5_session.specs.Moments.{began_at, last_own};
-ghost use Rattle.cmi5_session.specs.Own.{has_own};
-ghost use Rattle.cmi5_session.specs.Views.{seen as seen_session, view_of};
-ghost use Rattle.cmi5_verdict.specs.Nodes.{activity_at, owed, seen, verdicts};
-ghost use Rattle.cmi5_verdict.specs.Statements.{all_of};
-ghost use Rattle.cmi5_verdict.specs.Units.{stands};
+ghost use Rattle.cmi5_running_sessions.specs.Cmi5SessionMarked.{marked};
+ghost use Rattle.cmi5_running_sessions.specs.Cmi5SessionMoments.{began_at, last_own};
+ghost use Rattle.cmi5_running_sessions.specs.Cmi5SessionOwn.{has_own};
+ghost use Rattle.cmi5_running_sessions.specs.Cmi5SessionViews.{seen as seen_session, view_of};
+ghost use Rattle.cmi5_running_verdicts.specs.Cmi5VerdictNodes.{activity_at, owed, seen, verdicts};
+ghost use Rattle.cmi5_running_verdicts.specs.Cmi5VerdictStatements.{all_of};
+ghost use Rattle.cmi5_running_verdicts.specs.Cmi5VerdictUnits.{stands};
 ghost use Rattle.lrs_parts.specs.Progress.{enrolment_in, number_held, number_in};
 
 use crate::{HeldRegistration, Parts, Registrations};
 use cmi5_course::Launch;
-use cmi5_session::SessionView;
-use cmi5_verdict::{Enrolment, Statements, owed, verdicts, waived};
+use cmi5_running_sessions::cmi5_session::SessionView;
+use cmi5_running_verdicts::cmi5_verdict::{Enrolment, Statements, owed, verdicts, waived};
 use lrs_json::Memory;
 use lrs_names::Id;
 use lrs_time::Moment;

@@ -5,4 +5,6 @@
 mod questions;
 mod sight;
 
+pub use lrs_refusals;
+pub use lrs_refusals::{lrs_history, lrs_made, xapi_pages};
 pub use questions::read_answered;

@@ -1,10 +1,10 @@
 // Which statements a caller sees.
 ghost use Rattle.std.specs.Prelude.{◌≡◌};
-ghost use Rattle.lrs_history.specs.Whose.{sight_of};
-ghost use Rattle.lrs_parts.specs.Parts.{state_of};
+ghost use Rattle.lrs_refusals.specs.LrsHistoryWhose.{sight_of};
+ghost use Rattle.lrs_refusals.specs.LrsPartsParts.{state_of};
 
 use lrs_command::Who;
-use lrs_parts::Parts;
+use lrs_refusals::lrs_parts::Parts;
 use xapi_query::Sight;
 
 /// What a caller sees of the statements.

@@ -1,9 +1,9 @@
 -- A statement is told why it doesn't go beside the one that is held under its id; a new one what is told of a new one.
 use Rattle.std.proofs.Common.{◌≡◌, ℕ, List, Option, Some, None, refl}
 use Rattle.std.specs.Prelude.{unwrap_or}
-use Rattle.lrs_history.specs.Refusals.{refused_over, refused_under}
+use Rattle.lrs_made.specs.LrsHistoryRefusals.{refused_over, refused_under}
 use Rattle.lrs_json.specs.Json.{Json}
-use Rattle.lrs_parts.specs.State.{State}
+use Rattle.lrs_made.specs.LrsPartsState.{State}
 use Rattle.lrs_refusals.specs.Meeting.{told_beside, told_if_held}
 use Rattle.lrs_replies.specs.declared.answered.Refusal.{Refusal}
 use Rattle.xapi_index.specs.Statements.{held_under}

@@ -6,7 +6,7 @@ use Rattle.std.specs.Option.{option_or}
 use Rattle.cmi5_course.specs.Rules as course
 use Rattle.lrs_rules.specs.declared.rule.Rule.TheVariants as rule
 use Rattle.lrs_refusals.specs.Judged.{IsJudged, IsJudgedTree}
-use Rattle.lrs_history.specs.Refusals.{bad_form, broken, broken_in, is_too_large, other_id, refused_batch, refused_course, refused_form}
+use Rattle.lrs_made.specs.LrsHistoryRefusals.{bad_form, broken, broken_in, is_too_large, other_id, refused_batch, refused_course, refused_form}
 use Rattle.lrs_json.specs.Json.{Json}
 use Rattle.lrs_json.specs.View.{view}
 use Rattle.lrs_json.specs.declared.tree.Tree.{Tree}
@@ -16,7 +16,7 @@ use Rattle.lrs_record.specs.declared.entry.Write.TheVariants.{Found, Put, Post, 
 use Rattle.lrs_record.specs.declared.entry.Write.TheVariants as write
 use Rattle.lrs_replies.specs.declared.answered.Refusal.TheVariants.{Broken, TooLong}
 use Rattle.xapi_index.specs.Batches.{given_ids}
-use Rattle.lrs_parts.specs.Learners.{is_learner}
+use Rattle.lrs_made.specs.LrsPartsLearners.{is_learner}
 use Rattle.lrs_ids.specs.Choices.{first_some, when}
 use Rattle.lrs_ids.specs.Ids.{are_distinct}
 use Rattle.xapi_rules.specs.Rules.{broken_rule}

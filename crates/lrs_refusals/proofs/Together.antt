@@ -10,17 +10,17 @@ use Rattle.cmi5_session.specs.Views.{SeenSession, view_behind, view_of}
 use Rattle.lrs_command.specs.declared.who.Who.{Who}
 use Rattle.lrs_command.specs.declared.who.Who.TheVariants as who
 use Rattle.lrs_refusals.specs.Meeting.{refused_behind, refused_each, session_behind, was_abandoned}
-use Rattle.lrs_history.specs.Effects.{new_by}
-use Rattle.lrs_history.specs.Occasions.{Occasion}
-use Rattle.lrs_history.specs.Refusals.{before_next, conflict, forbidden, refused_in, refused_over, refused_under, told_forbidden}
-use Rattle.lrs_history.specs.Sessions.{is_abandoned}
-use Rattle.lrs_history.specs.Whose.{launch_of}
+use Rattle.lrs_made.specs.LrsHistoryEffects.{new_by}
+use Rattle.lrs_made.specs.LrsHistoryOccasions.{Occasion}
+use Rattle.lrs_made.specs.LrsHistoryRefusals.{before_next, conflict, forbidden, refused_in, refused_over, refused_under, told_forbidden}
+use Rattle.lrs_made.specs.LrsHistorySessions.{is_abandoned}
+use Rattle.lrs_made.specs.LrsHistoryWhose.{launch_of}
 use Rattle.lrs_json.specs.Json.{Json}
 use Rattle.lrs_json.specs.View.{view}
 use Rattle.lrs_json.specs.declared.tree.Tree.{Tree}
 use Rattle.lrs_ids.specs.Choices.{first_some, when}
 use Rattle.lrs_ids.specs.Ids.{Supply}
-use Rattle.lrs_parts.specs.State.{State}
+use Rattle.lrs_made.specs.LrsPartsState.{State}
 use Rattle.lrs_record.specs.declared.entry.Write.TheVariants.{Post}
 use Rattle.lrs_replies.specs.declared.answered.Refusal.{Refusal}
 use Rattle.xapi_format.specs.declared.authority.Authority.TheVariants as authority

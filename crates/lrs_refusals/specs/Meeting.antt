@@ -6,15 +6,15 @@ use Rattle.cmi5_session.specs.Rules.{broken_rule}
 use Rattle.cmi5_session.specs.Views.{SeenSession, view_behind}
 use Rattle.lrs_command.specs.declared.who.Who.{Who}
 use Rattle.lrs_command.specs.declared.who.Who.TheVariants as who
-use Rattle.lrs_history.specs.Occasions.{Occasion, supply_in}
-use Rattle.lrs_history.specs.Refusals.{forbidden, refused_under, told_forbidden}
-use Rattle.lrs_history.specs.Sessions.{is_abandoned}
+use Rattle.lrs_made.specs.LrsHistoryOccasions.{Occasion, supply_in}
+use Rattle.lrs_made.specs.LrsHistoryRefusals.{forbidden, refused_under, told_forbidden}
+use Rattle.lrs_made.specs.LrsHistorySessions.{is_abandoned}
 use Rattle.lrs_ids.specs.Choices.{when}
 use Rattle.lrs_json.specs.Json.{Json}
 use Rattle.lrs_json.specs.View.{view}
 use Rattle.lrs_json.specs.declared.tree.Tree.{Tree}
 use Rattle.lrs_names.specs.declared.draw.Draw.{Draw}
-use Rattle.lrs_parts.specs.State.{State}
+use Rattle.lrs_made.specs.LrsPartsState.{State}
 use Rattle.lrs_record.specs.declared.entry.Write.{Write}
 use Rattle.lrs_refusals.specs.Naming.{with_these_ids}
 use Rattle.lrs_replies.specs.declared.answered.Refusal.{Refusal}

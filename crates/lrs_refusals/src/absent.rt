@@ -1,12 +1,12 @@
 // What a write speaks of that isn't there.
 ghost use Rattle.std.specs.Prelude.{◌≡◌};
-ghost use Rattle.lrs_history.specs.Launches.{target};
-ghost use Rattle.lrs_history.specs.Refusals.{missing, unless_there};
-ghost use Rattle.lrs_parts.specs.Parts.{state_of};
+ghost use Rattle.lrs_made.specs.LrsHistoryLaunches.{target};
+ghost use Rattle.lrs_made.specs.LrsHistoryRefusals.{missing, unless_there};
+ghost use Rattle.lrs_made.specs.LrsPartsParts.{state_of};
 
+use lrs_made::lrs_parts::{Parts, place_of_course};
 use lrs_made::target;
 use lrs_names::{Id, Iri};
-use lrs_parts::{Parts, place_of_course};
 use lrs_record::Write;
 use lrs_replies::Refusal;
 

@@ -1,14 +1,14 @@
 // Why a value isn't taken up as a course.
 ghost use Rattle.std.specs.Prelude.{◌≡◌, IfOk, Some};
 ghost use Rattle.cmi5_course.specs.Courses.{course_key, course_of};
-ghost use Rattle.lrs_history.specs.Refusals.{course_conflict, refused_beside, refused_course};
+ghost use Rattle.lrs_made.specs.LrsHistoryRefusals.{course_conflict, refused_beside, refused_course};
 ghost use Rattle.lrs_json.specs.Fits.{Fits};
 ghost use Rattle.lrs_json.specs.View.{view};
-ghost use Rattle.lrs_parts.specs.Parts.{state_of};
+ghost use Rattle.lrs_made.specs.LrsPartsParts.{state_of};
 
 use cmi5_course::{Course, broken_course};
 use lrs_json::{Memory, Text, Tree};
-use lrs_parts::{Parts, course_id};
+use lrs_made::lrs_parts::{Parts, course_id};
 use lrs_replies::Refusal;
 use lrs_rules::Rule;
 use std::alloc::Global;

@@ -11,5 +11,7 @@ mod meeting;
 mod refusals;
 mod whose;
 
+pub use lrs_made;
+pub use lrs_made::{lrs_history, lrs_parts, xapi_pages};
 pub use refusals::refusal;
 pub use whose::{launch_of, who_is};

@@ -1,8 +1,8 @@
 // Why a write is refused.
 ghost use Rattle.std.specs.Prelude.{◌≡◌, ℕ, List, IfOk, Ok, None};
 ghost use Rattle.std.specs.Option.{option_copied};
-ghost use Rattle.lrs_history.specs.Refusals.{bad_form, conflict, refusal, refusal_at, unmergeable, unmergeable_with};
-ghost use Rattle.lrs_parts.specs.Parts.{state_of};
+ghost use Rattle.lrs_made.specs.LrsHistoryRefusals.{bad_form, conflict, refusal, refusal_at, unmergeable, unmergeable_with};
+ghost use Rattle.lrs_made.specs.LrsPartsParts.{state_of};
 ghost use Rattle.lrs_record.specs.Entries.{IsLawfulWrite};
 ghost use Rattle.lrs_refusals.specs.Judged.{IsJudged};
 ghost use Rattle.lrs_refusals.specs.Meeting.{occasion_of};
@@ -13,13 +13,13 @@ use crate::forms::{refused_batch, refused_form};
 use crate::meeting::{refused_together, refused_under};
 use crate::whose::{bad_role, who_is};
 use lrs_command::Who;
-use lrs_history::{
+use lrs_json::{Memory, Text};
+use lrs_made::lrs_history::{
     barred, refused_actor, refused_agent, refused_document, refused_idle, refused_name,
 };
-use lrs_json::{Memory, Text};
+use lrs_made::lrs_parts::Parts;
 use lrs_media::is_json;
 use lrs_names::Draw;
-use lrs_parts::Parts;
 use lrs_record::{Entry, How, Write};
 use lrs_replies::Refusal;
 use lrs_rules::Rule;

@@ -1,17 +1,17 @@
 // Who a caller is, which launch a session has, and what a caller does with documents.
 ghost use Rattle.std.specs.Prelude.{◌≡◌};
 ghost use Rattle.std.specs.Option.{option_copied};
-ghost use Rattle.lrs_history.specs.Refusals.{bad_role};
-ghost use Rattle.lrs_history.specs.Whose.{known_as, launch_of, who_is, who_presents};
-ghost use Rattle.lrs_parts.specs.Launches.{launch_of_token};
-ghost use Rattle.lrs_parts.specs.Parts.{state_of};
+ghost use Rattle.lrs_made.specs.LrsHistoryRefusals.{bad_role};
+ghost use Rattle.lrs_made.specs.LrsHistoryWhose.{known_as, launch_of, who_is, who_presents};
+ghost use Rattle.lrs_made.specs.LrsPartsLaunches.{launch_of_token};
+ghost use Rattle.lrs_made.specs.LrsPartsParts.{state_of};
 ghost use Rattle.lrs_refusals.specs.Meeting.{was_abandoned};
 
 use cmi5_course::Launch;
 use lrs_command::Who;
-use lrs_history::overstepped;
 use lrs_json::Text;
-use lrs_parts::{Parts, is_admin};
+use lrs_made::lrs_history::overstepped;
+use lrs_made::lrs_parts::{Parts, is_admin};
 use lrs_record::{Caller, Write};
 use lrs_replies::Refusal;
 

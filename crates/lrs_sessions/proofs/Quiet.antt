@@ -4,9 +4,9 @@ use Rattle.std.specs.Option.{option_map_or}
 use Rattle.std.proofs.lemmas.Bool.{and_left, and_right, leb-false, lt-leb}
 use Rattle.cmi5_course.specs.declared.launch.Launch.{Launch}
 use Rattle.cmi5_session.specs.Moments.{last_own}
-use Rattle.lrs_history.specs.Endings.{desk_moment, is_idle, is_open}
-use Rattle.lrs_history.specs.Sessions.{is_closed}
-use Rattle.lrs_parts.specs.State.{State}
+use Rattle.lrs_made.specs.LrsHistoryEndings.{desk_moment, is_idle, is_open}
+use Rattle.lrs_made.specs.LrsHistorySessions.{is_closed}
+use Rattle.lrs_made.specs.LrsPartsState.{State}
 
 -- what comes behind one that is too late is too late
 later_still : (a b more moment : ℕ) → nat_le (a + more) moment ≡ false → nat_le (max a b + more) moment ≡ false

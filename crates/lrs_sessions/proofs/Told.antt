@@ -2,10 +2,10 @@
 use Rattle.std.proofs.Common.{◌≡◌, ℕ, List, [], ◌∷◌, ◌++◌, Option, Some, None, option_map, sym, ap, ◌∙◌, append-nil}
 use Rattle.std.specs.List.{cons_option}
 use Rattle.cmi5_course.specs.declared.launch.Launch.{Launch}
-use Rattle.lrs_history.specs.Endings.{abandoned_at, abandoned_from, abandoned_json, abandoned_jsons, lasted}
-use Rattle.lrs_history.specs.Launches.{Target, target}
+use Rattle.lrs_made.specs.LrsHistoryEndings.{abandoned_at, abandoned_from, abandoned_json, abandoned_jsons, lasted}
+use Rattle.lrs_made.specs.LrsHistoryLaunches.{Target, target}
 use Rattle.lrs_json.specs.Json.{Json}
-use Rattle.lrs_parts.specs.State.{State}
+use Rattle.lrs_made.specs.LrsPartsState.{State}
 
 -- ---- of one session
 

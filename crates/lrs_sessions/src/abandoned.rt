@@ -1,18 +1,18 @@
 // What the store says of sessions that it abandons (cmi5 Quartz, section 9.3.6).
 ghost use Rattle.std.specs.Prelude.{◌≡◌, ◌∷◌, ◌++◌, [], IfOk, OnOk};
-ghost use Rattle.lrs_history.specs.Endings.{abandoned_at, abandoned_from, abandoned_json, abandoned_jsons};
-ghost use Rattle.lrs_history.specs.Endings.{abandoned_of, lasted};
+ghost use Rattle.lrs_made.specs.LrsHistoryEndings.{abandoned_at, abandoned_from, abandoned_json, abandoned_jsons};
+ghost use Rattle.lrs_made.specs.LrsHistoryEndings.{abandoned_of, lasted};
 ghost use Rattle.lrs_json.specs.View.{view};
 ghost use Rattle.lrs_made.specs.Lent.{seen_target};
 ghost use Rattle.lrs_made.specs.Said.{json_given, jsons_of};
-ghost use Rattle.lrs_parts.specs.Parts.{state_of};
+ghost use Rattle.lrs_made.specs.LrsPartsParts.{state_of};
 
 use cmi5_course::Launch;
 use cmi5_launch::Made;
 use lrs_json::Memory;
+use lrs_made::lrs_parts::Parts;
 use lrs_made::{LentTarget, statement_of, target};
 use lrs_names::Id;
-use lrs_parts::Parts;
 use lrs_time::Moment;
 use std::alloc::Global;
 use xapi_statement::Statement;

@@ -1,15 +1,15 @@
 // Which sessions are closed, and which are open.
 ghost use Rattle.std.specs.Prelude.{◌≡◌, ◌&&◌, IfOk};
-ghost use Rattle.lrs_history.specs.Endings.{is_launch_of, is_number_of, is_open, open_of};
-ghost use Rattle.lrs_history.specs.Sessions.{is_closed, is_terminated};
-ghost use Rattle.lrs_parts.specs.Parts.{state_of};
+ghost use Rattle.lrs_made.specs.LrsHistoryEndings.{is_launch_of, is_number_of, is_open, open_of};
+ghost use Rattle.lrs_made.specs.LrsHistorySessions.{is_closed, is_terminated};
+ghost use Rattle.lrs_made.specs.LrsPartsParts.{state_of};
 
 use crate::numbers::launch_count;
 use cmi5_course::Launch;
-use cmi5_verdict::push_if;
 use lrs_json::Memory;
+use lrs_made::cmi5_verdict::push_if;
+use lrs_made::lrs_parts::Parts;
 use lrs_names::{Id, Iri};
-use lrs_parts::Parts;
 use std::alloc::Global;
 
 /// Whether the session of the launch of that number is closed: it was abandoned, or said that it ended.

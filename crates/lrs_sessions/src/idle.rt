@@ -1,15 +1,15 @@
 // In which sessions nothing happened for so long.
 ghost use Rattle.std.specs.Prelude.{◌≡◌, ◌&&◌, ◌+◌, ◌*◌, max, nat_le, IfOk};
 ghost use Rattle.cmi5_session.specs.Moments.{last_own};
-ghost use Rattle.lrs_history.specs.Endings.{desk_moment, idle_ones, is_idle, is_open, last_event};
-ghost use Rattle.lrs_parts.specs.Parts.{state_of};
+ghost use Rattle.lrs_made.specs.LrsHistoryEndings.{desk_moment, idle_ones, is_idle, is_open, last_event};
+ghost use Rattle.lrs_made.specs.LrsPartsParts.{state_of};
 
 use crate::closed::is_open;
 use crate::numbers::launch_count;
-use cmi5_verdict::push_if;
 use lrs_json::Memory;
+use lrs_made::cmi5_verdict::push_if;
+use lrs_made::lrs_parts::Parts;
 use lrs_names::Id;
-use lrs_parts::Parts;
 use lrs_time::Moment;
 use std::alloc::Global;
 

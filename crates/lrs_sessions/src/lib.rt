@@ -12,4 +12,5 @@ mod numbers;
 pub use abandoned::abandoned_statements;
 pub use closed::{is_closed, is_open, open_of};
 pub use idle::idle_ones;
+pub use lrs_made;
 pub use numbers::{launch_count, sessions_at};

@@ -1,11 +1,11 @@
 // Numbers of launches, which are counted from 0.
 ghost use Rattle.std.specs.Prelude.{◌≡◌, ◌∷◌, ◌++◌, [], length, IfOk, OnOk};
-ghost use Rattle.lrs_history.specs.Endings.{sessions_at};
-ghost use Rattle.lrs_parts.specs.Parts.{state_of};
+ghost use Rattle.lrs_made.specs.LrsHistoryEndings.{sessions_at};
+ghost use Rattle.lrs_made.specs.LrsPartsParts.{state_of};
 
 use lrs_json::Memory;
+use lrs_made::lrs_parts::Parts;
 use lrs_names::Id;
-use lrs_parts::Parts;
 use std::alloc::Global;
 
 /// How many launches there are, which is also the number of the next. There are never more than 32 bits count.

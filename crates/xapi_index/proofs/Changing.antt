@@ -9,7 +9,7 @@ use Rattle.std.proofs.lemmas.Option.{slice_get_cases}
 use Rattle.xapi_index.specs.Ahead.{ChangesEach, ChangesSome}
 use Rattle.xapi_postings.specs.Ascending.{below}
 use Rattle.xapi_postings.specs.Postings.{SamePostings, is_last, posted, posting_of}
-use Rattle.xapi_statement_keys.specs.declared.key.Key.{Key}
+use Rattle.xapi_postings.specs.XapiStatementKeysKeyKey.{Key}
 
 -- ---- one change
 

@@ -5,10 +5,10 @@ use Rattle.xapi_index.specs.Statements.{is_held}
 use Rattle.xapi_index.proofs.Found.{found_at}
 use Rattle.xapi_postings.specs.Postings.{posting_of}
 use Rattle.xapi_postings.proofs.Ascending.{first-position}
-use Rattle.xapi_statement.specs.Stored.{StoredStatement}
-use Rattle.xapi_statement_keys.specs.Keys.{has_key}
-use Rattle.xapi_statement_keys.specs.declared.key.Key.{Key}
-use Rattle.xapi_statement_keys.specs.declared.key.Key.TheVariants as key
+use Rattle.xapi_postings.specs.XapiStatementStored.{StoredStatement}
+use Rattle.xapi_postings.specs.XapiStatementKeysKeys.{has_key}
+use Rattle.xapi_postings.specs.XapiStatementKeysKeyKey.{Key}
+use Rattle.xapi_postings.specs.XapiStatementKeysKeyKeyTheVariants as key
 
 -- one of the statements is held under the id exactly where there is a first position
 pub held_told : (postings : List (Key × List ℕ)) (all : List StoredStatement) (id : List ℕ) (first : Option ℕ) → ArePosted all postings → first ≡ slice_get (posting_of (key.Statement id) postings) 0

@@ -8,12 +8,12 @@ use Rattle.std.proofs.lemmas.List.Recursion.{or_push}
 use Rattle.lrs_json.specs.View.{view}
 use Rattle.xapi_index.specs.Index.{is_coming, lists_of}
 use Rattle.xapi_index.specs.Statements.{is_that_id, voids}
-use Rattle.xapi_rules.specs.Rules.{is_voiding}
-use Rattle.xapi_statement.specs.Statement.{target_of}
-use Rattle.xapi_statement_keys.specs.Keys.{has_key, is_among, is_same_key}
-use Rattle.xapi_statement_keys.specs.declared.key.Key.{Key}
-use Rattle.xapi_statement_keys.specs.declared.key.Key.TheVariants as key
-use Rattle.xapi_statement_keys.specs.declared.keys.Keys.{Keys}
+use Rattle.xapi_postings.specs.XapiRulesRules.{is_voiding}
+use Rattle.xapi_postings.specs.XapiStatementStatement.{target_of}
+use Rattle.xapi_postings.specs.XapiStatementKeysKeys.{has_key, is_among, is_same_key}
+use Rattle.xapi_postings.specs.XapiStatementKeysKeyKey.{Key}
+use Rattle.xapi_postings.specs.XapiStatementKeysKeyKeyTheVariants as key
+use Rattle.xapi_postings.specs.XapiStatementKeysKeysKeys.{Keys}
 
 -- ---- voiding
 

@@ -7,8 +7,8 @@ use Rattle.std.proofs.lemmas.Option.{get_or_from_slice_get, none-some, same_Some
 use Rattle.xapi_index.specs.Index.{IsRising}
 use Rattle.xapi_index.specs.Times.{AreLaterFrom, is_until, stands_behind}
 use Rattle.xapi_index.proofs.Firsts.{lt_no}
-use Rattle.xapi_query.specs.Filters.{stored_instant}
-use Rattle.xapi_statement.specs.Stored.{StoredStatement}
+use Rattle.xapi_postings.specs.XapiQueryFilters.{stored_instant}
+use Rattle.xapi_postings.specs.XapiStatementStored.{StoredStatement}
 
 -- ---- one statement more
 

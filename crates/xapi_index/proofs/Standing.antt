@@ -13,9 +13,9 @@ use Rattle.xapi_index.proofs.Keyed.{coming_push}
 use Rattle.xapi_postings.specs.Ascending.{below, positions_with}
 use Rattle.xapi_postings.specs.Postings.{posted, posting_of}
 use Rattle.xapi_postings.proofs.Ascending.{ascending-append, positions-append, positions-ascending, positions-below, positions-bounded}
-use Rattle.xapi_statement.specs.Stored.{StoredStatement}
-use Rattle.xapi_statement_keys.specs.Keys.{has_key, is_among}
-use Rattle.xapi_statement_keys.specs.declared.key.Key.{Key}
+use Rattle.xapi_postings.specs.XapiStatementStored.{StoredStatement}
+use Rattle.xapi_postings.specs.XapiStatementKeysKeys.{has_key, is_among}
+use Rattle.xapi_postings.specs.XapiStatementKeysKeyKey.{Key}
 
 each_push : {A : Type 0} (P : A → Type 0) (xs : List A) (y : A) → AllByRecursion P xs → P y → AllByRecursion P (xs ++ y ∷ [])
 each_push P [] y each is = (is, tt)

@@ -7,8 +7,8 @@ use Rattle.lrs_json.specs.declared.tree.Tree.{Tree}
 use Rattle.lrs_names.specs.Members.{is_one_of}
 use Rattle.lrs_ids.specs.Ids.{Supply, IsCounted, those}
 use Rattle.lrs_ids.specs.IdSupply.{GiveSame}
-use Rattle.xapi_statement.specs.Stored.{StoredStatement}
-use Rattle.xapi_statement.specs.Statement.{own_id}
+use Rattle.xapi_postings.specs.XapiStatementStored.{StoredStatement}
+use Rattle.xapi_postings.specs.XapiStatementStatement.{own_id}
 use Rattle.xapi_index.specs.Statements.{held_under, ids_of, is_held}
 use Rattle.xapi_index.specs.Batches.{id_for, with_ids, ids_under, supply_after, supply_behind}
 

@@ -3,9 +3,9 @@ use Rattle.std.specs.Prelude.{◌≡◌, ◌⊎◌, ◌++◌, ℕ, Bool, true, f
 use Rattle.xapi_index.specs.Index.{ArePosted, is_coming}
 use Rattle.xapi_postings.specs.Ascending.{positions_with}
 use Rattle.xapi_postings.specs.Postings.{posting_of}
-use Rattle.xapi_statement.specs.Stored.{StoredStatement}
-use Rattle.xapi_statement_keys.specs.Keys.{has_key}
-use Rattle.xapi_statement_keys.specs.declared.key.Key.{Key}
+use Rattle.xapi_postings.specs.XapiStatementStored.{StoredStatement}
+use Rattle.xapi_postings.specs.XapiStatementKeysKeys.{has_key}
+use Rattle.xapi_postings.specs.XapiStatementKeysKeyKey.{Key}
 
 -- ---- changes of many postings
 

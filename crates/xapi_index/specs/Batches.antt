@@ -2,9 +2,9 @@
 use Rattle.std.specs.Prelude.{ℕ, List, [], ◌∷◌, map, Option, Some, None}
 use Rattle.lrs_json.specs.View.{view}
 use Rattle.lrs_json.specs.declared.tree.Tree.{Tree}
-use Rattle.xapi_format.specs.declared.authority.Authority.{Authority}
-use Rattle.xapi_statement.specs.Stored.{StoredStatement}
-use Rattle.xapi_statement.specs.Statement.{own_id}
+use Rattle.xapi_postings.specs.XapiFormatAuthorityAuthority.{Authority}
+use Rattle.xapi_postings.specs.XapiStatementStored.{StoredStatement}
+use Rattle.xapi_postings.specs.XapiStatementStatement.{own_id}
 use Rattle.lrs_ids.specs.Ids.{Supply, rest_of}
 
 -- a statement, and the id under which it goes

@@ -4,10 +4,10 @@ use Rattle.std.specs.List.{AllByRecursion, list_any}
 use Rattle.xapi_index.specs.Statements.{add_each}
 use Rattle.xapi_postings.specs.Ascending.{IsAscending, below, positions_with}
 use Rattle.xapi_postings.specs.Postings.{posting_of}
-use Rattle.xapi_statement.specs.Stored.{StoredStatement}
-use Rattle.xapi_statement_keys.specs.Keys.{has_key, is_among}
-use Rattle.xapi_statement_keys.specs.declared.key.Key.{Key}
-use Rattle.xapi_statement_keys.specs.declared.keys.Keys.{Keys}
+use Rattle.xapi_postings.specs.XapiStatementStored.{StoredStatement}
+use Rattle.xapi_postings.specs.XapiStatementKeysKeys.{has_key, is_among}
+use Rattle.xapi_postings.specs.XapiStatementKeysKeyKey.{Key}
+use Rattle.xapi_postings.specs.XapiStatementKeysKeysKeys.{Keys}
 
 -- Their list, the positions under each key, the keys of those that are to come, these themselves, and for how many more
 -- there is room in the list. Positions that aren't below the length of the list are of statements that are to come.

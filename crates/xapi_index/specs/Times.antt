@@ -1,8 +1,8 @@
 -- How statements stand by the moments at which they were accepted.
 use Rattle.std.specs.Prelude.{◌≡◌, ◌≤◌, ◌<◌, ◌-◌, ℕ, ℤ, nat_le, int_lt, not, Bool, true, List, length, slice_get, Some}
 use Rattle.std.specs.Option.{option_map_or}
-use Rattle.xapi_query.specs.Filters.{stored_instant}
-use Rattle.xapi_statement.specs.Stored.{StoredStatement}
+use Rattle.xapi_postings.specs.XapiQueryFilters.{stored_instant}
+use Rattle.xapi_postings.specs.XapiStatementStored.{StoredStatement}
 
 -- it is no older than the last of a list
 abbrev pub stands_behind : List StoredStatement → StoredStatement → Bool

@@ -7,14 +7,14 @@ ghost use Rattle.xapi_index.specs.Index.{ArePosted, IsIndex, is_coming, lists_of
 ghost use Rattle.xapi_index.specs.Statements.{add, add_each};
 ghost use Rattle.xapi_postings.specs.Ascending.{below};
 ghost use Rattle.xapi_postings.specs.Postings.{posted};
-ghost use Rattle.xapi_statement.specs.Stored.{StoredStatement as SpecStatement};
-ghost use Rattle.xapi_statement_keys.specs.Keys.{is_among};
+ghost use Rattle.xapi_postings.specs.XapiStatementStored.{StoredStatement as SpecStatement};
+ghost use Rattle.xapi_postings.specs.XapiStatementKeysKeys.{is_among};
 
 use crate::positions::first_under;
 use lrs_json::Memory;
 use xapi_postings::Postings;
-use xapi_statement::{HeldStatement, StoredStatement};
-use xapi_statement_keys::{Key, Keys};
+use xapi_postings::xapi_statement::{HeldStatement, StoredStatement};
+use xapi_postings::xapi_statement_keys::{Key, Keys};
 
 // ---- written ahead
 

@@ -6,8 +6,8 @@ ghost use Rattle.xapi_index.specs.Index.{HoldsNothingAhead, IsIndexReadyFor, IsP
 ghost use Rattle.xapi_index.specs.Statements.{add_each, held_under, is_held, is_target, is_voided, voids};
 ghost use Rattle.xapi_index.specs.Statements.{position_referred, referred_at};
 ghost use Rattle.xapi_index.specs.Times.{AreLaterFrom};
-ghost use Rattle.xapi_statement.specs.Stored.{StoredStatement as SpecStatement};
-ghost use Rattle.xapi_statement_keys.specs.Keys.{has_key};
+ghost use Rattle.xapi_postings.specs.XapiStatementStored.{StoredStatement as SpecStatement};
+ghost use Rattle.xapi_postings.specs.XapiStatementKeysKeys.{has_key};
 
 use crate::ahead::{cut_each, ready_each};
 use crate::installing::install_each;
@@ -20,8 +20,8 @@ use lrs_time::Instant;
 use std::alloc::Global;
 use std::marker::Model;
 use xapi_postings::Postings;
-use xapi_statement::{HeldStatement, StoredStatement};
-use xapi_statement_keys::{Key, Keys};
+use xapi_postings::xapi_statement::{HeldStatement, StoredStatement};
+use xapi_postings::xapi_statement_keys::{Key, Keys};
 
 /// The statements in their order, and the positions under each of their keys.
 #[derive(Drop)]

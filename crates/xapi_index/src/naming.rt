@@ -1,7 +1,7 @@
 // The ids under which statements go that come together.
 ghost use Rattle.std.specs.Prelude.{◌≡◌, ◌++◌, [], IfOk, OnOk};
 ghost use Rattle.lrs_json.specs.View.{view};
-ghost use Rattle.xapi_statement.specs.Statement.{own_id};
+ghost use Rattle.xapi_postings.specs.XapiStatementStatement.{own_id};
 ghost use Rattle.lrs_ids.specs.Ids.{are_distinct, supply_of};
 ghost use Rattle.lrs_ids.specs.IdSupply.{GiveSame, left_of};
 ghost use Rattle.xapi_index.specs.Batches.{given_ids, id_for, with_ids, ids_under, supply_after, supply_behind, with_given};
@@ -10,7 +10,7 @@ use lrs_ids::{IdSupply, UsedIds, are_distinct};
 use lrs_json::{Memory, Tree};
 use lrs_names::{Draw, Id};
 use std::alloc::Global;
-use xapi_statement::own_id;
+use xapi_postings::xapi_statement::own_id;
 
 /// Whether no two of them give themselves one id.
 pub fn have_distinct_ids(alloc: Global, statements: &[Tree]) -> Result<bool, Memory>

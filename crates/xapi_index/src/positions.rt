@@ -5,7 +5,7 @@ ghost use Rattle.xapi_postings.specs.Postings.{posting_of};
 
 use lrs_names::Id;
 use xapi_postings::Postings;
-use xapi_statement_keys::Key;
+use xapi_postings::xapi_statement_keys::Key;
 
 fn first_in(positions: &[u32]) -> Option<usize>
     ensures { result ≡ slice_get positions.now 0 }

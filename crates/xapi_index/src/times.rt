@@ -3,10 +3,10 @@ ghost use Rattle.std.specs.Prelude.{◌≡◌, ◌≤◌, ◌&&◌, nat_le, true
 ghost use Rattle.std.specs.List.Sorted.{IsPartitionPoint};
 ghost use Rattle.xapi_index.specs.Index.{IsRising};
 ghost use Rattle.xapi_index.specs.Times.{AreLaterFrom, is_until, stands_behind};
-ghost use Rattle.xapi_statement.specs.Stored.{StoredStatement as SpecStatement};
+ghost use Rattle.xapi_postings.specs.XapiStatementStored.{StoredStatement as SpecStatement};
 
 use lrs_time::Instant;
-use xapi_statement::HeldStatement;
+use xapi_postings::xapi_statement::HeldStatement;
 
 // ---- no statement is older than one before it
 

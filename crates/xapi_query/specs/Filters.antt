@@ -7,8 +7,8 @@ use Rattle.lrs_time.specs.Timestamp.{instant_of_moment}
 use Rattle.xapi_statement.specs.Stored.{StoredStatement}
 use Rattle.xapi_statement.specs.Shown.{takes_part}
 use Rattle.xapi_statement.specs.Statement.{has_activity, registration_of, verb_of}
-use Rattle.xapi_format.specs.declared.authority.Authority.{Authority}
-use Rattle.xapi_format.specs.declared.authority.Authority.TheVariants as authority
+use Rattle.xapi_statement.specs.XapiFormatAuthorityAuthority.{Authority}
+use Rattle.xapi_statement.specs.XapiFormatAuthorityAuthorityTheVariants as authority
 use Rattle.xapi_query.specs.declared.query.Query.{Query}
 use Rattle.xapi_query.specs.declared.sight.Sight.{Sight}
 use Rattle.xapi_query.specs.declared.sight.Sight.TheVariants.{Nothing, All, Provider, Registration}

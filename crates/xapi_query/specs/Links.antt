@@ -5,8 +5,8 @@ use Rattle.std.specs.Fmt.{decimal}
 use Rattle.form_urlencoded.specs.Form.{extend_pairs}
 use Rattle.form_urlencoded.specs.Target.{Target}
 use Rattle.lrs_names.specs.Ids.{id_text}
-use Rattle.xapi_format.specs.declared.format.Format.{Format}
-use Rattle.xapi_format.specs.declared.format.Format.TheVariants.{Exact, Ids}
+use Rattle.xapi_statement.specs.XapiFormatFormatFormat.{Format}
+use Rattle.xapi_statement.specs.XapiFormatFormatFormatTheVariants.{Exact, Ids}
 use Rattle.xapi_query.specs.declared.link.MoreLink.{MoreLink}
 use Rattle.xapi_query.specs.declared.query.Query.{Query}
 use Rattle.xapi_query.specs.declared.query.TheConstants.{MOST_OF_PAGE}

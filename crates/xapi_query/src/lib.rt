@@ -15,4 +15,5 @@ pub use link::{MoreLink, link_text};
 pub use query::{Given, MOST_OF_PAGE, Query};
 pub use sight::{Sight, sees};
 pub use wanted::Wanted;
+pub use xapi_statement;
 pub use xapi_statement::Format;

@@ -1,8 +1,8 @@
-use lrs_agents::Ifi;
 use lrs_json::Text;
 use lrs_names::{Id, Iri};
 use lrs_time::Instant;
 use xapi_statement::Format;
+use xapi_statement::lrs_agents::Ifi;
 
 /// What was given as a parameter: its text, and what that means.
 #[derive(Drop)]

@@ -4,9 +4,9 @@ use Rattle.std.specs.Prelude.{IsTrue, ◌↔◌}
 use Rattle.std.specs.Option.{option_map_or}
 use Rattle.std.specs.Str.{bytes_eq}
 use Rattle.std.proofs.lemmas.Slice.Eq.{bytes_eq-Decides}
-use Rattle.lrs_agents.specs.declared.identifiers.Ifi.{Ifi}
-use Rattle.lrs_agents.specs.declared.identifiers.Ifi.TheVariants.{Mbox, MboxSha1, OpenId, Account}
-use Rattle.lrs_agents.specs.Identifiers.{same_ifi}
+use Rattle.xapi_rules.specs.LrsAgentsIdentifiersIfi.{Ifi}
+use Rattle.xapi_rules.specs.LrsAgentsIdentifiersIfiTheVariants.{Mbox, MboxSha1, OpenId, Account}
+use Rattle.xapi_rules.specs.LrsAgentsIdentifiers.{same_ifi}
 
 -- a text equals itself, and no other
 same_bytes : (a b : List ℕ) → bytes_eq a b ≡ true → a ≡ b

@@ -4,11 +4,11 @@ use Rattle.std.specs.Prelude.{Bool, ◌&&◌, ◌||◌, Option, None, option_and
 use Rattle.lrs_json.specs.Json.{Json}
 use Rattle.lrs_json.specs.Find.{find}
 use Rattle.lrs_names.specs.Members.{has_member_that}
-use Rattle.lrs_agents.specs.Identifiers.{identifier_of}
-use Rattle.lrs_agents.specs.declared.identifiers.Ifi.{Ifi}
-use Rattle.xapi_values.specs.Kinds.{kind_of, is_party_kind, same_kind}
-use Rattle.xapi_values.specs.declared.kinds.Kind.{Kind}
-use Rattle.xapi_values.specs.Nested.{is_nested}
+use Rattle.xapi_rules.specs.LrsAgentsIdentifiers.{identifier_of}
+use Rattle.xapi_rules.specs.LrsAgentsIdentifiersIfi.{Ifi}
+use Rattle.xapi_rules.specs.XapiValuesKinds.{kind_of, is_party_kind, same_kind}
+use Rattle.xapi_rules.specs.XapiValuesKindsKind.{Kind}
+use Rattle.xapi_rules.specs.XapiValuesNested.{is_nested}
 use Rattle.xapi_format.specs.Party.{is_party}
 
 -- an object that is an Agent or a Group

@@ -4,7 +4,7 @@ use Rattle.lrs_json.specs.Json.{Json}
 use Rattle.lrs_json.specs.View.{view}
 use Rattle.lrs_json.specs.Written.{written}
 use Rattle.lrs_names.specs.Members.{has_member_that}
-use Rattle.lrs_agents.specs.declared.identifiers.Ifi.{Ifi}
+use Rattle.xapi_rules.specs.LrsAgentsIdentifiersIfi.{Ifi}
 use Rattle.xapi_format.specs.Authorities.{authority_json}
 use Rattle.xapi_format.specs.Party.{is_party}
 use Rattle.xapi_reduced.specs.Reduced.{reduced}

@@ -6,7 +6,7 @@ use Rattle.lrs_json.specs.Find.{find}
 use Rattle.lrs_json.specs.Written.{written}
 use Rattle.lrs_names.specs.Ids.{id_of}
 use Rattle.lrs_names.specs.Members.{is_word, has_member, has_member_that, spelling_under, text_of, text_under}
-use Rattle.xapi_values.specs.Nested.{is_nested}
+use Rattle.xapi_rules.specs.XapiValuesNested.{is_nested}
 use Rattle.xapi_rules.specs.Rules.{broken_rule, is_about_activity, is_about_reference}
 use Rattle.xapi_statement.specs.declared.refused.StatementRefused.{StatementRefused}
 use Rattle.xapi_statement.specs.declared.refused.StatementRefused.TheVariants.{TooLong, Broken}

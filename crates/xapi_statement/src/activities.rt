@@ -6,7 +6,7 @@ ghost use Rattle.xapi_statement.specs.Statement.{is_activity_of, any_activity_of
 
 use lrs_json::Tree;
 use lrs_names::is_word;
-use xapi_values::{Kind, is_nested};
+use xapi_rules::xapi_values::{Kind, is_nested};
 
 fn has_id(tree: &Tree, id: &str) -> bool
     ensures { result ≡ has_member_that (codes "id") (is_word id.now) (view tree.now) }

@@ -24,4 +24,4 @@ pub use refused::{StatementRefused, judge};
 pub use statement::Statement;
 pub use stored::StoredStatement;
 pub use xapi_format::{Authority, Format};
-pub use xapi_rules::{broken_rule, is_voiding};
+pub use xapi_rules::{broken_rule, is_voiding, lrs_agents};

@@ -8,11 +8,11 @@ ghost use Rattle.xapi_statement.specs.Statement.{is_too_long, refusal, is_statem
 
 use crate::refused::{StatementRefused, judge};
 use crate::{activities, members, parties};
-use lrs_agents::Ifi;
 use lrs_decimal::Decimal;
 use lrs_json::{Text, Tree};
 use lrs_names::Id;
 use std::alloc::Global;
+use xapi_rules::lrs_agents::Ifi;
 
 /// A value that breaks none of the rules on statements. One that was read isn't too long either; one that the store
 /// makes may be longer.

@@ -11,9 +11,9 @@ use Rattle.lrs_json.specs.Json.{Json, null, boolean, number, string, array, obje
 use Rattle.lrs_json.specs.View.{elements_of, view}
 use Rattle.lrs_json.specs.declared.tree.Tree.{Tree}
 use Rattle.lrs_names.specs.Members.{is_word, items_of, text_of}
-use Rattle.xapi_format.specs.Party.{any_identified, is_identified}
-use Rattle.xapi_rules.specs.Rules.{is_about_activity}
-use Rattle.xapi_statement.specs.Statement.{activity_in, any_activity_of, context_holds, holds_activity, holds_at, is_activity_of}
+use Rattle.xapi_query.specs.XapiFormatParty.{any_identified, is_identified}
+use Rattle.xapi_query.specs.XapiRulesRules.{is_about_activity}
+use Rattle.xapi_query.specs.XapiStatementStatement.{activity_in, any_activity_of, context_holds, holds_activity, holds_at, is_activity_of}
 use Rattle.xapi_statement_keys.specs.Adding.{Adds, activity_keys, agent_keys, named_keys, object_keys, same_parts}
 use Rattle.xapi_statement_keys.specs.declared.key.Key.{Key}
 use Rattle.xapi_statement_keys.specs.declared.key.Key.TheVariants as key

@@ -9,16 +9,16 @@ use Rattle.lrs_json.specs.Find.{find}
 use Rattle.lrs_json.specs.Json.{Json}
 use Rattle.lrs_json.specs.View.{view}
 use Rattle.lrs_names.specs.Members.{has_member_that}
-use Rattle.xapi_format.specs.Authorities.{account_name, authority_json, authority_name, home_page}
-use Rattle.xapi_format.specs.Party.{is_party}
-use Rattle.xapi_format.specs.declared.authority.Authority.{Authority}
-use Rattle.xapi_format.specs.declared.authority.Authority.TheVariants as authority
-use Rattle.xapi_format.proofs.Authorities.{is_authority}
+use Rattle.xapi_query.specs.XapiFormatAuthorities.{account_name, authority_json, authority_name, home_page}
+use Rattle.xapi_query.specs.XapiFormatParty.{is_party}
+use Rattle.xapi_query.specs.XapiFormatAuthorityAuthority.{Authority}
+use Rattle.xapi_query.specs.XapiFormatAuthorityAuthorityTheVariants as authority
+use Rattle.xapi_query.specs.XapiFormatAuthoritiesProofs.{is_authority}
 use Rattle.xapi_query.specs.Filters.{is_of_provider, is_registered}
-use Rattle.xapi_rules.specs.Rules.{is_voiding}
-use Rattle.xapi_statement.specs.Parties.{has_context_agent, has_direct_agent, is_party_object, nested_has_agent}
-use Rattle.xapi_statement.specs.Statement.{has_activity, has_some_context_activity, is_about, is_activity_of, nested_has_activity, registration_of, target_of, verb_of}
-use Rattle.xapi_statement.specs.Stored.{StoredStatement}
+use Rattle.xapi_query.specs.XapiRulesRules.{is_voiding}
+use Rattle.xapi_query.specs.XapiStatementParties.{has_context_agent, has_direct_agent, is_party_object, nested_has_agent}
+use Rattle.xapi_query.specs.XapiStatementStatement.{has_activity, has_some_context_activity, is_about, is_activity_of, nested_has_activity, registration_of, target_of, verb_of}
+use Rattle.xapi_query.specs.XapiStatementStored.{StoredStatement}
 use Rattle.xapi_statement_keys.specs.Adding.{agent_keys, authority_keys, named_keys, object_keys, own_keys, place_keys, provider_in, provider_keys, reference_keys, registration_keys, same_parts}
 use Rattle.xapi_statement_keys.specs.Keys.{has_key}
 use Rattle.xapi_statement_keys.specs.declared.key.Key.{Key}

@@ -7,15 +7,15 @@ use Rattle.lrs_agents.specs.declared.identifiers.Ifi.{Ifi}
 use Rattle.lrs_json.specs.Json.{Json}
 use Rattle.lrs_json.specs.View.{view}
 use Rattle.lrs_names.specs.Members.{has_member_that}
-use Rattle.xapi_format.specs.Authorities.{authority_json}
-use Rattle.xapi_format.specs.Party.{is_party}
-use Rattle.xapi_format.specs.declared.authority.Authority.{Authority}
-use Rattle.xapi_format.specs.declared.authority.Authority.TheVariants as authority
+use Rattle.xapi_query.specs.XapiFormatAuthorities.{authority_json}
+use Rattle.xapi_query.specs.XapiFormatParty.{is_party}
+use Rattle.xapi_query.specs.XapiFormatAuthorityAuthority.{Authority}
+use Rattle.xapi_query.specs.XapiFormatAuthorityAuthorityTheVariants as authority
 use Rattle.xapi_query.specs.Filters.{is_of_provider, is_registered}
-use Rattle.xapi_statement.specs.Parties.{has_context_agent, has_direct_agent, is_party_object, nested_has_agent}
-use Rattle.xapi_statement.specs.Statement.{context_holds, has_some_context_activity, holds_at, is_about, is_activity_of}
-use Rattle.xapi_statement.specs.Statement.{nested_has_activity, verb_of}
-use Rattle.xapi_statement.specs.Stored.{StoredStatement}
+use Rattle.xapi_query.specs.XapiStatementParties.{has_context_agent, has_direct_agent, is_party_object, nested_has_agent}
+use Rattle.xapi_query.specs.XapiStatementStatement.{context_holds, has_some_context_activity, holds_at, is_about, is_activity_of}
+use Rattle.xapi_query.specs.XapiStatementStatement.{nested_has_activity, verb_of}
+use Rattle.xapi_query.specs.XapiStatementStored.{StoredStatement}
 use Rattle.xapi_statement_keys.specs.Keys.{is_among}
 use Rattle.xapi_statement_keys.specs.declared.key.Key.{Key}
 use Rattle.xapi_statement_keys.specs.declared.key.Key.TheVariants as key

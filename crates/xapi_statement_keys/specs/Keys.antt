@@ -7,10 +7,10 @@ use Rattle.std.specs.Str.{bytes_eq}
 use Rattle.std.specs.declared.cmp.Ordering.{Ordering}
 use Rattle.lrs_json.specs.View.{view}
 use Rattle.xapi_query.specs.Filters.{is_of_provider, is_registered}
-use Rattle.xapi_rules.specs.Rules.{is_voiding}
-use Rattle.xapi_statement.specs.Shown.{takes_part}
-use Rattle.xapi_statement.specs.Statement.{has_activity, target_of, verb_of}
-use Rattle.xapi_statement.specs.Stored.{StoredStatement}
+use Rattle.xapi_query.specs.XapiRulesRules.{is_voiding}
+use Rattle.xapi_query.specs.XapiStatementShown.{takes_part}
+use Rattle.xapi_query.specs.XapiStatementStatement.{has_activity, target_of, verb_of}
+use Rattle.xapi_query.specs.XapiStatementStored.{StoredStatement}
 use Rattle.xapi_statement_keys.specs.contracts.key.KeyOrd.TheImpl as key_ord
 use Rattle.xapi_statement_keys.specs.declared.key.Key.{Key}
 use Rattle.xapi_statement_keys.specs.declared.key.Key.TheVariants as key

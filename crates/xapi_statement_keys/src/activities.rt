@@ -2,7 +2,7 @@
 ghost use Rattle.std.specs.Prelude.{◌&&◌, ◌||◌, OnOk, false, map};
 ghost use Rattle.std.specs.Str.{bytes_eq};
 ghost use Rattle.lrs_json.specs.View.{view, elements_of};
-ghost use Rattle.xapi_statement.specs.Statement.{any_activity_of, holds_activity, holds_at, is_activity_of};
+ghost use Rattle.xapi_query.specs.XapiStatementStatement.{any_activity_of, holds_activity, holds_at, is_activity_of};
 ghost use Rattle.xapi_statement_keys.specs.Adding.{Adds, activity_keys, context_holds_some, holds_some, same_parts};
 
 use crate::Key;

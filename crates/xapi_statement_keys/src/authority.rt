@@ -1,7 +1,7 @@
 // The keys of the authority under which a statement stands.
 ghost use Rattle.std.specs.Prelude.{◌≡◌, ◌++◌, IfOk, OnOk, codes};
 ghost use Rattle.lrs_names.specs.Ids.{id_text};
-ghost use Rattle.xapi_format.specs.Authorities.{account_name, home_page};
+ghost use Rattle.xapi_query.specs.XapiFormatAuthorities.{account_name, home_page};
 ghost use Rattle.xapi_statement_keys.specs.Adding.{Adds, authority_keys, provider_in, provider_keys};
 
 use crate::Key;
@@ -11,7 +11,7 @@ use lrs_agents::Ifi;
 use lrs_json::{Memory, Text, utf8_text};
 use lrs_names::Id;
 use std::alloc::Global;
-use xapi_statement::Authority;
+use xapi_query::xapi_statement::Authority;
 
 /// The key of the authority's Agent, and that of the provider that it is.
 pub fn push_authority(keys: &mut Vec<Key>, authority: &Authority) -> Result<(), Memory>

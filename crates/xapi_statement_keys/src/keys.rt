@@ -1,7 +1,7 @@
 ghost use Rattle.std.specs.Prelude.{◌≡◌, ◌&&◌, ◌||◌, IfOk, OnOk, Some};
 ghost use Rattle.lrs_json.specs.View.{view};
-ghost use Rattle.xapi_rules.specs.Rules.{is_voiding};
-ghost use Rattle.xapi_statement.specs.Statement.{target_of};
+ghost use Rattle.xapi_query.specs.XapiRulesRules.{is_voiding};
+ghost use Rattle.xapi_query.specs.XapiStatementStatement.{target_of};
 ghost use Rattle.xapi_statement_keys.specs.Adding.{Adds, authority_keys, own_keys, place_keys, reference_keys, registration_keys, same_parts};
 ghost use Rattle.xapi_statement_keys.specs.Keys.{SameKeysAreOne, has_key, is_among};
 ghost use Rattle.xapi_statement_keys.specs.declared.key.Key.{Key as SpecKey};
@@ -13,7 +13,7 @@ use crate::places::push_places;
 use lrs_json::{Memory, Text};
 use lrs_names::Id;
 use std::alloc::Global;
-use xapi_statement::StoredStatement;
+use xapi_query::xapi_statement::StoredStatement;
 
 /// The keys of a statement. One may stand in the list more than once.
 #[derive(Drop)]

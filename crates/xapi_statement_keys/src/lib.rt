@@ -13,3 +13,4 @@ mod reading;
 
 pub use key::Key;
 pub use keys::{Keys, law_of_keys};
+pub use xapi_query::xapi_statement;

@@ -3,7 +3,7 @@ ghost use Rattle.std.specs.Prelude.{◌&&◌, OnOk, map, codes};
 ghost use Rattle.lrs_agents.specs.Identifiers.{same_ifi};
 ghost use Rattle.lrs_json.specs.View.{view, elements_of};
 ghost use Rattle.lrs_names.specs.Members.{has_member_that};
-ghost use Rattle.xapi_format.specs.Party.{any_identified, has_identified, is_identified, is_party};
+ghost use Rattle.xapi_query.specs.XapiFormatParty.{any_identified, has_identified, is_identified, is_party};
 ghost use Rattle.xapi_statement_keys.specs.Adding.{Adds, agent_keys, same_parts};
 
 use crate::Key;

@@ -3,8 +3,8 @@ ghost use Rattle.std.specs.Prelude.{◌||◌, OnOk, Some, false, codes};
 ghost use Rattle.lrs_json.specs.Find.{find};
 ghost use Rattle.lrs_json.specs.View.{view};
 ghost use Rattle.lrs_names.specs.Members.{has_member_that};
-ghost use Rattle.xapi_statement.specs.Parties.{has_context_agent, has_direct_agent, is_party_object, is_party_of_context, nested_has_agent};
-ghost use Rattle.xapi_statement.specs.Statement.{has_some_context_activity, is_about, is_activity_of, nested_has_activity};
+ghost use Rattle.xapi_query.specs.XapiStatementParties.{has_context_agent, has_direct_agent, is_party_object, is_party_of_context, nested_has_agent};
+ghost use Rattle.xapi_query.specs.XapiStatementStatement.{has_some_context_activity, is_about, is_activity_of, nested_has_activity};
 ghost use Rattle.xapi_statement_keys.specs.Adding.{Adds, agent_keys, context_holds_some, named_keys, object_keys, place_keys};
 
 use crate::Key;

@@ -2,7 +2,7 @@
 ghost use Rattle.std.specs.Prelude.{◌≡◌, map, option_map};
 ghost use Rattle.lrs_json.specs.View.{view, elements_of};
 ghost use Rattle.lrs_names.specs.Members.{items_of};
-ghost use Rattle.xapi_statement.specs.Statement.{activity_in};
+ghost use Rattle.xapi_query.specs.XapiStatementStatement.{activity_in};
 
 use lrs_json::{Text, Tree};
 use lrs_names::text_under;

@@ -1,7 +1,7 @@
 use Rattle.std.proofs.Common.{◌∙◌, ◌<◌, length, IfSome, sym, ap, subst}
 use Rattle.cmi5_running_verdicts.specs.Changes.{added, settled, tally_of}
 use Rattle.cmi5_running_verdicts.proofs.Settled.{counted_at, none_counted}
-use Rattle.cmi5_session.specs.Marked.{mark}
+use Rattle.cmi5_verdict.specs.Cmi5SessionMarked.{mark}
 use Rattle.cmi5_verdict.specs.Nodes.{seen}
 use Rattle.cmi5_verdict.specs.Places.{is_place}
 use Rattle.cmi5_verdict.specs.declared.said.Said.{Said}

@@ -3,7 +3,7 @@ use Rattle.std.specs.Option.{option_map_or}
 use Rattle.std.proofs.lemmas.Result.{on_ok_weaker}
 use Rattle.cmi5_running_verdicts.specs.Positions.{marked_at}
 use Rattle.cmi5_running_verdicts.specs.Tallies.{AreTallies}
-use Rattle.cmi5_session.specs.Marked.{MarkedStatement}
+use Rattle.cmi5_verdict.specs.Cmi5SessionMarked.{MarkedStatement}
 use Rattle.cmi5_verdict.specs.Nodes.{seen}
 use Rattle.cmi5_running_verdicts.proofs.Visits.{counted_as}
 use Rattle.cmi5_running_verdicts.proofs.running.count_nth.Goals as goal

@@ -1,4 +1,4 @@
-use Rattle.lrs_fold.specs.Own.{founding_entry}
+use Rattle.lrs_hall.specs.LrsFoldOwn.{founding_entry}
 use Rattle.lrs_app.proofs.NotFounded.{not_founded, founded_ends}
 use Rattle.lrs_app.proofs.init.init_disk.Goals as goal
 

@@ -1,7 +1,7 @@
 use Rattle.std.proofs.Common.{ap}
 use Rattle.lrs_console.specs.Asking.{put_answer}
-use Rattle.lrs_machine.specs.Acts.{Receipt}
-use Rattle.lrs_machine.specs.Desk.{history}
+use Rattle.lrs_hall.specs.LrsMachineActs.{Receipt}
+use Rattle.lrs_hall.specs.LrsMachineDesk.{history}
 use Rattle.lrs_app.proofs.Opened.{acts_begin, answered_cause, answered_doubts, answered_ends, trouble_cause, troubled_doubts, troubled_ends}
 use Rattle.lrs_app.proofs.intake.submit.Goals as goal
 

@@ -1,4 +1,4 @@
-use Rattle.lrs_machine.specs.Desk.{history}
+use Rattle.lrs_hall.specs.LrsMachineDesk.{history}
 use Rattle.lrs_app.proofs.Opened.{takes_in, takes_none}
 use Rattle.lrs_app.proofs.Openings.{opened_settled, still_doubts, still_goes}
 use Rattle.lrs_app.proofs.intake.take_in.Goals as goal

@@ -1,5 +1,5 @@
 use Rattle.std.proofs.Common.{inl, refl}
-use Rattle.lrs_machine.specs.Desk.{history}
+use Rattle.lrs_hall.specs.LrsMachineDesk.{history}
 use Rattle.lrs_app.proofs.Batches.{batch_lawful, batch_says}
 use Rattle.lrs_app.proofs.Loading.{on_ok, posted_next}
 use Rattle.lrs_app.proofs.Running.{same_doors}

@@ -1,6 +1,6 @@
 use Rattle.std.proofs.Common.{ap, rules}
-use Rattle.lrs_machine.specs.Acts.{Receipt}
-use Rattle.lrs_machine.specs.Desk.{history}
+use Rattle.lrs_hall.specs.LrsMachineActs.{Receipt}
+use Rattle.lrs_hall.specs.LrsMachineDesk.{history}
 use Rattle.lrs_app.specs.Load.{post_answer}
 use Rattle.lrs_app.specs.LoadSteps.{IsOfBatch}
 use Rattle.lrs_app.proofs.Loading.{answered_batch, known_said, troubled_batch}

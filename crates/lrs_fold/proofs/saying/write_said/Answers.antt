@@ -1,5 +1,5 @@
 use Rattle.std.proofs.Common.{◌≡◌, Bool, IfOk, if◌then◌else◌, subst}
-use Rattle.lrs_history.specs.Answers.{acceptance_said}
+use Rattle.lrs_reads.specs.LrsHistoryAnswers.{acceptance_said}
 use Rattle.lrs_replies.specs.declared.answered.Answered.TheVariants.{Kept, Same}
 use Rattle.lrs_fold.proofs.saying.write_said.Goals as goal
 

@@ -1,7 +1,7 @@
 use Rattle.std.proofs.Common.{◌≡◌, ◌++◌, ◌∷◌, [], ◌∙◌, ap, sym}
 use Rattle.std.proofs.lemmas.Result.{IfOk-weaker}
 use Rattle.lrs_command.specs.declared.who.Who.{Who}
-use Rattle.lrs_history.specs.DeskEffects.{abandoning_each, abandoning_one}
+use Rattle.lrs_sessions.specs.LrsHistoryDeskEffects.{abandoning_each, abandoning_one}
 use Rattle.lrs_learning.proofs.Changes.{one_is}
 use Rattle.lrs_learning.specs.Occasions.{occasion_at}
 use Rattle.lrs_parts.specs.Launches.{place_of_session}

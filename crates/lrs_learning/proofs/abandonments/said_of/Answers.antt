@@ -1,9 +1,9 @@
 use Rattle.std.proofs.Common.{map}
-use Rattle.lrs_history.specs.Endings.{abandoned_jsons}
+use Rattle.lrs_sessions.specs.LrsHistoryEndings.{abandoned_jsons}
 use Rattle.lrs_ids.specs.IdSupply.{left_of}
 use Rattle.lrs_learning.proofs.Changes.{first_made}
 use Rattle.lrs_learning.specs.Occasions.{supply_at}
-use Rattle.lrs_made.proofs.Supplied.{value_of}
+use Rattle.lrs_sessions.specs.LrsMadeSuppliedProofs.{value_of}
 use Rattle.lrs_parts.specs.Parts.{state_of}
 use Rattle.lrs_parts.specs.State.{used_in}
 use Rattle.lrs_learning.proofs.abandonments.said_of.Goals as goal

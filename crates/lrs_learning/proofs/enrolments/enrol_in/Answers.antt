@@ -1,7 +1,7 @@
 use Rattle.std.proofs.Common.{◌≡◌, Some, ◌∙◌}
 use Rattle.std.proofs.lemmas.Result.{IfOk-weaker}
 use Rattle.lrs_command.specs.declared.who.Who.{Who}
-use Rattle.lrs_history.specs.DeskEffects.{enrolling}
+use Rattle.lrs_sessions.specs.LrsHistoryDeskEffects.{enrolling}
 use Rattle.lrs_ids.specs.IdSupply.{left_of}
 use Rattle.lrs_learning.proofs.Changes.{enrolled_is, enrolled_under, registered}
 use Rattle.lrs_learning.specs.Occasions.{occasion_at}

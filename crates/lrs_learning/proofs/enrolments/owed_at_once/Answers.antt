@@ -1,6 +1,6 @@
 use Rattle.std.proofs.Common.{Option, IfSome, subst, sym}
-use Rattle.lrs_made.specs.Lent.{IsLentBy}
-use Rattle.lrs_made.specs.declared.enrolments.LentEnrolled.{LentEnrolled}
+use Rattle.lrs_sessions.specs.LrsMadeLent.{IsLentBy}
+use Rattle.lrs_sessions.specs.LrsMadeEnrolmentsLentEnrolled.{LentEnrolled}
 use Rattle.lrs_parts.specs.Parts.{state_of}
 use Rattle.lrs_learning.proofs.enrolments.owed_at_once.Goals as goal
 

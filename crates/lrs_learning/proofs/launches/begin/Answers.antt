@@ -1,14 +1,14 @@
 use Rattle.std.proofs.Common.{◌≡◌, ◌++◌, ◌∙◌, ℕ, suc, List, refl, sym, ap, map}
-use Rattle.lrs_history.specs.Launches.{launched_at}
-use Rattle.lrs_history.specs.Made.{left_behind, made_under}
+use Rattle.lrs_sessions.specs.LrsHistoryLaunches.{launched_at}
+use Rattle.lrs_sessions.specs.LrsHistoryMade.{left_behind, made_under}
 use Rattle.lrs_ids.specs.Ids.{Supply, rest_of}
 use Rattle.lrs_ids.specs.IdSupply.{GiveSame, left_of}
 use Rattle.lrs_json.specs.Json.{Json}
 use Rattle.lrs_learning.proofs.Changes.{first_made}
 use Rattle.lrs_learning.specs.Occasions.{supply_at}
-use Rattle.lrs_made.proofs.Same.{behind_mapped, behind_same}
-use Rattle.lrs_made.proofs.Supplied.{value_of}
-use Rattle.lrs_made.specs.Lent.{seen_target}
+use Rattle.lrs_sessions.specs.LrsMadeSameProofs.{behind_mapped, behind_same}
+use Rattle.lrs_sessions.specs.LrsMadeSuppliedProofs.{value_of}
+use Rattle.lrs_sessions.specs.LrsMadeLent.{seen_target}
 use Rattle.lrs_parts.specs.Parts.{state_of}
 use Rattle.lrs_parts.specs.State.{used_in}
 use Rattle.xapi_statement.specs.Stored.{StoredStatement}

@@ -1,11 +1,11 @@
 -- What is put into the effect is a launch's, whoever asks.
 use Rattle.std.proofs.Common.{◌∙◌, false, length, ap, map}
-use Rattle.lrs_history.specs.DeskEffects.{coming, session_begun}
-use Rattle.lrs_history.specs.Endings.{abandoned_jsons, open_of}
-use Rattle.lrs_history.specs.Launches.{address_at, data_at, data_key, launch_at}
+use Rattle.lrs_sessions.specs.LrsHistoryDeskEffects.{coming, session_begun}
+use Rattle.lrs_sessions.specs.LrsHistoryEndings.{abandoned_jsons, open_of}
+use Rattle.lrs_sessions.specs.LrsHistoryLaunches.{address_at, data_at, data_key, launch_at}
 use Rattle.lrs_learning.proofs.Changes.{launched_over}
-use Rattle.lrs_made.proofs.Supplied.{value_of}
-use Rattle.lrs_made.specs.Lent.{seen_target}
+use Rattle.lrs_sessions.specs.LrsMadeSuppliedProofs.{value_of}
+use Rattle.lrs_sessions.specs.LrsMadeLent.{seen_target}
 use Rattle.lrs_parts.specs.Parts.{state_of}
 use Rattle.lrs_parts.specs.declared.acceptance.Acceptance.TheVariants as acceptance
 use Rattle.lrs_parts.specs.declared.effect.Effect.{Effect}

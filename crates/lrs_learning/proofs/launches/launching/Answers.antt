@@ -1,8 +1,8 @@
 -- A unit that is there is launched, whoever asks.
 use Rattle.std.proofs.Common.{sym}
 use Rattle.lrs_learning.specs.Occasions.{occasion_at}
-use Rattle.lrs_made.specs.Lent.{seen_target}
-use Rattle.lrs_history.specs.Launches.{target}
+use Rattle.lrs_sessions.specs.LrsMadeLent.{seen_target}
+use Rattle.lrs_sessions.specs.LrsHistoryLaunches.{target}
 use Rattle.lrs_parts.specs.Parts.{state_of}
 use Rattle.lrs_learning.proofs.Changes.{launched_is}
 use Rattle.lrs_learning.proofs.launches.launching.Goals as goal

@@ -1,10 +1,10 @@
 -- What is pushed is the launched statement, under the next id.
 use Rattle.std.proofs.Common.{◌≡◌, ◌++◌, ◌∷◌, [], ◌∙◌, ℕ, List, OnOk, ap, subst}
 use Rattle.cmi5_launch.specs.Made.{said_launched, saying_json}
-use Rattle.lrs_history.specs.Made.{made_under}
+use Rattle.lrs_sessions.specs.LrsHistoryMade.{made_under}
 use Rattle.lrs_ids.specs.IdSupply.{left_of}
 use Rattle.lrs_json.specs.Json.{Json}
-use Rattle.lrs_made.specs.Lent.{seen_target}
+use Rattle.lrs_sessions.specs.LrsMadeLent.{seen_target}
 use Rattle.lrs_parts.specs.Parts.{state_of}
 use Rattle.lrs_parts.specs.State.{used_in}
 use Rattle.lrs_learning.proofs.launches.push_launched.Goals as goal

@@ -1,13 +1,13 @@
 use Rattle.std.proofs.Common.{◌≡◌, ◌∙◌, sym}
 use Rattle.std.proofs.lemmas.Result.{IfOk-weaker}
 use Rattle.lrs_command.specs.declared.who.Who.{Who}
-use Rattle.lrs_history.specs.DeskEffects.{waiving, waiving_as}
-use Rattle.lrs_history.specs.Launches.{target}
-use Rattle.lrs_history.specs.Made.{waived_at}
+use Rattle.lrs_sessions.specs.LrsHistoryDeskEffects.{waiving, waiving_as}
+use Rattle.lrs_sessions.specs.LrsHistoryLaunches.{target}
+use Rattle.lrs_sessions.specs.LrsHistoryMade.{waived_at}
 use Rattle.lrs_ids.specs.Ids.{rest_of}
 use Rattle.lrs_learning.proofs.Changes.{waiver_is}
 use Rattle.lrs_learning.specs.Occasions.{occasion_at, supply_at}
-use Rattle.lrs_made.specs.Lent.{seen_target}
+use Rattle.lrs_sessions.specs.LrsMadeLent.{seen_target}
 use Rattle.lrs_parts.specs.Parts.{state_of}
 use Rattle.lrs_learning.proofs.waivers.waiving.Goals as goal
 

@@ -2,7 +2,7 @@ use Rattle.std.proofs.Common.{◌∙◌, ap, suc}
 use Rattle.lrs_ids.specs.IdSupply.{left_of}
 use Rattle.lrs_json.specs.View.{view}
 use Rattle.lrs_learning.proofs.Changes.{waived_is, waived_with}
-use Rattle.lrs_made.specs.Lent.{seen_target}
+use Rattle.lrs_sessions.specs.LrsMadeLent.{seen_target}
 use Rattle.lrs_parts.specs.Parts.{state_of}
 use Rattle.lrs_parts.specs.State.{used_in}
 use Rattle.lrs_learning.proofs.waivers.waiving_as.Goals as goal

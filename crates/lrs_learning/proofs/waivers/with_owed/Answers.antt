@@ -1,13 +1,13 @@
 use Rattle.std.proofs.Common.{List, [], ◌∷◌, ◌++◌, ◌∙◌, Option, IfSome, ap, subst, sym}
 use Rattle.std.specs.Prelude.{option_map}
-use Rattle.lrs_history.specs.Enrolments.{enrolled_as}
-use Rattle.lrs_history.specs.Made.{made_under}
+use Rattle.lrs_sessions.specs.LrsHistoryEnrolments.{enrolled_as}
+use Rattle.lrs_sessions.specs.LrsHistoryMade.{made_under}
 use Rattle.lrs_ids.specs.Ids.{rest_of}
 use Rattle.lrs_ids.specs.IdSupply.{left_of}
 use Rattle.lrs_json.specs.View.{view}
 use Rattle.lrs_learning.proofs.Changes.{owed_behind_waived}
-use Rattle.lrs_made.specs.Lent.{IsLentBy, seen_enrolled, seen_target}
-use Rattle.lrs_made.specs.declared.enrolments.LentEnrolled.{LentEnrolled}
+use Rattle.lrs_sessions.specs.LrsMadeLent.{IsLentBy, seen_enrolled, seen_target}
+use Rattle.lrs_sessions.specs.LrsMadeEnrolmentsLentEnrolled.{LentEnrolled}
 use Rattle.lrs_parts.specs.Parts.{state_of}
 use Rattle.lrs_parts.specs.State.{used_in}
 use Rattle.xapi_statement.specs.Stored.{StoredStatement}

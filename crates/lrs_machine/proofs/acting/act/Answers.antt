@@ -1,6 +1,6 @@
 use Rattle.std.proofs.Common.{refl}
 use Rattle.std.specs.Prelude.{option_map}
-use Rattle.lrs_history.specs.History.{outcome}
+use Rattle.lrs_fold.specs.LrsHistoryHistory.{outcome}
 use Rattle.lrs_machine.specs.Fold.{state_of}
 use Rattle.lrs_machine.proofs.ActLemmas.{landed_does, settled_does, settled_doubt, unlanded, unsettled_does, unsettled_doubt}
 use Rattle.lrs_parts.proofs.Ahead.{none_more}

@@ -1,6 +1,6 @@
 use Rattle.std.proofs.Common.{None, Err, refl, sym, subst}
 use Rattle.lrs_fold.specs.Outcomes.{IsOutcome}
-use Rattle.lrs_history.specs.History.{outcome}
+use Rattle.lrs_fold.specs.LrsHistoryHistory.{outcome}
 use Rattle.lrs_machine.specs.Fold.{state_of}
 use Rattle.lrs_machine.specs.Steps.{Does}
 use Rattle.lrs_machine.proofs.ActLemmas.{said_does, wanting_does}

@@ -2,7 +2,7 @@ use Rattle.std.proofs.Common.{None, Err, sym, subst, ◌∙◌}
 use Rattle.std.specs.Prelude.{option_map}
 use Rattle.lrs_fold.specs.Outcomes.{IsOutcome}
 use Rattle.lrs_fold.specs.declared.outcome.Outcome.TheVariants as made
-use Rattle.lrs_history.specs.History.{Outcome}
+use Rattle.lrs_fold.specs.LrsHistoryHistory.{Outcome}
 use Rattle.lrs_machine.specs.Fold.{state_of}
 use Rattle.lrs_machine.specs.Steps.{Does}
 use Rattle.lrs_machine.proofs.ActLemmas.{wanting_does}

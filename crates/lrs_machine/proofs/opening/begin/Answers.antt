@@ -1,7 +1,7 @@
 use Rattle.std.proofs.Common.{◌≡◌, subst, OnOk}
 use Rattle.lrs_parts.specs.declared.effect.Effect.{Effect}
 use Rattle.lrs_parts.specs.State.{State, apply, nothing}
-use Rattle.lrs_history.specs.Effects.{effect}
+use Rattle.lrs_fold.specs.LrsHistoryEffects.{effect}
 use Rattle.lrs_machine.specs.Fold.{state_of}
 use Rattle.lrs_machine.proofs.opening.begin.Goals as goal
 

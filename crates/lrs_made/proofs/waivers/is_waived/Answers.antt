@@ -1,11 +1,11 @@
 -- The parts find the unit's registration with its course.
 use Rattle.std.proofs.Common.{◌≡◌, ◌<◌, IfOk, length, subst, sym}
 use Rattle.cmi5_launch.specs.Names.{waived}
-use Rattle.cmi5_verdict.specs.Nodes.{SeenEnrolment, activity_at, seen}
-use Rattle.cmi5_verdict.specs.Units.{stands}
+use Rattle.lrs_history.specs.Cmi5VerdictNodes.{SeenEnrolment, activity_at, seen}
+use Rattle.lrs_history.specs.Cmi5VerdictUnits.{stands}
 use Rattle.lrs_made.proofs.Lent.{enrolment_lent}
 use Rattle.lrs_made.specs.Lent.{enrolled_of}
-use Rattle.lrs_parts.specs.Parts.{state_of}
+use Rattle.lrs_history.specs.LrsPartsParts.{state_of}
 use Rattle.lrs_made.proofs.waivers.is_waived.Goals as goal
 
 pub is_waived-requires-clause-enrolled : goal.is_waived-requires-clause-enrolled

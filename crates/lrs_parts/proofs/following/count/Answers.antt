@@ -1,6 +1,6 @@
 use Rattle.std.proofs.Common.{◌++◌, ◌∷◌, ◌∙◌, [], sym}
 use Rattle.cmi5_running_verdicts.proofs.Elsewhere.{elsewhere_counted}
-use Rattle.cmi5_session.specs.Marked.{mark}
+use Rattle.cmi5_running_sessions.specs.Cmi5SessionMarked.{mark}
 use Rattle.lrs_parts.proofs.Enrolling.{counted_still}
 use Rattle.lrs_parts.proofs.following.count.Goals as goal
 

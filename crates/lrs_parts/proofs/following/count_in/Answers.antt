@@ -1,9 +1,9 @@
 use Rattle.std.proofs.Common.{◌++◌, ◌∷◌, ◌∙◌, [], Option, ap, sym}
 use Rattle.std.specs.Prelude.{option_map}
 use Rattle.cmi5_running_verdicts.proofs.Elsewhere.{elsewhere_counted}
-use Rattle.cmi5_session.specs.Marked.{mark}
-use Rattle.cmi5_verdict.specs.Nodes.{seen}
-use Rattle.cmi5_verdict.specs.declared.enrolment.Enrolment.{Enrolment}
+use Rattle.cmi5_running_sessions.specs.Cmi5SessionMarked.{mark}
+use Rattle.cmi5_running_verdicts.specs.Cmi5VerdictNodes.{seen}
+use Rattle.cmi5_running_verdicts.specs.Cmi5VerdictEnrolmentEnrolment.{Enrolment}
 use Rattle.lrs_parts.proofs.Enrolling.{always_enrolled, counted_on}
 use Rattle.lrs_parts.proofs.following.count_in.Goals as goal
 

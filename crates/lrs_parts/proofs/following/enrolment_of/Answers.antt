@@ -1,7 +1,7 @@
 use Rattle.std.proofs.Common.{◌∙◌, Some, Option, ap, option_copied, sym}
 use Rattle.std.specs.Prelude.{option_map}
 use Rattle.cmi5_course.specs.Courses.{Course}
-use Rattle.cmi5_verdict.specs.Nodes.{SeenEnrolment}
+use Rattle.cmi5_running_verdicts.specs.Cmi5VerdictNodes.{SeenEnrolment}
 use Rattle.lrs_parts.specs.Progress.{enrolment_with}
 use Rattle.lrs_parts.proofs.following.enrolment_of.Goals as goal
 

@@ -1,7 +1,7 @@
 use Rattle.std.proofs.Common.{◌≡◌, ◌+◌, ◌++◌, ◌∷◌, ◌∙◌, [], Bool, Option, false, take, ap, subst, sym, option_copied}
 use Rattle.std.specs.Option.{option_map_or}
 use Rattle.std.proofs.lemmas.Option.{same_Some}
-use Rattle.cmi5_session.specs.Marked.{mark, marked}
+use Rattle.cmi5_running_sessions.specs.Cmi5SessionMarked.{mark, marked}
 use Rattle.lrs_parts.specs.Progress.{Follows}
 use Rattle.lrs_parts.specs.Trees.{voided_in}
 use Rattle.lrs_parts.proofs.Events.{marks_few}

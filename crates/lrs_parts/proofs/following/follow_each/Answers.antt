@@ -2,7 +2,7 @@ use Rattle.std.proofs.Common.{◌≡◌, ◌≤◌, ◌∙◌, ◌+◌, ℕ, Lis
 use Rattle.std.proofs.lemmas.List.{drop_all}
 use Rattle.std.proofs.lemmas.Option.{slice_get_read}
 use Rattle.cmi5_running_sessions.specs.Room.{HasPlacesFor}
-use Rattle.cmi5_session.specs.Marked.{marked}
+use Rattle.cmi5_running_sessions.specs.Cmi5SessionMarked.{marked}
 use Rattle.lrs_ids.proofs.Turns.{turn}
 use Rattle.lrs_parts.specs.Progress.{Follows}
 use Rattle.lrs_parts.proofs.Arrivals.{Next, next_of}

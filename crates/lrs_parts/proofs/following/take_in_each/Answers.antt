@@ -1,5 +1,5 @@
 use Rattle.std.proofs.Common.{◌≡◌, ◌∙◌, ℕ, List, length, take, ap, subst, sym, arith}
-use Rattle.cmi5_session.specs.Marked.{marked}
+use Rattle.cmi5_running_sessions.specs.Cmi5SessionMarked.{marked}
 use Rattle.lrs_ids.specs.Ids.{are_distinct}
 use Rattle.lrs_parts.specs.Progress.{Follows}
 use Rattle.lrs_parts.specs.Trees.{AreTargets}

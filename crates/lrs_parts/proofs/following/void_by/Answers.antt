@@ -1,5 +1,5 @@
 use Rattle.std.proofs.Common.{◌≡◌, ◌+◌, ◌++◌, ◌∷◌, ◌∙◌, [], List, Some, take, ap, append_assoc, option_copied, subst, sym, false}
-use Rattle.cmi5_session.specs.Marked.{MarkedStatement, mark}
+use Rattle.cmi5_running_sessions.specs.Cmi5SessionMarked.{MarkedStatement, mark}
 use Rattle.lrs_parts.specs.Progress.{Follows, voided_anew}
 use Rattle.lrs_parts.proofs.Events.{Voiding, no_event, voiding_at}
 use Rattle.lrs_parts.proofs.Kept.{places_kept}

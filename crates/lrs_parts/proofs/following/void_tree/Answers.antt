@@ -1,6 +1,6 @@
 use Rattle.std.proofs.Common.{◌≡◌, ◌++◌, ◌∷◌, ◌∙◌, ap, subst, sym, false, true, option_copied}
 use Rattle.std.proofs.lemmas.Option.{none-some, same_Some}
-use Rattle.cmi5_session.specs.Marked.{mark}
+use Rattle.cmi5_running_sessions.specs.Cmi5SessionMarked.{mark}
 use Rattle.lrs_parts.specs.Progress.{Follows}
 use Rattle.lrs_parts.proofs.Kept.{places_kept}
 use Rattle.xapi_statement.specs.Stored.{StoredStatement}

@@ -1,7 +1,7 @@
 use Rattle.std.proofs.Common.{◌∙◌, Option, refl, sym, ap}
 use Rattle.std.specs.Prelude.{option_map}
-use Rattle.cmi5_verdict.specs.Nodes.{seen}
-use Rattle.cmi5_verdict.specs.declared.enrolment.Enrolment.{Enrolment}
+use Rattle.cmi5_running_verdicts.specs.Cmi5VerdictNodes.{seen}
+use Rattle.cmi5_running_verdicts.specs.Cmi5VerdictEnrolmentEnrolment.{Enrolment}
 use Rattle.lrs_parts.proofs.readying.enrolment_of.Goals as goal
 
 pub returns-in-Some-clause-enrolment : goal.returns-in-Some-clause-enrolment

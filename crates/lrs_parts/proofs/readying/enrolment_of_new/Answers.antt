@@ -2,8 +2,8 @@ use Rattle.std.proofs.Common.{◌≡◌, ◌∙◌, Option, Some, subst, sym}
 use Rattle.std.specs.Prelude.{option_map}
 use Rattle.std.proofs.lemmas.Option.{none-some, same_Some}
 use Rattle.std.proofs.lemmas.Result.{IfOk-weaker}
-use Rattle.cmi5_verdict.specs.Nodes.{seen}
-use Rattle.cmi5_verdict.specs.declared.enrolment.Enrolment.{Enrolment}
+use Rattle.cmi5_running_verdicts.specs.Cmi5VerdictNodes.{seen}
+use Rattle.cmi5_running_verdicts.specs.Cmi5VerdictEnrolmentEnrolment.{Enrolment}
 use Rattle.lrs_parts.specs.Progress.{IsEnrolmentOf}
 use Rattle.lrs_parts.specs.declared.registrations.HeldRegistration.{HeldRegistration}
 use Rattle.lrs_parts.proofs.readying.enrolment_of_new.Goals as goal

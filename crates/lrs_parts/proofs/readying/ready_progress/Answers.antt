@@ -1,7 +1,7 @@
 use Rattle.std.proofs.Common.{IfSome, List, Option, subst, sym}
 use Rattle.cmi5_running_sessions.specs.Room.{MakesPlaces}
 use Rattle.cmi5_running_verdicts.specs.Holding.{StandBehindHolders}
-use Rattle.cmi5_verdict.specs.declared.enrolment.Enrolment.{Enrolment}
+use Rattle.cmi5_running_verdicts.specs.Cmi5VerdictEnrolmentEnrolment.{Enrolment}
 use Rattle.lrs_parts.proofs.Kept.{none_said}
 use Rattle.lrs_parts.proofs.Readied.{lent, readied}
 use Rattle.xapi_statement.specs.Stored.{StoredStatement}

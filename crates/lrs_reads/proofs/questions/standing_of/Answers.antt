@@ -1,7 +1,7 @@
 use Rattle.std.proofs.Common.{ℕ, List, Bool, None, ap, ◌∙◌}
 use Rattle.cmi5_course.specs.Courses.{course_key}
 use Rattle.cmi5_course.specs.declared.course.Node.{Node}
-use Rattle.lrs_made.specs.Lent.{seen_enrolled}
+use Rattle.lrs_refusals.specs.LrsMadeLent.{seen_enrolled}
 use Rattle.lrs_replies.specs.Standings.{nodes_of, standing_body}
 use Rattle.lrs_replies.specs.declared.answered.Answered.TheVariants.{Shown}
 use Rattle.lrs_reads.proofs.questions.standing_of.Goals as goal

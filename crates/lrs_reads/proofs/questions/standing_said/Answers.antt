@@ -1,7 +1,7 @@
 use Rattle.std.proofs.Common.{◌≡◌, IfOk, Option, ap, subst}
-use Rattle.lrs_history.specs.Answers.{standing_said}
-use Rattle.lrs_history.specs.Enrolments.{Enrolled}
-use Rattle.lrs_parts.specs.Parts.{state_of}
+use Rattle.lrs_refusals.specs.LrsHistoryAnswers.{standing_said}
+use Rattle.lrs_refusals.specs.LrsHistoryEnrolments.{Enrolled}
+use Rattle.lrs_refusals.specs.LrsPartsParts.{state_of}
 use Rattle.lrs_reads.proofs.questions.standing_said.Goals as goal
 
 pub standing_of-requires : goal.standing_of-requires

@@ -1,9 +1,9 @@
 use Rattle.std.proofs.Common.{◌∙◌, ap, sym}
 use Rattle.std.specs.Option.{option_copied}
 use Rattle.cmi5_course.specs.Courses.{course_key, course_of}
-use Rattle.lrs_history.specs.Refusals.{refused_beside}
-use Rattle.lrs_parts.specs.Courses.{course_under}
-use Rattle.lrs_parts.specs.Parts.{SeenParts}
+use Rattle.lrs_made.specs.LrsHistoryRefusals.{refused_beside}
+use Rattle.lrs_made.specs.LrsPartsCourses.{course_under}
+use Rattle.lrs_made.specs.LrsPartsParts.{SeenParts}
 use Rattle.lrs_refusals.proofs.courses.course_conflict.Goals as goal
 
 pub returns-in-Some : goal.returns-in-Some

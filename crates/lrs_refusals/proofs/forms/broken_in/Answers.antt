@@ -1,6 +1,6 @@
 use Rattle.std.proofs.Common.{◌+◌, drop, sym, ap, ◌∙◌, arith, Some}
 use Rattle.std.specs.Option.{option_or}
-use Rattle.lrs_history.specs.Refusals.{broken_in}
+use Rattle.lrs_made.specs.LrsHistoryRefusals.{broken_in}
 use Rattle.lrs_ids.proofs.Turns.{turn, next_passed, next_found, none_found}
 use Rattle.lrs_refusals.proofs.forms.broken_in.Goals as goal
 

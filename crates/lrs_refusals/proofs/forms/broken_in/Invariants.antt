@@ -1,5 +1,5 @@
 use Rattle.std.proofs.Common.{◌≡◌, drop}
-use Rattle.lrs_history.specs.Refusals.{broken_in}
+use Rattle.lrs_made.specs.LrsHistoryRefusals.{broken_in}
 use Rattle.lrs_refusals.proofs.forms.broken_in.Given as goal
 
 abbrev pub invariant-loop-statement : goal.invariant-loop-statement

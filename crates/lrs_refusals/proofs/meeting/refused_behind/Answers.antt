@@ -2,7 +2,7 @@ use Rattle.std.proofs.Common.{◌≡◌, ◌+◌, sym, ap, ◌∙◌, arith}
 use Rattle.cmi5_session.specs.Views.{seen}
 use Rattle.lrs_refusals.proofs.Naming.{no_trees_left}
 use Rattle.lrs_refusals.specs.Meeting.{refused_behind, refused_from}
-use Rattle.lrs_parts.specs.Parts.{state_of}
+use Rattle.lrs_made.specs.LrsPartsParts.{state_of}
 use Rattle.lrs_refusals.proofs.meeting.refused_behind.Goals as goal
 
 pub loop-at-preserved : goal.loop-at-preserved

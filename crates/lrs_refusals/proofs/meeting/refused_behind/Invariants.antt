@@ -2,7 +2,7 @@ use Rattle.std.proofs.Common.{◌≡◌}
 use Rattle.cmi5_session.specs.Views.{seen}
 use Rattle.lrs_refusals.specs.Meeting.{refused_behind, refused_from}
 use Rattle.lrs_refusals.specs.Naming.{with_these_ids}
-use Rattle.lrs_parts.specs.Parts.{state_of}
+use Rattle.lrs_made.specs.LrsPartsParts.{state_of}
 use Rattle.lrs_refusals.proofs.meeting.refused_behind.Given as goal
 
 -- the rest, behind the session so far

@@ -4,7 +4,7 @@ use Rattle.std.specs.Option.{option_or}
 use Rattle.lrs_refusals.specs.Meeting.{refused_each}
 use Rattle.lrs_ids.proofs.Turns.{turn, next_passed, next_found, none_found}
 use Rattle.lrs_refusals.proofs.meeting.refused_each.Goals as goal
-use Rattle.lrs_parts.specs.Parts.{state_of}
+use Rattle.lrs_made.specs.LrsPartsParts.{state_of}
 use Rattle.lrs_refusals.proofs.Naming.{lawful_at}
 
 pub refused_own-requires : goal.refused_own-requires

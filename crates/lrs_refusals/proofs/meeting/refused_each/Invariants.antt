@@ -1,6 +1,6 @@
 use Rattle.std.proofs.Common.{◌≡◌, drop}
 use Rattle.lrs_refusals.specs.Meeting.{refused_each}
-use Rattle.lrs_parts.specs.Parts.{state_of}
+use Rattle.lrs_made.specs.LrsPartsParts.{state_of}
 use Rattle.lrs_refusals.proofs.meeting.refused_each.Given as goal
 
 abbrev pub invariant-loop-statement : goal.invariant-loop-statement

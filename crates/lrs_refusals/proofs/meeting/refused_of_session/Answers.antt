@@ -2,9 +2,9 @@ use Rattle.std.proofs.Common.{ℕ, List, Option, sym, ap, ◌∙◌}
 use Rattle.std.specs.Prelude.{unwrap_or}
 use Rattle.cmi5_session.specs.Rules.{broken_rule}
 use Rattle.cmi5_session.specs.Views.{seen}
-use Rattle.lrs_history.specs.Refusals.{told_forbidden}
+use Rattle.lrs_made.specs.LrsHistoryRefusals.{told_forbidden}
 use Rattle.lrs_json.specs.View.{view}
-use Rattle.lrs_parts.specs.Parts.{state_of}
+use Rattle.lrs_made.specs.LrsPartsParts.{state_of}
 use Rattle.lrs_refusals.proofs.Held.{held_or_new}
 use Rattle.lrs_refusals.specs.Meeting.{told_if_held}
 use Rattle.lrs_replies.specs.declared.answered.Refusal.{Refusal}

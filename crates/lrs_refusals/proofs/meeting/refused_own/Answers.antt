@@ -1,7 +1,7 @@
 use Rattle.std.proofs.Common.{◌≡◌, ℕ, List, Option, IfOk, subst}
-use Rattle.lrs_history.specs.Refusals.{forbidden, refused_under}
+use Rattle.lrs_made.specs.LrsHistoryRefusals.{forbidden, refused_under}
 use Rattle.lrs_json.specs.View.{view}
-use Rattle.lrs_parts.specs.Parts.{state_of}
+use Rattle.lrs_made.specs.LrsPartsParts.{state_of}
 use Rattle.lrs_refusals.proofs.meeting.refused_own.Goals as goal
 
 pub returns : goal.returns

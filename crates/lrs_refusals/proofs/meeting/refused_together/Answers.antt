@@ -6,8 +6,8 @@ use Rattle.lrs_refusals.proofs.Naming.{with_ids_again}
 use Rattle.lrs_refusals.proofs.Together.{each_refused, session_refused}
 use Rattle.lrs_refusals.specs.Meeting.{occasion_of, refused_behind, was_abandoned}
 use Rattle.lrs_refusals.specs.Naming.{with_these_ids}
-use Rattle.lrs_history.specs.Occasions.{supply_in}
-use Rattle.lrs_parts.specs.Parts.{state_of}
+use Rattle.lrs_made.specs.LrsHistoryOccasions.{supply_in}
+use Rattle.lrs_made.specs.LrsPartsParts.{state_of}
 use Rattle.lrs_record.specs.declared.entry.Write.TheVariants.{Post}
 use Rattle.lrs_refusals.proofs.meeting.refused_together.Goals as goal
 

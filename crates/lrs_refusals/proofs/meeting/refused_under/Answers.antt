@@ -1,8 +1,8 @@
 use Rattle.std.proofs.Common.{Option, sym, ap, ◌∙◌}
 use Rattle.std.specs.Prelude.{unwrap_or}
-use Rattle.lrs_history.specs.Refusals.{forbidden}
+use Rattle.lrs_made.specs.LrsHistoryRefusals.{forbidden}
 use Rattle.lrs_json.specs.View.{view}
-use Rattle.lrs_parts.specs.Parts.{state_of}
+use Rattle.lrs_made.specs.LrsPartsParts.{state_of}
 use Rattle.lrs_refusals.proofs.Held.{held_or_new}
 use Rattle.lrs_replies.specs.declared.answered.Refusal.{Refusal}
 use Rattle.lrs_refusals.proofs.meeting.refused_under.Goals as goal

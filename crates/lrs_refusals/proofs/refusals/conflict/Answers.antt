@@ -1,9 +1,9 @@
 use Rattle.std.proofs.Common.{List, sym, subst, ap, ◌∙◌}
 use Rattle.std.proofs.lemmas.Result.{IfOk-weaker}
 use Rattle.lrs_refusals.specs.Meeting.{occasion_of}
-use Rattle.lrs_history.specs.Refusals.{conflict}
+use Rattle.lrs_made.specs.LrsHistoryRefusals.{conflict}
 use Rattle.lrs_json.specs.declared.tree.Tree.{Tree}
-use Rattle.lrs_parts.specs.Parts.{state_of}
+use Rattle.lrs_made.specs.LrsPartsParts.{state_of}
 use Rattle.lrs_record.specs.Entries.{AreLawfulTrees, IsLawfulWrite}
 use Rattle.lrs_record.specs.declared.entry.Write.{Write}
 use Rattle.lrs_record.specs.declared.entry.Write.TheVariants.{Post}

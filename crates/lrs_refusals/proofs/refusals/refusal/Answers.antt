@@ -1,8 +1,8 @@
 use Rattle.std.proofs.Common.{ap, ◌∙◌}
 use Rattle.std.proofs.lemmas.Result.{IfOk-weaker}
 use Rattle.lrs_refusals.specs.Meeting.{occasion_of}
-use Rattle.lrs_history.specs.Refusals.{refusal_at}
-use Rattle.lrs_parts.specs.Parts.{state_of}
+use Rattle.lrs_made.specs.LrsHistoryRefusals.{refusal_at}
+use Rattle.lrs_made.specs.LrsPartsParts.{state_of}
 use Rattle.lrs_replies.specs.Texts.{token_text}
 use Rattle.lrs_refusals.proofs.refusals.refusal.Goals as goal
 

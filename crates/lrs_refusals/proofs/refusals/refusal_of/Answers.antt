@@ -1,7 +1,7 @@
 use Rattle.std.proofs.Common.{sym, ap, ◌∙◌}
 use Rattle.std.proofs.lemmas.Result.{IfOk-weaker}
 use Rattle.lrs_refusals.proofs.Together.{last_reason}
-use Rattle.lrs_history.specs.Refusals.{barred}
+use Rattle.lrs_made.specs.LrsHistoryRefusals.{barred}
 use Rattle.lrs_refusals.proofs.refusals.refusal_of.Goals as goal
 
 pub returns-clause-refused : goal.returns-clause-refused

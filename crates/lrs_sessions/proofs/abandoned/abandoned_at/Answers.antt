@@ -1,8 +1,8 @@
 use Rattle.std.proofs.Common.{◌∙◌, option_and_then, slice_get, sym, ap}
 use Rattle.std.proofs.lemmas.Result.{IfOk-weaker}
 use Rattle.std.specs.Option.{option_copied}
-use Rattle.lrs_history.specs.Endings.{abandoned_of}
-use Rattle.lrs_parts.specs.Parts.{state_of, SeenParts}
+use Rattle.lrs_made.specs.LrsHistoryEndings.{abandoned_of}
+use Rattle.lrs_made.specs.LrsPartsParts.{state_of, SeenParts}
 use Rattle.lrs_sessions.proofs.abandoned.abandoned_at.Goals as goal
 
 pub returns : goal.returns

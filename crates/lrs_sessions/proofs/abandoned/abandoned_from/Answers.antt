@@ -1,5 +1,5 @@
 use Rattle.lrs_made.specs.Lent.{seen_target}
-use Rattle.lrs_parts.specs.Parts.{state_of}
+use Rattle.lrs_made.specs.LrsPartsParts.{state_of}
 use Rattle.lrs_sessions.proofs.Told.{abandoned_there}
 use Rattle.lrs_sessions.proofs.abandoned.abandoned_from.Goals as goal
 

@@ -1,7 +1,7 @@
 use Rattle.std.proofs.Common.{◌∙◌, option_and_then, sym, ap}
 use Rattle.std.proofs.lemmas.Result.{IfOk-weaker}
-use Rattle.lrs_history.specs.Endings.{abandoned_from}
-use Rattle.lrs_parts.specs.Parts.{state_of}
+use Rattle.lrs_made.specs.LrsHistoryEndings.{abandoned_from}
+use Rattle.lrs_made.specs.LrsPartsParts.{state_of}
 use Rattle.lrs_sessions.proofs.abandoned.abandoned_of.Goals as goal
 
 pub returns-in-Some : goal.returns-in-Some

@@ -1,8 +1,8 @@
 use Rattle.std.proofs.Common.{◌∙◌, ap, arith}
 use Rattle.std.proofs.lemmas.List.{take_all}
-use Rattle.lrs_history.specs.Endings.{abandoned_at, abandoned_jsons}
+use Rattle.lrs_made.specs.LrsHistoryEndings.{abandoned_at, abandoned_jsons}
 use Rattle.lrs_made.specs.Said.{jsons_of}
-use Rattle.lrs_parts.specs.Parts.{state_of}
+use Rattle.lrs_made.specs.LrsPartsParts.{state_of}
 use Rattle.lrs_sessions.proofs.Filled.{given_more}
 use Rattle.lrs_sessions.proofs.abandoned.abandoned_statements.Goals as goal
 

@@ -1,7 +1,7 @@
 use Rattle.std.proofs.Common.{◌≡◌, take}
-use Rattle.lrs_history.specs.Endings.{abandoned_jsons}
+use Rattle.lrs_made.specs.LrsHistoryEndings.{abandoned_jsons}
 use Rattle.lrs_made.specs.Said.{jsons_of}
-use Rattle.lrs_parts.specs.Parts.{state_of}
+use Rattle.lrs_made.specs.LrsPartsParts.{state_of}
 use Rattle.lrs_sessions.proofs.abandoned.abandoned_statements.Given as goal
 
 -- what is said of those so far

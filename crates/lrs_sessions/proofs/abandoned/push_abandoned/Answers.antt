@@ -2,7 +2,7 @@ use Rattle.std.proofs.Common.{◌∙◌, sym, ap}
 use Rattle.std.proofs.lemmas.Result.{on_ok_weaker}
 use Rattle.lrs_json.specs.View.{view}
 use Rattle.lrs_made.specs.Said.{json_given, jsons_of}
-use Rattle.lrs_parts.specs.Parts.{state_of}
+use Rattle.lrs_made.specs.LrsPartsParts.{state_of}
 use Rattle.lrs_sessions.proofs.Told.{told_none, told_one}
 use Rattle.lrs_sessions.proofs.abandoned.push_abandoned.Goals as goal
 

@@ -1,8 +1,8 @@
 use Rattle.std.proofs.Common.{◌≡◌, ◌&&◌, ℕ}
 use Rattle.std.specs.Prelude.{filter}
 use Rattle.std.specs.List.{range_with_len}
-use Rattle.lrs_history.specs.Endings.{is_number_of, is_open}
-use Rattle.lrs_parts.specs.Parts.{state_of}
+use Rattle.lrs_made.specs.LrsHistoryEndings.{is_number_of, is_open}
+use Rattle.lrs_made.specs.LrsPartsParts.{state_of}
 use Rattle.lrs_sessions.proofs.closed.open_of.Given as goal
 
 -- those of the numbers so far

@@ -1,8 +1,8 @@
 use Rattle.std.proofs.Common.{◌≡◌, ◌&&◌, ◌∙◌, ℕ, ap, arith}
 use Rattle.std.specs.Prelude.{filter}
 use Rattle.std.specs.List.{range_with_len}
-use Rattle.lrs_history.specs.Endings.{is_idle, is_open}
-use Rattle.lrs_parts.specs.Parts.{state_of}
+use Rattle.lrs_made.specs.LrsHistoryEndings.{is_idle, is_open}
+use Rattle.lrs_made.specs.LrsPartsParts.{state_of}
 use Rattle.lrs_sessions.proofs.Filled.{passed_more}
 use Rattle.lrs_sessions.proofs.idle.idle_ones.Goals as goal
 

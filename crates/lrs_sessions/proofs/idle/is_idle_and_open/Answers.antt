@@ -1,7 +1,7 @@
 use Rattle.std.proofs.Common.{◌+◌, ◌*◌, ◌∙◌, ℕ, nat_le, sym, ap}
 use Rattle.std.proofs.lemmas.Bool.{and_right}
-use Rattle.lrs_history.specs.Endings.{is_idle, is_open}
-use Rattle.lrs_parts.specs.Parts.{state_of}
+use Rattle.lrs_made.specs.LrsHistoryEndings.{is_idle, is_open}
+use Rattle.lrs_made.specs.LrsPartsParts.{state_of}
 use Rattle.lrs_sessions.proofs.Quiet.{desk_late, idle_alone}
 use Rattle.lrs_sessions.proofs.idle.is_idle_and_open.Goals as goal
 

@@ -1,8 +1,8 @@
 use Rattle.std.proofs.Common.{◌∙◌, ℕ, option_map, slice_get, ap, arith}
 use Rattle.std.proofs.lemmas.List.{take_all}
 use Rattle.cmi5_course.specs.declared.launch.Launch.{Launch}
-use Rattle.lrs_history.specs.Endings.{sessions_at}
-use Rattle.lrs_parts.specs.Parts.{state_of}
+use Rattle.lrs_made.specs.LrsHistoryEndings.{sessions_at}
+use Rattle.lrs_made.specs.LrsPartsParts.{state_of}
 use Rattle.lrs_sessions.proofs.Filled.{given_more}
 use Rattle.lrs_sessions.proofs.numbers.sessions_at.Goals as goal
 

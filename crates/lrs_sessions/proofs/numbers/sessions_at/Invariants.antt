@@ -1,6 +1,6 @@
 use Rattle.std.proofs.Common.{◌≡◌, take}
-use Rattle.lrs_history.specs.Endings.{sessions_at}
-use Rattle.lrs_parts.specs.Parts.{state_of}
+use Rattle.lrs_made.specs.LrsHistoryEndings.{sessions_at}
+use Rattle.lrs_made.specs.LrsPartsParts.{state_of}
 use Rattle.lrs_sessions.proofs.numbers.sessions_at.Given as goal
 
 -- those of the numbers so far

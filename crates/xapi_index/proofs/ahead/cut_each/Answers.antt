@@ -5,7 +5,7 @@ use Rattle.xapi_index.specs.Index.{is_coming, lists_of}
 use Rattle.xapi_index.proofs.Changing.{below_again, changed_more}
 use Rattle.xapi_index.proofs.Keyed.{coming_more}
 use Rattle.xapi_postings.specs.Ascending.{below}
-use Rattle.xapi_statement_keys.specs.Keys.{is_among}
+use Rattle.xapi_postings.specs.XapiStatementKeysKeys.{is_among}
 use Rattle.xapi_index.proofs.ahead.cut_each.Goals as goal
 
 pub loop-keys-init : goal.loop-keys-init

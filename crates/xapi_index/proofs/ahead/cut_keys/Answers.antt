@@ -4,7 +4,7 @@ use Rattle.xapi_index.specs.Ahead.{ChangesEach}
 use Rattle.xapi_index.proofs.Changing.{below_again, changed_more}
 use Rattle.xapi_index.proofs.Keyed.{among_more}
 use Rattle.xapi_postings.specs.Ascending.{below}
-use Rattle.xapi_statement_keys.specs.Keys.{is_among, is_same_key}
+use Rattle.xapi_postings.specs.XapiStatementKeysKeys.{is_among, is_same_key}
 use Rattle.xapi_index.proofs.ahead.cut_keys.Goals as goal
 
 pub loop-key-init : goal.loop-key-init

@@ -1,7 +1,7 @@
 use Rattle.std.proofs.Common.{take}
 use Rattle.xapi_index.specs.Ahead.{ChangesEach}
 use Rattle.xapi_postings.specs.Ascending.{below}
-use Rattle.xapi_statement_keys.specs.Keys.{is_among}
+use Rattle.xapi_postings.specs.XapiStatementKeysKeys.{is_among}
 use Rattle.xapi_index.proofs.ahead.cut_keys.Given as goal
 
 abbrev pub invariant-loop-key : goal.invariant-loop-key

@@ -4,7 +4,7 @@ use Rattle.xapi_index.specs.Ahead.{StandAhead}
 use Rattle.xapi_index.specs.Index.{lists_of}
 use Rattle.xapi_index.proofs.Standing.{stand_index}
 use Rattle.xapi_index.proofs.Succeeding.{given_ok}
-use Rattle.xapi_statement.specs.Stored.{StoredStatement}
+use Rattle.xapi_postings.specs.XapiStatementStored.{StoredStatement}
 use Rattle.xapi_index.proofs.ahead.keep_new.Goals as goal
 
 pub returns-in_err-push_ahead-clause-index : goal.returns-in_err-push_ahead-clause-index

@@ -4,7 +4,7 @@ use Rattle.xapi_index.specs.Ahead.{ChangesEach}
 use Rattle.xapi_index.proofs.Changing.{changed_more, changed_same, changed_some, posted_again}
 use Rattle.xapi_index.proofs.Keyed.{among_front, among_more}
 use Rattle.xapi_postings.specs.Postings.{posted}
-use Rattle.xapi_statement_keys.specs.Keys.{is_among, is_same_key}
+use Rattle.xapi_postings.specs.XapiStatementKeysKeys.{is_among, is_same_key}
 use Rattle.xapi_index.proofs.ahead.post_each.Goals as goal
 
 pub loop-key-init : goal.loop-key-init

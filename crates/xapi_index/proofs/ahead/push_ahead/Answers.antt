@@ -1,5 +1,5 @@
 use Rattle.std.proofs.Common.{◌∙◌, [], ◌∷◌, ◌++◌, ap}
-use Rattle.xapi_statement.specs.Stored.{StoredStatement}
+use Rattle.xapi_postings.specs.XapiStatementStored.{StoredStatement}
 use Rattle.xapi_index.proofs.ahead.push_ahead.Goals as goal
 
 pub returns : goal.returns

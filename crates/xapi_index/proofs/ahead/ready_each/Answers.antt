@@ -3,7 +3,7 @@ use Rattle.xapi_index.specs.Index.{ArePosted, IsIndex, lists_of}
 use Rattle.xapi_index.specs.Statements.{add_each}
 use Rattle.xapi_index.proofs.Standing.{rest_index}
 use Rattle.xapi_index.proofs.Succeeding.{given_ok}
-use Rattle.xapi_statement.specs.Stored.{StoredStatement}
+use Rattle.xapi_postings.specs.XapiStatementStored.{StoredStatement}
 use Rattle.xapi_index.proofs.ahead.ready_each.Goals as goal
 
 pub returns-in_err-make_room-clause-held : goal.returns-in_err-make_room-clause-held

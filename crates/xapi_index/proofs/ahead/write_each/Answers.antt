@@ -4,7 +4,7 @@ use Rattle.xapi_index.specs.Index.{ArePosted, lists_of}
 use Rattle.xapi_index.specs.Statements.{add, add_each}
 use Rattle.xapi_index.proofs.Adding.{add_each-more}
 use Rattle.xapi_index.proofs.Standing.{stand_index, stand_start}
-use Rattle.xapi_statement.specs.Stored.{StoredStatement}
+use Rattle.xapi_postings.specs.XapiStatementStored.{StoredStatement}
 use Rattle.xapi_index.proofs.ahead.write_each.Goals as goal
 
 pub loop-statement-init : goal.loop-statement-init

@@ -5,7 +5,7 @@ use Rattle.xapi_index.specs.Index.{IsIndex, lists_of}
 use Rattle.xapi_index.proofs.Keyed.{lists_length, lists_push}
 use Rattle.xapi_index.proofs.Standing.{part_index, stand_index, stand_more}
 use Rattle.xapi_postings.specs.Postings.{posted}
-use Rattle.xapi_statement_keys.specs.Keys.{is_among}
+use Rattle.xapi_postings.specs.XapiStatementKeysKeys.{is_among}
 use Rattle.xapi_index.proofs.ahead.write_new.Goals as goal
 
 pub returns-in_err-position-clause-index : goal.returns-in_err-position-clause-index

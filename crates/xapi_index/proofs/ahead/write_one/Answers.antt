@@ -5,8 +5,8 @@ use Rattle.xapi_index.proofs.Adding.{add-new, add-old}
 use Rattle.xapi_index.proofs.Coming.{held_told}
 use Rattle.xapi_index.proofs.Standing.{stand_index}
 use Rattle.xapi_postings.specs.Postings.{posting_of}
-use Rattle.xapi_statement.specs.Stored.{StoredStatement}
-use Rattle.xapi_statement_keys.specs.declared.key.Key.TheVariants as key
+use Rattle.xapi_postings.specs.XapiStatementStored.{StoredStatement}
+use Rattle.xapi_postings.specs.XapiStatementKeysKeyKeyTheVariants as key
 use Rattle.xapi_index.proofs.ahead.write_one.Goals as goal
 
 pub returns-in-Some-clause-stands : goal.returns-in-Some-clause-stands

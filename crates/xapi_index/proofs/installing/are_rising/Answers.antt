@@ -3,7 +3,7 @@ use Rattle.std.proofs.lemmas.List.{take_all, take_more}
 use Rattle.xapi_index.specs.Index.{IsRising}
 use Rattle.xapi_index.specs.Times.{stands_behind}
 use Rattle.xapi_index.proofs.Rising.{left_true, right_true, rising_more}
-use Rattle.xapi_statement.specs.Stored.{StoredStatement}
+use Rattle.xapi_postings.specs.XapiStatementStored.{StoredStatement}
 use Rattle.xapi_index.proofs.installing.are_rising.Goals as goal
 
 pub loop-at-init : goal.loop-at-init

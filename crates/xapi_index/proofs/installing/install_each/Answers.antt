@@ -2,7 +2,7 @@ use Rattle.std.proofs.Common.{◌≡◌, ◌++◌, ◌∙◌, List, ap, arith, l
 use Rattle.std.proofs.lemmas.List.{length-append}
 use Rattle.xapi_index.specs.Index.{IsRising}
 use Rattle.xapi_index.proofs.Standing.{front_stays}
-use Rattle.xapi_statement.specs.Stored.{StoredStatement}
+use Rattle.xapi_postings.specs.XapiStatementStored.{StoredStatement}
 use Rattle.xapi_index.proofs.installing.install_each.Goals as goal
 
 pub are_rising-requires-clause-within : goal.are_rising-requires-clause-within

@@ -2,7 +2,7 @@ use Rattle.std.proofs.Common.{of_calls, rules}
 use Rattle.std.proofs.lemmas.Fn.{always_returns_same}
 use Rattle.xapi_index.specs.Times.{is_until}
 use Rattle.xapi_index.proofs.Rising.{until_parted}
-use Rattle.xapi_statement.specs.Stored.{StoredStatement}
+use Rattle.xapi_postings.specs.XapiStatementStored.{StoredStatement}
 use Rattle.xapi_index.proofs.times.first_later.Goals as goal
 
 pub returns-clause-parted : goal.returns-clause-parted

@@ -1,6 +1,6 @@
 use Rattle.std.proofs.Common.{◌∙◌, ap, sym, true, nat_le, option_copied}
 use Rattle.std.specs.Option.{option_map_or}
-use Rattle.xapi_statement.specs.Stored.{StoredStatement}
+use Rattle.xapi_postings.specs.XapiStatementStored.{StoredStatement}
 use Rattle.xapi_index.proofs.times.stands_behind.Goals as goal
 
 pub returns-in-Some : goal.returns-in-Some

@@ -1,5 +1,5 @@
 use Rattle.lrs_json.specs.View.{view}
-use Rattle.lrs_agents.specs.Identifiers.{identifier_of}
+use Rattle.xapi_rules.specs.LrsAgentsIdentifiers.{identifier_of}
 use Rattle.xapi_format.specs.Party.{is_identified}
 use Rattle.xapi_statement.proofs.Identifying.{same_test}
 use Rattle.xapi_statement.proofs.parties.is_identified.Goals as goal

@@ -1,7 +1,7 @@
 use Rattle.std.proofs.Common.{ℕ, List, Option, OnOk, false, sym, subst}
 use Rattle.std.proofs.lemmas.Result.{on_ok_weaker}
 use Rattle.lrs_json.specs.View.{view}
-use Rattle.xapi_statement.specs.Statement.{activity_in, is_activity_of}
+use Rattle.xapi_query.specs.XapiStatementStatement.{activity_in, is_activity_of}
 use Rattle.xapi_statement_keys.specs.Adding.{Adds, activity_keys}
 use Rattle.xapi_statement_keys.proofs.Growing.{adds_none, adds_same}
 use Rattle.xapi_statement_keys.proofs.Named.{activities_none, activities_same, activity_word, is_id_in}

@@ -1,7 +1,7 @@
 use Rattle.std.proofs.Common.{ℕ, List, Bool, ◌||◌, false, codes, sym}
 use Rattle.std.proofs.lemmas.Result.{on_ok_weaker}
 use Rattle.lrs_json.specs.View.{view}
-use Rattle.xapi_statement.specs.Statement.{holds_at}
+use Rattle.xapi_query.specs.XapiStatementStatement.{holds_at}
 use Rattle.xapi_statement_keys.specs.Adding.{activity_keys, holds_some}
 use Rattle.xapi_statement_keys.proofs.Growing.{adds_same, or_assoc}
 use Rattle.xapi_statement_keys.proofs.Named.{activities_same, more_activities}

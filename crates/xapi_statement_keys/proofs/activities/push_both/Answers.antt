@@ -1,7 +1,7 @@
 use Rattle.std.proofs.Common.{false}
 use Rattle.std.proofs.lemmas.Result.{on_ok_weaker}
 use Rattle.lrs_json.specs.View.{view}
-use Rattle.xapi_statement.specs.Statement.{holds_at}
+use Rattle.xapi_query.specs.XapiStatementStatement.{holds_at}
 use Rattle.xapi_statement_keys.proofs.Named.{more_activities}
 use Rattle.xapi_statement_keys.proofs.activities.push_both.Goals as goal
 

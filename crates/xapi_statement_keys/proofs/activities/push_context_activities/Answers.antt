@@ -1,6 +1,6 @@
 use Rattle.std.proofs.Common.{Option, OnOk, false, subst}
 use Rattle.lrs_json.specs.Json.{Json}
-use Rattle.xapi_statement.specs.Statement.{context_holds}
+use Rattle.xapi_query.specs.XapiStatementStatement.{context_holds}
 use Rattle.xapi_statement_keys.specs.Adding.{Adds, activity_keys}
 use Rattle.xapi_statement_keys.proofs.Growing.{adds_none}
 use Rattle.xapi_statement_keys.proofs.Named.{activities_none, held_in}

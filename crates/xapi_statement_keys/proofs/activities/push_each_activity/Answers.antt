@@ -1,7 +1,7 @@
 -- One activity more.
 use Rattle.std.proofs.Common.{◌+◌, drop, false}
 use Rattle.lrs_json.specs.View.{view}
-use Rattle.xapi_statement.specs.Statement.{is_activity_of}
+use Rattle.xapi_query.specs.XapiStatementStatement.{is_activity_of}
 use Rattle.xapi_statement_keys.specs.Adding.{activity_keys}
 use Rattle.xapi_statement_keys.proofs.Growing.{so_far_all, so_far_more, so_far_none}
 use Rattle.xapi_statement_keys.proofs.Named.{held_keys, next_held, no_held}

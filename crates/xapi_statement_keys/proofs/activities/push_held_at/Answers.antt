@@ -1,7 +1,7 @@
 use Rattle.std.proofs.Common.{Option, OnOk, false, subst}
 use Rattle.std.specs.Option.{option_map_or}
 use Rattle.lrs_json.specs.Json.{Json}
-use Rattle.xapi_statement.specs.Statement.{holds_activity, holds_at}
+use Rattle.xapi_query.specs.XapiStatementStatement.{holds_activity, holds_at}
 use Rattle.xapi_statement_keys.specs.Adding.{Adds, activity_keys}
 use Rattle.xapi_statement_keys.proofs.Growing.{adds_none}
 use Rattle.xapi_statement_keys.proofs.Named.{activities_none}

@@ -1,6 +1,6 @@
 use Rattle.std.proofs.Common.{ap, ◌∙◌}
 use Rattle.lrs_agents.specs.declared.identifiers.Ifi.TheVariants.{Account}
-use Rattle.xapi_format.specs.Authorities.{home_page}
+use Rattle.xapi_query.specs.XapiFormatAuthorities.{home_page}
 use Rattle.xapi_statement_keys.proofs.authority.account_of.Goals as goal
 
 pub returns : goal.returns

@@ -2,8 +2,8 @@
 use Rattle.std.proofs.Common.{◌||◌}
 use Rattle.std.proofs.lemmas.Result.{on_ok_weaker}
 use Rattle.lrs_json.specs.View.{view}
-use Rattle.xapi_rules.specs.Rules.{is_voiding}
-use Rattle.xapi_statement.specs.Statement.{target_of}
+use Rattle.xapi_query.specs.XapiRulesRules.{is_voiding}
+use Rattle.xapi_query.specs.XapiStatementStatement.{target_of}
 use Rattle.xapi_statement_keys.specs.Adding.{authority_keys, own_keys, place_keys, reference_keys}
 use Rattle.xapi_statement_keys.specs.Keys.{has_key}
 use Rattle.xapi_statement_keys.proofs.Growing.{adds_three}

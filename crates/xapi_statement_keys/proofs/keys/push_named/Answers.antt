@@ -2,7 +2,7 @@ use Rattle.std.proofs.Common.{OnOk, ◌||◌, refl, subst}
 use Rattle.std.proofs.lemmas.Result.{on_ok_weaker}
 use Rattle.lrs_json.specs.View.{view}
 use Rattle.lrs_json.specs.declared.tree.Tree.{Tree}
-use Rattle.xapi_format.specs.declared.authority.Authority.{Authority}
+use Rattle.xapi_query.specs.XapiFormatAuthorityAuthority.{Authority}
 use Rattle.xapi_statement_keys.specs.Adding.{Adds, authority_keys, place_keys}
 use Rattle.xapi_statement_keys.proofs.Growing.{adds_both}
 use Rattle.xapi_statement_keys.proofs.keys.push_named.Goals as goal

@@ -1,6 +1,6 @@
 use Rattle.std.proofs.Common.{ℕ, List, Bool, Option, Some, None, OnOk, subst}
 use Rattle.lrs_json.specs.View.{view}
-use Rattle.xapi_rules.specs.Rules.{is_voiding}
+use Rattle.xapi_query.specs.XapiRulesRules.{is_voiding}
 use Rattle.xapi_statement_keys.specs.Adding.{Adds, reference_keys}
 use Rattle.xapi_statement_keys.proofs.Growing.{adds_none}
 use Rattle.xapi_statement_keys.proofs.Whole.{no_reference}

@@ -1,7 +1,7 @@
 -- One member more.
 use Rattle.std.proofs.Common.{◌+◌, drop}
 use Rattle.lrs_json.specs.View.{view}
-use Rattle.xapi_format.specs.Party.{is_identified}
+use Rattle.xapi_query.specs.XapiFormatParty.{is_identified}
 use Rattle.xapi_statement_keys.specs.Adding.{agent_keys}
 use Rattle.xapi_statement_keys.proofs.Growing.{so_far_all, so_far_more, so_far_none}
 use Rattle.xapi_statement_keys.proofs.Named.{member_keys, next_member, no_members}

@@ -2,7 +2,7 @@ use Rattle.std.proofs.Common.{Option, OnOk, false, sym, ◌∙◌, subst}
 use Rattle.std.specs.Option.{option_map_or}
 use Rattle.lrs_agents.specs.Identifiers.{same_ifi}
 use Rattle.lrs_agents.specs.declared.identifiers.Ifi.{Ifi}
-use Rattle.xapi_format.specs.Party.{is_identified}
+use Rattle.xapi_query.specs.XapiFormatParty.{is_identified}
 use Rattle.xapi_statement_keys.specs.Adding.{Adds, agent_keys}
 use Rattle.xapi_statement_keys.proofs.Growing.{adds_none}
 use Rattle.xapi_statement_keys.proofs.Named.{agents_none}

@@ -1,7 +1,7 @@
 use Rattle.std.proofs.Common.{Option, OnOk, false, subst}
 use Rattle.std.specs.Option.{option_map_or}
 use Rattle.lrs_json.specs.Json.{Elements, Json}
-use Rattle.xapi_format.specs.Party.{any_identified, has_identified}
+use Rattle.xapi_query.specs.XapiFormatParty.{any_identified, has_identified}
 use Rattle.xapi_statement_keys.specs.Adding.{Adds, agent_keys}
 use Rattle.xapi_statement_keys.proofs.Growing.{adds_none}
 use Rattle.xapi_statement_keys.proofs.Named.{agents_none}

@@ -3,7 +3,7 @@ use Rattle.std.proofs.Common.{codes}
 use Rattle.std.proofs.lemmas.Result.{on_ok_weaker}
 use Rattle.lrs_json.specs.View.{view}
 use Rattle.lrs_names.specs.Members.{has_member_that}
-use Rattle.xapi_format.specs.Party.{has_identified, is_identified, is_party}
+use Rattle.xapi_query.specs.XapiFormatParty.{has_identified, is_identified, is_party}
 use Rattle.xapi_statement_keys.proofs.Named.{more_agents}
 use Rattle.xapi_statement_keys.proofs.parties.push_party.Goals as goal
 

@@ -2,8 +2,8 @@
 use Rattle.std.proofs.Common.{Some, false, true, refl}
 use Rattle.std.proofs.lemmas.Result.{on_ok_weaker}
 use Rattle.lrs_json.specs.View.{view}
-use Rattle.xapi_statement.specs.Parties.{is_party_object, nested_has_agent}
-use Rattle.xapi_statement.specs.Statement.{is_activity_of, nested_has_activity}
+use Rattle.xapi_query.specs.XapiStatementParties.{is_party_object, nested_has_agent}
+use Rattle.xapi_query.specs.XapiStatementStatement.{is_activity_of, nested_has_activity}
 use Rattle.xapi_statement_keys.specs.Adding.{named_keys, object_keys}
 use Rattle.xapi_statement_keys.proofs.Growing.{adds_both}
 use Rattle.xapi_statement_keys.proofs.places.push_any_object.Goals as goal

@@ -1,8 +1,8 @@
 use Rattle.std.proofs.Common.{Option, OnOk, false, subst}
 use Rattle.std.specs.Option.{option_map_or}
 use Rattle.lrs_json.specs.Json.{Json}
-use Rattle.xapi_statement.specs.Parties.{has_context_agent, is_party_of_context}
-use Rattle.xapi_statement.specs.Statement.{has_context_activity, has_some_context_activity}
+use Rattle.xapi_query.specs.XapiStatementParties.{has_context_agent, is_party_of_context}
+use Rattle.xapi_query.specs.XapiStatementStatement.{has_context_activity, has_some_context_activity}
 use Rattle.xapi_statement_keys.specs.Adding.{Adds, named_keys}
 use Rattle.xapi_statement_keys.proofs.Growing.{adds_none}
 use Rattle.xapi_statement_keys.proofs.Named.{context_held_in, named_none}

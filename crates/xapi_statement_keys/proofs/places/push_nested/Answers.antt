@@ -1,7 +1,7 @@
 use Rattle.std.proofs.Common.{◌≡◌, Bool, OnOk, ◌&&◌, ◌||◌, true, false, sym, ◌∙◌, subst}
 use Rattle.lrs_json.specs.View.{view}
-use Rattle.xapi_statement.specs.Parties.{has_context_agent, has_direct_agent, nested_has_agent}
-use Rattle.xapi_statement.specs.Statement.{has_some_context_activity, is_about, nested_has_activity}
+use Rattle.xapi_query.specs.XapiStatementParties.{has_context_agent, has_direct_agent, nested_has_agent}
+use Rattle.xapi_query.specs.XapiStatementStatement.{has_some_context_activity, is_about, nested_has_activity}
 use Rattle.xapi_statement_keys.specs.Adding.{Adds, named_keys}
 use Rattle.xapi_statement_keys.proofs.Growing.{adds_none}
 use Rattle.xapi_statement_keys.proofs.Named.{named_none}

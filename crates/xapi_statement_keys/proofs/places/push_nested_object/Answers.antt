@@ -1,8 +1,8 @@
 use Rattle.std.proofs.Common.{Option, OnOk, false, subst}
 use Rattle.std.specs.Option.{option_map_or}
 use Rattle.lrs_json.specs.Json.{Json}
-use Rattle.xapi_statement.specs.Parties.{is_party_object}
-use Rattle.xapi_statement.specs.Statement.{is_about, is_activity_of}
+use Rattle.xapi_query.specs.XapiStatementParties.{is_party_object}
+use Rattle.xapi_query.specs.XapiStatementStatement.{is_about, is_activity_of}
 use Rattle.xapi_statement_keys.specs.Adding.{Adds, named_keys}
 use Rattle.xapi_statement_keys.proofs.Growing.{adds_none}
 use Rattle.xapi_statement_keys.proofs.Named.{named_none}

@@ -1,7 +1,7 @@
 use Rattle.std.proofs.lemmas.Result.{on_ok_weaker}
 use Rattle.lrs_json.specs.View.{view}
-use Rattle.xapi_statement.specs.Parties.{is_party_object}
-use Rattle.xapi_statement.specs.Statement.{is_activity_of}
+use Rattle.xapi_query.specs.XapiStatementParties.{is_party_object}
+use Rattle.xapi_query.specs.XapiStatementStatement.{is_activity_of}
 use Rattle.xapi_statement_keys.proofs.Named.{party_and_activity}
 use Rattle.xapi_statement_keys.proofs.places.push_object.Goals as goal
 

@@ -4,8 +4,8 @@ use Rattle.std.proofs.lemmas.Result.{on_ok_weaker}
 use Rattle.lrs_agents.specs.declared.identifiers.Ifi.{Ifi}
 use Rattle.lrs_json.specs.View.{view}
 use Rattle.lrs_names.specs.Members.{has_member_that}
-use Rattle.xapi_format.specs.Party.{is_party}
-use Rattle.xapi_statement.specs.Parties.{is_party_of_context}
+use Rattle.xapi_query.specs.XapiFormatParty.{is_party}
+use Rattle.xapi_query.specs.XapiStatementParties.{is_party_of_context}
 use Rattle.xapi_statement_keys.specs.Adding.{context_holds_some}
 use Rattle.xapi_statement_keys.proofs.Named.{more_agents, party_and_activity}
 use Rattle.xapi_statement_keys.proofs.places.push_of_context.Goals as goal

@@ -1,7 +1,7 @@
 use Rattle.std.proofs.Common.{◌≡◌, Bool, OnOk, ◌&&◌, true, false, sym, ap, ◌∙◌, subst}
 use Rattle.lrs_json.specs.View.{view}
-use Rattle.xapi_format.specs.Party.{is_party}
-use Rattle.xapi_statement.specs.Parties.{is_party_object}
+use Rattle.xapi_query.specs.XapiFormatParty.{is_party}
+use Rattle.xapi_query.specs.XapiStatementParties.{is_party_object}
 use Rattle.xapi_statement_keys.specs.Adding.{Adds, agent_keys}
 use Rattle.xapi_statement_keys.proofs.Growing.{adds_none}
 use Rattle.xapi_statement_keys.proofs.Named.{agents_none}

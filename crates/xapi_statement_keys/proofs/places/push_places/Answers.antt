@@ -4,9 +4,9 @@ use Rattle.std.proofs.lemmas.Result.{on_ok_weaker}
 use Rattle.lrs_json.specs.Find.{find}
 use Rattle.lrs_json.specs.View.{view}
 use Rattle.lrs_names.specs.Members.{has_member_that}
-use Rattle.xapi_format.specs.Party.{is_party}
-use Rattle.xapi_statement.specs.Parties.{has_context_agent}
-use Rattle.xapi_statement.specs.Statement.{has_some_context_activity}
+use Rattle.xapi_query.specs.XapiFormatParty.{is_party}
+use Rattle.xapi_query.specs.XapiStatementParties.{has_context_agent}
+use Rattle.xapi_query.specs.XapiStatementStatement.{has_some_context_activity}
 use Rattle.xapi_statement_keys.specs.Adding.{agent_keys, named_keys, object_keys, place_keys}
 use Rattle.xapi_statement_keys.proofs.Growing.{adds_three}
 use Rattle.xapi_statement_keys.proofs.Whole.{place_split}

@@ -4,9 +4,9 @@ use Rattle.std.proofs.lemmas.Result.{on_ok_weaker}
 use Rattle.lrs_agents.specs.declared.identifiers.Ifi.{Ifi}
 use Rattle.lrs_json.specs.View.{view}
 use Rattle.lrs_names.specs.Members.{has_member_that}
-use Rattle.xapi_format.specs.Party.{is_party}
-use Rattle.xapi_statement.specs.Parties.{has_context_agent, has_direct_agent, is_party_object}
-use Rattle.xapi_statement.specs.Statement.{has_some_context_activity, is_about}
+use Rattle.xapi_query.specs.XapiFormatParty.{is_party}
+use Rattle.xapi_query.specs.XapiStatementParties.{has_context_agent, has_direct_agent, is_party_object}
+use Rattle.xapi_query.specs.XapiStatementStatement.{has_some_context_activity, is_about}
 use Rattle.xapi_statement_keys.proofs.Named.{more_named, party_and_named}
 use Rattle.xapi_statement_keys.proofs.places.push_substatement.Goals as goal
 

@@ -1,5 +1,5 @@
 use Rattle.std.proofs.Common.{◌∙◌}
-use Rattle.cmi5_session.specs.Marked.{marked}
+use Rattle.cmi5_verdict.specs.Cmi5SessionMarked.{marked}
 use Rattle.cmi5_running_verdicts.proofs.Kept.{tallies_in}
 use Rattle.cmi5_running_verdicts.proofs.Told.{waiver_told}
 use Rattle.cmi5_running_verdicts.proofs.running.Running.is_waived.Goals as goal

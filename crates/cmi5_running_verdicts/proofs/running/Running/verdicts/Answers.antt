@@ -1,6 +1,6 @@
 use Rattle.std.proofs.Common.{◌∙◌}
 use Rattle.std.proofs.lemmas.Result.{IfOk-weaker}
-use Rattle.cmi5_session.specs.Marked.{marked}
+use Rattle.cmi5_verdict.specs.Cmi5SessionMarked.{marked}
 use Rattle.cmi5_running_verdicts.proofs.Kept.{tallies_in}
 use Rattle.cmi5_running_verdicts.proofs.Told.{verdicts_told}
 use Rattle.cmi5_running_verdicts.proofs.running.Running.verdicts.Goals as goal

@@ -2,7 +2,7 @@ use Rattle.std.proofs.Common.{◌∙◌, ◌++◌, ◌∷◌, ℕ, true, false, 
 use Rattle.std.proofs.lemmas.Bool.{eqb-false, false≢true}
 use Rattle.std.specs.Prelude.{slice_get}
 use Rattle.cmi5_running_verdicts.specs.Running.{SeenRunning}
-use Rattle.cmi5_session.specs.Marked.{mark}
+use Rattle.cmi5_verdict.specs.Cmi5SessionMarked.{mark}
 use Rattle.cmi5_verdict.specs.Nodes.{seen}
 use Rattle.cmi5_running_verdicts.proofs.Kept.{put_in, put_other, stands_within}
 use Rattle.cmi5_running_verdicts.proofs.running.Running.void.Goals as goal

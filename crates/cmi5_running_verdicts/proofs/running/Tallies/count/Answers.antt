@@ -2,7 +2,7 @@ use Rattle.std.proofs.Common.{◌∙◌, ◌++◌, [], ◌∷◌, List, sym, sub
 use Rattle.std.proofs.lemmas.List.{with_items_is}
 use Rattle.cmi5_running_verdicts.specs.Tallies.{AreTallies}
 use Rattle.cmi5_running_verdicts.specs.declared.tally.Tally.{Tally}
-use Rattle.cmi5_session.specs.Marked.{mark}
+use Rattle.cmi5_verdict.specs.Cmi5SessionMarked.{mark}
 use Rattle.cmi5_verdict.specs.Nodes.{seen}
 use Rattle.cmi5_running_verdicts.proofs.running.Tallies.count.Goals as goal
 

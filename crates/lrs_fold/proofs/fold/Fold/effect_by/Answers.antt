@@ -3,10 +3,10 @@ use Rattle.std.proofs.Common.{◌≡◌, sym, ap, subst, ◌∙◌}
 use Rattle.std.proofs.lemmas.Result.{IfOk-weaker}
 use Rattle.lrs_command.specs.declared.who.Who.{Who}
 use Rattle.lrs_fold.proofs.Written.{GivesEffect}
-use Rattle.lrs_refusals.specs.Judged.{IsJudged}
+use Rattle.lrs_reads.specs.LrsRefusalsJudged.{IsJudged}
 use Rattle.lrs_fold.specs.Written.{effect_by}
-use Rattle.lrs_history.specs.DeskEffects.{abandoning_one, enrolling, fetching, launching, sweeping, waiving}
-use Rattle.lrs_history.specs.Launches.{target}
+use Rattle.lrs_reads.specs.LrsHistoryDeskEffects.{abandoning_one, enrolling, fetching, launching, sweeping, waiving}
+use Rattle.lrs_reads.specs.LrsHistoryLaunches.{target}
 use Rattle.lrs_learning.specs.Occasions.{occasion_at}
 use Rattle.lrs_parts.specs.Courses.{place_of_course}
 use Rattle.lrs_parts.specs.Launches.{key_under, place_of_session}

@@ -1,7 +1,7 @@
 use Rattle.std.proofs.Common.{◌≡◌, ◌∙◌, IfOk, subst, sym}
 use Rattle.lrs_fold.proofs.Outcomes.{outcome_now}
-use Rattle.lrs_history.specs.Answers.{write_said}
-use Rattle.lrs_history.specs.History.{write_outcome}
+use Rattle.lrs_reads.specs.LrsHistoryAnswers.{write_said}
+use Rattle.lrs_reads.specs.LrsHistoryHistory.{write_outcome}
 use Rattle.lrs_fold.specs.Outcomes.{IsOutcome}
 use Rattle.lrs_parts.specs.Parts.{state_of}
 use Rattle.lrs_fold.proofs.fold.Fold.outcome_with.Goals as goal

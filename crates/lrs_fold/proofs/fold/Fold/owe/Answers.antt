@@ -1,10 +1,10 @@
 use Rattle.std.proofs.Common.{◌≡◌, ◌++◌, Option, IfSome, OnOk, ap, sym, ◌∙◌, subst}
 use Rattle.std.specs.Prelude.{option_map}
-use Rattle.lrs_history.specs.Enrolments.{Enrolled}
-use Rattle.lrs_history.specs.Made.{owed_made}
+use Rattle.lrs_reads.specs.LrsHistoryEnrolments.{Enrolled}
+use Rattle.lrs_reads.specs.LrsHistoryMade.{owed_made}
 use Rattle.lrs_ids.specs.IdSupply.{left_of}
-use Rattle.lrs_made.specs.Lent.{IsLentBy, seen_enrolled}
-use Rattle.lrs_made.specs.declared.enrolments.LentEnrolled.{LentEnrolled}
+use Rattle.lrs_reads.specs.LrsMadeLent.{IsLentBy, seen_enrolled}
+use Rattle.lrs_reads.specs.LrsMadeEnrolmentsLentEnrolled.{LentEnrolled}
 use Rattle.lrs_parts.specs.Parts.{state_of}
 use Rattle.lrs_parts.specs.State.{used_in}
 use Rattle.lrs_fold.proofs.fold.Fold.owe.Goals as goal

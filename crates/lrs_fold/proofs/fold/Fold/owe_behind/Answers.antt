@@ -1,6 +1,6 @@
 use Rattle.std.proofs.lemmas.Result.{on_ok_weaker}
 use Rattle.lrs_fold.proofs.Owed.{spoken, unspoken}
-use Rattle.lrs_history.specs.Whose.{launch_of}
+use Rattle.lrs_reads.specs.LrsHistoryWhose.{launch_of}
 use Rattle.lrs_ids.specs.IdSupply.{left_of}
 use Rattle.lrs_parts.specs.Parts.{state_of}
 use Rattle.lrs_parts.specs.State.{used_in}

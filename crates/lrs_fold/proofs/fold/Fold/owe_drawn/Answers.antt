@@ -1,7 +1,7 @@
 use Rattle.std.proofs.Common.{◌≡◌, ◌∷◌, [], ◌++◌, OnOk, subst}
 use Rattle.lrs_fold.proofs.Owed.{supply_same}
-use Rattle.lrs_history.specs.Enrolments.{enrolled}
-use Rattle.lrs_history.specs.Made.{owed_made}
+use Rattle.lrs_reads.specs.LrsHistoryEnrolments.{enrolled}
+use Rattle.lrs_reads.specs.LrsHistoryMade.{owed_made}
 use Rattle.lrs_ids.specs.IdSupply.{left_of}
 use Rattle.lrs_ids.specs.Ids.{Supply, supply_of}
 use Rattle.lrs_parts.specs.Parts.{state_of}

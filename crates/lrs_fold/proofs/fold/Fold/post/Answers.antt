@@ -1,7 +1,7 @@
 use Rattle.std.proofs.Common.{List, ◌∙◌, subst, sym}
 use Rattle.std.specs.List.{AllByRecursion}
 use Rattle.lrs_fold.proofs.Owed.{post_kept}
-use Rattle.lrs_refusals.specs.Judged.{IsJudgedTree}
+use Rattle.lrs_reads.specs.LrsRefusalsJudged.{IsJudgedTree}
 use Rattle.lrs_ids.specs.IdSupply.{left_of}
 use Rattle.lrs_json.specs.declared.tree.Tree.{Tree}
 use Rattle.lrs_parts.specs.Parts.{state_of}

@@ -1,8 +1,8 @@
 use Rattle.std.proofs.Common.{◌≡◌, ◌++◌, List, OnOk, subst, sym}
 use Rattle.std.specs.List.{AllByRecursion}
-use Rattle.lrs_refusals.specs.Judged.{IsJudgedTree}
-use Rattle.lrs_refusals.specs.Naming.{with_these_ids}
-use Rattle.lrs_history.specs.Effects.{new_by}
+use Rattle.lrs_reads.specs.LrsRefusalsJudged.{IsJudgedTree}
+use Rattle.lrs_reads.specs.LrsRefusalsNaming.{with_these_ids}
+use Rattle.lrs_reads.specs.LrsHistoryEffects.{new_by}
 use Rattle.lrs_json.specs.declared.tree.Tree.{Tree}
 use Rattle.lrs_parts.specs.Parts.{state_of}
 use Rattle.lrs_fold.proofs.fold.Fold.push_each.Goals as goal

@@ -1,9 +1,9 @@
 use Rattle.std.proofs.Common.{◌≡◌, ◌++◌, drop}
 use Rattle.std.specs.List.{AllByRecursion}
 use Rattle.std.specs.Vec.Iter.{into_iter_items}
-use Rattle.lrs_refusals.specs.Judged.{IsJudgedTree}
-use Rattle.lrs_refusals.specs.Naming.{with_these_ids}
-use Rattle.lrs_history.specs.Effects.{new_by}
+use Rattle.lrs_reads.specs.LrsRefusalsJudged.{IsJudgedTree}
+use Rattle.lrs_reads.specs.LrsRefusalsNaming.{with_these_ids}
+use Rattle.lrs_reads.specs.LrsHistoryEffects.{new_by}
 use Rattle.lrs_parts.specs.Parts.{state_of}
 use Rattle.lrs_fold.proofs.fold.Fold.push_left.Given as goal
 

@@ -1,5 +1,5 @@
 use Rattle.lrs_fold.proofs.Owed.{says_new, says_nothing}
-use Rattle.lrs_history.specs.Whose.{launch_of}
+use Rattle.lrs_reads.specs.LrsHistoryWhose.{launch_of}
 use Rattle.lrs_parts.specs.Parts.{state_of}
 use Rattle.lrs_fold.proofs.fold.Fold.speaks_in.Goals as goal
 

@@ -1,5 +1,5 @@
 use Rattle.std.proofs.Common.{◌≡◌}
-use Rattle.lrs_history.specs.History.{answer}
+use Rattle.lrs_fold.specs.LrsHistoryHistory.{answer}
 use Rattle.lrs_machine.specs.Desk.{history}
 use Rattle.lrs_machine.proofs.DeskLemmas.{act_told, landed_is, receipt_made}
 use Rattle.lrs_machine.proofs.desk.Desk.act.Goals as goal

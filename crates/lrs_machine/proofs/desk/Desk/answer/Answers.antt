@@ -1,6 +1,6 @@
 use Rattle.std.proofs.Common.{◌≡◌, List, length, ap, refl, sym, subst, ◌∙◌}
 use Rattle.std.specs.Prelude.{option_map, is_ok}
-use Rattle.lrs_history.specs.History.{answer, outcome}
+use Rattle.lrs_fold.specs.LrsHistoryHistory.{answer, outcome}
 use Rattle.lrs_machine.specs.Desk.{Desk}
 use Rattle.lrs_machine.specs.Fold.{state_of}
 use Rattle.lrs_machine.specs.Line.{entries, line_of}

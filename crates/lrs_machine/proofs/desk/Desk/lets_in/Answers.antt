@@ -1,7 +1,7 @@
 use Rattle.std.proofs.Common.{◌≡◌, ◌∙◌, Bool, true, false, not, Option, Some, None, ap, refl, sym}
 use Rattle.std.specs.Prelude.{is_none, is_some}
-use Rattle.lrs_history.specs.Refusals.{barred}
-use Rattle.lrs_history.specs.Whose.{who_is}
+use Rattle.lrs_fold.specs.LrsHistoryRefusals.{barred}
+use Rattle.lrs_fold.specs.LrsHistoryWhose.{who_is}
 use Rattle.lrs_machine.proofs.desk.Desk.lets_in.Goals as goal
 
 by_none : {A : Type 0} (b : Bool) (o : Option A) → is_some o ≡ not b → b ≡ is_none o

@@ -1,6 +1,6 @@
 use Rattle.std.proofs.Common.{◌∙◌, ap, sym}
 use Rattle.lrs_parts.specs.State.{State}
-use Rattle.xapi_pages.specs.Listings.{listed_of_all}
+use Rattle.lrs_fold.specs.XapiPagesListings.{listed_of_all}
 use Rattle.lrs_machine.proofs.desk.Desk.listed.Goals as goal
 
 pub returns : goal.returns

@@ -1,5 +1,5 @@
 use Rattle.std.proofs.Common.{◌≡◌, ap, subst, ◌∙◌}
-use Rattle.lrs_history.specs.History.{answer}
+use Rattle.lrs_fold.specs.LrsHistoryHistory.{answer}
 use Rattle.lrs_record.specs.declared.entry.Caller.TheVariants.{Operator}
 use Rattle.lrs_machine.specs.Acts.{Acts}
 use Rattle.lrs_machine.specs.Desk.{history, receipt_of}

@@ -1,7 +1,7 @@
 use Rattle.std.proofs.Common.{◌≡◌, length, map, sym, subst, ◌∙◌, ap, inr, false}
 use Rattle.std.specs.Option.{ForSome}
 use Rattle.lrs_disk.specs.Disk.{LeavesOnly}
-use Rattle.lrs_history.specs.History.{IsLegal}
+use Rattle.lrs_fold.specs.LrsHistoryHistory.{IsLegal}
 use Rattle.lrs_journal.specs.Store.{Stands}
 use Rattle.lrs_record.specs.Entries.{written_entry}
 use Rattle.lrs_machine.specs.Desk.{IsDeskRefused, IsSameStore, IsStoreOf, OpensOnly}

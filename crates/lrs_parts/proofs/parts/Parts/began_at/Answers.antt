@@ -1,6 +1,6 @@
 use Rattle.std.proofs.Common.{◌∙◌, List, ap}
-use Rattle.cmi5_session.specs.Marked.{marked}
-use Rattle.cmi5_session.specs.Moments.{began_at}
+use Rattle.cmi5_running_sessions.specs.Cmi5SessionMarked.{marked}
+use Rattle.cmi5_running_sessions.specs.Cmi5SessionMoments.{began_at}
 use Rattle.lrs_parts.specs.Parts.{SeenParts}
 use Rattle.lrs_parts.proofs.Events.{statements_back}
 use Rattle.xapi_statement.specs.Stored.{StoredStatement}

@@ -1,7 +1,7 @@
 use Rattle.std.proofs.Common.{◌∙◌, List, ap}
-use Rattle.cmi5_launch.specs.Names.{terminated}
-use Rattle.cmi5_session.specs.Marked.{marked}
-use Rattle.cmi5_session.specs.Own.{has_own}
+use Rattle.cmi5_running_sessions.specs.Cmi5LaunchNames.{terminated}
+use Rattle.cmi5_running_sessions.specs.Cmi5SessionMarked.{marked}
+use Rattle.cmi5_running_sessions.specs.Cmi5SessionOwn.{has_own}
 use Rattle.lrs_parts.specs.Parts.{SeenParts}
 use Rattle.lrs_parts.proofs.Events.{statements_back}
 use Rattle.xapi_statement.specs.Stored.{StoredStatement}

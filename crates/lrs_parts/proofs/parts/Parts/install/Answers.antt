@@ -1,7 +1,7 @@
 -- Each part takes its change in, and what is kept of progress follows.
 use Rattle.std.proofs.Common.{◌+◌, ◌∙◌, List, ap, refl, subst, sym}
 use Rattle.cmi5_running_sessions.specs.Room.{HasPlacesForEach}
-use Rattle.cmi5_session.specs.Marked.{marked}
+use Rattle.cmi5_running_sessions.specs.Cmi5SessionMarked.{marked}
 use Rattle.lrs_parts.specs.Courses.{courses_after}
 use Rattle.lrs_parts.specs.Founding.{founding_after}
 use Rattle.lrs_parts.specs.Launches.{keys_after, launches_after, tokens_after}

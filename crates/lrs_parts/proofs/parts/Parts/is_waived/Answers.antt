@@ -1,11 +1,11 @@
 use Rattle.std.proofs.Common.{◌≡◌, ◌∙◌, Some, ap, subst, sym}
-use Rattle.cmi5_session.specs.Marked.{marked}
-use Rattle.cmi5_verdict.specs.Nodes.{activity_at, seen}
+use Rattle.cmi5_running_sessions.specs.Cmi5SessionMarked.{marked}
+use Rattle.cmi5_running_verdicts.specs.Cmi5VerdictNodes.{activity_at, seen}
 use Rattle.lrs_parts.specs.Parts.{SeenParts}
 use Rattle.lrs_parts.specs.Progress.{enrolment_in}
 use Rattle.lrs_parts.proofs.Enrolling.{held_stands}
-use Rattle.cmi5_launch.specs.Names.{waived}
-use Rattle.cmi5_verdict.specs.Units.{stands}
+use Rattle.cmi5_running_sessions.specs.Cmi5LaunchNames.{waived}
+use Rattle.cmi5_running_verdicts.specs.Cmi5VerdictUnits.{stands}
 use Rattle.lrs_parts.proofs.parts.Parts.is_waived.Goals as goal
 
 pub returns-in-Some : goal.returns-in-Some

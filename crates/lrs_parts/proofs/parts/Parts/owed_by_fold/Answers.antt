@@ -1,5 +1,5 @@
 use Rattle.std.proofs.Common.{◌≡◌, IfOk, List, subst}
-use Rattle.cmi5_verdict.specs.Nodes.{owed, seen}
+use Rattle.cmi5_running_verdicts.specs.Cmi5VerdictNodes.{owed, seen}
 use Rattle.xapi_statement.specs.Stored.{StoredStatement}
 use Rattle.lrs_parts.proofs.parts.Parts.owed_by_fold.Goals as goal
 

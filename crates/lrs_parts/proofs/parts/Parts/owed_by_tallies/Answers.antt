@@ -1,7 +1,7 @@
 use Rattle.std.proofs.Common.{◌≡◌, ◌∙◌, IfOk, List, ap, subst, sym}
 use Rattle.cmi5_running_verdicts.specs.Running.{Stands}
-use Rattle.cmi5_session.specs.Marked.{marked}
-use Rattle.cmi5_verdict.specs.Nodes.{owed, seen}
+use Rattle.cmi5_running_sessions.specs.Cmi5SessionMarked.{marked}
+use Rattle.cmi5_running_verdicts.specs.Cmi5VerdictNodes.{owed, seen}
 use Rattle.lrs_parts.specs.Parts.{SeenParts}
 use Rattle.xapi_statement.specs.Stored.{StoredStatement}
 use Rattle.lrs_parts.proofs.parts.Parts.owed_by_tallies.Goals as goal

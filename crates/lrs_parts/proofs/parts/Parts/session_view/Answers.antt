@@ -1,6 +1,6 @@
 use Rattle.std.proofs.Common.{subst}
 use Rattle.cmi5_running_sessions.specs.Kept.{StandsFor}
-use Rattle.cmi5_session.specs.Marked.{marked}
+use Rattle.cmi5_running_sessions.specs.Cmi5SessionMarked.{marked}
 use Rattle.lrs_parts.specs.Parts.{SeenParts}
 use Rattle.lrs_parts.proofs.parts.Parts.session_view.Goals as goal
 

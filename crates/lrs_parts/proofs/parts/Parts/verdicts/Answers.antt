@@ -1,7 +1,7 @@
 use Rattle.std.proofs.Common.{◌≡◌, ◌∙◌, IfOk, List, Some, subst, sym}
 use Rattle.cmi5_running_verdicts.specs.Running.{Stands}
-use Rattle.cmi5_session.specs.Marked.{marked}
-use Rattle.cmi5_verdict.specs.Nodes.{SeenEnrolment, seen, verdicts}
+use Rattle.cmi5_running_sessions.specs.Cmi5SessionMarked.{marked}
+use Rattle.cmi5_running_verdicts.specs.Cmi5VerdictNodes.{SeenEnrolment, seen, verdicts}
 use Rattle.lrs_parts.specs.Parts.{SeenParts}
 use Rattle.lrs_parts.specs.Progress.{enrolment_in}
 use Rattle.lrs_parts.proofs.Enrolling.{held_stands}

@@ -1,7 +1,7 @@
 use Rattle.std.proofs.Common.{◌≡◌, IfOk, List, subst}
-use Rattle.cmi5_launch.specs.Names.{waived}
-use Rattle.cmi5_verdict.specs.Nodes.{activity_at, seen}
-use Rattle.cmi5_verdict.specs.Units.{stands}
+use Rattle.cmi5_running_sessions.specs.Cmi5LaunchNames.{waived}
+use Rattle.cmi5_running_verdicts.specs.Cmi5VerdictNodes.{activity_at, seen}
+use Rattle.cmi5_running_verdicts.specs.Cmi5VerdictUnits.{stands}
 use Rattle.xapi_statement.specs.Stored.{StoredStatement}
 use Rattle.lrs_parts.proofs.parts.Parts.waived_by_fold.Goals as goal
 

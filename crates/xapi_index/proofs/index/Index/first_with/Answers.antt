@@ -2,7 +2,7 @@ use Rattle.std.proofs.Common.{◌∙◌, ap, slice_get, sym}
 use Rattle.xapi_index.proofs.index.Index.first_with.Goals as goal
 use Rattle.xapi_postings.specs.Ascending.{below}
 use Rattle.xapi_postings.proofs.Ascending.{first-position}
-use Rattle.xapi_statement_keys.specs.Keys.{has_key}
+use Rattle.xapi_postings.specs.XapiStatementKeysKeys.{has_key}
 
 pub first_below-requires : goal.first_below-requires
 first_below-requires c = c.posting.ensures.ascending

@@ -3,7 +3,7 @@ use Rattle.xapi_index.specs.Index.{ArePosted, Indexed, lists_of}
 use Rattle.xapi_index.specs.Statements.{add_each}
 use Rattle.xapi_index.proofs.Adding.{few_new}
 use Rattle.xapi_index.proofs.Standing.{rest_index}
-use Rattle.xapi_statement.specs.Stored.{StoredStatement}
+use Rattle.xapi_postings.specs.XapiStatementStored.{StoredStatement}
 use Rattle.xapi_index.proofs.index.Index.install.Goals as goal
 
 pub install_each-requires-clause-spare : goal.install_each-requires-clause-spare

@@ -2,8 +2,8 @@ use Rattle.std.proofs.Common.{◌≡◌, ◌∙◌, ap, length, option_copied, s
 use Rattle.std.proofs.lemmas.Option.{none-some, same_Some}
 use Rattle.xapi_index.specs.Index.{IsPosting}
 use Rattle.xapi_index.proofs.index.Index.referring_to.Goals as goal
-use Rattle.xapi_statement.specs.Stored.{StoredStatement}
-use Rattle.xapi_statement_keys.specs.declared.key.Key.TheVariants as key
+use Rattle.xapi_postings.specs.XapiStatementStored.{StoredStatement}
+use Rattle.xapi_postings.specs.XapiStatementKeysKeyKeyTheVariants as key
 
 pub returns-in-Some : goal.returns-in-Some
 returns-in-Some c = λ s at.
