@@ -10,8 +10,8 @@ use Rattle.atomic_table.specs.Table.{State, Me, takes, gives, keeps, Allows, Spl
 use Rattle.atomic_table.proofs.Lists.{at_set, set_again, set_else, at_snoc, at_longer}
 use Rattle.lrs_turn.specs.declared.view.View.{View}
 use Rattle.lrs_turn.specs.declared.view.Sight.{Sight}
-use Rattle.lrs_turn.specs.Lists.{Each, total, times}
-use Rattle.lrs_turn.specs.Rule.{Meaning, Whole, Fits, AreAt, parts_of, own_times, Books, seeing, pointed_view, committed_view, rising, given_view, spent, less, another, both, starter, turn_of, Shows, Place, Turn, KeptBy, Kept, Takes, Gives, Rests, Fetches, Points, Commits}
+use Rattle.lrs_turn.specs.Lists.{Each, NoneFalls, total, times}
+use Rattle.lrs_turn.specs.Rule.{Meaning, Whole, Fits, AreAt, parts_of, own_times, Books, seeing, pointed_view, committed_view, rising, spent, less, another, both, starter, turn_of, Shows, Place, Turn, KeptBy, Kept, Takes, Gives, Rests, Fetches, Points, Commits, Leaves}
 
 -- lists
 module _ {A : Type 0} where
@@ -88,6 +88,20 @@ module _ {A : Type 0} where
 pub times_append : (n : ℕ) (xs ys : List ℕ) → times n (xs ++ ys) ≡ times n xs + times n ys
 times_append n [] ys = omega arith
 times_append n (x ∷ xs) ys = let r = times_append n xs ys in omega (arith, r)
+
+pub none_falls_same : (xs : List ℕ) → NoneFalls xs xs
+none_falls_same [] = tt
+none_falls_same (x ∷ xs) = (omega arith, none_falls_same xs)
+
+pub none_falls_then : (xs ys zs : List ℕ) → NoneFalls xs ys → NoneFalls ys zs → NoneFalls xs zs
+none_falls_then [] [] zs a b = b
+none_falls_then [] (y ∷ ys) zs a b = absurd a
+none_falls_then (x ∷ xs) [] zs a b = absurd a
+none_falls_then (x ∷ xs) (y ∷ ys) [] a b = absurd b
+none_falls_then (x ∷ xs) (y ∷ ys) (z ∷ zs) a b =
+    let low = a.0 in
+    let high = b.0 in
+    (omega (arith, low, high), none_falls_then xs ys zs a.1 b.1)
 
 pub apart : (b : Bool) → b ≡ true → b ≡ false → ⊥
 apart b on off = grind (arith, on, off)
@@ -213,9 +227,9 @@ module _ {T : Type 0} where
     | inr t ↦ all k u t.1
   ]
 
-  pub fits_later : (a b : Whole T) (more : List T) → b.log ≡ a.log ++ more → b.marks ≡ a.marks → a.tide ≤ b.tide → b.opening ≡ a.opening → (x : Sight T) → Fits a x → Fits b x
+  pub fits_later : (a b : Whole T) (more : List T) → b.log ≡ a.log ++ more → b.marks ≡ a.marks → NoneFalls a.tide b.tide → b.opening ≡ a.opening → (x : Sight T) → Fits a x → Fits b x
   fits_later a b more log marks tide start x f =
-      ((f.0.0 ++ more, sym (append_again x.front f.0.0 more) ∙ (ap (λ (l : List T). l ++ more) f.0.1 ∙ sym log)), f.1 ∙ sym marks, omega (arith, f.2, tide), f.3 ∙ sym start)
+      ((f.0.0 ++ more, sym (append_again x.front f.0.0 more) ∙ (ap (λ (l : List T). l ++ more) f.0.1 ∙ sym log)), f.1 ∙ sym marks, none_falls_then x.tide a.tide b.tide f.2 tide, f.3 ∙ sym start)
 
   first : (v : View T) (k : ℕ) (u : View T) → AreAt (v ∷ []) k u → v ≡ u
   first v zero u e = some-injective v u e
@@ -370,7 +384,7 @@ module _ {S T : Type 0} (m : Meaning S T) (passes : ℕ) where
       let long : length list ≡ length a.log + 1 = ap (λ (l : List T). length l) longer ∙ length-append a.log (r ∷ []) in
       let found : slice_index s.words 0 ≡ length a.log = ap (λ (ws : List ℕ). slice_index ws 0) kept.words in
       let becomes : (slice_index s.words 0 + 1) % 2 ^ 64 ≡ length list = omega (arith, found, long, fits64) in
-      let later = fits_later a b (r ∷ []) longer refl (omega arith) refl in
+      let later = fits_later a b (r ∷ []) longer refl (none_falls_same a.tide) refl in
       let old : (k : ℕ) (u : View T) → AreAt s.views k u → Each (Fits b) u.sights = λ k u e. each_all (Fits a) (Fits b) later u.sights (kept.sights k u e) in
       let all = each_map (Fits b) (Fits b) (seeing list) (all_of b list refl) v.sights (old id v mine) in
       let count : length v.line ≡ length a.log = ap (λ (l : List T). length l) line in
@@ -397,21 +411,26 @@ module _ {S T : Type 0} (m : Meaning S T) (passes : ℕ) where
         refl,
       )
 
-  risen : (a : Whole T) (tide : ℕ) → a.tide ≤ tide → (x : Sight T) → Fits a x → Fits (record a { tide = tide }) (rising tide x)
-  risen a tide up x f = (f.0, f.1, omega arith, f.3)
+  higher : (a : Whole T) (tide : List ℕ) → NoneFalls a.tide tide → (x : Sight T) → Fits a x → Fits (record a { tide = tide }) x
+  higher a tide up x f = (f.0, f.1, none_falls_then x.tide a.tide tide f.2 up, f.3)
 
-  pub give_allowed : (id : ℕ) (v : View T) (x : Sight T) (st : S) → v.holds ≡ true → v.out ≡ true → m.line st ≡ v.line → v.sights ≡ x ∷ [] → m.marks st ≡ x.marks → v.level ≤ m.tide st
-      → Allows (Kept m passes) 1 id (v, (0, Some st) ∷ []) 1 (λ n. 0) (λ n. Gives m (v, (0, Some st) ∷ []))
-  give_allowed id v x st on is_out shows only marks up s (a, h, kept) one mine small =
+  risen : (a : Whole T) (tide : List ℕ) → (x : Sight T) → Fits a x → Fits (record a { tide = tide }) (rising tide x)
+  risen a tide x f = (f.0, f.1, none_falls_same tide, f.3)
+
+  -- The state goes home. What the pass has seen still fits the whole, whose tide is then the state's.
+  given_back : (id : ℕ) (v : View T) (x : Sight T) (st : S) (seen : List (Sight T)) (then : Me (Option S) (View T) → Type 0)
+      → v.holds ≡ true → v.out ≡ true → m.line st ≡ v.line → v.sights ≡ x ∷ [] → m.marks st ≡ x.marks → NoneFalls v.level (m.tide st)
+      → ((a : Whole T) → NoneFalls a.tide (m.tide st) → Each (Fits a) v.sights → Each (Fits (record a { tide = m.tide st })) seen)
+      → then (record v { holds = false; out = false; sights = seen }, [])
+      → Allows (Kept m passes) 1 id (v, (0, Some st) ∷ []) 1 (λ n. 0) (λ n. then)
+  given_back id v x st seen then on is_out shows only marks up fits is s (a, h, kept) one mine small =
       let has = knows s a h id v kept mine on in
-      let tide = m.tide st in
-      let w = given_view tide v in
-      let b : Whole T = record a { tide = tide } in
-      let up' : a.tide ≤ tide = subst (λ (l : ℕ). l ≤ tide) has.3 up in
+      let w : View T = record v { holds = false; out = false; sights = seen } in
+      let b : Whole T = record a { tide = m.tide st } in
+      let up' : NoneFalls a.tide (m.tide st) = subst (λ (l : List ℕ). NoneFalls l (m.tide st)) has.3 up in
       let mine_fits : Each (Fits a) (x ∷ []) = subst (Each (Fits a)) only (kept.sights id v mine) in
-      let later = fits_later a b [] (nothing_behind a.log) refl up' refl in
-      let old : (k : ℕ) (u : View T) → AreAt s.views k u → Each (Fits b) u.sights = λ k u e. each_all (Fits a) (Fits b) later u.sights (kept.sights k u e) in
-      let all = each_map (Fits a) (Fits b) (rising tide) (risen a tide up') v.sights (kept.sights id v mine) in
+      let old : (k : ℕ) (u : View T) → AreAt s.views k u → Each (Fits b) u.sights = λ k u e. each_all (Fits a) (Fits b) (higher a (m.tide st) up') u.sights (kept.sights k u e) in
+      let all : Each (Fits b) seen = fits a up' (kept.sights id v mine) in
       elim has.4 [
         | inl p ↦
             (let home : set s.homes 0 (core.some (Some st)) ≡ core.some (Some st) ∷ [] = ap (λ (hs : List (core.Option (Option S))). set hs 0 (core.some (Some st))) p.1 in (
@@ -434,10 +453,23 @@ module _ {S T : Type 0} (m : Meaning S T) (passes : ℕ) where
                   books = books_same passes a.opening (length a.log) s.views id v w has.0.books mine refl refl;
                 },
               ),
-              (st, refl, refl),
+              is,
             ))
         | inr p ↦ absurd (apart v.out is_out p.0)
       ]
+
+  pub give_allowed : (id : ℕ) (v : View T) (x : Sight T) (st : S) → v.holds ≡ true → v.out ≡ true → m.line st ≡ v.line → v.sights ≡ x ∷ [] → m.marks st ≡ x.marks → NoneFalls v.level (m.tide st)
+      → Allows (Kept m passes) 1 id (v, (0, Some st) ∷ []) 1 (λ n. 0) (λ n. Gives m (v, (0, Some st) ∷ []))
+  give_allowed id v x st on is_out shows only marks up =
+      given_back id v x st (map (rising (m.tide st)) v.sights) (Gives m (v, (0, Some st) ∷ [])) on is_out shows only marks up
+      (λ a up' fits. each_map (Fits a) (Fits (record a { tide = m.tide st })) (rising (m.tide st)) (risen a (m.tide st)) v.sights fits) (st, refl, refl)
+
+  -- and the pass knows no more than before
+  pub leave_allowed : (id : ℕ) (v : View T) (x : Sight T) (st : S) → v.holds ≡ true → v.out ≡ true → m.line st ≡ v.line → v.sights ≡ x ∷ [] → m.marks st ≡ x.marks → NoneFalls v.level (m.tide st)
+      → Allows (Kept m passes) 1 id (v, (0, Some st) ∷ []) 1 (λ n. 0) (λ n. Leaves {S = S} (v, (0, Some st) ∷ []))
+  leave_allowed id v x st on is_out shows only marks up =
+      given_back id v x st v.sights (Leaves {S = S} (v, (0, Some st) ∷ [])) on is_out shows only marks up
+      (λ a up' fits. each_all (Fits a) (Fits (record a { tide = m.tide st })) (higher a (m.tide st) up') v.sights fits) refl
 
   -- who has the turn is not idle
   busy_else : (homes : List (core.Option (Option S))) (views : List (View T)) (id j : ℕ) (v u : View T) → AreAt views id v → v.holds ≡ false → AreAt views j u → u.holds ≡ true → j ≢ id
@@ -548,7 +580,7 @@ module _ {S T : Type 0} (m : Meaning S T) (passes : ℕ) where
         None,
         record {
           words = refl;
-          sights = λ k u e. subst (λ (y : View T). Each (Fits a) y.sights) (only k u e) ((([], sym (nothing_behind (m.line st))), refl, omega arith, refl), tt);
+          sights = λ k u e. subst (λ (y : View T). Each (Fits a) y.sights) (only k u e) ((([], sym (nothing_behind (m.line st))), refl, none_falls_same (m.tide st), refl), tt);
           turn = (λ k u e. sym (ap (λ (y : View T). y.holds) (only k u e)), (st, refl, (refl, refl, refl)));
           books = record {
             parts = omega arith;
@@ -623,8 +655,15 @@ module _ {S T : Type 0} (m : Meaning S T) (passes : ℕ) where
       (commit_allowed id v list r on longer small))
 
   pub give_asks : (id slots : ℕ) (me : Me (Option S) (View T)) (v : View T) (x : Sight T) (st : S) → slots ≡ 1 → me ≡ (v, (0, Some st) ∷ [])
-      → v.holds ≡ true → v.out ≡ true → m.line st ≡ v.line → v.sights ≡ x ∷ [] → m.marks st ≡ x.marks → v.level ≤ m.tide st
+      → v.holds ≡ true → v.out ≡ true → m.line st ≡ v.line → v.sights ≡ x ∷ [] → m.marks st ≡ x.marks → NoneFalls v.level (m.tide st)
       → Allows (Kept m passes) slots id me 1 (λ n. 0) (λ n. Gives m me)
   give_asks id slots me v x st one is on out shows only marks up =
       subst (λ (k : ℕ). Allows (Kept m passes) k id me 1 (λ n. 0) (λ n. Gives m me)) (sym one)
       (subst (λ (y : Me (Option S) (View T)). Allows (Kept m passes) 1 id y 1 (λ n. 0) (λ n. Gives m y)) (sym is) (give_allowed id v x st on out shows only marks up))
+
+  pub leave_asks : (id slots : ℕ) (me : Me (Option S) (View T)) (v : View T) (x : Sight T) (st : S) → slots ≡ 1 → me ≡ (v, (0, Some st) ∷ [])
+      → v.holds ≡ true → v.out ≡ true → m.line st ≡ v.line → v.sights ≡ x ∷ [] → m.marks st ≡ x.marks → NoneFalls v.level (m.tide st)
+      → Allows (Kept m passes) slots id me 1 (λ n. 0) (λ n. Leaves {S = S} me)
+  leave_asks id slots me v x st one is on out shows only marks up =
+      subst (λ (k : ℕ). Allows (Kept m passes) k id me 1 (λ n. 0) (λ n. Leaves {S = S} me)) (sym one)
+      (subst (λ (y : Me (Option S) (View T)). Allows (Kept m passes) 1 id y 1 (λ n. 0) (λ n. Leaves {S = S} y)) (sym is) (leave_allowed id v x st on out shows only marks up))

@@ -1,5 +1,5 @@
 -- Passes as views, and seats with one slot.
-use Rattle.std.proofs.Common.{zero, suc, ◌≡◌, ℕ, ◌≤◌, ◌+◌, List, ◌∷◌, [], ◌++◌, length, Option, Some, None, sym, ap, ◌∙◌, refl, subst, arith}
+use Rattle.std.proofs.Common.{zero, suc, ◌≡◌, ℕ, List, ◌∷◌, [], ◌++◌, length, Option, Some, None, sym, ap, ◌∙◌, refl, subst, arith}
 use Rattle.std.specs.Prelude.{All, true}
 use mathlib.Core.Option as core
 use mathlib.Core.Option.{some-injective}
@@ -7,7 +7,7 @@ use lib.ListN.{get_elem?}
 use Rattle.atomic_table.specs.Table.{Me, rest, Final, Seen}
 use Rattle.atomic_table.specs.Seated.{TableId}
 use Rattle.lrs_turn.specs.declared.view.View.{View}
-use Rattle.lrs_turn.specs.Lists.{BeginsWith, Each, times}
+use Rattle.lrs_turn.specs.Lists.{BeginsWith, Each, NoneFalls, times}
 use Rattle.lrs_turn.specs.Passes.{Pass, OwnsEach}
 use Rattle.lrs_turn.specs.Rule.{view_in, Fetches, Fits, Meaning, Shows, Whole, Kept, both}
 use Rattle.lrs_turn.specs.Views.{sight_of, view_of, pass_in, Covers}
@@ -69,8 +69,8 @@ module _ {T : Type 0} where
 
 -- a state that was found fits what a pass has seen
 module _ {S T : Type 0} (m : Meaning S T) where
-  pub goes_on : (a : Whole T) (s : S) (p : Pass T) → Shows m a s → Fits a (sight_of p) → BeginsWith p.front (m.line s) × (m.marks s ≡ p.marks) × (p.tide ≤ m.tide s)
-  goes_on a s p shows f = ((f.0.0, f.0.1 ∙ sym shows.0), shows.1 ∙ sym f.1, subst (λ (n : ℕ). p.tide ≤ n) (sym shows.2) f.2)
+  pub goes_on : (a : Whole T) (s : S) (p : Pass T) → Shows m a s → Fits a (sight_of p) → BeginsWith p.front (m.line s) × (m.marks s ≡ p.marks) × NoneFalls p.tide (m.tide s)
+  goes_on a s p shows f = ((f.0.0, f.0.1 ∙ sym shows.0), shows.1 ∙ sym f.1, subst (λ (n : List ℕ). NoneFalls p.tide n) (sym shows.2) f.2)
 
 pub not_some : {S : Type 0} (s : S) → None ≡ Some s → ⊥
 not_some s e = grind (arith, e)
@@ -83,7 +83,7 @@ module _ {S T : Type 0} (m : Meaning S T) where
   pub record Ends (all : List (Pass T)) (st : S) : Type 0 where
     pub fronts : All (λ (p : Pass T). BeginsWith p.front (m.line st)) all
     pub marks : All (λ (p : Pass T). m.marks st ≡ p.marks) all
-    pub tide : All (λ (p : Pass T). p.tide ≤ m.tide st) all
+    pub tide : All (λ (p : Pass T). NoneFalls p.tide (m.tide st)) all
     pub own : (opening : ℕ) × OwnsEach all opening (length (m.line st))
 
   pub ending : (passes id : ℕ) (v : View T) (ws : List ℕ) (xs : List (Option S)) (r : Option S) (all : List (Pass T))
@@ -103,7 +103,7 @@ module _ {S T : Type 0} (m : Meaning S T) where
         record {
           fronts = all_of (λ (p : Pass T). Fits a (sight_of p)) (λ (p : Pass T). BeginsWith p.front (m.line st)) (λ p f. (goes_on m a st p shows f).0) all fits;
           marks = all_of (λ (p : Pass T). Fits a (sight_of p)) (λ (p : Pass T). m.marks st ≡ p.marks) (λ p f. (goes_on m a st p shows f).1) all fits;
-          tide = all_of (λ (p : Pass T). Fits a (sight_of p)) (λ (p : Pass T). p.tide ≤ m.tide st) (λ p f. (goes_on m a st p shows f).2) all fits;
+          tide = all_of (λ (p : Pass T). Fits a (sight_of p)) (λ (p : Pass T). NoneFalls p.tide (m.tide st)) (λ p f. (goes_on m a st p shows f).2) all fits;
           own = (
             a.opening,
             subst (OwnsEach all a.opening) long

@@ -1,5 +1,5 @@
--- Beginnings of lists, and sums over them.
-use Rattle.std.specs.Prelude.{◌≡◌, ℕ, ◌+◌, ◌==◌, List, [], ◌∷◌, ◌++◌}
+-- Beginnings of lists, sums over them, and numbers that don't fall.
+use Rattle.std.specs.Prelude.{◌≡◌, ℕ, ◌+◌, ◌≤◌, ◌==◌, List, [], ◌∷◌, ◌++◌}
 use prog.Atomic.{either}
 
 -- the whole goes on from what was before
@@ -19,3 +19,10 @@ total f (x ∷ xs) = f x + total f xs
 abbrev pub times : ℕ → List ℕ → ℕ
 times n [] = 0
 times n (x ∷ xs) = either (n == x) 1 0 + times n xs
+
+-- as many numbers, and none is lower than it was
+abbrev pub NoneFalls : List ℕ → List ℕ → Type 0
+NoneFalls [] [] = Unit {0}
+NoneFalls [] (y ∷ ys) = ⊥
+NoneFalls (x ∷ xs) [] = ⊥
+NoneFalls (x ∷ xs) (y ∷ ys) = (x ≤ y) × NoneFalls xs ys

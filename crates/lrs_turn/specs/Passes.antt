@@ -20,13 +20,13 @@ pub record Pass (T : Type 0) : Type 0 where
   pub own : List ℕ
   -- the marks of each state that it takes
   pub marks : List ℕ
-  -- no state that it takes has a lower one
-  pub tide : ℕ
+  -- numbers, of which no state that it takes has a lower one
+  pub tide : List ℕ
   -- how many records the list had when the turns were made
   pub opening : ℕ
   -- the list as it is committed, and the tide of the state when it was taken: both count only while it holds the turn
   pub line : List T
-  pub level : ℕ
+  pub level : List ℕ
 
 module _ {T : Type 0} where
   -- it is of these turns and doesn't hold the turn
@@ -38,7 +38,7 @@ module _ {T : Type 0} where
   HasTurn turns pass = (pass.turns ≡ turns.id) × (pass.holds ≡ true)
 
   -- a pass of new turns, whose state has this list, these marks and this tide
-  abbrev pub opened : Turns → List T → List ℕ → ℕ → Pass T
+  abbrev pub opened : Turns → List T → List ℕ → List ℕ → Pass T
   opened turns line marks tide = record {
     turns = turns.id;
     holds = false;
@@ -48,11 +48,11 @@ module _ {T : Type 0} where
     tide = tide;
     opening = length line;
     line = [];
-    level = 0;
+    level = [];
   }
 
   -- the pass with the turn, after a state of this list and this tide was taken
-  abbrev pub taken : List T → ℕ → Pass T → Pass T
+  abbrev pub taken : List T → List ℕ → Pass T → Pass T
   taken line tide pass = record pass { holds = true; line = line; level = tide }
 
   -- the pass has seen the committed list
@@ -64,8 +64,12 @@ module _ {T : Type 0} where
   committed line pass = record pass { front = line; line = line; own = pass.own ++ length pass.line ∷ [] }
 
   -- the pass without the turn, after a state of this tide was given
-  abbrev pub given : ℕ → Pass T → Pass T
+  abbrev pub given : List ℕ → Pass T → Pass T
   given tide pass = record pass { holds = false; tide = tide }
+
+  -- the pass without the turn, after it gave back what it took and knows no more than before
+  abbrev pub rested : Pass T → Pass T
+  rested pass = record pass { holds = false }
 
   -- the same list with one record more
   abbrev pub IsOneMore : List T → List T → Type 0

@@ -4,7 +4,7 @@ use Rattle.std.specs.Prelude.{Option, Some, None, Bool, true, false}
 use mathlib.Core.Option as core
 use lib.ListN.{get_elem?}
 use Rattle.atomic_table.specs.Table.{State, Me}
-use Rattle.lrs_turn.specs.Lists.{BeginsWith, Each, total, times}
+use Rattle.lrs_turn.specs.Lists.{BeginsWith, Each, NoneFalls, total, times}
 use Rattle.lrs_turn.specs.declared.view.View.{View}
 use Rattle.lrs_turn.specs.declared.view.Sight.{Sight}
 
@@ -12,40 +12,37 @@ use Rattle.lrs_turn.specs.declared.view.Sight.{Sight}
 pub record Meaning (S T : Type 0) : Type 0 where
   pub line : S → List T
   pub marks : S → List ℕ
-  pub tide : S → ℕ
+  pub tide : S → List ℕ
 
-abbrev pub meaning : {S T : Type 0} → (S → List T) → (S → List ℕ) → (S → ℕ) → Meaning S T
+abbrev pub meaning : {S T : Type 0} → (S → List T) → (S → List ℕ) → (S → List ℕ) → Meaning S T
 meaning line marks tide = record { line = line; marks = marks; tide = tide }
 
 -- The one list and the tide, and the marks and the opening, which never change.
 pub record Whole (T : Type 0) : Type 0 where
   pub log : List T
   pub marks : List ℕ
-  pub tide : ℕ
+  pub tide : List ℕ
   pub opening : ℕ
 
 module _ {T : Type 0} where
   -- a view that stands for no pass
   abbrev pub spent : View T
-  spent = record { sights = []; own = []; parts = 0; holds = false; out = false; line = []; level = 0 }
+  spent = record { sights = []; own = []; parts = 0; holds = false; out = false; line = []; level = [] }
 
   abbrev pub view_in : List (View T) → View T
   view_in [] = spent
   view_in (v ∷ rest) = v
 
   abbrev pub blank_sight : Sight T
-  blank_sight = record { front = []; marks = []; tide = 0; opening = 0 }
+  blank_sight = record { front = []; marks = []; tide = []; opening = 0 }
 
   abbrev pub sight_in : List (Sight T) → Sight T
   sight_in [] = blank_sight
   sight_in (x ∷ rest) = x
 
-  abbrev pub front_in : List (View T) → List T
-  front_in vs = (sight_in (view_in vs).sights).front
-
   -- what a pass has seen is so
   abbrev pub Fits : Whole T → Sight T → Type 0
-  Fits a x = BeginsWith x.front a.log × (x.marks ≡ a.marks) × (x.tide ≤ a.tide) × (x.opening ≡ a.opening)
+  Fits a x = BeginsWith x.front a.log × (x.marks ≡ a.marks) × NoneFalls x.tide a.tide × (x.opening ≡ a.opening)
 
   abbrev pub AreAt : List (View T) → ℕ → View T → Type 0
   AreAt views k v = get_elem? views k ≡ core.some v
@@ -79,24 +76,27 @@ module _ {T : Type 0} where
     own = v.own ++ length v.line ∷ [];
   }
 
-  abbrev pub rising : ℕ → Sight T → Sight T
+  abbrev pub rising : List ℕ → Sight T → Sight T
   rising tide x = record x { tide = tide }
 
-  abbrev pub given_view : ℕ → View T → View T
+  abbrev pub given_view : List ℕ → View T → View T
   given_view tide v = record v { holds = false; out = false; sights = map (rising tide) v.sights }
+
+  abbrev pub rested_view : View T → View T
+  rested_view v = record v { holds = false; out = false }
 
   -- a view that gives one part away, the view that gets it, and two that become one
   abbrev pub less : View T → View T
   less v = record v { parts = v.parts - 1 }
 
   abbrev pub another : View T → View T
-  another v = record { sights = v.sights; own = []; parts = 1; holds = false; out = false; line = []; level = 0 }
+  another v = record { sights = v.sights; own = []; parts = 1; holds = false; out = false; line = []; level = [] }
 
   abbrev pub both : View T → View T → View T
   both v w = record v { sights = v.sights ++ w.sights; own = v.own ++ w.own; parts = v.parts + w.parts }
 
   -- the first view, with all parts
-  abbrev pub starter : List T → List ℕ → ℕ → ℕ → View T
+  abbrev pub starter : List T → List ℕ → List ℕ → ℕ → View T
   starter line marks tide parts = record {
     sights = record { front = line; marks = marks; tide = tide; opening = length line } ∷ [];
     own = [];
@@ -104,7 +104,7 @@ module _ {T : Type 0} where
     holds = false;
     out = false;
     line = [];
-    level = 0;
+    level = [];
   }
 
 -- the word of the turn: 1 while somebody holds it
@@ -156,6 +156,9 @@ module _ {S T : Type 0} where
 
   abbrev pub Fetches : Me (Option S) (View T) → Me (Option S) (View T) → Type 0
   Fetches v w = w ≡ (record v.0 { out = true }, (0, None) ∷ [])
+
+  abbrev pub Leaves : Me (Option S) (View T) → Me (Option S) (View T) → Type 0
+  Leaves v w = w ≡ (rested_view v.0, [])
 
   abbrev pub Points : Me (Option S) (View T) → Me (Option S) (View T) → Type 0
   Points v w = w ≡ (pointed_view v.0, v.1)

@@ -1,6 +1,6 @@
 // How turns are made and their passes dealt, and how they end with all passes back.
 ghost use Rattle.std.specs.Prelude.{◌≡◌, ◌≤◌, ◌<◌, ℕ, [], ◌∷◌, length, vec_capacity, All, IfOk, IfErr, Some};
-ghost use Rattle.lrs_turn.specs.Lists.{BeginsWith, Each};
+ghost use Rattle.lrs_turn.specs.Lists.{BeginsWith, Each, NoneFalls};
 ghost use Rattle.lrs_turn.specs.Passes.{IsIdle, OwnsEach, opened};
 ghost use Rattle.lrs_turn.specs.Views.{IsIdleAt, Covers, opened_at, fresh};
 ghost use Rattle.lrs_turn.specs.Rule.{meaning};
@@ -9,7 +9,7 @@ use crate::journaled::Journaled;
 use crate::memory::Memory;
 use crate::pass::Pass;
 use crate::rule::{Deal, Keeps, Merge};
-use crate::turns::Turns;
+use crate::turns::{MOST_PASSES, Turns};
 use crate::view::{Opening, View};
 use atomic_table::{Seat, Shared, Table};
 use std::alloc::Global;
@@ -84,7 +84,7 @@ impl<S: Journaled> Turns<S> {
         state: S,
         passes: u32,
     ) -> Result<(Turns<S>, Vec<Pass<S::Record>>), (Memory, S)>
-        requires { (0 < passes) × (passes ≤ 16) }
+        requires { (0 < passes) × (passes ≤ MOST_PASSES) }
         ensures count { IfOk result (λ r. (length r.1.items ≡ passes) × (r.0.passes ≡ passes)) }
         ensures opened { IfOk result
             (λ r. All (λ p. p ≡ opened r.0 (S.line state) (S.marks state) (S.tide state)) r.1.items) }
@@ -117,7 +117,7 @@ impl<S: Journaled> Turns<S> {
         requires all { length passes.items ≡ self.passes }
         ensures fronts { All (λ p. BeginsWith p.front (S.line result)) passes.items }
         ensures marks { All (λ p. S.marks result ≡ p.marks) passes.items }
-        ensures tide { All (λ p. p.tide ≤ S.tide result) passes.items }
+        ensures tide { All (λ p. NoneFalls p.tide (S.tide result)) passes.items }
         ensures own { (opening : ℕ) × OwnsEach passes.items opening (length (S.line result)) }
     {
         let Turns { table } = self;

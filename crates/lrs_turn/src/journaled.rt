@@ -10,8 +10,8 @@ pub trait Journaled: Drop {
     /// Numbers that the turn never lets change.
     ghost marks: { Self → List ℕ };
 
-    /// A number that the turn never lets fall.
-    ghost tide: { Self → ℕ };
+    /// Numbers of which the turn lets none fall.
+    ghost tide: { Self → List ℕ };
 
     /// The number of records.
     fn length(&self) -> u64

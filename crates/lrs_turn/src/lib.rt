@@ -19,4 +19,4 @@ mod view;
 pub use journaled::Journaled;
 pub use memory::Memory;
 pub use pass::Pass;
-pub use turns::Turns;
+pub use turns::{MOST_PASSES, Turns};

@@ -1,7 +1,7 @@
 // The rule of the table, and what each step tells.
 ghost use Rattle.std.specs.Prelude.{List, []};
 ghost use Rattle.lrs_turn.specs.Rule.{meaning, Kept, starter, less, another, both, spent};
-ghost use Rattle.lrs_turn.specs.Rule.{Takes, Rests, Fetches, Points, Commits, Gives};
+ghost use Rattle.lrs_turn.specs.Rule.{Takes, Rests, Fetches, Points, Commits, Gives, Leaves};
 
 use crate::journaled::Journaled;
 use crate::view::{Opening, View};
@@ -16,35 +16,38 @@ impl<S: Journaled> TableRule<Option<S>, View<S::Record>, Opening<S>> for Keeps {
     ghost first = { λ o. starter (S.line o.state.value) (S.marks o.state.value) (S.tide o.state.value) o.passes };
 }
 
-// Takes the slot, if the turn was free.
+// The steps of a pass. Between calls it is kept as a badge, which can hold no slot: so while it has the turn, the slot
+// is at home and empty, from `Rest` to `Fetch`.
 pub struct Take;
 
 impl<S: Journaled> Play<Option<S>, View<S::Record>> for Take {
     ghost then = { λ s v n w. Takes (meaning S.line S.marks S.tide) v n w };
 }
 
-// Puts the slot back, empty.
 pub struct Rest;
 
 impl<S: Journaled> Play<Option<S>, View<S::Record>> for Rest {
     ghost then = { λ s v n w. Rests v w };
 }
 
-// Takes the empty slot again.
 pub struct Fetch;
 
 impl<S: Journaled> Play<Option<S>, View<S::Record>> for Fetch {
     ghost then = { λ s v n w. Fetches v w };
 }
 
-// Puts the slot back with the state in it, and frees the turn.
 pub struct Give;
 
 impl<S: Journaled> Play<Option<S>, View<S::Record>> for Give {
     ghost then = { λ s v n w. Gives (meaning S.line S.marks S.tide) v w };
 }
 
-// Sees the list as it is.
+pub struct Leave;
+
+impl<S: Journaled> Play<Option<S>, View<S::Record>> for Leave {
+    ghost then = { λ s v n w. Leaves v w };
+}
+
 pub struct Point;
 
 impl<S: Journaled> Play<Option<S>, View<S::Record>> for Point {
@@ -60,7 +63,6 @@ impl<T> Said<T> for Brand {
     ghost list = { [] };
 }
 
-// Adds one record.
 pub struct Commit<W> {
     marker: PhantomData<W>,
 }

@@ -1,17 +1,20 @@
 // One state that workers take in turns.
-ghost use Rattle.std.specs.Prelude.{◌≡◌, ◌≤◌, length, MatchOption};
-ghost use Rattle.lrs_turn.specs.Lists.{BeginsWith};
-ghost use Rattle.lrs_turn.specs.Passes.{IsIdle, HasTurn, IsOneMore, taken, pointed, committed, given};
+ghost use Rattle.std.specs.Prelude.{◌≡◌, length, MatchOption};
+ghost use Rattle.lrs_turn.specs.Lists.{BeginsWith, NoneFalls};
+ghost use Rattle.lrs_turn.specs.Passes.{IsIdle, HasTurn, IsOneMore, taken, pointed, committed, given, rested};
 
 use crate::journaled::Journaled;
 use crate::pass::Pass;
-use crate::rule::{Commit, Fetch, Give, Keeps, Point, Rest, Said, Take};
+use crate::rule::{Commit, Fetch, Give, Keeps, Leave, Point, Rest, Said, Take};
 use crate::view::{Opening, View};
 use atomic_table::{Badge, Seat, Table};
 use std::alloc::Global;
 use std::marker::{Brand, Model};
 use std::mem::replace;
 use std::sync::Wait;
+
+/// How many passes turns have at most.
+pub const MOST_PASSES: u32 = 16;
 
 /// A state that workers take in turns, each with a pass of its own.
 ///
@@ -40,7 +43,7 @@ impl<S: Journaled> Turns<S> {
             (pass.new ≡ pass.old)
             (λ state. (pass.new ≡ taken (S.line state) (S.tide state) pass.old)
             × BeginsWith pass.old.front (S.line state) × (S.marks state ≡ pass.old.marks)
-            × (pass.old.tide ≤ S.tide state)) }
+            × NoneFalls pass.old.tide (S.tide state)) }
     {
         let shared = &self.table.shared;
         let badge = replace(&mut pass.badge, Badge::blank());
@@ -63,7 +66,7 @@ impl<S: Journaled> Turns<S> {
         ensures pass { pass.new ≡ taken (S.line result) (S.tide result) pass.old }
         ensures line { BeginsWith pass.old.front (S.line result) }
         ensures marks { S.marks result ≡ pass.old.marks }
-        ensures tide { pass.old.tide ≤ S.tide result }
+        ensures tide { NoneFalls pass.old.tide (S.tide result) }
     {
         for _ in rt.forever() {
             if let Some(state) = self.try_take(pass) {
@@ -119,7 +122,7 @@ impl<S: Journaled> Turns<S> {
         requires turn { HasTurn self.now pass.old }
         requires line { S.line state ≡ pass.old.line }
         requires marks { S.marks state ≡ pass.old.marks }
-        requires tide { pass.old.level ≤ S.tide state }
+        requires tide { NoneFalls pass.old.level (S.tide state) }
         ensures turn { IsIdle self.now pass.new }
         ensures pass { pass.new ≡ given (S.tide state) pass.old }
     {
@@ -129,6 +132,26 @@ impl<S: Journaled> Turns<S> {
         shared.load::<Fetch>(&mut seat, 0);
         let _nothing = shared.exchange(&mut seat, 0, Some(state));
         shared.swap::<Give>(&mut seat, 1, 0);
+        pass.badge = seat.into_badge();
+        shared.wake_one(1);
+    }
+
+    /// Gives the state back like `give`. The pass knows no more than before the state was taken, so a worker calls it
+    /// that only looked.
+    pub fn put_back(&self, pass: &mut Pass<S::Record>, state: S)
+        requires turn { HasTurn self.now pass.old }
+        requires line { S.line state ≡ pass.old.line }
+        requires marks { S.marks state ≡ pass.old.marks }
+        requires tide { NoneFalls pass.old.level (S.tide state) }
+        ensures turn { IsIdle self.now pass.new }
+        ensures pass { pass.new ≡ rested pass.old }
+    {
+        let shared = &self.table.shared;
+        let badge = replace(&mut pass.badge, Badge::blank());
+        let mut seat: Seat<Option<S>, View<S::Record>> = badge.into_seat();
+        shared.load::<Fetch>(&mut seat, 0);
+        let _empty = shared.exchange(&mut seat, 0, Some(state));
+        shared.swap::<Leave>(&mut seat, 1, 0);
         pass.badge = seat.into_badge();
         shared.wake_one(1);
     }

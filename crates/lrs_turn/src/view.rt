@@ -7,7 +7,7 @@ use std::snapshot::Snapshot;
 pub struct Sight<T: Drop> {
     pub front: LinkedList<T>,
     pub marks: LinkedList<u64>,
-    pub tide: u64,
+    pub tide: LinkedList<u64>,
     pub opening: u64,
 }
 
@@ -25,7 +25,7 @@ pub struct View<T: Drop> {
     pub out: bool,
     /// The committed list, and the tide of the state when it was taken. Both count only while it holds the turn.
     pub line: LinkedList<T>,
-    pub level: u64,
+    pub level: LinkedList<u64>,
 }
 
 /// With what the turns were made.

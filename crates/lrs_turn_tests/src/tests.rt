@@ -1,7 +1,8 @@
-ghost use Rattle.std.specs.Prelude.{◌≡◌, ◌≤◌, ◌<◌, ℕ, [], length, replicate, All};
+ghost use Rattle.std.specs.Prelude.{◌≡◌, ◌≤◌, ◌<◌, ℕ, [], ◌∷◌, length, replicate, All};
+ghost use Rattle.lrs_turn.specs.Lists.{NoneFalls};
 ghost use Rattle.lrs_turn.specs.Passes.{IsIdle, HasTurn};
 
-use lrs_turn::{Journaled, Memory, Pass, Turns};
+use lrs_turn::{Journaled, MOST_PASSES, Memory, Pass, Turns};
 use std::alloc::Global;
 use std::sync::Wait;
 use std::thread::{Threads, for_each_mut};
@@ -19,7 +20,7 @@ impl Journaled for Tally {
 
     ghost marks = { λ _. [] };
 
-    ghost tide = { λ _. 0 };
+    ghost tide = { λ t. t.count ∷ [] };
 
     fn length(&self) -> u64
         ensures { result ≡ length {A = ℕ} (replicate self.now.count 0) }
@@ -33,11 +34,11 @@ fn add_one(turns: &Turns<Tally>, pass: &mut Pass<u64>, mut state: Tally) -> Tall
     requires turn { HasTurn turns.now pass.old }
     requires line { pass.old.line ≡ replicate state.count 0 }
     requires marks { pass.old.marks ≡ [] }
-    requires tide { pass.old.level ≤ 0 }
+    requires tide { pass.old.level ≡ state.count ∷ [] }
     ensures turn { HasTurn turns.now pass.new }
     ensures line { pass.new.line ≡ replicate result.count 0 }
     ensures marks { pass.new.marks ≡ [] }
-    ensures tide { pass.new.level ≤ 0 }
+    ensures tide { NoneFalls pass.new.level (result.count ∷ []) }
 {
     if state.count == u64::MAX {
         return state;
@@ -144,7 +145,7 @@ fn count_by<R: Threads + Wait + Sync>(
     passes: u32,
     wanted: u32,
 ) -> Result<u64, (Memory, Tally)>
-    requires { (0 < passes) × (passes ≤ 16) }
+    requires { (0 < passes) × (passes ≤ MOST_PASSES) }
 {
     let (turns, mut passes) = Turns::new(alloc, Tally { count: 1 }, passes)?;
     add_by_all(rt, &turns, passes.as_mut_slice(), wanted);

@@ -1,4 +1,4 @@
-use Rattle.std.proofs.Common.{◌-◌, [], ap, arith}
+use Rattle.std.proofs.Common.{ap, arith}
 use Rattle.lrs_turn.specs.Rule.{meaning}
 use Rattle.lrs_turn.proofs.Steps.{splits}
 use Rattle.lrs_turn.proofs.dealing.deal_all.Goals as goal

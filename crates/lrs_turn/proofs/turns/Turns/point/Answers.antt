@@ -1,4 +1,4 @@
-use Rattle.std.proofs.Common.{[], sym, ap, ◌∙◌, arith, refl}
+use Rattle.std.proofs.Common.{sym, ap, ◌∙◌, arith, refl}
 use Rattle.lrs_turn.specs.Rule.{meaning}
 use Rattle.lrs_turn.specs.Views.{view_of}
 use Rattle.lrs_turn.proofs.Steps.{point_asks}

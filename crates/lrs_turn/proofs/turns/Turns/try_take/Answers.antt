@@ -1,4 +1,4 @@
-use Rattle.std.proofs.Common.{[], Some, sym, ap, ◌∙◌, arith, refl}
+use Rattle.std.proofs.Common.{Some, sym, ap, ◌∙◌, arith, refl}
 use Rattle.lrs_turn.specs.Rule.{meaning}
 use Rattle.lrs_turn.specs.Views.{view_of}
 use Rattle.lrs_turn.proofs.Steps.{take_asks, rest_asks}
