@@ -1,16 +1,15 @@
 // What is kept, held against what all statements tell.
+use crate::plain::{Told, told_of};
 use crate::setting::Setting;
 use crate::store::Store;
-use cmi5_launch::names::{INITIALIZED, TERMINATED};
 use cmi5_running_verdicts::Running;
-use cmi5_session::{Launch, has_own, is_of_session, is_own, view_of};
-use cmi5_verdict::{Enrolment, Statements, owed, satisfied, verdicts, waived};
+use cmi5_session::Launch;
+use cmi5_verdict::{Enrolment, Statements, owed, verdicts, waived};
 use lrs_names::Id;
 use lrs_time::Moment;
 use std::alloc::Global;
 use std::test::Fail;
-use xapi_index::Index;
-use xapi_statement::{HeldStatement, StoredStatement};
+use xapi_statement::StoredStatement;
 
 // How many nodes the course has.
 const NODES: u32 = 3;
@@ -37,7 +36,7 @@ pub(crate) fn tell_same(alloc: Global, setting: &Setting, store: &Store) -> Resu
 
 fn sessions_tell_same(alloc: Global, setting: &Setting, store: &Store) -> Result<bool, Fail> {
     for launch in setting.launches.as_slice() {
-        if !has_same_view(alloc, launch, store)? || !has_same_past(alloc, &launch.session, store)? {
+        if !has_same_view(alloc, launch, store)? {
             return Ok(false);
         }
     }
@@ -45,53 +44,25 @@ fn sessions_tell_same(alloc: Global, setting: &Setting, store: &Store) -> Result
 }
 
 fn has_same_view(alloc: Global, launch: &Launch, store: &Store) -> Result<bool, Fail> {
+    let told = told_of(alloc, &store.statements, launch)?;
+    Ok(is_viewed_as(launch, store, &told) && has_same_past(&launch.session, store, &told))
+}
+
+fn is_viewed_as(launch: &Launch, store: &Store, told: &Told) -> bool {
     let kept = store.sessions.view(launch, true, false);
-    let told = view_of(alloc, &store.statements, launch, true, false)?;
-    Ok(kept.phase == told.phase && kept.completed == told.completed && kept.passed == told.passed)
+    kept.phase == told.phase() && kept.completed == told.completed && kept.passed == told.passed
 }
 
-fn has_same_past(alloc: Global, session: &Id, store: &Store) -> Result<bool, Fail> {
-    let ended = has_own(alloc, &store.statements, session, TERMINATED)?;
-    let began = began_at(alloc, &store.statements, session)?;
-    Ok(
-        store.sessions.has_ended(session) == ended
-            && store.sessions.began_at(session) == began
-            && store.sessions.last_own(session, Moment::clamp(0))
-                == last_own(&store.statements, session, Moment::clamp(0)),
-    )
-}
-
-// When the session said that it is initialized.
-fn began_at(alloc: Global, statements: &Index, session: &Id) -> Result<Option<Moment>, Fail> {
-    for at in 0..statements.len() {
-        if let Some(held) = statements.get(at) {
-            if begins(alloc, session, held)? {
-                return Ok(Some(held.stored()));
-            }
-        }
-    }
-    Ok(None)
-}
-
-// Whether the session says by it that it is initialized.
-fn begins(alloc: Global, session: &Id, held: &HeldStatement) -> Result<bool, Fail> {
-    let statement = held.whole(alloc)?;
-    let begins = is_own(session, INITIALIZED, &statement);
-    drop(statement);
-    Ok(begins)
-}
-
-// The moment of the last of the session's own statements, or that one.
-fn last_own(statements: &Index, session: &Id, moment: Moment) -> Moment {
-    let mut last = moment;
-    for at in 0..statements.len() {
-        if let Some(statement) = statements.get(at) {
-            if is_of_session(session, statement.authority()) {
-                last = statement.stored();
-            }
-        }
-    }
-    last
+fn has_same_past(session: &Id, store: &Store, told: &Told) -> bool {
+    let first = Moment::clamp(0);
+    let began = store
+        .sessions
+        .began_at(session)
+        .map(|moment| moment.milliseconds());
+    let last = store.sessions.last_own(session, first).milliseconds();
+    store.sessions.has_ended(session) == told.ended
+        && began == told.began
+        && last == told.last.unwrap_or(0)
 }
 
 // ---- registrations
@@ -106,10 +77,24 @@ fn tells_same(
     let kept = running.verdicts(alloc, number)?;
     let told = verdicts(alloc, statements, enrolment)?;
     let same = kept.as_slice() == told.as_slice();
-    Ok(same && tells_same_of_each(alloc, running, number, statements, enrolment)?)
+    Ok(
+        same && is_satisfied_alike(running, number, told.as_slice())
+            && is_waived_alike(alloc, running, number, statements, enrolment)?,
+    )
 }
 
-fn tells_same_of_each(
+fn is_satisfied_alike(running: &Running, number: u32, told: &[bool]) -> bool {
+    let mut place = 0u32;
+    for verdict in told {
+        if running.is_satisfied(number, place) != *verdict {
+            return false;
+        }
+        place = place.wrapping_add(1);
+    }
+    true
+}
+
+fn is_waived_alike(
     alloc: Global,
     running: &Running,
     number: u32,
@@ -117,9 +102,7 @@ fn tells_same_of_each(
     enrolment: &Enrolment<'_>,
 ) -> Result<bool, Fail> {
     for place in 0..NODES {
-        if running.is_satisfied(number, place) != satisfied(alloc, statements, enrolment, place)?
-            || running.is_waived(number, place) != waived(alloc, statements, enrolment, place)?
-        {
+        if running.is_waived(number, place) != waived(alloc, statements, enrolment, place)? {
             return Ok(false);
         }
     }

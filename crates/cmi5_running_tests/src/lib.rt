@@ -5,6 +5,8 @@
 #[cfg(test)]
 mod comparing;
 #[cfg(test)]
+mod plain;
+#[cfg(test)]
 mod rows;
 #[cfg(test)]
 mod said;

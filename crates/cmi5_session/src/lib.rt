@@ -2,7 +2,7 @@
 //! twenty rules on what may be said of a learner (cmi5 Quartz, section 9). Begin with `rules`.
 #![tactic(auto)]
 
-mod own;
+mod defined;
 mod phase;
 mod rules;
 mod verb;
@@ -10,8 +10,8 @@ mod view;
 
 pub use cmi5_course::{Launch, Mode};
 pub use cmi5_launch;
-pub use own::{has_own, is_cmi5_defined, is_of_session, is_own};
+pub use defined::is_cmi5_defined;
 pub use phase::Phase;
 pub use rules::{Forbidden, permitted, permitted_outside};
-pub use view::{SessionView, is_that_id, view_of};
+pub use view::{SessionView, is_that_id};
 pub use xapi_index;

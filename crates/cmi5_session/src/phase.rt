@@ -1,14 +1,11 @@
 // How far a session has come.
-ghost use Rattle.std.specs.Prelude.{◌≡◌, IfOk};
-ghost use Rattle.cmi5_session.specs.Phases.{is_over, phase_behind, phase_of};
+ghost use Rattle.std.specs.Prelude.{◌≡◌};
+ghost use Rattle.cmi5_session.specs.Phases.{is_over, phase_behind};
 ghost use Rattle.lrs_json.specs.View.{view};
 
-use crate::own::{has_own, says};
+use crate::defined::says;
 use cmi5_launch::names::{INITIALIZED, TERMINATED};
-use lrs_json::{Memory, Tree};
-use lrs_names::Id;
-use std::alloc::Global;
-use xapi_index::Index;
+use lrs_json::Tree;
 
 /// How far a session has come (cmi5 Quartz, section 9.3).
 #[derive(Clone, Copy, Debug, PartialEq, Eq)]
@@ -50,31 +47,5 @@ impl Phase {
             return Phase::Initialized;
         }
         self
-    }
-}
-
-/// How far the session has come whose token was fetched or not, and which was abandoned or not.
-pub(crate) fn phase_of(
-    alloc: Global,
-    statements: &Index,
-    session: &Id,
-    fetched: bool,
-    abandoned: bool,
-) -> Result<Phase, Memory>
-    ensures { IfOk result (λ phase. phase ≡ phase_of session.now fetched abandoned statements.now.held) }
-{
-    if abandoned {
-        return Ok(Phase::Abandoned);
-    }
-    if has_own(alloc, statements, session, TERMINATED)? {
-        return Ok(Phase::Terminated);
-    }
-    if has_own(alloc, statements, session, INITIALIZED)? {
-        return Ok(Phase::Initialized);
-    }
-    if fetched {
-        Ok(Phase::Fetched)
-    } else {
-        Ok(Phase::Launched)
     }
 }

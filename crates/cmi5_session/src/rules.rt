@@ -12,7 +12,7 @@ ghost use Rattle.lrs_names.specs.Ids.{id_text};
 ghost use Rattle.lrs_names.specs.Members.{is_word};
 ghost use Rattle.xapi_statement.specs.Statement.{has_context_activity};
 
-use crate::own::{is_cmi5_defined, says};
+use crate::defined::{is_cmi5_defined, says};
 use crate::verb::Verb;
 use crate::view::{is_about, is_that_id};
 use crate::{Phase, SessionView};

@@ -1,24 +1,20 @@
 // What the rules on a session look at, besides the statement that comes.
-ghost use Rattle.std.specs.Prelude.{◌≡◌, ◌&&◌, ◌||◌, ◌++◌, ◌∷◌, [], Bool, List, false, not, slice_get, IfOk};
-ghost use Rattle.std.specs.Option.{option_map_or};
-ghost use Rattle.cmi5_session.specs.Views.{counts, counts_still, has_counting, seen, view_behind, view_of};
+ghost use Rattle.std.specs.Prelude.{◌≡◌, ◌&&◌, ◌||◌, ◌++◌, ◌∷◌, [], Bool, List, false, not};
+ghost use Rattle.cmi5_session.specs.Views.{counts, seen, view_behind, view_of};
 ghost use Rattle.lrs_json.specs.View.{view};
 ghost use Rattle.xapi_format.specs.declared.authority.Authority.TheVariants.{Session};
-ghost use Rattle.xapi_index.specs.Statements.{is_target, is_that_id, is_voided};
+ghost use Rattle.xapi_index.specs.Statements.{is_target, is_that_id};
 ghost use Rattle.xapi_rules.specs.Rules.{is_voiding};
 ghost use Rattle.xapi_statement.specs.Statement.{activity_of};
 ghost use Rattle.xapi_statement.specs.Stored.{StoredStatement as SpecStatement};
 
 use crate::Phase;
-use crate::own::is_cmi5_defined;
-use crate::phase::phase_of;
+use crate::defined::is_cmi5_defined;
 use cmi5_course::Launch;
 use cmi5_launch::names::{COMPLETED, PASSED};
-use lrs_json::{Memory, Tree};
+use lrs_json::Tree;
 use lrs_names::{Id, Iri};
-use std::alloc::Global;
-use xapi_index::Index;
-use xapi_statement::{HeldStatement, activity_of, registration_of, verb_of};
+use xapi_statement::{activity_of, registration_of, verb_of};
 
 /// A session as the rules on its statements see it.
 #[derive(Clone, Copy)]
@@ -30,27 +26,6 @@ pub struct SessionView<'a> {
     pub completed: bool,
     /// The same of passed.
     pub passed: bool,
-}
-
-/// The session of a launch after these statements. Its token was fetched or not, and it was abandoned or not.
-pub fn view_of<'a>(
-    alloc: Global,
-    statements: &Index,
-    launch: &'a Launch,
-    fetched: bool,
-    abandoned: bool,
-) -> Result<SessionView<'a>, Memory>
-    ensures { IfOk result (λ session. seen session ≡ view_of launch.now fetched abandoned statements.now.held) }
-{
-    let phase = phase_of(alloc, statements, &launch.session, fetched, abandoned)?;
-    let completed = has_counting(alloc, statements, launch, COMPLETED)?;
-    let passed = has_counting(alloc, statements, launch, PASSED)?;
-    Ok(SessionView {
-        launch,
-        phase,
-        completed,
-        passed,
-    })
 }
 
 impl<'a> SessionView<'a> {
@@ -117,67 +92,4 @@ fn counts(launch: &Launch, verb: &str, statement: &Tree) -> bool
         && is_that_id(&launch.registration, registration_of(statement))
         && is_about(&launch.activity, statement)
         && is_cmi5_defined(statement)
-}
-
-// Whether one that is held counts by its tree, and none voids it.
-fn counts_unvoided(
-    statements: &Index,
-    launch: &Launch,
-    verb: &str,
-    held: &HeldStatement,
-    tree: &Tree,
-) -> bool
-    ensures { result ≡ counts launch.now verb.now (view tree.now)
-        && not (is_voided statements.now.held held.now) }
-{
-    counts(launch, verb, tree) && !statements.is_voided(held)
-}
-
-fn counts_still(
-    alloc: Global,
-    statements: &Index,
-    launch: &Launch,
-    verb: &str,
-    held: &HeldStatement,
-) -> Result<bool, Memory>
-    ensures { IfOk result (λ still. still
-        ≡ counts_still launch.now verb.now statements.now.held held.now) }
-{
-    let tree = held.received(alloc)?;
-    let still = counts_unvoided(statements, launch, verb, held, &tree);
-    drop(tree);
-    Ok(still)
-}
-
-fn counts_still_at(
-    alloc: Global,
-    statements: &Index,
-    launch: &Launch,
-    verb: &str,
-    at: usize,
-) -> Result<bool, Memory>
-    ensures { IfOk result (λ still. still
-        ≡ option_map_or (counts_still launch.now verb.now statements.now.held)
-        (slice_get statements.now.held at) false) }
-{
-    match statements.get(at) {
-        Some(held) => counts_still(alloc, statements, launch, verb, held),
-        None => Ok(false),
-    }
-}
-
-fn has_counting(
-    alloc: Global,
-    statements: &Index,
-    launch: &Launch,
-    verb: &str,
-) -> Result<bool, Memory>
-    ensures { IfOk result (λ still. still ≡ has_counting launch.now verb.now statements.now.held) }
-{
-    for at in 0..statements.len() {
-        if counts_still_at(alloc, statements, launch, verb, at)? {
-            return Ok(true);
-        }
-    }
-    Ok(false)
 }

@@ -1,5 +1,5 @@
 -- A walk from a node outward.
-use Rattle.std.proofs.Common.{◌≡◌, ◌∙◌, ◌&&◌, ◌||◌, ◌==◌, ◌+◌, ◌-◌, ◌<◌, ◌≤◌, ℕ, zero, suc, Bool, true, false, not, List, [], ◌∷◌, length, Option, Some, None, refl, sym, ap, arith}
+use Rattle.std.proofs.Common.{◌≡◌, ◌∙◌, ◌&&◌, ◌==◌, ◌+◌, ◌-◌, ◌<◌, ◌≤◌, ℕ, zero, suc, Bool, not, List, [], ◌∷◌, length, Option, Some, None, refl, sym, ap, arith}
 use Rattle.std.specs.List.{list_any}
 use Rattle.cmi5_course.specs.declared.course.Node.{Node}
 use Rattle.cmi5_verdict.specs.Nodes.{outward, parent_of}
@@ -31,16 +31,6 @@ module _ (nodes : List Node) (n i here : ℕ) (next : Option ℕ) (lt : i < n) (
       let steps : n - i ≡ suc (n - (i + 1)) = omega arith in
       ap (λ k. outward nodes k (Some here)) steps ∙ ap (λ o. here ∷ outward nodes (n - (i + 1)) o) holds
 
-  -- ---- whether one of them is the holder
-
-  pub under_next : (holder : ℕ) (all : Bool) → (here == holder) ≡ false → is_among holder (outward nodes (n - i) (Some here)) ≡ all → is_among holder (outward nodes (n - (i + 1)) next) ≡ all
-  under_next holder all other so_far =
-      sym (ap (is_among holder) outward_on ∙ ap (λ b. b || is_among holder (outward nodes (n - (i + 1)) next)) other) ∙ so_far
-
-  pub under_ended : (holder : ℕ) (all : Bool) → next ≡ None → (here == holder) ≡ false → is_among holder (outward nodes (n - i) (Some here)) ≡ all → false ≡ all
-  under_ended holder all none other so_far =
-      sym (ap (λ o. is_among holder (outward nodes (n - (i + 1)) o)) none ∙ ap (is_among holder) (outward_none nodes (n - (i + 1)))) ∙ under_next holder all other so_far
-
   -- ---- how many there are
 
   pub depth_next : (all : ℕ) → i + length (outward nodes (n - i) (Some here)) ≡ all → (i + 1) + length (outward nodes (n - (i + 1)) next) ≡ all
@@ -67,11 +57,6 @@ module _ (nodes : List Node) (n i here : ℕ) (next : Option ℕ) (lt : i < n) (
   left_ended holder before now all none is so_far =
       sym (ap (λ o. now && not (is_among holder (outward nodes (n - (i + 1)) o))) none ∙ (ap (λ ps. now && not (is_among holder ps)) (outward_none nodes (n - (i + 1))) ∙ and_true now))
       ∙ left_next holder before now all is so_far
-
-pub under_found : (nodes : List Node) (n i here holder : ℕ) (all : Bool) → i < n → (here == holder) ≡ true → is_among holder (outward nodes (n - i) (Some here)) ≡ all → true ≡ all
-under_found nodes n i here holder all lt same so_far =
-    sym (ap (is_among holder) (outward_on nodes n i here (parent_of nodes here) lt refl)
-    ∙ ap (λ b. b || is_among holder (outward nodes (n - (i + 1)) (parent_of nodes here))) same) ∙ so_far
 
 pub left_over : (holder : ℕ) (ps : List ℕ) (now all : Bool) → ps ≡ [] → now && not (is_among holder ps) ≡ all → now ≡ all
 left_over holder ps now all none so_far = sym (ap (λ qs. now && not (is_among holder qs)) none ∙ and_true now) ∙ so_far

@@ -88,37 +88,6 @@ kept_next test before now xs rest all x at is so_far =
     by_test true = refl
     by_test false = refl
 
--- ---- nodes under one, each in its turn
-
-module _ (met under : ℕ → Bool) (n i : ℕ) (all : Bool) where
-  abbrev so_far_all : ℕ → ℕ → Bool
-  so_far_all from long = list_all met (filter under (range_with_len from long))
-
-  under_on : i < n → so_far_all i (n - i) ≡ list_all met (cond (under i) (i ∷ filter under (range_with_len (i + 1) (n - (i + 1)))) (filter under (range_with_len (i + 1) (n - (i + 1)))))
-  under_on lt = ap (λ ps. list_all met (filter under ps)) (range_on n i lt)
-
-  -- one that stands elsewhere, or is met, decides nothing
-  pub under_next : i < n → (under i && not (met i)) ≡ false → so_far_all i (n - i) ≡ all → so_far_all (i + 1) (n - (i + 1)) ≡ all
-  under_next lt passed so_far = sym (under_on lt ∙ by_tests (under i) (met i) refl passed) ∙ so_far
-    where
-      by_tests : (u m : Bool) → met i ≡ m → (u && not m) ≡ false
-          → list_all met (cond u (i ∷ filter under (range_with_len (i + 1) (n - (i + 1)))) (filter under (range_with_len (i + 1) (n - (i + 1))))) ≡ so_far_all (i + 1) (n - (i + 1))
-      by_tests false m is both = refl
-      by_tests true true is both = ap (λ b. b && so_far_all (i + 1) (n - (i + 1))) is
-      by_tests true false is both = absurd (cc both)
-
-  pub unmet_found : i < n → (under i && not (met i)) ≡ true → so_far_all i (n - i) ≡ all → false ≡ all
-  unmet_found lt found so_far = sym (under_on lt ∙ by_tests (under i) (met i) refl found) ∙ so_far
-    where
-      by_tests : (u m : Bool) → met i ≡ m → (u && not m) ≡ true
-          → list_all met (cond u (i ∷ filter under (range_with_len (i + 1) (n - (i + 1)))) (filter under (range_with_len (i + 1) (n - (i + 1))))) ≡ false
-      by_tests false m is both = absurd (cc both)
-      by_tests true true is both = absurd (cc both)
-      by_tests true false is both = ap (λ b. b && so_far_all (i + 1) (n - (i + 1))) is
-
-  pub under_over : n ≤ i → so_far_all i (n - i) ≡ all → true ≡ all
-  under_over end so_far = sym (ap (λ ps. list_all met (filter under ps)) (range_over n i end)) ∙ so_far
-
 -- ---- a test of each node, one after another
 
 pub range_first : (n : ℕ) → range_with_len 0 (n - 0) ≡ range_with_len 0 n

@@ -1,8 +1,7 @@
 // The ids by which nodes are known.
 use crate::rows::{base, own, sign};
 use crate::said::{Both, index_of, saying, stored};
-use cmi5_course::MoveOn;
-use cmi5_verdict::{Enrolment, Statements, met, waived};
+use cmi5_verdict::{Enrolment, Statements, waived};
 use std::alloc::Global;
 use std::test::Fail;
 use xapi_index::Index;
@@ -78,7 +77,7 @@ fn alone(alloc: Global, text: &str) -> Result<Vec<StoredStatement>, Fail> {
     Ok(one)
 }
 
-// Whether node 23 is met and waived.
+// Whether node 23 is waived.
 fn told_over(alloc: Global, both: &Both) -> Result<&'static str, Fail> {
     let registration = own()?;
     let base = base(alloc)?;
@@ -92,17 +91,7 @@ fn told_over(alloc: Global, both: &Both) -> Result<&'static str, Fail> {
         course: 1,
         nodes: &[],
     };
-    let told = told_of(alloc, &statements, &enrolment);
+    let told = waived(alloc, &statements, &enrolment, 23);
     drop(base);
-    told
-}
-
-fn told_of(
-    alloc: Global,
-    statements: &Statements<'_>,
-    enrolment: &Enrolment<'_>,
-) -> Result<&'static str, Fail> {
-    let is_met = met(alloc, statements, enrolment, 23, MoveOn::Completed)?;
-    let is_waived = waived(alloc, statements, enrolment, 23)?;
-    Ok(sign(is_met, is_waived))
+    Ok(sign(told?))
 }

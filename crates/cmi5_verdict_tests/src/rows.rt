@@ -3,12 +3,11 @@
 //   WORD WORD.. => TOLD
 //
 // What was said are the words of `said`; those behind a bar are new. What is told is `+` or `-` for each node, satisfied
-// or not, then the numbers of those of which that is still to be said, in their order. A `?` would be a node that is
-// told otherwise alone than beside all. Of a unit, rows may tell instead for which words of moveOn it is met, or `all`,
-// or `none`. A line after `//` is none.
+// or not, then the numbers of those of which that is still to be said, in their order. Of a unit, rows may tell instead
+// for which words of moveOn it is met, or `all`, or `none`. A line after `//` is none.
 use crate::said::{Both, OWN, both_of, with_parts};
 use cmi5_course::Course;
-use cmi5_verdict::{Enrolment, Statements, owed, satisfied, verdicts};
+use cmi5_verdict::{Enrolment, Statements, owed, verdicts};
 use lrs_json::Text;
 use lrs_json_reader::read;
 use lrs_names::{Id, Iri};
@@ -140,22 +139,15 @@ fn put_verdicts(
     told: &mut String,
 ) -> Result<(), Fail> {
     let each = verdicts(alloc, statements, enrolment)?;
-    let mut place = 0u32;
     for verdict in each.as_slice() {
-        let alone = satisfied(alloc, statements, enrolment, place)?;
-        told.push_str(sign(*verdict, alone))?;
-        place = place.wrapping_add(1);
+        told.push_str(sign(*verdict))?;
     }
     Ok(())
 }
 
-/// How two answers are shown that should be one.
-pub(crate) fn sign(one: bool, other: bool) -> &'static str {
-    match (one, other) {
-        (true, true) => "+",
-        (false, false) => "-",
-        _ => "?",
-    }
+/// How an answer is shown.
+pub(crate) fn sign(told: bool) -> &'static str {
+    if told { "+" } else { "-" }
 }
 
 fn put_owed(

@@ -1,9 +1,3 @@
 pub mod Appending
 pub mod Authorities
-pub mod Drafting
-pub mod Keeping
-pub mod Left
-pub mod Marking
-pub mod Memberwise
-pub mod Places
-pub mod Spelling
+pub mod Joined

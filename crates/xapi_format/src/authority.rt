@@ -1,4 +1,4 @@
-ghost use Rattle.std.specs.Prelude.{◌≡◌, IfOk};
+ghost use Rattle.std.specs.Prelude.{◌≡◌, ◌↔◌, IfOk, IsTrue};
 ghost use Rattle.std.specs.Str.{bytes_eq};
 
 use itoa::Buffer;
@@ -53,6 +53,13 @@ impl Authority {
         }
     }
 
+    /// Whether both are the same. Takes no memory.
+    pub fn is_same(&self, other: &Authority) -> bool
+        ensures { IsTrue result ↔ (self.now ≡ other.now) }
+    {
+        are_same(self, other)
+    }
+
     /// Whether its Agent has that identifier. Takes no memory.
     pub fn has_agent(&self, ifi: &Ifi) -> bool
         ensures { result ≡ is_party ifi.now (authority_json self.now) }
@@ -85,5 +92,23 @@ impl Authority {
             },
             Authority::Desk => name == "desk",
         }
+    }
+}
+
+fn are_same(a: &Authority, b: &Authority) -> bool
+    ensures { IsTrue result ↔ (a.now ≡ b.now) }
+{
+    match (a, b) {
+        (Authority::Admin, Authority::Admin) => true,
+        (
+            Authority::Provider { number, name },
+            Authority::Provider {
+                number: other,
+                name: same,
+            },
+        ) => *number == *other && name == same,
+        (Authority::Session(id), Authority::Session(other)) => *id == *other,
+        (Authority::Desk, Authority::Desk) => true,
+        _ => false,
     }
 }

@@ -1,6 +1,6 @@
 // The completed form of a statement as a tree of its own.
-ghost use Rattle.std.specs.Prelude.{◌≡◌, ◌∷◌, ◌++◌, [], IfOk, OnOk, map, codes};
-ghost use Rattle.lrs_json.specs.Json.{Members, no_members, member, object, string};
+ghost use Rattle.std.specs.Prelude.{◌≡◌, ◌∷◌, ◌++◌, [], ℕ, List, IfOk, OnOk, map, codes};
+ghost use Rattle.lrs_json.specs.Json.{Json, Members, no_members, member, object, string};
 ghost use Rattle.lrs_json.specs.View.{view, member_view, members_of};
 ghost use Rattle.xapi_format.specs.Authorities.{account_json, account_name, authority_json};
 ghost use Rattle.xapi_format.specs.Completed.{added, added_behind_id, completed, given_or, kept_before};
@@ -18,7 +18,6 @@ use std::alloc::Global;
 use xapi_values::whole;
 
 /// The completed form of a statement as a tree of its own: what was received, and after it what the store adds.
-#[tactic(auto, unfolding(crate::specs::Completed::completed))]
 pub fn completed(
     alloc: Global,
     received: &Tree,
@@ -29,48 +28,99 @@ pub fn completed(
     ensures { IfOk result (λ tree. view tree
         ≡ completed (view received.now) id.now (moment_text stored) (authority_json authority.now)) }
 {
-    let Tree::Object(members) = received else {
-        return Ok(received.clone()?);
-    };
-    let mut built = kept(alloc, members.as_slice())?;
-    push_added(alloc, received, id, stored, authority, &mut built)?;
-    Ok(whole(built))
+    let own = received.clone()?;
+    into_completed(alloc, own, id, stored, authority)
 }
 
-/// One member more.
-pub fn push(name: &str, value: Tree, built: &mut Items<Member>) -> Result<(), Memory>
-    ensures { OnOk result (HasOneMore built.old name.now (view value) built.new) }
+/// The same of a tree that is taken over: the members that are kept are moved.
+pub fn into_completed(
+    alloc: Global,
+    received: Tree,
+    id: &Id,
+    stored: Moment,
+    authority: &Authority,
+) -> Result<Tree, Memory>
+    ensures { IfOk result (λ tree. view tree
+        ≡ completed (view received) id.now (moment_text stored) (authority_json authority.now)) }
 {
-    let name = Text::of(built.allocator(), name)?;
-    xapi_values::push(name, value, built)
+    match added(alloc, &received, id, stored, authority) {
+        Ok(behind) => with_added(received, behind),
+        Err(refused) => {
+            drop(received);
+            Err(refused)
+        }
+    }
+}
+
+// The completed form with what the store adds, whatever that is.
+#[tactic(auto, unfolding(crate::specs::Completed::completed))]
+fn with_added(received: Tree, behind: Items<Member>) -> Result<Tree, Memory>
+    ensures { (id stored : List ℕ) (authority : Json)
+        → members_of (map member_view behind) ≡ added (view received) id stored authority
+        → IfOk result (λ tree. view tree ≡ completed (view received) id stored authority) }
+{
+    match received {
+        Tree::Object(members) => joined(members, behind),
+        other => {
+            drop(behind);
+            Ok(other)
+        }
+    }
+}
+
+// The members that are kept, and after them these.
+fn joined(members: Items<Member>, behind: Items<Member>) -> Result<Tree, Memory>
+    ensures { IfOk result (λ tree. view tree ≡ object (kept_before (members_of (map member_view members))
+        (members_of (map member_view behind)))) }
+{
+    let front = kept(members)?;
+    let mut all = front.into_vec();
+    let mut last = behind.into_vec();
+    all.append(&mut last)?;
+    Ok(Tree::Object(Items::from_vec(all)))
 }
 
 // The members that are kept.
-fn kept(alloc: Global, members: &[Member]) -> Result<Items<Member>, Memory>
+fn kept(members: Items<Member>) -> Result<Items<Member>, Memory>
     ensures { IfOk result (λ built. (behind : Members) →
-        kept_before (members_of (map member_view members.now)) behind
+        kept_before (members_of (map member_view members)) behind
         ≡ followed_by (members_of (map member_view built)) behind) }
 {
-    let mut built = Items::new(alloc);
-    for part in members {
-        push_if_kept(alloc, part, &mut built)?;
+    let mut built = Items::new(members.allocator());
+    for part in members.into_vec() {
+        push_if_kept(part, &mut built)?;
     }
     Ok(built)
 }
 
-fn push_if_kept(alloc: Global, part: &Member, built: &mut Items<Member>) -> Result<(), Memory>
-    ensures { OnOk result ((ms behind : Members) →
-        followed_by (members_of (map member_view built.old))
-        (kept_before (member part.now.name (view part.now.value) ms) behind)
+fn push_if_kept(part: Member, built: &mut Items<Member>) -> Result<(), Memory>
+    ensures { let seen = member_view part in OnOk result ((ms behind : Members) →
+        followed_by (members_of (map member_view built.old)) (kept_before (member seen.0 seen.1 ms) behind)
         ≡ followed_by (members_of (map member_view built.new)) (kept_before ms behind)) }
 {
     if is_added(part.name.as_str()) {
+        drop(part);
         return Ok(());
     }
-    push_made::<OfStatement>(alloc, part, built)
+    push_made::<OfStatement>(part, built)
 }
 
 // What the store writes after the members that are kept.
+fn added(
+    alloc: Global,
+    received: &Tree,
+    id: &Id,
+    stored: Moment,
+    authority: &Authority,
+) -> Result<Items<Member>, Memory>
+    ensures { IfOk result (λ built. members_of (map member_view built)
+        ≡ added (view received.now) id.now (moment_text stored) (authority_json authority.now)) }
+{
+    let mut built = Items::new(alloc);
+    push_added(alloc, received, id, stored, authority, &mut built)?;
+    Ok(built)
+}
+
 fn push_added(
     alloc: Global,
     received: &Tree,
@@ -104,6 +154,14 @@ fn push_behind_id(
     push_words(alloc, "stored", stored, built)?;
     push("authority", agent(alloc, authority)?, built)?;
     push_given(alloc, received, "version", "1.0.0", built)
+}
+
+// One member more.
+fn push(name: &str, value: Tree, built: &mut Items<Member>) -> Result<(), Memory>
+    ensures { OnOk result (HasOneMore built.old name.now (view value) built.new) }
+{
+    let name = Text::of(built.allocator(), name)?;
+    xapi_values::push(name, value, built)
 }
 
 fn push_words(

@@ -1,4 +1,4 @@
-//! The tests of xapi_format and xapi_reduced.
+//! The tests of xapi_format, xapi_received and xapi_reduced.
 #![tactic(auto)]
 
 #[cfg(test)]

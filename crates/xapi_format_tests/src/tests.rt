@@ -5,7 +5,8 @@ use lrs_names::Id;
 use lrs_time::Moment;
 use std::alloc::Global;
 use std::test::Fail;
-use xapi_format::{Authority, ReceivedText, completed};
+use xapi_format::{Authority, completed};
+use xapi_received::ReceivedText;
 use xapi_reduced::reduced;
 use xapi_values::is_nested;
 

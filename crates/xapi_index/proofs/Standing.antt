@@ -79,7 +79,7 @@ stand_start held ahead postings coming are none_ahead nothing = record {
     alone : held ++ ahead ≡ held
     alone = ap (λ (xs : List StoredStatement). held ++ xs) none_ahead ∙ append-nil held
 
--- one more that is to come, of which all keys are noted, and its position under each
+-- one more that is to come, of which all keys are kept, and its position under each
 pub stand_more : (held ahead : List StoredStatement) (old new : List (Key × List ℕ)) (coming : List (List Key)) (keys : List Key) (s : StoredStatement) (position : ℕ) → position ≡ length held + length coming
     → ((k : Key) → is_among k keys ≡ has_key k s) → ChangesEach (λ k. is_among k keys) (posted position) old new → StandAhead held ahead old coming
     → StandAhead held (ahead ++ s ∷ []) new (coming ++ keys ∷ [])
@@ -114,7 +114,7 @@ stand_index held ahead postings coming stand = record {
   rising = λ is. absurd (true≢false (sym is));
 }
 
--- The keys of one more are noted, and its position stands under some of them.
+-- The keys of one more are kept, and its position stands under some of them.
 pub part_index : (held ahead : List StoredStatement) (old new : List (Key × List ℕ)) (coming : List (List Key)) (keys : List Key) (position : ℕ) → position ≡ length held + length coming
     → ChangesSome (λ k. is_among k keys) (posted position) old new → StandAhead held ahead old coming → IsIndex held new (coming ++ keys ∷ []) false
 part_index held ahead old new coming keys position at some stand = record {

@@ -21,7 +21,7 @@ ChangesSome passes change old new = (key : Key) → (posting_of key new ≡ post
 
 -- ---- statements that are to come
 
--- Those that are held stand under their keys, and behind them those that are to come, whose keys are noted.
+-- Those that are held stand under their keys, and behind them those that are to come, whose keys are kept.
 pub record StandAhead (held ahead : List StoredStatement) (postings : List (Key × List ℕ))
     (coming : List (List Key)) : Type 0 where
   pub posted : ArePosted (held ++ ahead) postings

@@ -10,6 +10,7 @@ ghost use Rattle.xapi_postings.specs.Postings.{posted};
 ghost use Rattle.xapi_postings.specs.XapiStatementStored.{StoredStatement as SpecStatement};
 ghost use Rattle.xapi_postings.specs.XapiStatementKeysKeys.{is_among};
 
+use crate::authorities::Authorities;
 use crate::positions::first_under;
 use lrs_json::Memory;
 use xapi_postings::Postings;
@@ -19,12 +20,13 @@ use xapi_postings::xapi_statement_keys::{Key, Keys};
 // ---- written ahead
 
 /// Makes room for statements in the list, and of those that are new makes the held forms and writes the positions.
-/// Where memory runs out in the middle, what was written stays, and its keys are noted.
+/// Where memory runs out in the middle, what was written stays, and its keys are kept.
 pub(crate) fn ready_each(
     held: &mut Vec<HeldStatement>,
     postings: &mut Postings,
     coming: &mut Vec<Keys>,
     ahead: &mut Vec<HeldStatement>,
+    authorities: &mut Authorities,
     statements: &[StoredStatement],
 ) -> Result<(), Memory>
     requires posted { ArePosted held.old.items postings.old }
@@ -37,7 +39,14 @@ pub(crate) fn ready_each(
     ensures spare { OnOk result (length statements.now ≤ vec_capacity held.new - vec_len held.new) }
 {
     make_room(held, coming, ahead, statements.len())?;
-    write_each(held.as_slice(), postings, coming, ahead, statements)
+    write_each(
+        held.as_slice(),
+        postings,
+        coming,
+        ahead,
+        authorities,
+        statements,
+    )
 }
 
 fn make_room(
@@ -63,6 +72,7 @@ fn write_each(
     postings: &mut Postings,
     coming: &mut Vec<Keys>,
     ahead: &mut Vec<HeldStatement>,
+    authorities: &mut Authorities,
     statements: &[StoredStatement],
 ) -> Result<(), Memory>
     requires posted { ArePosted held.now postings.old }
@@ -74,7 +84,7 @@ fn write_each(
     ensures ahead { OnOk result (add_each held.now statements.now ≡ held.now ++ ahead.new.items) }
 {
     for statement in statements {
-        write_one(held, postings, coming, ahead, statement)?;
+        write_one(held, postings, coming, ahead, authorities, statement)?;
     }
     Ok(())
 }
@@ -85,6 +95,7 @@ fn write_one(
     postings: &mut Postings,
     coming: &mut Vec<Keys>,
     ahead: &mut Vec<HeldStatement>,
+    authorities: &mut Authorities,
     statement: &StoredStatement,
 ) -> Result<(), Memory>
     requires room { vec_len coming.old < vec_capacity coming.old }
@@ -97,7 +108,7 @@ fn write_one(
 {
     match first_under(postings, statement.id()) {
         Some(_) => Ok(()),
-        None => keep_new(held, postings, coming, ahead, statement),
+        None => keep_new(held, postings, coming, ahead, authorities, statement),
     }
 }
 
@@ -107,6 +118,7 @@ fn keep_new(
     postings: &mut Postings,
     coming: &mut Vec<Keys>,
     ahead: &mut Vec<HeldStatement>,
+    authorities: &mut Authorities,
     statement: &StoredStatement,
 ) -> Result<(), Memory>
     requires room { vec_len coming.old < vec_capacity coming.old }
@@ -117,19 +129,24 @@ fn keep_new(
     ensures capacity { vec_capacity coming.new ≡ vec_capacity coming.old }
     ensures longer { vec_len coming.new ≤ vec_len coming.old + 1 }
 {
-    push_ahead(ahead, statement)?;
+    push_ahead(ahead, authorities, statement)?;
     write_new(held, postings, coming, statement)
 }
 
-fn push_ahead(ahead: &mut Vec<HeldStatement>, statement: &StoredStatement) -> Result<(), Memory>
+fn push_ahead(
+    ahead: &mut Vec<HeldStatement>,
+    authorities: &mut Authorities,
+    statement: &StoredStatement,
+) -> Result<(), Memory>
     ensures { OnOk result (ahead.new.items ≡ ahead.old.items ++ statement.now ∷ []) }
 {
-    let held = HeldStatement::of(*ahead.allocator(), statement)?;
+    let authority = authorities.shared(statement.authority())?;
+    let held = HeldStatement::under(*ahead.allocator(), authority, statement)?;
     ahead.push(held)?;
     Ok(())
 }
 
-// Writes the position behind all others under each key of a statement. Its keys are noted also if some fail.
+// Writes the position behind all others under each key of a statement. Its keys are kept also if some fail.
 fn write_new(
     held: &[HeldStatement],
     postings: &mut Postings,

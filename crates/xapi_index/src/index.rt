@@ -10,6 +10,7 @@ ghost use Rattle.xapi_postings.specs.XapiStatementStored.{StoredStatement as Spe
 ghost use Rattle.xapi_postings.specs.XapiStatementKeysKeys.{has_key};
 
 use crate::ahead::{cut_each, ready_each};
+use crate::authorities::Authorities;
 use crate::installing::install_each;
 use crate::positions::first_below;
 use crate::times::later_in;
@@ -33,6 +34,8 @@ pub struct Index {
     coming: Vec<Keys>,
     // Those of them that are new, in their order.
     ahead: Vec<HeldStatement>,
+    // What statements share that are to come.
+    authorities: Authorities,
     // Whether no statement is older than one before it.
     rising: bool,
 }
@@ -67,11 +70,13 @@ impl Index {
         let postings = Postings::new(alloc);
         let coming = Vec::new(alloc);
         let ahead = Vec::new(alloc);
+        let authorities = Authorities::new(alloc);
         Index {
             held,
             postings,
             coming,
             ahead,
+            authorities,
             rising: true,
         }
     }
@@ -180,13 +185,6 @@ impl Index {
         self.voiding(id).is_some()
     }
 
-    /// Whether a statement is voided by one of the first n.
-    pub fn is_voided_in(&self, n: usize, statement: &StoredStatement) -> bool
-        ensures { result ≡ is_voided (take n self.now.held) statement.now }
-    {
-        !statement.is_voiding() && self.is_target_in(n, &statement.id())
-    }
-
     /// Whether the statement at a position is voided by one of the first n.
     pub fn is_voided_at(&self, n: usize, at: usize) -> bool
         ensures { result ≡ option_map_or (is_voided (take n self.now.held)) (slice_get self.now.held at) false }
@@ -266,6 +264,7 @@ impl Index {
             &mut self.postings,
             &mut self.coming,
             &mut self.ahead,
+            &mut self.authorities,
             statements,
         )
     }
@@ -282,7 +281,7 @@ impl Index {
     }
 
     /// Takes statements in that are ready, each but for one whose id is held: their held forms are moved into the list.
-    /// It takes no memory.
+    /// It takes no memory. Only the clauses read the statements.
     pub fn install(&mut self, statements: &[StoredStatement])
         requires { IsIndexReadyFor self.old statements.now }
         ensures held { self.new.held ≡ add_each self.old.held statements.now }

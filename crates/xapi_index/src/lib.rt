@@ -3,6 +3,7 @@
 #![tactic(auto)]
 
 mod ahead;
+mod authorities;
 mod index;
 mod installing;
 mod naming;

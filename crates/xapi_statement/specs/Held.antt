@@ -1,4 +1,4 @@
--- What is noted of a statement that is held, beside what was received.
+-- What stands beside the text of a statement that is held.
 use Rattle.std.specs.Prelude.{◌≡◌, ℕ, Bool, List, Option, IsTrue}
 use Rattle.lrs_json.specs.View.{view}
 use Rattle.lrs_json.specs.declared.tree.Tree.{Tree}
@@ -6,7 +6,7 @@ use Rattle.xapi_rules.specs.Rules.{is_voiding}
 use Rattle.xapi_statement.specs.Statement.{is_statement, registration_of, target_of}
 
 -- the statement to which it refers, the registration that it names, and whether it voids; that it breaks no rule
-pub record IsNoted (received : Tree) (referred named : Option (List ℕ)) (voids : Bool) : Type 0 where
+pub record StandsBeside (received : Tree) (referred named : Option (List ℕ)) (voids : Bool) : Type 0 where
   pub target : referred ≡ target_of (view received)
   pub registration : named ≡ registration_of (view received)
   pub voiding : voids ≡ is_voiding (view received)

@@ -6,8 +6,8 @@ pub use Rattle.xapi_format.specs.declared.authority.Authority.TheVariants as Xap
 pub use Rattle.xapi_format.specs.declared.format.Format as XapiFormatFormatFormat
 pub use Rattle.xapi_format.specs.declared.format.Format.TheVariants as XapiFormatFormatFormatTheVariants
 pub use Rattle.xapi_rules.specs.Rules as XapiRulesRules
+pub use Rattle.xapi_properties.specs.Parties
 pub mod Statement
-pub mod Parties
 pub mod Stored
 pub mod Shown
 pub mod Held

@@ -6,13 +6,15 @@ ghost use Rattle.xapi_rules.specs.Rules.{is_voiding};
 ghost use Rattle.xapi_statement.specs.Shown.{shown_form, shown_text};
 ghost use Rattle.xapi_statement.specs.Statement.{is_statement, registration_of, target_of};
 
-use crate::{Authority, Format, Statement, StoredStatement};
+use crate::{Authority, Format, SharedAuthority, Statement, StoredStatement};
 use lrs_json::{Memory, Tree, write};
 use lrs_names::Id;
 use lrs_time::Moment;
 use std::alloc::Global;
 use std::marker::Model;
-use xapi_format::ReceivedText;
+use xapi_format::into_completed;
+use xapi_received::ReceivedText;
+use xapi_reduced::reduced;
 
 /// A statement as the store holds it in memory, seen as the `StoredStatement` that it was made of. Of what was received
 /// it keeps the written text, since a tree takes several times as much room, and most of what is held is only shown.
@@ -23,7 +25,7 @@ pub struct HeldStatement {
     received: ReceivedText,
     id: Id,
     stored: Moment,
-    authority: Authority,
+    authority: SharedAuthority,
     target: Option<Id>,
     registration: Option<Id>,
     is_voiding: bool,
@@ -33,7 +35,7 @@ impl Model for HeldStatement {
     ghost use Rattle.xapi_statement.specs.Stored.{StoredStatement as SpecStatement};
     ghost use Rattle.std.specs.Coded.{codes};
     ghost use Rattle.lrs_json.specs.contracts.tree.Tree as tree;
-    ghost use Rattle.xapi_statement.specs.Held.{IsNoted};
+    ghost use Rattle.xapi_statement.specs.Held.{StandsBeside};
 
     ghost Value = { SpecStatement };
 
@@ -41,24 +43,37 @@ impl Model for HeldStatement {
 
     ghost view = { λ h. record { received = h.received; id = h.id; stored = h.stored; authority = h.authority } };
 
-    ghost invariant = { λ h. IsNoted h.received h.target h.registration h.is_voiding };
+    ghost invariant = { λ h. StandsBeside h.received h.target h.registration h.is_voiding };
 }
 
 impl HeldStatement {
-    /// Writes the text of a statement, and notes what is asked of it. The statement stays with the caller.
+    /// Writes the text of a statement, and puts beside it what is asked of many. The statement stays with the caller.
     pub fn of(alloc: Global, statement: &StoredStatement) -> Result<HeldStatement, Memory>
+        ensures { IfOk result (λ h. h ≡ statement.now) }
+    {
+        let authority = statement.authority().copy()?;
+        let shared = SharedAuthority::of(alloc, authority)?;
+        HeldStatement::under(alloc, shared, statement)
+    }
+
+    /// The same. Its authority is given, since others may share it.
+    pub fn under(
+        alloc: Global,
+        authority: SharedAuthority,
+        statement: &StoredStatement,
+    ) -> Result<HeldStatement, Memory>
+        requires { authority ≡ statement.now.authority }
         ensures { IfOk result (λ h. h ≡ statement.now) }
     {
         let whole = statement.statement();
         let received = ReceivedText::of(alloc, whole.received())?;
-        let authority = statement.authority().copy()?;
-        Ok(HeldStatement::noted(received, authority, statement))
+        Ok(HeldStatement::with_text(received, authority, statement))
     }
 
-    // The statement with that text and that authority, which are its own.
-    fn noted(
+    // The statement with that text and that authority.
+    fn with_text(
         received: ReceivedText,
-        authority: Authority,
+        authority: SharedAuthority,
         statement: &StoredStatement,
     ) -> HeldStatement
         requires received { received ≡ statement.now.received }
@@ -100,7 +115,7 @@ impl HeldStatement {
     pub fn authority(&self) -> &Authority
         ensures { result.now ≡ self.now.authority }
     {
-        &self.authority
+        self.authority.get()
     }
 
     /// The statement to which its object refers.
@@ -142,7 +157,7 @@ impl HeldStatement {
     pub fn whole(&self, alloc: Global) -> Result<StoredStatement, Memory>
         ensures { IfOk result (λ s. s ≡ self.now) }
     {
-        let authority = self.authority.copy()?;
+        let authority = self.authority.get().copy()?;
         let tree = self.received.tree(alloc)?;
         Ok(Statement::of(tree).complete(self.id, self.stored, authority))
     }
@@ -167,12 +182,18 @@ impl HeldStatement {
         ensures kept { Extends into.old.items into.new.items }
     {
         match format {
-            Format::Exact => {
-                self.received
-                    .put_completed(&self.id, self.stored, &self.authority, into)
-            }
+            Format::Exact => self.put_exact(into),
             Format::Ids => self.put_reduced(into),
         }
+    }
+
+    fn put_exact(&self, into: &mut Vec<u8>) -> Result<(), Memory>
+        ensures ok { OnOk result (into.new.items ≡ into.old.items ++ shown_text Format.Exact self.now) }
+        ensures kept { Extends into.old.items into.new.items }
+    {
+        let authority = self.authority.get();
+        self.received
+            .put_completed(&self.id, self.stored, authority, into)
     }
 
     fn put_reduced(&self, into: &mut Vec<u8>) -> Result<(), Memory>
@@ -187,9 +208,9 @@ impl HeldStatement {
     fn reduced(&self, alloc: Global) -> Result<Tree, Memory>
         ensures { IfOk result (λ tree. view tree ≡ shown_form Format.Ids self.now) }
     {
-        let whole = self.whole(alloc)?;
-        let tree = whole.tree(alloc, Format::Ids);
-        drop(whole);
-        tree
+        let received = self.received.tree(alloc)?;
+        let authority = self.authority.get();
+        let whole = into_completed(alloc, received, &self.id, self.stored, authority)?;
+        reduced(whole)
     }
 }

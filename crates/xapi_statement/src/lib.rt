@@ -2,26 +2,23 @@
 //! one, how long one may be that is received, and a statement as the store keeps it: with its tree, and as it is held.
 #![tactic(auto)]
 
-mod activities;
 mod held;
 mod length;
-mod members;
-mod parties;
 mod refused;
+mod shared;
 mod statement;
 mod stored;
 
-pub use activities::has_context_activity;
 pub use held::HeldStatement;
 pub use length::{LONGEST_STATEMENT, is_too_long};
 pub use lrs_json::Memory;
-pub use members::{
-    activity_of, extension_of, has_duration, own_id, registration_of, result_boolean,
-    scaled_spelling, target_of, verb_of,
-};
-pub use parties::is_actor;
 pub use refused::{StatementRefused, judge};
+pub use shared::SharedAuthority;
 pub use statement::Statement;
 pub use stored::StoredStatement;
 pub use xapi_format::{Authority, Format};
+pub use xapi_properties::{
+    activity_of, extension_of, has_context_activity, has_duration, is_actor, own_id,
+    registration_of, result_boolean, scaled_spelling, target_of, verb_of,
+};
 pub use xapi_rules::{broken_rule, is_voiding, lrs_agents};

@@ -7,7 +7,6 @@ ghost use Rattle.xapi_statement.specs.Parties.{has_agent, actor_of};
 ghost use Rattle.xapi_statement.specs.Statement.{is_too_long, refusal, is_statement, own_id, verb_of, registration_of, target_of, activity_of, has_context_activity, has_activity, extension_of, result_boolean, scaled_of, has_duration};
 
 use crate::refused::{StatementRefused, judge};
-use crate::{activities, members, parties};
 use lrs_decimal::Decimal;
 use lrs_json::{Text, Tree};
 use lrs_names::Id;
@@ -56,21 +55,21 @@ impl Statement {
     pub fn id(&self) -> Option<Id>
         ensures { result ≡ own_id (view self.now.tree) }
     {
-        members::own_id(&self.tree)
+        xapi_properties::own_id(&self.tree)
     }
 
     /// The id of its verb, an IRI.
     pub fn verb(&self) -> &str
         ensures { result.now ≡ verb_of (view self.now.tree) }
     {
-        members::verb_of(&self.tree)
+        xapi_properties::verb_of(&self.tree)
     }
 
     /// The registration that its context names, a UUID.
     pub fn registration(&self) -> Option<Id>
         ensures { result ≡ registration_of (view self.now.tree) }
     {
-        members::registration_of(&self.tree)
+        xapi_properties::registration_of(&self.tree)
     }
 
     /// Whether its verb is voided (xAPI 1.0.3, part two, section 2.3.2).
@@ -84,21 +83,21 @@ impl Statement {
     pub fn target(&self) -> Option<Id>
         ensures { result ≡ target_of (view self.now.tree) }
     {
-        members::target_of(&self.tree)
+        xapi_properties::target_of(&self.tree)
     }
 
     /// The id of the Activity that is its object, an IRI.
     pub fn activity(&self) -> Option<&Text>
         ensures { option_map (λ t. t.now) result ≡ activity_of (view self.now.tree) }
     {
-        members::activity_of(&self.tree)
+        xapi_properties::activity_of(&self.tree)
     }
 
     /// Whether its actor is the Agent of that identifier.
     pub fn is_actor(&self, ifi: &Ifi) -> bool
         ensures { IsTrue result ↔ (actor_of (view self.now.tree) ≡ Some ifi.now) }
     {
-        parties::is_actor(&self.tree, ifi)
+        xapi_properties::is_actor(&self.tree, ifi)
     }
 
     /// Whether who has that identifier takes part in it, as actor or object or as a member of one; with the related
@@ -106,7 +105,7 @@ impl Statement {
     pub fn has_agent(&self, ifi: &Ifi, related: bool) -> bool
         ensures { result ≡ has_agent ifi.now related (view self.now.tree) }
     {
-        parties::has_agent(&self.tree, ifi, related)
+        xapi_properties::has_agent(&self.tree, ifi, related)
     }
 
     /// Whether its object is the Activity of that id; with the related places also whether its context activities, or
@@ -114,28 +113,28 @@ impl Statement {
     pub fn has_activity(&self, id: &str, related: bool) -> bool
         ensures { result ≡ has_activity id.now related (view self.now.tree) }
     {
-        activities::has_activity(&self.tree, id, related)
+        xapi_properties::has_activity(&self.tree, id, related)
     }
 
     /// Whether the category activities of its context hold the Activity of that id.
     pub fn category(&self, id: &str) -> bool
         ensures { result ≡ has_context_activity (codes "category") id.now (view self.now.tree) }
     {
-        activities::has_context_activity(&self.tree, "category", id)
+        xapi_properties::has_context_activity(&self.tree, "category", id)
     }
 
     /// Whether the grouping activities of its context hold the Activity of that id.
     pub fn grouping(&self, id: &str) -> bool
         ensures { result ≡ has_context_activity (codes "grouping") id.now (view self.now.tree) }
     {
-        activities::has_context_activity(&self.tree, "grouping", id)
+        xapi_properties::has_context_activity(&self.tree, "grouping", id)
     }
 
     /// What the extension of its context of that name holds.
     pub fn extension(&self, id: &str) -> Option<&Tree>
         ensures { option_map (λ t. view t.now) result ≡ extension_of id.now (view self.now.tree) }
     {
-        members::extension_of(&self.tree, id)
+        xapi_properties::extension_of(&self.tree, id)
     }
 
     /// The scaled score of its result.
@@ -144,27 +143,27 @@ impl Statement {
             ((s : List ℕ) → scaled_of (view self.now.tree) ≡ Some s → is_decimal s ≡ false)
             (λ d. IsSomeAnd (scaled_of (view self.now.tree)) (λ s. HasValue d s)) }
     {
-        members::scaled_of(&self.tree)
+        xapi_properties::scaled_of(&self.tree)
     }
 
     /// Whether its result says that it was a success.
     pub fn success(&self) -> Option<bool>
         ensures { result ≡ result_boolean (codes "success") (view self.now.tree) }
     {
-        members::result_boolean(&self.tree, "success")
+        xapi_properties::result_boolean(&self.tree, "success")
     }
 
     /// Whether its result says that what it is about was completed.
     pub fn completion(&self) -> Option<bool>
         ensures { result ≡ result_boolean (codes "completion") (view self.now.tree) }
     {
-        members::result_boolean(&self.tree, "completion")
+        xapi_properties::result_boolean(&self.tree, "completion")
     }
 
     /// Whether its result has a duration.
     pub fn has_duration(&self) -> bool
         ensures { result ≡ has_duration (view self.now.tree) }
     {
-        members::has_duration(&self.tree)
+        xapi_properties::has_duration(&self.tree)
     }
 }

@@ -4,3 +4,6 @@ use Rattle.xapi_index.proofs.ahead.push_ahead.Goals as goal
 
 pub returns : goal.returns
 returns c = c.in_ok-push.ensures.items ∙ ap (λ (s : StoredStatement). c.args.ahead.now.items ++ s ∷ []) c.in_ok-held.ensures
+
+pub under-requires : goal.under-requires
+under-requires c = c.in_ok-authority.ensures ∙ c.authority.ensures

@@ -15,4 +15,4 @@ pub returns : goal.returns
 returns c =
     let inside = of_parts c.self.inside.received c.self.inside.id c.self.inside.stored c.self.inside.authority in
     c.complete.ensures
-    ∙ (same_parts inside _ _ _ _ (c.of.ensures ∙ c.in_ok-tree.ensures) refl refl c.in_ok-authority.ensures ∙ c.self.view_is)
+    ∙ (same_parts inside _ _ _ _ (c.of.ensures ∙ c.in_ok-tree.ensures) refl refl (c.in_ok-authority.ensures ∙ c.get.ensures) ∙ c.self.view_is)

@@ -1,7 +1,0 @@
-use Rattle.lrs_json.specs.View.{view}
-use Rattle.xapi_format.proofs.Keeping.{so_far_kept}
-use Rattle.xapi_format.proofs.noting.keep.Goals as goal
-
-pub returns : goal.returns
-returns c = λ all ms start so.
-    so_far_kept all ms start c.args.draft.now c.note_kept.new.draft c.args.stands c.args.ending c.args.part.now.name (view c.args.part.now.value) c.requires c.in_ok-note_kept.ensures so

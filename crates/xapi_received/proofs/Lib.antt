@@ -1,0 +1,7 @@
+pub mod Drafting
+pub mod Keeping
+pub mod Left
+pub mod Marked
+pub mod Memberwise
+pub mod Places
+pub mod Spelling

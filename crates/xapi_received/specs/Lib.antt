@@ -1,0 +1,4 @@
+pub mod Received
+pub mod Excerpts
+pub mod Offsets
+pub mod Marking
