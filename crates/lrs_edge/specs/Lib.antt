@@ -1,3 +1,4 @@
+pub mod Ahead
 pub mod FileDisk
 pub mod Silent
 pub mod TcpDoor

@@ -1,13 +1,15 @@
-ghost use Rattle.std.specs.Prelude.{◌≡◌, ◌≤◌, ◌+◌, ◌-◌, ◌^◌, None, IfOk, IsErr, length, min};
+ghost use Rattle.std.specs.Prelude.{◌≡◌, ◌≤◌, ◌+◌, ◌-◌, ◌^◌, None, IsErr, min};
 ghost use Rattle.lrs_disk.specs.Faults.{HasCause};
 
+use crate::ahead::ReadAhead;
 use crate::faults::Faults;
+use crate::file::OptionalFile;
 use crate::reports::report;
 use lrs_disk::{Disk, Failed};
 use std::alloc::Global;
 use std::fs::{File, OpenOptions};
 use std::io::{self, ErrorKind};
-use std::os::unix::fs::{FileExt, OpenOptionsExt};
+use std::os::unix::fs::OpenOptionsExt;
 use std::path::Path;
 use std::rt::Files;
 
@@ -19,10 +21,13 @@ const OWNER_ALONE: u32 = 0o600;
 pub(crate) struct Content<R> {
     rt: R,
     name: String,
-    file: Option<File>,
+    file: ReadAhead<OptionalFile>,
 }
 
 /// A file as a disk. A name that has no file reads as an empty one; the file is made when it is first written.
+///
+/// A small read reads `READ_AHEAD` bytes, from which later ones are answered until the disk is written, cut or synced.
+/// If that isn't possible it reads what was asked for.
 #[derive(Drop)]
 pub struct FileDisk<R: Files<File = File> + Eprint + Copy> {
     content: Content<R>,
@@ -90,7 +95,7 @@ impl<R: Files<File = File> + Eprint + Copy> Disk for FileDisk<R> {
 
     fn len(&mut self) -> Result<u64, Failed> {
         self.tick();
-        match self.content.len() {
+        match self.content.file.inner().len() {
             Ok(number) => Ok(number),
             Err(error) => self.failed("tell its size", &error),
         }
@@ -98,7 +103,7 @@ impl<R: Files<File = File> + Eprint + Copy> Disk for FileDisk<R> {
 
     fn read_at(&mut self, place: u64, into: &mut [u8]) -> Result<usize, Failed> {
         self.tick();
-        match self.content.read_at(place, into) {
+        match self.content.file.read_at(place, into) {
             Ok(number) => Ok(number),
             Err(error) => self.failed("read", &error),
         }
@@ -115,7 +120,7 @@ impl<R: Files<File = File> + Eprint + Copy> Disk for FileDisk<R> {
 
     fn cut(&mut self, to: u64) -> Result<(), Failed> {
         self.tick();
-        match self.content.cut(to) {
+        match self.content.file.cut(to) {
             Ok(()) => Ok(()),
             Err(error) => self.failed("truncate", &error),
         }
@@ -123,7 +128,7 @@ impl<R: Files<File = File> + Eprint + Copy> Disk for FileDisk<R> {
 
     fn sync(&mut self) -> Result<(), Failed> {
         self.tick();
-        match self.content.sync() {
+        match self.content.file.sync() {
             Ok(()) => Ok(()),
             Err(error) => self.failed("sync", &error),
         }
@@ -138,45 +143,10 @@ impl<R: Files<File = File> + Eprint + Copy> Disk for FileDisk<R> {
     }
 }
 
-// Reads until there is no room left or the file ends, since one call may give fewer bytes than there are.
-fn read_on(file: &File, place: u64, into: &mut [u8]) -> io::Result<usize>
-    ensures { IfOk result (λ n. n ≤ length into.old) }
-{
-    let mut number = 0;
-    for _ in 0..u64::MAX {
-        if number == into.len() {
-            return Ok(number);
-        }
-        match file.read_at(&mut into[number..], place.saturating_add(number as u64)) {
-            Ok(0) => return Ok(number),
-            Ok(more) => number += more,
-            Err(error) if error.kind() == ErrorKind::Interrupted => (),
-            Err(error) => return Err(error),
-        }
-    }
-    Err(io::Error::from(ErrorKind::Other))
-}
-
 impl<R: Files<File = File> + Eprint + Copy> Content<R> {
-    fn len(&self) -> io::Result<u64> {
-        match &self.file {
-            Some(file) => Ok(file.metadata()?.len()),
-            None => Ok(0),
-        }
-    }
-
-    fn read_at(&self, place: u64, into: &mut [u8]) -> io::Result<usize>
-        ensures { IfOk result (λ n. n ≤ length into.old) }
-    {
-        match &self.file {
-            Some(file) => read_on(file, place, into),
-            None => Ok(0),
-        }
-    }
-
     // What the next write does, in a report.
     fn write_action(&self) -> &'static str {
-        if self.file.is_some() {
+        if self.file.inner().is_there() {
             "write"
         } else {
             "create"
@@ -185,27 +155,11 @@ impl<R: Files<File = File> + Eprint + Copy> Content<R> {
 
     // Makes the file first, if there is none.
     fn write_at(&mut self, place: u64, bytes: &[u8]) -> io::Result<()> {
-        if let Some(file) = &self.file {
-            return file.write_all_at(bytes, place);
+        if !self.file.inner().is_there() {
+            let file = make(&self.rt, self.name.as_str())?;
+            self.file.replace(OptionalFile::new(Some(file)));
         }
-        let file = make(&self.rt, self.name.as_str())?;
-        let written = file.write_all_at(bytes, place);
-        self.file = Some(file);
-        written
-    }
-
-    fn cut(&self, to: u64) -> io::Result<()> {
-        match &self.file {
-            Some(file) => file.set_len(to),
-            None => Ok(()),
-        }
-    }
-
-    fn sync(&self) -> io::Result<()> {
-        match &self.file {
-            Some(file) => file.sync_all(),
-            None => Ok(()),
-        }
+        self.file.write_at(place, bytes)
     }
 }
 
@@ -217,7 +171,11 @@ pub(crate) fn open<R: Files<File = File> + Eprint + Copy>(
 ) -> io::Result<Content<R>> {
     let file = find(&rt, name)?;
     let name = String::from_str(alloc, name)?;
-    Ok(Content { rt, name, file })
+    Ok(Content {
+        rt,
+        name,
+        file: ReadAhead::new(alloc, OptionalFile::new(file)),
+    })
 }
 
 // Opens the file of a name, if there is one. Two programs on one file would write over each other, so it is locked

@@ -1,4 +1,4 @@
-ghost use Rattle.std.specs.Prelude.{◌≡◌, None, IfOk};
+ghost use Rattle.std.specs.Prelude.{◌≡◌, None, All, IfOk};
 ghost use Rattle.lrs_disk.specs.Door.{IsFresh};
 ghost use Rattle.lrs_edge.specs.TcpDoor.{state_of};
 ghost use Rattle.lrs_edge.specs.TcpLink.{name_of};
@@ -117,6 +117,67 @@ fn a_lobby_gives_the_doors_of_an_address(rt: HostRuntime) -> Result<(), Fail> {
     let mut lobby = TcpLobby::new(rt);
     let wrong = asked_twice(rt, &mut lobby);
     drop(lobby);
+    assert_eq!(rt; wrong, None);
+    Ok(())
+}
+
+// The last of these doors.
+fn last_of(doors: &mut Vec<TcpDoor<HostRuntime>>) -> Result<TcpDoor<HostRuntime>, Fail>
+    requires { All (λ door. IsFresh (state_of door)) doors.old.items }
+    ensures door { IfOk result (λ door. IsFresh (state_of door)) }
+    ensures rest { All (λ door. IsFresh (state_of door)) doors.new.items }
+{
+    match doors.pop() {
+        Some(door) => Ok(door),
+        None => Err(Fail::from("no door")),
+    }
+}
+
+// Two doors of one address.
+fn two_doors(
+    rt: HostRuntime,
+    patience: Patience,
+) -> Result<(TcpDoor<HostRuntime>, TcpDoor<HostRuntime>), Fail>
+    ensures { IfOk result (λ doors. IsFresh (state_of doors.0) × IsFresh (state_of doors.1)) }
+{
+    let mut lobby = TcpLobby::with_patience(rt, patience);
+    let mut doors = lobby.doors(rt.alloc(), "127.0.0.1:0", 2)?;
+    let one = last_of(&mut doors)?;
+    let other = last_of(&mut doors)?;
+    drop(doors);
+    Ok((one, other))
+}
+
+// A client that says nothing at one door, and one at the other that is answered meanwhile.
+fn at_two_doors(
+    one: &mut TcpDoor<HostRuntime>,
+    other: &mut TcpDoor<HostRuntime>,
+    client: &mut TcpStream,
+) -> Option<usize>
+    requires { ((state_of one.old).out ≡ None) × ((state_of other.old).out ≡ None) }
+{
+    let Next::Joined(mut silent) = one.next() else {
+        return Some(99);
+    };
+    let wrong = answered(other, client);
+    let given_up = gives_up(&mut silent);
+    one.done(silent);
+    match wrong {
+        None => first_wrong(&[given_up, one.faults() == 0]),
+        Some(wrong) => Some(wrong),
+    }
+}
+
+#[test]
+fn the_doors_of_an_address_serve_at_once(rt: HostRuntime) -> Result<(), Fail> {
+    let (mut one, mut other) = two_doors(rt, short())?;
+    let silent = TcpStream::connect(&rt, one.address()?)?;
+    let mut client = TcpStream::connect(&rt, one.address()?)?;
+    let wrong = at_two_doors(&mut one, &mut other, &mut client);
+    drop(client);
+    drop(silent);
+    drop(other);
+    drop(one);
     assert_eq!(rt; wrong, None);
     Ok(())
 }

@@ -1,5 +1,7 @@
 use lrs_disk::{Disk, Failed, Shelf, Sink, Source};
-use lrs_edge::{FileDisk, FileShelf, StdSink, StdSource};
+use lrs_edge::{FileDisk, FileShelf, READ_AHEAD, StdSink, StdSource};
+use lrs_journal::{Journal, Replay};
+use std::alloc::Global;
 use std::os::unix::fs::MetadataExt;
 use std::path::PathBuf;
 use std::test::Fail;
@@ -145,6 +147,133 @@ fn a_file_that_was_made_meanwhile_is_left_alone(rt: HostRuntime) -> Result<(), F
     let path = path_of(rt, "meanwhile")?;
     let mut shelf = FileShelf::new(rt);
     let wrong = made_by_one(&mut shelf, path.as_path().as_str());
+    drop(shelf);
+    let removed = fs::remove_file(&rt, path.as_path().as_str()).is_ok();
+    assert_eq!(rt; (wrong?, removed), (None, true));
+    Ok(())
+}
+
+// Reads of what was read ahead before, and of what changed since.
+fn is_up_to_date(disk: &mut FileDisk<HostRuntime>) -> bool {
+    let mut read = [0; 4];
+    let steps = [
+        disk.write_at(0, b"abcdef") == Ok(()),
+        disk.read_at(1, &mut read) == Ok(4),
+        read == *b"bcde",
+        disk.write_at(2, b"CD") == Ok(()),
+        disk.read_at(0, &mut read) == Ok(4),
+        read == *b"abCD",
+        disk.read_at(3, &mut read) == Ok(3),
+        read == *b"DefD",
+        disk.cut(4) == Ok(()),
+        disk.read_at(2, &mut read) == Ok(2),
+        read == *b"CDfD",
+        disk.read_at(9, &mut read) == Ok(0),
+        disk.sync() == Ok(()),
+        disk.moment() == 9,
+        disk.faults() == 0,
+    ];
+    first_wrong(&steps).is_none()
+}
+
+fn shows_changes(shelf: &mut FileShelf<HostRuntime>, name: &str) -> Result<bool, Failed> {
+    let mut disk = shelf.take(name)?;
+    let shown = is_up_to_date(&mut disk);
+    drop(disk);
+    Ok(shown)
+}
+
+#[test]
+fn a_read_shows_what_was_written_since_the_last_one(rt: HostRuntime) -> Result<(), Fail> {
+    let path = path_of(rt, "since")?;
+    let mut shelf = FileShelf::new(rt);
+    let shown = shows_changes(&mut shelf, path.as_path().as_str());
+    drop(shelf);
+    let removed = fs::remove_file(&rt, path.as_path().as_str()).is_ok();
+    assert_eq!(rt; (shown?, removed), (true, true));
+    Ok(())
+}
+
+// An open header of limit 2^20, and an open gate.
+const FRONT: [u8; 18] = [1, 76, 82, 83, 74, 82, 78, 76, 1, 0, 0, 0, 0, 0, 16, 0, 0, 1];
+
+// The frames after the first.
+const FRAMES: [&str; 3] = ["hi", "", "abc"];
+
+// Their bytes, and a closed gate.
+const REST: [u8; 21] = [
+    1, 0, 0, 0, 2, 104, 105, 1, 0, 0, 0, 0, 1, 0, 0, 0, 3, 97, 98, 99, 0,
+];
+
+// A store whose first payload is so many bytes of 7.
+fn store_of(alloc: Global, size: usize) -> Result<Vec<u8>, Fail> {
+    let length = (size as u64).to_be_bytes();
+    let mut bytes = FRONT.to_vec(alloc)?;
+    bytes.extend_from_slice(&length[4..])?;
+    bytes.resize(size.saturating_add(22), 7)?;
+    bytes.extend_from_slice(&REST)?;
+    Ok(bytes)
+}
+
+// Whether a replay of such a store reads each frame, and then the end.
+fn reads_all(alloc: Global, replay: &mut Replay<FileDisk<HostRuntime>>, size: usize) -> bool {
+    let mut payload = Vec::new(alloc);
+    let first = replay.next(&mut payload);
+    if first != Ok(true) || payload.len() != size || payload.iter().any(|byte| *byte != 7) {
+        return false;
+    }
+    for frame in FRAMES.iter() {
+        let more = replay.next(&mut payload);
+        if more != Ok(true) || payload.as_slice() != frame.as_bytes() {
+            return false;
+        }
+    }
+    replay.next(&mut payload) == Ok(false)
+}
+
+fn is_read_whole(
+    alloc: Global,
+    shelf: &mut FileShelf<HostRuntime>,
+    name: &str,
+    size: usize,
+) -> Result<bool, Fail> {
+    let bytes = store_of(alloc, size)?;
+    let mut disk = shelf.take(name)?;
+    let written = disk.cut(0) == Ok(()) && disk.write_at(0, &bytes) == Ok(());
+    match Journal::recover(disk) {
+        Ok(mut replay) => {
+            let read = reads_all(alloc, &mut replay, size);
+            drop(replay);
+            Ok(written && read)
+        }
+        Err((_, disk)) => {
+            drop(disk);
+            Ok(false)
+        }
+    }
+}
+
+// The first size with which a store is misread. For each byte after the first payload there is a store of which this
+// byte is the first that isn't read ahead, and then one of which the next piece ends before it. The last three payloads
+// are longer than a piece.
+fn first_misread(
+    alloc: Global,
+    shelf: &mut FileShelf<HostRuntime>,
+    name: &str,
+) -> Result<Option<usize>, Fail> {
+    for size in READ_AHEAD.saturating_sub(43)..READ_AHEAD.saturating_add(4) {
+        if !is_read_whole(alloc, shelf, name, size)? {
+            return Ok(Some(size));
+        }
+    }
+    Ok(None)
+}
+
+#[test]
+fn frames_that_cross_the_end_of_what_is_read_ahead_are_whole(rt: HostRuntime) -> Result<(), Fail> {
+    let path = path_of(rt, "ahead")?;
+    let mut shelf = FileShelf::new(rt);
+    let wrong = first_misread(rt.alloc(), &mut shelf, path.as_path().as_str());
     drop(shelf);
     let removed = fs::remove_file(&rt, path.as_path().as_str()).is_ok();
     assert_eq!(rt; (wrong?, removed), (None, true));

@@ -148,11 +148,10 @@ fn look<D: Disk>(disk: &mut D, place: u64, total: u64) -> Result<Ahead, Failed>
     Ok(ahead_of(gate, size, number, left))
 }
 
-// Makes a vector so long. What it holds then is of no use.
+// Makes a vector so long. What it holds then is of no use, so what it held stays, and no more than it lacks is added.
 fn size_to(into: &mut Vec<u8>, size: u32) -> Result<(), AllocError>
     ensures { OnOk result (length into.new.items ≡ size) }
 {
-    into.clear();
     into.resize(size as usize, 0)?;
     Ok(())
 }

@@ -192,6 +192,11 @@ new_more before after left all k so unknown more =
       same = ap (λ b. not b && are_new (k ∷ so.so_far) left) (sym among) ∙ so.same;
     }
 
+-- the same names
+pub names_told : (ms : List Member) → names_in ms ≡ map (λ m. (member_view m).0) ms
+names_told [] = refl
+names_told (m ∷ ms) = ap (λ ks. (member_view m).0 ∷ ks) (names_told ms)
+
 pub few_begin : (all : List (List ℕ)) → NewSoFar [] all all
 few_begin all = record { so_far = []; has = λ k. refl; same = refl }
 

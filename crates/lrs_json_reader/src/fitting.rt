@@ -1,17 +1,14 @@
 ghost use Rattle.std.specs.Prelude.{◌≡◌, ◌↔◌, [], map, IfOk, IsTrue, IsUtf8};
 ghost use Rattle.lrs_json.specs.Fits.{IsReadable};
 ghost use Rattle.lrs_json.specs.Json.{array, object};
-ghost use Rattle.lrs_json.specs.Names.{is_among};
 ghost use Rattle.lrs_json.specs.View.{elements_of, member_view, members_of, view};
 ghost use Rattle.lrs_json_reader.specs.Fitting.{AreReadable, HaveReadable, are_new, names_in};
 
+use crate::naming::{FEW, is_named};
 use lrs_decimal::is_in_range;
 use lrs_json::{Member, Memory, Tree};
 use std::alloc::Global;
 use std::collections::BTreeSet;
-
-// The names of so many members are compared one by one.
-const FEW: usize = 16;
 
 /// Whether the tree is such as reading gives, nested at most `depth` deep.
 #[cycle(fitting)]
@@ -87,7 +84,7 @@ fn member_fits(alloc: Global, member: &Member, depth: u32) -> Result<bool, Memor
     fits(alloc, &member.value, depth)
 }
 
-// It always is, by its type.
+// It is, by its type; the proof learns this from the clause of `as_bytes`.
 fn is_utf8(text: &str) -> bool
     ensures { IsTrue result ↔ IsUtf8 text.now }
 {
@@ -115,18 +112,6 @@ fn few_are_distinct(members: &[Member]) -> bool
         }
     }
     true
-}
-
-// Whether one of the members has the name.
-fn is_named(members: &[Member], name: &str) -> bool
-    ensures { result ≡ is_among name.now (names_in members.now) }
-{
-    for member in members {
-        if name == member.name.as_str() {
-            return true;
-        }
-    }
-    false
 }
 
 fn many_are_distinct(alloc: Global, members: &[Member]) -> Result<bool, Memory>

@@ -4,6 +4,7 @@
 mod cursor;
 mod depth;
 mod fitting;
+mod naming;
 mod reader;
 mod reading;
 mod rereading;

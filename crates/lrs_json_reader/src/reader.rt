@@ -1,11 +1,11 @@
 ghost use Rattle.std.specs.Prelude.{◌≡◌, ◌≢◌, ◌<◌, ℕ, List, [], ◌∷◌, OnOk, IfOk, map, Some, length};
-ghost use Rattle.lrs_json.specs.Names.{is_among};
 ghost use Rattle.lrs_json.specs.View.{member_view};
 ghost use Rattle.lrs_json_reader.specs.Flaws.{earlier, earliest};
 ghost use Rattle.lrs_json_reader.specs.Placed.{number};
 ghost use Rattle.lrs_json_reader.specs.Reading.{no_places, noted, ReadsWord, ReadsString, ReadsNumber, ReadsValue, ReadsMember, repeated_among};
 
 use crate::cursor::{Cursor, Stop};
+use crate::naming::{FEW, is_named};
 use lrs_decimal::is_in_range;
 use lrs_json::{Items, Member, Memory, Number, Text, Tree};
 use std::alloc::Global;
@@ -175,9 +175,6 @@ impl Reader<'_> {
     }
 }
 
-// A set of the names pays only where an object has more than so many.
-const FEW: usize = 16;
-
 // Of the names that equal an earlier one, the place of the first.
 fn earliest_repeated(
     alloc: Global,
@@ -199,25 +196,13 @@ fn earliest_of_few(members: &[Member], lefts: &[usize]) -> Option<usize>
     let mut found = None;
     let mut before = 0;
     for (member, left) in members.iter().zip(lefts) {
-        let again = is_named(member.name.as_str(), &members[..before]);
+        let again = is_named(&members[..before], member.name.as_str());
         before += 1;
         if again {
             found = earlier(found, *left);
         }
     }
     found
-}
-
-// Whether one of the members has the name.
-fn is_named(name: &str, members: &[Member]) -> bool
-    ensures { result ≡ is_among name.now (map (λ m. (member_view m).0) members.now) }
-{
-    for member in members {
-        if member.name.as_str() == name {
-            return true;
-        }
-    }
-    false
 }
 
 fn earliest_of_many(

@@ -10,7 +10,8 @@ use lrs_json::{Items, Member, Memory, Number, Tree};
 use std::alloc::Global;
 
 /// The tree that the text was written from. What the written form has for sure isn't looked at again, and bytes that
-/// are no written form give some tree.
+/// are no written form give some tree. It recurses as deep as the bytes nest: who takes them from outside asks
+/// `is_too_deep` first, lest the stack overflows.
 pub fn reread(alloc: Global, text: &[u8]) -> Result<Tree, Memory>
     ensures { IfOk result (λ tree. (t : SpecTree) → IsSpellable (view t) → text.now ≡ written_tree t → tree ≡ t) }
 {

@@ -77,13 +77,16 @@ fn read_tree(alloc: Global, bytes: &[u8]) -> Result<Tree, EntryRefused>
     }
 }
 
+// Most headings and small writes are shorter.
+const SCRATCH_ROOM: usize = 256;
+
 fn has_text(alloc: Global, entry: &Entry, bytes: &[u8]) -> Result<bool, Memory>
     requires caller { IsLawfulCaller entry.now.caller }
     requires write { IsLawfulWrite entry.now.write }
     ensures same { IfOk result (λ same. IsTrue same ↔ (written_entry entry.now ≡ bytes.now)) }
     ensures lawful { IfOk result (λ same. IsTrue same → IsLawful entry.now) }
 {
-    let mut scratch = Vec::new(alloc);
+    let mut scratch = Vec::with_capacity(alloc, SCRATCH_ROOM)?;
     match entry_behind(entry, bytes, &mut scratch)? {
         Some(left) => Ok(left.is_empty()),
         None => Ok(false),

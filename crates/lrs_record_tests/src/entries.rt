@@ -300,8 +300,9 @@ const NOBODY: &str =
     "{\"caller\":\"\",\"moment\":1,\"draw\":\"0000000000000000000000000000000000000000000000000000000000000000\",\"command\":";
 
 // What stands before and after so many nested arrays, and whether that is an entry: a statement has 64 levels at
-// most, an id is written in lower case, statements are an array, and each stands in its written form.
-const NESTED: [(&str, usize, &str, bool); 12] = [
+// most, an id is written in lower case, statements are an array, and each stands in its written form. A million levels,
+// as a file that isn't ours may have, would overflow the stack of whoever followed them down.
+const NESTED: [(&str, usize, &str, bool); 13] = [
     (
         "{\"put\":{\"id\":\"aaaaaaaa-1111-4111-8111-111111111111\",\"statement\":",
         64,
@@ -322,6 +323,7 @@ const NESTED: [(&str, usize, &str, bool); 12] = [
     ),
     ("{\"post\":{\"statements\":[1,", 64, "]}}}", true),
     ("{\"post\":{\"statements\":[1,", 65, "]}}}", false),
+    ("{\"post\":{\"statements\":[1,", 1_000_000, "]}}}", false),
     ("{\"post\":{\"statements\":{", 0, "}}}}", false),
     (
         "{\"post\":{\"statements\":[{\"\u{e9}\":\"/\\n\"},",

@@ -1,7 +1,7 @@
 use Rattle.std.proofs.Common.{◌≡◌, drop, map}
 use Rattle.lrs_json.specs.Names.{is_among}
 use Rattle.lrs_json.specs.View.{member_view}
-use Rattle.lrs_json_reader.proofs.reader.is_named.Given as goal
+use Rattle.lrs_json_reader.proofs.naming.is_named.Given as goal
 
 -- none of the members so far has the name
 abbrev pub invariant-loop-member : goal.invariant-loop-member

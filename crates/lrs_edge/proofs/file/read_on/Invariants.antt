@@ -1,5 +1,5 @@
 use Rattle.std.proofs.Common.{◌≤◌, length}
-use Rattle.lrs_edge.proofs.disk.read_on.Given as goal
+use Rattle.lrs_edge.proofs.file.read_on.Given as goal
 
 abbrev pub invariant-loop : goal.invariant-loop
 invariant-loop l = l.number ≤ length l.into

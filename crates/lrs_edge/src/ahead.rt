@@ -1,0 +1,239 @@
+// Small reads that are answered from large ones.
+ghost use Rattle.std.specs.Prelude.{◌≡◌, ◌≤◌, ◌+◌, ◌-◌, [], List, ℕ, Option, length, min, take, drop, IfOk, IfSome, OnOk};
+ghost use Rattle.std.specs.Option.{ForSome};
+ghost use Rattle.lrs_edge.specs.Ahead.{IsPiece};
+
+use std::alloc::{AllocError, Global};
+use std::io;
+use std::marker::Model;
+
+/// How many bytes of a file are read at once, where a read asks for fewer.
+pub const READ_AHEAD: usize = 262_144;
+
+// Bytes that are read and written by place.
+pub(crate) trait Bytes: Drop {
+    // What a read gives, if it is told.
+    ghost told: { Self → Option (List ℕ) };
+
+    // Reads from a place on, and answers how many bytes there were. They are fewer than asked for only at the end.
+    fn read_at(&self, place: u64, into: &mut [u8]) -> io::Result<usize>
+        ensures room { IfOk result (λ n. n ≤ length into.old) }
+        ensures number { IfOk result (λ n. IfSome (told self.now)
+            (λ b. n ≡ min (length into.old) (length b - place))) }
+        ensures bytes { IfOk result (λ n. IfSome (told self.now) (λ b. take n into.new ≡ take n (drop place b))) };
+
+    // No clause says what these three leave.
+    fn write_at(&mut self, place: u64, bytes: &[u8]) -> io::Result<()>;
+
+    fn cut(&mut self, to: u64) -> io::Result<()>;
+
+    fn sync(&mut self) -> io::Result<()>;
+}
+
+// Bytes of which a piece was read ahead. For contracts these are the bytes alone: the piece isn't seen.
+#[derive(Drop)]
+pub(crate) struct ReadAhead<B: Bytes> {
+    inner: B,
+    // The place of the piece's first byte.
+    start: u64,
+    piece: Vec<u8>,
+}
+
+impl<B: Bytes> Model for ReadAhead<B> {
+    ghost use Rattle.lrs_edge.specs.Ahead.{IsPiece};
+
+    ghost Value = { B };
+
+    ghost view = { λ r. r.inner };
+
+    ghost invariant = { λ r. IsPiece (B.told r.inner) r.start r.piece.items };
+}
+
+impl<B: Bytes> ReadAhead<B> {
+    // Nothing was read ahead of them yet.
+    pub(crate) fn new(alloc: Global, inner: B) -> Self
+        ensures { result ≡ inner }
+    {
+        ReadAhead {
+            inner,
+            start: 0,
+            piece: Vec::new(alloc),
+        }
+    }
+
+    pub(crate) fn inner(&self) -> &B
+        ensures { result.now ≡ self.now }
+    {
+        &self.inner
+    }
+
+    // Puts other bytes in their place.
+    pub(crate) fn replace(&mut self, inner: B)
+        ensures { self.new ≡ inner }
+    {
+        forget(&mut self.piece);
+        self.inner = inner;
+    }
+
+    // Answers as a read of the bytes does. It fails only where that fails.
+    pub(crate) fn read_at(&mut self, place: u64, into: &mut [u8]) -> io::Result<usize>
+        ensures room { IfOk result (λ n. n ≤ length into.old) }
+        ensures number { IfOk result (λ n. IfSome (B.told self.old)
+            (λ b. n ≡ min (length into.old) (length b - place))) }
+        ensures bytes { IfOk result (λ n. IfSome (B.told self.old) (λ b. take n into.new ≡ take n (drop place b))) }
+        ensures same { self.new ≡ self.old }
+    {
+        read_through(&self.inner, &mut self.start, &mut self.piece, place, into)
+    }
+
+    pub(crate) fn write_at(&mut self, place: u64, bytes: &[u8]) -> io::Result<()> {
+        forget(&mut self.piece);
+        self.inner.write_at(place, bytes)
+    }
+
+    pub(crate) fn cut(&mut self, to: u64) -> io::Result<()> {
+        forget(&mut self.piece);
+        self.inner.cut(to)
+    }
+
+    // A sync that fails may leave other bytes than were read before.
+    pub(crate) fn sync(&mut self) -> io::Result<()> {
+        forget(&mut self.piece);
+        self.inner.sync()
+    }
+}
+
+// Empties a piece, and gives its memory back.
+fn forget(piece: &mut Vec<u8>)
+    ensures { piece.new.items ≡ [] }
+{
+    piece.clear();
+    piece.shrink_to_fit();
+}
+
+// Reads from a place on, from the piece if it can be made to have what is asked for.
+fn read_through<B: Bytes>(
+    inner: &B,
+    start: &mut u64,
+    piece: &mut Vec<u8>,
+    place: u64,
+    into: &mut [u8],
+) -> io::Result<usize>
+    requires { IsPiece (B.told inner.now) start.old piece.old.items }
+    ensures piece { IsPiece (B.told inner.now) start.new piece.new.items }
+    ensures room { IfOk result (λ n. n ≤ length into.old) }
+    ensures number { IfOk result (λ n. IfSome (B.told inner.now)
+        (λ b. n ≡ min (length into.old) (length b - place))) }
+    ensures bytes { IfOk result (λ n. IfSome (B.told inner.now) (λ b. take n into.new ≡ take n (drop place b))) }
+{
+    match reach(inner, start, piece, place, into.len()) {
+        Some(offset) => Ok(copied(piece, offset, into)),
+        None => inner.read_at(place, into),
+    }
+}
+
+// Where a read of so many bytes from a place on begins in the piece. If they aren't all in it, a new piece is read from
+// that place on. Nothing, if the bytes have to be read without a piece.
+fn reach<B: Bytes>(
+    inner: &B,
+    start: &mut u64,
+    piece: &mut Vec<u8>,
+    place: u64,
+    count: usize,
+) -> Option<u64>
+    requires { IsPiece (B.told inner.now) start.old piece.old.items }
+    ensures piece { IsPiece (B.told inner.now) start.new piece.new.items }
+    ensures reached { IfSome result (λ offset. ForSome (B.told inner.now)
+        (λ b. take count (drop offset piece.new.items) ≡ take count (drop place b))) }
+{
+    match offset_of(*start, piece.len(), place, count) {
+        Some(offset) => Some(offset),
+        None => refill(inner, start, piece, place, count),
+    }
+}
+
+// Where a read of `count` bytes from a place on begins in a piece of `size` bytes from `start` on. Nothing, if they
+// aren't all in it.
+fn offset_of(start: u64, size: usize, place: u64, count: usize) -> Option<u64>
+    ensures { IfSome result (λ offset. (start + offset ≡ place) × (offset + count ≤ size)) }
+{
+    if place < start {
+        return None;
+    }
+    let offset = place - start;
+    let end = size as u64;
+    if offset > end || count as u64 > end - offset {
+        return None;
+    }
+    Some(offset)
+}
+
+// Reads a new piece from a place on, where a read of `count` bytes then begins. Nothing, if they are more than a piece
+// has, or if there is no memory for it or it can't be read: what is asked for alone may still be read.
+fn refill<B: Bytes>(
+    inner: &B,
+    start: &mut u64,
+    piece: &mut Vec<u8>,
+    place: u64,
+    count: usize,
+) -> Option<u64>
+    requires { IsPiece (B.told inner.now) start.old piece.old.items }
+    ensures piece { IsPiece (B.told inner.now) start.new piece.new.items }
+    ensures reached { IfSome result (λ offset. ForSome (B.told inner.now)
+        (λ b. take count (drop offset piece.new.items) ≡ take count (drop place b))) }
+{
+    if count > READ_AHEAD {
+        return None;
+    }
+    *start = place;
+    match read_piece(inner, place, piece) {
+        Ok(()) => Some(0),
+        Err(_) => {
+            forget(piece);
+            None
+        }
+    }
+}
+
+// Reads a piece from a place on.
+fn read_piece<B: Bytes>(inner: &B, place: u64, piece: &mut Vec<u8>) -> io::Result<()>
+    ensures { OnOk result (ForSome (B.told inner.now) (λ b. piece.new.items ≡ take READ_AHEAD (drop place b))) }
+{
+    widen(piece)?;
+    let number = fill(inner, place, piece)?;
+    piece.truncate(number);
+    Ok(())
+}
+
+// Makes a piece as long as it may be. What it holds then is of no use.
+fn widen(piece: &mut Vec<u8>) -> Result<(), AllocError>
+    ensures { OnOk result (length piece.new.items ≡ READ_AHEAD) }
+{
+    piece.resize(READ_AHEAD, 0)?;
+    Ok(())
+}
+
+// Fills a vector from a place on, and answers how many bytes there were.
+fn fill<B: Bytes>(inner: &B, place: u64, into: &mut Vec<u8>) -> io::Result<usize>
+    ensures number { IfOk result (λ n. ForSome (B.told inner.now)
+        (λ b. n ≡ min (length into.old.items) (length b - place))) }
+    ensures bytes { IfOk result (λ n. ForSome (B.told inner.now)
+        (λ b. take n into.new.items ≡ take n (drop place b))) }
+{
+    let number = inner.read_at(place, into)?;
+    Ok(number)
+}
+
+// Copies what stands from a place on, as much as there is room for, and answers how much.
+fn copied(bytes: &[u8], place: u64, into: &mut [u8]) -> usize
+    ensures number { result ≡ min (length into.old) (length bytes.now - place) }
+    ensures bytes { take result into.new ≡ take result (drop place bytes.now) }
+{
+    if place >= bytes.len() as u64 {
+        return 0;
+    }
+    let rest = &bytes[place as usize..];
+    let number = rest.len().min(into.len());
+    into[..number].copy_from_slice(&rest[..number]);
+    number
+}
