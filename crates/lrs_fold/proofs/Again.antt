@@ -9,10 +9,10 @@ use Rattle.lrs_reads.specs.LrsHistoryHistory.{Accepted, answer, answer_of, end_p
 use Rattle.lrs_reads.specs.LrsHistoryRoomProofs.{room_is}
 use Rattle.lrs_reads.specs.LrsHistoryOutcomesProofs.{accepts, again}
 use Rattle.lrs_names.specs.declared.draw.Draw.{Draw}
-use Rattle.lrs_parts.specs.State.{State, changes_nothing}
-use Rattle.lrs_parts.specs.declared.acceptance.Acceptance.{Acceptance}
-use Rattle.lrs_parts.specs.declared.acceptance.Acceptance.TheVariants.{Plain}
-use Rattle.lrs_parts.specs.declared.effect.Effect.{Effect}
+use Rattle.lrs_learning.specs.LrsStateState.{State, changes_nothing}
+use Rattle.lrs_learning.specs.LrsStateAcceptanceAcceptance.{Acceptance}
+use Rattle.lrs_learning.specs.LrsStateAcceptanceAcceptanceTheVariants.{Plain}
+use Rattle.lrs_learning.specs.LrsStateEffectEffect.{Effect}
 use Rattle.lrs_time.specs.declared.moments.TheConstants.{LATEST}
 use Rattle.lrs_record.specs.declared.entry.Caller.{Caller}
 use Rattle.lrs_record.specs.declared.entry.Entry.{Entry}

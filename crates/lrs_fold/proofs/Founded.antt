@@ -5,7 +5,7 @@ use Rattle.std.specs.List.{list_all, ends_with}
 use Rattle.lrs_reads.specs.LrsRefusalsJudged.{IsJudged}
 use Rattle.lrs_reads.specs.LrsHistoryHistory.{IsFounding, founds, is_operator, is_zero}
 use Rattle.lrs_names.specs.Iris.{is_iri}
-use Rattle.lrs_parts.specs.Founding.{IsBase, has_base_form, is_base, is_no_separator, is_of_the_web, is_token}
+use Rattle.lrs_learning.specs.LrsStateFounding.{IsBase, has_base_form, is_base, is_no_separator, is_of_the_web, is_token}
 use Rattle.lrs_record.specs.declared.entry.Entry.{Entry}
 use Rattle.lrs_record.specs.declared.entry.Write.{Write}
 use Rattle.lrs_record.specs.declared.entry.Write.TheVariants.{Found}

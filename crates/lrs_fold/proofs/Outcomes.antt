@@ -9,8 +9,8 @@ use Rattle.lrs_reads.specs.LrsHistoryAnswers.{write_said}
 use Rattle.lrs_reads.specs.LrsHistoryEffects.{effect}
 use Rattle.lrs_reads.specs.LrsHistoryHistory.{Outcome, refused, outcome_by, write_outcome}
 use Rattle.lrs_reads.specs.LrsHistoryRefusals.{refusal}
-use Rattle.lrs_parts.specs.State.{State, changes_nothing}
-use Rattle.lrs_parts.specs.declared.effect.Effect.{Effect}
+use Rattle.lrs_learning.specs.LrsStateState.{State, changes_nothing}
+use Rattle.lrs_learning.specs.LrsStateEffectEffect.{Effect}
 use Rattle.lrs_record.specs.Entries.{IsLawful, written_entry}
 use Rattle.lrs_record.specs.declared.entry.Entry.{Entry}
 use Rattle.lrs_replies.specs.declared.answered.Answered.{Answered}

@@ -3,22 +3,23 @@ use Rattle.std.proofs.Common.{◌≡◌, ℕ, List, [], ◌∷◌, ◌++◌, Opt
 use Rattle.cmi5_course.specs.declared.launch.Launch.{Launch}
 use Rattle.lrs_command.specs.declared.who.Who.{Who}
 use Rattle.lrs_reads.specs.LrsRefusalsNamingProofs.{with_ids_again}
+use Rattle.lrs_reads.specs.LrsRefusalsKnown.{IsBatch}
 use Rattle.lrs_reads.specs.LrsRefusalsNaming.{with_these_ids}
+use Rattle.lrs_reads.specs.LrsRefusalsKnownBatch.{Batch}
 use Rattle.lrs_fold.specs.Written.{effect_by, speaks_in}
 use Rattle.lrs_reads.specs.LrsHistoryEffects.{new_by, owed_in_session}
 use Rattle.lrs_reads.specs.LrsHistoryEnrolments.{enrolled}
 use Rattle.lrs_reads.specs.LrsHistoryMade.{owed_made}
 use Rattle.lrs_reads.specs.LrsHistoryOccasions.{supply_in}
 use Rattle.lrs_reads.specs.LrsHistoryWhose.{launch_of}
-use Rattle.lrs_ids.specs.IdSupply.{GiveSame}
+use Rattle.lrs_ids.specs.IdSupply.{GiveSame, left_of}
 use Rattle.lrs_ids.specs.Ids.{Supply, supply_of}
 use Rattle.lrs_json.specs.declared.tree.Tree.{Tree}
 use Rattle.lrs_names.specs.declared.draw.Draw.{Draw}
-use Rattle.lrs_parts.specs.State.{State, no_change, used_in}
-use Rattle.lrs_parts.specs.declared.acceptance.Acceptance.TheVariants as acceptance
-use Rattle.lrs_parts.specs.declared.effect.Effect.{Effect}
+use Rattle.lrs_learning.specs.LrsStateState.{State, no_change, used_in}
+use Rattle.lrs_learning.specs.LrsStateAcceptanceAcceptanceTheVariants as acceptance
+use Rattle.lrs_learning.specs.LrsStateEffectEffect.{Effect}
 use Rattle.lrs_record.specs.declared.entry.Write.TheVariants.{Put, Post}
-use Rattle.xapi_index.proofs.Supplies.{names_same}
 use Rattle.xapi_index.specs.Batches.{ids_under, supply_after, with_ids}
 use Rattle.xapi_statement.specs.Stored.{StoredStatement}
 
@@ -70,26 +71,22 @@ put_kept st by moment draw id t none new all empty pushed owed =
 abbrev with_told : ℕ → List StoredStatement → List (List ℕ) → Effect
 with_told moment all ids = record (no_change moment) { statements = all; acceptance = acceptance.Ids ids }
 
--- the statements that came, as they were looked at in each step, and the ids that were left behind them
-pub post_kept : (st : State) (by : Who) (moment : ℕ) (draw : Draw) (ts us vs ws : List Tree) (left rest : Supply) (ids named : List (List ℕ)) (new all : List StoredStatement) → us ≡ ts → vs ≡ ts → ws ≡ ts → named ≡ ids
-    → GiveSame left (supply_in st (Post us) draw) → ids ≡ ids_under (with_ids left vs) → GiveSame rest (supply_after left vs) → new ≡ new_by st by moment (with_these_ids named ws)
-    → all ≡ new ++ owed_in_session st rest moment new (launch_of st by) → with_told moment all ids ≡ effect_by st by moment draw (Post ts)
-post_kept st by moment draw ts us vs ws left rest ids named new all first second third lent given made behind brought owed =
+-- the statements that came, as they were looked at in each step, and what was known of them
+pub post_kept : (st : State) (by : Who) (moment : ℕ) (draw : Draw) (ts us ws : List Tree) (b : Batch) (named : List (List ℕ)) (new all : List StoredStatement) → us ≡ ts → ws ≡ ts → named ≡ b.ids → IsBatch st draw us b
+    → new ≡ new_by st by moment (with_these_ids named ws) → all ≡ new ++ owed_in_session st (left_of (used_in st) b.supply) moment new (launch_of st by)
+    → with_told moment all b.ids ≡ effect_by st by moment draw (Post ts)
+post_kept st by moment draw ts us ws b named new all first second lent known brought owed =
     let supply : Supply = supply_in st (Post ts) draw in
-    let same : GiveSame left supply = subst (λ (xs : List Tree). GiveSame left (supply_in st (Post xs) draw)) first given in
-    let ids_are : ids ≡ ids_under (with_ids supply ts) =
-    made ∙ (ap (λ (xs : List Tree). ids_under (with_ids left xs)) second ∙ names_same left supply ts same) in
-    let rest_is : rest ≡ supply_after supply ts =
-    supply_same rest (supply_after left vs) behind
-    ∙ (ap (λ (xs : List Tree). supply_after left xs) second ∙ ap (λ (s : Supply). supply_after s ts) (supply_same left supply same)) in
+    let batch : IsBatch st draw ts b = subst (λ (xs : List Tree). IsBatch st draw xs b) first known in
+    let rest_is : left_of (used_in st) b.supply ≡ supply_after supply ts = supply_same (left_of (used_in st) b.supply) (supply_after supply ts) batch.left in
     let new_is : new ≡ new_by st by moment (with_ids supply ts) =
     brought
-    ∙ (ap (λ (names : List (List ℕ)). new_by st by moment (with_these_ids names ws)) (lent ∙ ids_are)
-    ∙ (ap (λ (xs : List Tree). new_by st by moment (with_these_ids (ids_under (with_ids supply ts)) xs)) third
+    ∙ (ap (λ (names : List (List ℕ)). new_by st by moment (with_these_ids names ws)) (lent ∙ batch.ids)
+    ∙ (ap (λ (xs : List Tree). new_by st by moment (with_these_ids (ids_under (with_ids supply ts)) xs)) second
     ∙ ap (new_by st by moment) (with_ids_again supply ts))) in
     let all_is : all ≡ new_by st by moment (with_ids supply ts) ++ owed_in_session st (supply_after supply ts) moment (new_by st by moment (with_ids supply ts)) (launch_of st by) =
     owed
-    ∙ (ap (λ (xs : List StoredStatement). xs ++ owed_in_session st rest moment xs (launch_of st by)) new_is
+    ∙ (ap (λ (xs : List StoredStatement). xs ++ owed_in_session st (left_of (used_in st) b.supply) moment xs (launch_of st by)) new_is
     ∙ ap (λ (s : Supply). new_by st by moment (with_ids supply ts) ++ owed_in_session st s moment (new_by st by moment (with_ids supply ts)) (launch_of st by)) rest_is) in
-    ap (λ (xs : List StoredStatement). with_told moment xs ids) all_is
-    ∙ ap (λ (names : List (List ℕ)). with_told moment (new_by st by moment (with_ids supply ts) ++ owed_in_session st (supply_after supply ts) moment (new_by st by moment (with_ids supply ts)) (launch_of st by)) names) ids_are
+    ap (λ (xs : List StoredStatement). with_told moment xs b.ids) all_is
+    ∙ ap (λ (names : List (List ℕ)). with_told moment (new_by st by moment (with_ids supply ts) ++ owed_in_session st (supply_after supply ts) moment (new_by st by moment (with_ids supply ts)) (launch_of st by)) names) batch.ids

@@ -16,7 +16,7 @@ use Rattle.lrs_reads.specs.LrsHistoryRefusals.{broken, other_id, refused_form, r
 use Rattle.lrs_json.specs.Json.{Json}
 use Rattle.lrs_json.specs.View.{view}
 use Rattle.lrs_names.specs.declared.draw.Draw.{Draw}
-use Rattle.lrs_parts.specs.State.{State, changes_nothing}
+use Rattle.lrs_learning.specs.LrsStateState.{State, changes_nothing}
 use Rattle.lrs_record.specs.declared.entry.Caller.{Caller}
 use Rattle.lrs_record.specs.declared.entry.Caller.TheVariants.{Nobody, Operator, Token}
 use Rattle.lrs_record.specs.declared.entry.Entry.{Entry}

@@ -3,8 +3,8 @@ use Rattle.std.proofs.Common.{◌≡◌, ℕ, IfOk, Result}
 use Rattle.lrs_command.specs.declared.who.Who.{Who}
 use Rattle.lrs_fold.specs.Written.{effect_by}
 use Rattle.lrs_names.specs.declared.draw.Draw.{Draw}
-use Rattle.lrs_parts.specs.State.{State}
-use Rattle.lrs_parts.specs.declared.effect.Effect.{Effect}
+use Rattle.lrs_learning.specs.LrsStateState.{State}
+use Rattle.lrs_learning.specs.LrsStateEffectEffect.{Effect}
 use Rattle.lrs_record.specs.declared.entry.Write.{Write}
 
 -- what is made of a write, where memory suffices

@@ -3,8 +3,8 @@ use Rattle.std.specs.Prelude.{◌≡◌, ◌&&◌, ◌||◌, Bool, true, false, 
 use Rattle.lrs_reads.specs.LrsHistoryEffects.{effect}
 use Rattle.lrs_reads.specs.LrsHistoryHistory.{is_founding, said_at_once}
 use Rattle.lrs_reads.specs.LrsHistoryRefusals.{refusal}
-use Rattle.lrs_parts.specs.State.{State, changes_nothing}
-use Rattle.lrs_parts.specs.declared.effect.Effect.{Effect}
+use Rattle.lrs_learning.specs.LrsStateState.{State, changes_nothing}
+use Rattle.lrs_learning.specs.LrsStateEffectEffect.{Effect}
 use Rattle.lrs_record.specs.declared.entry.Entry.{Entry}
 
 -- Whether an entry comes next, if there is room for it. The flag: it is the first.

@@ -5,7 +5,7 @@ use Rattle.lrs_fold.specs.declared.outcome.Outcome.TheVariants as made
 use Rattle.lrs_fold.specs.declared.outcome.Accepted.{Accepted}
 use Rattle.lrs_reads.specs.LrsHistoryEffects.{effect}
 use Rattle.lrs_reads.specs.LrsHistoryHistory.{Outcome, Said, Accepted as Keeps}
-use Rattle.lrs_parts.specs.State.{State, changes_nothing}
+use Rattle.lrs_learning.specs.LrsStateState.{State, changes_nothing}
 use Rattle.lrs_record.specs.Entries.{IsLawful, written_entry}
 use Rattle.lrs_record.specs.declared.entry.Entry.{Entry}
 use Rattle.lrs_replies.specs.declared.answered.Answered.{Answered}

@@ -5,8 +5,8 @@ use Rattle.lrs_command.specs.declared.who.Who.{Who}
 use Rattle.lrs_reads.specs.LrsRefusalsMeeting.{occasion_of}
 use Rattle.lrs_reads.specs.LrsHistoryEffects.{effect_of}
 use Rattle.lrs_names.specs.declared.draw.Draw.{Draw}
-use Rattle.lrs_parts.specs.State.{State}
-use Rattle.lrs_parts.specs.declared.effect.Effect.{Effect}
+use Rattle.lrs_learning.specs.LrsStateState.{State}
+use Rattle.lrs_learning.specs.LrsStateEffectEffect.{Effect}
 use Rattle.lrs_record.specs.declared.entry.Write.{Write}
 use Rattle.lrs_replies.specs.Texts.{token_text}
 use Rattle.xapi_statement.specs.Stored.{StoredStatement}

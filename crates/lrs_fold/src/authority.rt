@@ -1,11 +1,11 @@
 // Under whose authority a caller's statements stand.
 ghost use Rattle.std.specs.Prelude.{◌≡◌, IfOk};
 ghost use Rattle.lrs_reads.specs.LrsHistoryWhose.{authority_of};
-ghost use Rattle.lrs_parts.specs.Parts.{state_of};
+ghost use Rattle.lrs_learning.specs.LrsPartsParts.{state_of};
 
 use lrs_command::Who;
 use lrs_json::Memory;
-use lrs_parts::Parts;
+use lrs_learning::lrs_parts::Parts;
 use xapi_statement::Authority;
 
 /// The caller's authority, a copy of its own.

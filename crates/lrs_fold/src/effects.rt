@@ -8,35 +8,35 @@ ghost use Rattle.cmi5_course.specs.Rules.{broken_rule};
 ghost use Rattle.lrs_fold.specs.Written.{effect_by};
 ghost use Rattle.lrs_reads.specs.LrsHistoryDeskEffects.{taking};
 ghost use Rattle.lrs_reads.specs.LrsHistoryEffects.{document_by, dropping, effect, making, new_by, writing};
-ghost use Rattle.lrs_reads.specs.LrsHistoryOccasions.{supply_in};
-ghost use Rattle.lrs_ids.specs.IdSupply.{GiveSame, left_of};
+ghost use Rattle.lrs_reads.specs.LrsHistoryWhose.{who_is};
 ghost use Rattle.lrs_json.specs.Fits.{Fits};
 ghost use Rattle.lrs_json.specs.View.{view};
-ghost use Rattle.lrs_parts.specs.Founding.{IsBase};
-ghost use Rattle.lrs_parts.specs.Parts.{state_of};
-ghost use Rattle.lrs_parts.specs.declared.acceptance.Acceptance.TheVariants as acceptance;
-ghost use Rattle.lrs_parts.specs.State.{no_change, used_in};
+ghost use Rattle.lrs_learning.specs.LrsStateFounding.{IsBase};
+ghost use Rattle.lrs_learning.specs.LrsPartsParts.{state_of};
+ghost use Rattle.lrs_learning.specs.LrsStateAcceptanceAcceptanceTheVariants as acceptance;
+ghost use Rattle.lrs_learning.specs.LrsStateState.{no_change};
 ghost use Rattle.lrs_record.specs.declared.entry.Write.TheVariants as writes;
 ghost use Rattle.lrs_reads.specs.LrsRefusalsJudged.{IsJudged, IsJudgedTree};
+ghost use Rattle.lrs_reads.specs.LrsRefusalsKnown.{behind_first, IsBatch, IsKnown, IsKnownOf, IsKnownUnder, TellHeld};
+ghost use Rattle.lrs_reads.specs.LrsRefusalsKnown.{TellsNext};
 ghost use Rattle.lrs_reads.specs.LrsRefusalsNaming.{with_these_ids};
 ghost use Rattle.lrs_replies.specs.Texts.{token_text};
+ghost use Rattle.xapi_index.specs.Statements.{is_held};
 
 use crate::Fold;
 use crate::authority::authority_of;
 use lrs_agents::Ifi;
 use lrs_command::Who;
-use lrs_ids::IdSupply;
 use lrs_json::{Items, Memory, Text, Tree};
+use lrs_learning::lrs_parts::{Acceptance, Effect, Founding, HeldProvider, ProvidersChange};
 use lrs_learning::{abandoning_one, enrolling, fetching, launching, sweeping, taking, waiving};
 use lrs_names::{Draw, Id, Iri};
-use lrs_parts::{Acceptance, Effect, Founding, HeldProvider, ProvidersChange};
-use lrs_reads::lrs_refusals::who_is;
+use lrs_reads::lrs_refusals::{Batch, Known, batch_of, who_is};
 use lrs_record::{Entry, How, Moment, Write};
 use lrs_replies::token_text;
 use std::alloc::Global;
 use std::vec::IntoIter;
 use xapi_docs::{Document, DocumentsChange, posted};
-use xapi_index::{given_ids, take_ids};
 use xapi_keys::StateKey;
 use xapi_statement::{Statement, StoredStatement};
 
@@ -46,15 +46,34 @@ impl Fold {
         requires { IsJudged entry.write }
         ensures { IfOk result (λ made. made ≡ effect (state_of self.now.parts) entry) }
     {
+        let who = who_is(&self.parts, &entry.caller);
+        self.prepare_known(alloc, who, Known::Nothing, entry)
+    }
+
+    /// The same of an entry of that caller. What is known of its statements isn't looked up again.
+    pub(crate) fn prepare_known(
+        &self,
+        alloc: Global,
+        who: Who,
+        known: Known,
+        entry: Entry,
+    ) -> Result<Effect, Memory>
+        requires judged { IsJudged entry.write }
+        requires who { who ≡ who_is (state_of self.now.parts) entry.caller }
+        requires known { IsKnown (state_of self.now.parts) entry.draw entry.write known }
+        ensures { IfOk result (λ made. made ≡ effect (state_of self.now.parts) entry) }
+    {
         let Entry {
             caller,
             write,
             moment,
             draw,
         } = entry;
-        let who = who_is(&self.parts, &caller);
         drop(caller);
-        self.effect_by(alloc, who, moment, &draw, write)
+        let mut known = known;
+        let effect = self.effect_by(alloc, who, moment, &draw, &mut known, write);
+        drop(known);
+        effect
     }
 
     // What a write changes by that caller, at that moment and with that draw.
@@ -64,16 +83,20 @@ impl Fold {
         who: Who,
         moment: Moment,
         draw: &Draw,
+        known: &mut Known,
         write: Write,
     ) -> Result<Effect, Memory>
-        requires { IsJudged write }
+        requires judged { IsJudged write }
+        requires known { IsKnown (state_of self.now.parts) draw.now write known.old }
         ensures { IfOk result (λ made. made ≡ effect_by (state_of self.now.parts) who moment draw.now write) }
     {
         match write {
             Write::Found { admin, base } => Ok(founding(alloc, admin, base, moment)),
             Write::Provider { name } => self.provider(alloc, name, moment, draw),
-            Write::Put { id, statement } => self.put(alloc, who, moment, draw, id, statement),
-            Write::Post { statements } => self.post(alloc, who, moment, draw, statements),
+            Write::Put { id, statement } => {
+                self.put(alloc, who, moment, draw, known, id, statement)
+            }
+            Write::Post { statements } => self.post(alloc, who, moment, draw, known, statements),
             Write::State {
                 how,
                 key,
@@ -148,17 +171,31 @@ impl Fold {
         who: Who,
         moment: Moment,
         draw: &Draw,
+        known: &Known,
         id: Id,
         statement: Tree,
     ) -> Result<Effect, Memory>
-        requires { IsJudgedTree statement }
+        requires judged { IsJudgedTree statement }
+        requires known { IsKnownUnder (state_of self.now.parts) id known.now }
         ensures { IfOk result (λ made. made
             ≡ effect_by (state_of self.now.parts) who moment draw.now (writes.Put id statement)) }
     {
+        let held = self.is_held_under(known, &id);
         let mut added = Vec::new(alloc);
-        self.push_new(&mut added, who, moment, &id, statement)?;
+        self.push_new(&mut added, who, moment, &id, held, statement)?;
         self.owe_behind_put(alloc, who, moment, draw, &id, &mut added)?;
         Ok(writing_new(alloc, moment, added))
+    }
+
+    // Whether a statement is held under the id of a put. It is looked up if that isn't known.
+    fn is_held_under(&self, known: &Known, id: &Id) -> bool
+        requires { IsKnownUnder (state_of self.now.parts) id.now known.now }
+        ensures { result ≡ is_held id.now (state_of self.now.parts).statements }
+    {
+        match known {
+            Known::Put { is_held } => *is_held,
+            Known::Nothing | Known::Batch(_) => self.parts.statements.is_held(id),
+        }
     }
 
     fn post(
@@ -167,37 +204,42 @@ impl Fold {
         who: Who,
         moment: Moment,
         draw: &Draw,
+        known: &mut Known,
         statements: Items<Tree>,
     ) -> Result<Effect, Memory>
-        requires { AllByRecursion IsJudgedTree statements }
+        requires judged { AllByRecursion IsJudgedTree statements }
+        requires known { IsKnownOf (state_of self.now.parts) draw.now statements known.old }
         ensures { IfOk result (λ made. made
             ≡ effect_by (state_of self.now.parts) who moment draw.now (writes.Post statements)) }
     {
-        let mut supply = self.supply_of_batch(alloc, statements.as_slice(), draw)?;
-        let ids = take_ids(alloc, &self.parts, &mut supply, statements.as_slice())?;
-        let mut added = self.new_of_batch(
-            alloc,
-            who,
-            moment,
-            ids.as_slice(),
-            statements.into_vec(),
-        )?;
+        let batch = self.known_batch(alloc, draw, known, statements.as_slice())?;
+        let Batch {
+            ids,
+            held,
+            mut supply,
+        } = batch;
+        let flags = held.into_vec();
+        let trees = statements.into_vec();
+        let mut added = self.new_of_batch(alloc, who, moment, ids.as_slice(), flags, trees)?;
         self.owe_behind(alloc, who, moment, &mut supply, &mut added)?;
         Ok(writing_all(alloc, moment, added, ids))
     }
 
-    // The ids that can be made for statements that come together.
-    fn supply_of_batch(
+    // Statements that come together, by the ids under which they go: as they are known, else their ids are made.
+    fn known_batch(
         &self,
         alloc: Global,
-        statements: &[Tree],
         draw: &Draw,
-    ) -> Result<IdSupply, Memory>
-        ensures { IfOk result (λ supply. GiveSame (left_of (used_in (state_of self.now.parts)) supply)
-            (supply_in (state_of self.now.parts) (writes.Post statements.now) draw.now)) }
+        known: &mut Known,
+        statements: &[Tree],
+    ) -> Result<Batch, Memory>
+        requires { IsKnownOf (state_of self.now.parts) draw.now statements.now known.old }
+        ensures { IfOk result (IsBatch (state_of self.now.parts) draw.now statements.now) }
     {
-        let given = given_ids(alloc, statements)?;
-        IdSupply::new(alloc, &self.parts, given.as_slice(), draw.name)
+        match known.take_batch() {
+            Some(batch) => Ok(batch),
+            None => batch_of(alloc, &self.parts, draw, statements),
+        }
     }
 
     fn state(
@@ -276,21 +318,23 @@ impl Fold {
         effect
     }
 
-    // Puts a statement after the new ones, if its id isn't held and its caller has an authority.
+    // Puts a statement after the new ones, if none is held under its id and its caller has an authority.
     fn push_new(
         &self,
         added: &mut Vec<StoredStatement>,
         who: Who,
         moment: Moment,
         id: &Id,
+        held: bool,
         statement: Tree,
     ) -> Result<(), Memory>
-        requires { IsJudgedTree statement }
+        requires judged { IsJudgedTree statement }
+        requires held { held ≡ is_held id.now (state_of self.now.parts).statements }
         ensures { OnOk result (added.new.items
             ≡ added.old.items
             ++ new_by (state_of self.now.parts) who moment (record { id = id.now; tree = statement } ∷ [])) }
     {
-        if self.parts.statements.find(id).is_some() {
+        if held {
             return Ok(());
         }
         if let Some(authority) = authority_of(&self.parts, who)? {
@@ -306,14 +350,16 @@ impl Fold {
         who: Who,
         moment: Moment,
         ids: &[Id],
+        held: Vec<bool>,
         statements: Vec<Tree>,
     ) -> Result<Vec<StoredStatement>, Memory>
-        requires { AllByRecursion IsJudgedTree statements.items }
+        requires judged { AllByRecursion IsJudgedTree statements.items }
+        requires told { TellHeld (state_of self.now.parts) held.items ids.now }
         ensures { IfOk result (λ added. added.items
             ≡ new_by (state_of self.now.parts) who moment (with_these_ids ids.now statements.items)) }
     {
         let mut added = Vec::with_capacity(alloc, ids.len())?;
-        self.push_each(&mut added, who, moment, ids, statements)?;
+        self.push_each(&mut added, who, moment, ids, held, statements)?;
         Ok(added)
     }
 
@@ -324,16 +370,20 @@ impl Fold {
         who: Who,
         moment: Moment,
         ids: &[Id],
+        held: Vec<bool>,
         statements: Vec<Tree>,
     ) -> Result<(), Memory>
-        requires { AllByRecursion IsJudgedTree statements.items }
+        requires judged { AllByRecursion IsJudgedTree statements.items }
+        requires told { TellHeld (state_of self.now.parts) held.items ids.now }
         ensures { OnOk result (added.new.items
             ≡ added.old.items
             ++ new_by (state_of self.now.parts) who moment (with_these_ids ids.now statements.items)) }
     {
+        let mut flags = held.into_iter();
         let mut left = statements.into_iter();
-        let pushed = self.push_left(added, who, moment, ids, &mut left);
+        let pushed = self.push_left(added, who, moment, ids, &mut flags, &mut left);
         drop(left);
+        drop(flags);
         pushed
     }
 
@@ -344,9 +394,11 @@ impl Fold {
         who: Who,
         moment: Moment,
         ids: &[Id],
+        held: &mut IntoIter<bool>,
         statements: &mut IntoIter<Tree>,
     ) -> Result<(), Memory>
-        requires { AllByRecursion IsJudgedTree (into_iter_items statements.old) }
+        requires judged { AllByRecursion IsJudgedTree (into_iter_items statements.old) }
+        requires told { TellHeld (state_of self.now.parts) (into_iter_items held.old) ids.now }
         ensures { OnOk result (added.new.items
             ≡ added.old.items
             ++ new_by (state_of self.now.parts) who moment
@@ -354,11 +406,26 @@ impl Fold {
     {
         for id in ids {
             match statements.next() {
-                Some(statement) => self.push_new(added, who, moment, id, statement)?,
+                Some(statement) => {
+                    let is_held = self.is_next_held(held, id);
+                    self.push_new(added, who, moment, id, is_held, statement)?;
+                }
                 None => return Ok(()),
             }
         }
         Ok(())
+    }
+
+    // Whether a statement is held under that id, which is the next. It is looked up where nothing is told of it.
+    fn is_next_held(&self, held: &mut IntoIter<bool>, id: &Id) -> bool
+        requires { TellsNext (state_of self.now.parts) (into_iter_items held.old) id.now }
+        ensures held { result ≡ is_held id.now (state_of self.now.parts).statements }
+        ensures rest { into_iter_items held.new ≡ behind_first (into_iter_items held.old) }
+    {
+        match held.next() {
+            Some(told) => told,
+            None => self.parts.statements.is_held(id),
+        }
     }
 }
 
@@ -385,11 +452,11 @@ fn writing_new(alloc: Global, moment: Moment, added: Vec<StoredStatement>) -> Ef
     effect
 }
 
-fn writing_all(alloc: Global, moment: Moment, added: Vec<StoredStatement>, ids: Vec<Id>) -> Effect
-    ensures { result ≡ record (no_change moment) { statements = added.items; acceptance = acceptance.Ids ids.items } }
+fn writing_all(alloc: Global, moment: Moment, added: Vec<StoredStatement>, ids: Items<Id>) -> Effect
+    ensures { result ≡ record (no_change moment) { statements = added.items; acceptance = acceptance.Ids ids } }
 {
     let mut effect = writing_new(alloc, moment, added);
-    effect.acceptance = Acceptance::Ids(Items::from_vec(ids));
+    effect.acceptance = Acceptance::Ids(ids);
     effect
 }
 

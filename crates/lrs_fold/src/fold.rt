@@ -1,10 +1,10 @@
 ghost use Rattle.std.specs.Prelude.{◌≡◌, OnOk};
-ghost use Rattle.lrs_parts.specs.Parts.{state_of, AddsNoPlaces, IsReadyFor, MakesPlacesFor};
-ghost use Rattle.lrs_parts.specs.Parts.{SeenParts as SpecParts};
-ghost use Rattle.lrs_parts.specs.State.{apply, nothing};
+ghost use Rattle.lrs_learning.specs.LrsPartsParts.{state_of, AddsNoPlaces, IsReadyFor, MakesPlacesFor};
+ghost use Rattle.lrs_learning.specs.LrsPartsParts.{SeenParts as SpecParts};
+ghost use Rattle.lrs_learning.specs.LrsStateState.{apply, nothing};
 
 use lrs_json::Memory;
-use lrs_parts::{Effect, Parts};
+use lrs_learning::lrs_parts::{Effect, Parts};
 use std::alloc::Global;
 
 /// What the entries so far give.

@@ -1,7 +1,7 @@
 // What the program posts itself, and how many statements are listed then.
 ghost use Rattle.std.specs.Prelude.{◌≡◌};
 ghost use Rattle.lrs_fold.specs.Posted.{post_of};
-ghost use Rattle.lrs_parts.specs.Parts.{state_of};
+ghost use Rattle.lrs_learning.specs.LrsPartsParts.{state_of};
 ghost use Rattle.lrs_reads.specs.XapiPagesListings.{listed_of_all};
 
 use crate::Fold;

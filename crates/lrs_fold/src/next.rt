@@ -1,15 +1,18 @@
 // Whether an entry comes next, and what it changes then.
 ghost use Rattle.std.specs.Prelude.{◌≡◌, ◌&&◌, is_none, nat_le, nat_lt, IfOk, Ok, true};
 ghost use Rattle.lrs_reads.specs.LrsRefusalsJudged.{IsJudged};
+ghost use Rattle.lrs_reads.specs.LrsRefusalsKnown.{IsKnown};
 ghost use Rattle.lrs_fold.specs.Next.{may_be_next, Changes, Comes};
 ghost use Rattle.lrs_reads.specs.LrsHistoryHistory.{founds, is_founding};
-ghost use Rattle.lrs_parts.specs.Parts.{state_of};
+ghost use Rattle.lrs_reads.specs.LrsHistoryWhose.{who_is};
+ghost use Rattle.lrs_learning.specs.LrsPartsParts.{state_of};
 ghost use Rattle.lrs_record.specs.Entries.{IsLawfulWrite};
 
 use crate::Fold;
+use lrs_command::Who;
 use lrs_json::Memory;
-use lrs_parts::{Effect, is_base, is_token};
-use lrs_reads::lrs_refusals::refusal;
+use lrs_learning::lrs_parts::{Effect, is_base, is_token};
+use lrs_reads::lrs_refusals::{Known, refusal, who_is};
 use lrs_record::{Caller, Entry, Write};
 use std::alloc::Global;
 
@@ -21,30 +24,38 @@ impl Fold {
         requires { IsLawfulWrite entry.write }
         ensures { IfOk result (λ next. Comes first (state_of self.now.parts) entry next) }
     {
-        match self.may_be_next(alloc, first, &entry) {
-            Ok(true) => self.prepare_next(alloc, first, entry),
+        let who = who_is(&self.parts, &entry.caller);
+        let mut known = Known::Nothing;
+        match self.may_be_next(alloc, first, who, &entry, &mut known) {
+            Ok(true) => self.prepare_next(alloc, first, who, known, entry),
             Ok(false) => {
+                drop(known);
                 drop(entry);
                 Ok(None)
             }
             Err(refused) => {
+                drop(known);
                 drop(entry);
                 Err(refused)
             }
         }
     }
 
-    // What an entry changes that isn't refused, if it changes anything.
+    // What an entry of that caller changes that isn't refused, if it changes anything.
     fn prepare_next(
         &self,
         alloc: Global,
         first: bool,
+        who: Who,
+        known: Known,
         entry: Entry,
     ) -> Result<Option<Effect>, Memory>
-        requires { IsJudged entry.write }
+        requires judged { IsJudged entry.write }
+        requires who { who ≡ who_is (state_of self.now.parts) entry.caller }
+        requires known { IsKnown (state_of self.now.parts) entry.draw entry.write known }
         ensures { IfOk result (λ next. Changes first (state_of self.now.parts) entry next) }
     {
-        let effect = self.prepare(alloc, entry)?;
+        let effect = self.prepare_known(alloc, who, known, entry)?;
         if !first && effect.changes_nothing() {
             drop(effect);
             return Ok(None);
@@ -52,16 +63,26 @@ impl Fold {
         Ok(Some(effect))
     }
 
-    // Whether an entry comes next, if it changes anything.
-    fn may_be_next(&self, alloc: Global, first: bool, entry: &Entry) -> Result<bool, Memory>
-        requires { IsLawfulWrite entry.now.write }
+    // Whether an entry of that caller comes next, if it changes anything.
+    fn may_be_next(
+        &self,
+        alloc: Global,
+        first: bool,
+        who: Who,
+        entry: &Entry,
+        known: &mut Known,
+    ) -> Result<bool, Memory>
+        requires lawful { IsLawfulWrite entry.now.write }
+        requires who { who ≡ who_is (state_of self.now.parts) entry.now.caller }
+        requires known { IsKnown (state_of self.now.parts) entry.now.draw entry.now.write known.old }
         ensures may { IfOk result (λ may. may ≡ may_be_next first (state_of self.now.parts) entry.now) }
         ensures judged { result ≡ Ok true → IsJudged entry.now.write }
+        ensures known { IsKnown (state_of self.now.parts) entry.now.draw entry.now.write known.new }
     {
         if first {
             return is_founding(alloc, entry);
         }
-        if refusal(alloc, &self.parts, entry)?.is_some() {
+        if refusal(alloc, &self.parts, who, entry, known)?.is_some() {
             return Ok(false);
         }
         Ok(self.last_moment().milliseconds() <= entry.moment.milliseconds())

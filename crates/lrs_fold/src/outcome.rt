@@ -2,22 +2,23 @@
 ghost use Rattle.std.specs.Prelude.{◌≡◌, max, IfOk, Ok, None};
 ghost use Rattle.lrs_command.specs.Commands.{HasReadTrees};
 ghost use Rattle.lrs_reads.specs.LrsRefusalsJudged.{IsJudged};
+ghost use Rattle.lrs_reads.specs.LrsRefusalsKnown.{IsKnown};
 ghost use Rattle.lrs_fold.specs.Outcomes.{IsOutcome, made_of};
 ghost use Rattle.lrs_reads.specs.LrsHistoryHistory.{refused, refused_or, outcome, write_outcome};
 ghost use Rattle.lrs_reads.specs.LrsHistoryRefusals.{barred, refusal, refused_with};
 ghost use Rattle.lrs_reads.specs.LrsHistoryWhose.{who_is};
-ghost use Rattle.lrs_parts.specs.Parts.{state_of};
+ghost use Rattle.lrs_learning.specs.LrsPartsParts.{state_of};
 ghost use Rattle.lrs_record.specs.Entries.{IsLawful, IsLawfulCaller, IsLawfulWrite, written_entry};
 ghost use Rattle.lrs_time.specs.Moments.{clamped};
 
 use crate::Fold;
 use crate::saying::write_said;
-use lrs_command::{Area, Command};
+use lrs_command::{Area, Command, Who};
 use lrs_json::{Items, Memory};
+use lrs_learning::lrs_parts::Effect;
 use lrs_names::Draw;
-use lrs_parts::Effect;
 use lrs_reads::lrs_history::{barred, refused_with};
-use lrs_reads::lrs_refusals::{refusal, who_is};
+use lrs_reads::lrs_refusals::{Known, refusal, who_is};
 use lrs_reads::read_answered;
 use lrs_record::{Caller, Entry, Moment, write_entry};
 use lrs_replies::Answered;
@@ -113,30 +114,43 @@ impl Fold {
         requires write { IsLawfulWrite entry.write }
         ensures { IfOk result (IsOutcome (state_of self.now.parts) (write_outcome (state_of self.now.parts) entry)) }
     {
-        match refusal(alloc, &self.parts, &entry) {
-            Ok(None) => self.accepted(alloc, entry),
+        let who = who_is(&self.parts, &entry.caller);
+        let mut known = Known::Nothing;
+        match refusal(alloc, &self.parts, who, &entry, &mut known) {
+            Ok(None) => self.accepted(alloc, who, known, entry),
             Ok(Some(refusal)) => {
+                drop(known);
                 drop(entry);
                 Ok(Outcome::Said(Answered::Refused(refusal)))
             }
             Err(refused) => {
+                drop(known);
                 drop(entry);
                 Err(refused)
             }
         }
     }
 
-    // Of an entry that isn't refused.
-    fn accepted(&self, alloc: Global, entry: Entry) -> Result<Outcome, Memory>
+    // Of an entry of that caller that isn't refused.
+    fn accepted(
+        &self,
+        alloc: Global,
+        who: Who,
+        known: Known,
+        entry: Entry,
+    ) -> Result<Outcome, Memory>
         requires caller { IsLawfulCaller entry.caller }
         requires write { IsLawfulWrite entry.write }
+        requires who { who ≡ who_is (state_of self.now.parts) entry.caller }
+        requires known { IsKnown (state_of self.now.parts) entry.draw entry.write known }
         requires judged { IsJudged entry.write }
         requires unrefused { refusal (state_of self.now.parts) entry ≡ None }
         ensures { IfOk result (IsOutcome (state_of self.now.parts) (write_outcome (state_of self.now.parts) entry)) }
     {
         match entry_text(alloc, &entry) {
-            Ok(text) => self.outcome_with(alloc, text, entry),
+            Ok(text) => self.outcome_with(alloc, who, known, text, entry),
             Err(refused) => {
+                drop(known);
                 drop(entry);
                 Err(refused)
             }
@@ -144,7 +158,16 @@ impl Fold {
     }
 
     // Of an entry with its text.
-    fn outcome_with(&self, alloc: Global, text: Vec<u8>, entry: Entry) -> Result<Outcome, Memory>
+    fn outcome_with(
+        &self,
+        alloc: Global,
+        who: Who,
+        known: Known,
+        text: Vec<u8>,
+        entry: Entry,
+    ) -> Result<Outcome, Memory>
+        requires who { who ≡ who_is (state_of self.now.parts) entry.caller }
+        requires known { IsKnown (state_of self.now.parts) entry.draw entry.write known }
         requires judged { IsJudged entry.write }
         requires unrefused { refusal (state_of self.now.parts) entry ≡ None }
         requires text { text.items ≡ written_entry entry }
@@ -152,7 +175,7 @@ impl Fold {
         ensures { IfOk result (IsOutcome (state_of self.now.parts) (write_outcome (state_of self.now.parts) entry)) }
     {
         let made = Snapshot::of(&entry);
-        let effect = self.prepare(alloc, entry)?;
+        let effect = self.prepare_known(alloc, who, known, entry)?;
         match write_said(alloc, &effect) {
             Ok(said) => Ok(outcome_of(Accepted {
                 entry: made,

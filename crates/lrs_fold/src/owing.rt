@@ -8,8 +8,8 @@ ghost use Rattle.lrs_reads.specs.LrsHistoryMade.{owed_made};
 ghost use Rattle.lrs_reads.specs.LrsHistoryWhose.{launch_of};
 ghost use Rattle.lrs_ids.specs.Ids.{supply_of};
 ghost use Rattle.lrs_ids.specs.IdSupply.{left_of};
-ghost use Rattle.lrs_parts.specs.Parts.{state_of};
-ghost use Rattle.lrs_parts.specs.State.{used_in};
+ghost use Rattle.lrs_learning.specs.LrsPartsParts.{state_of};
+ghost use Rattle.lrs_learning.specs.LrsStateState.{used_in};
 
 use crate::Fold;
 use cmi5_course::Launch;

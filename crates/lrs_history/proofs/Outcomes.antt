@@ -6,7 +6,7 @@ use Rattle.lrs_history.specs.Answers.{write_said}
 use Rattle.lrs_history.specs.Effects.{effect}
 use Rattle.lrs_history.specs.History.{Accepted, entry_at, next_entry, said_at_once, outcome, outcome_by}
 use Rattle.lrs_names.specs.declared.draw.Draw.{Draw}
-use Rattle.lrs_parts.specs.State.{State}
+use Rattle.lrs_state.specs.State.{State}
 use Rattle.lrs_time.specs.Moments.{clamped}
 use Rattle.lrs_time.specs.declared.moments.TheConstants.{LATEST}
 use Rattle.lrs_record.specs.declared.entry.Caller.{Caller}

@@ -13,7 +13,7 @@ use Rattle.lrs_command.specs.Areas.{command_area}
 use Rattle.lrs_history.specs.Whose.{who_is}
 use Rattle.lrs_ids.specs.Choices.{first_some, when}
 use Rattle.lrs_names.specs.declared.draw.Draw.{Draw}
-use Rattle.lrs_parts.specs.State.{changes_nothing}
+use Rattle.lrs_state.specs.State.{changes_nothing}
 use Rattle.lrs_record.specs.declared.entry.Caller.{Caller}
 use Rattle.lrs_record.specs.declared.entry.Entry.{Entry}
 use Rattle.lrs_replies.specs.declared.answered.Refusal.{Refusal}

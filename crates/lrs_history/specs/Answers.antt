@@ -7,11 +7,11 @@ use Rattle.lrs_command.specs.declared.who.Who.{Who}
 use Rattle.cmi5_course.specs.Courses.{course_key}
 use Rattle.lrs_history.specs.Enrolments.{Enrolled, enrolled, verdicts_of}
 use Rattle.lrs_history.specs.Whose.{sight_of}
-use Rattle.lrs_parts.specs.State.{State, changes_nothing}
-use Rattle.lrs_parts.specs.declared.acceptance.Acceptance.{Acceptance}
-use Rattle.lrs_parts.specs.declared.acceptance.Acceptance.TheVariants as acceptance
-use Rattle.lrs_parts.specs.declared.acceptance.Acceptance.TheVariants.{Plain, Provider}
-use Rattle.lrs_parts.specs.declared.effect.Effect.{Effect}
+use Rattle.lrs_state.specs.State.{State, changes_nothing}
+use Rattle.lrs_state.specs.declared.acceptance.Acceptance.{Acceptance}
+use Rattle.lrs_state.specs.declared.acceptance.Acceptance.TheVariants as acceptance
+use Rattle.lrs_state.specs.declared.acceptance.Acceptance.TheVariants.{Plain, Provider}
+use Rattle.lrs_state.specs.declared.effect.Effect.{Effect}
 use Rattle.lrs_replies.specs.Texts.{provider_body, ids_body, states_body, versions_body, course_body, launch_body}
 use Rattle.lrs_replies.specs.Texts.{registration_body, session_token_body, key_used_body, session_closed_body}
 use Rattle.lrs_replies.specs.Texts.{swept_body}

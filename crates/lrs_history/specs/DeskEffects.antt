@@ -4,26 +4,26 @@ use Rattle.cmi5_course.specs.Courses.{Course, course_key}
 use Rattle.cmi5_course.specs.declared.launch.Mode.{Mode}
 use Rattle.cmi5_course.specs.declared.reason.Reason.{Reason}
 use Rattle.cmi5_launch.specs.Names.{waived}
-use Rattle.lrs_parts.specs.Cmi5VerdictUnits.{stands}
+use Rattle.cmi5_verdict.specs.Units.{stands}
 use Rattle.lrs_agents.specs.declared.agents.Agent.{Agent}
 use Rattle.lrs_history.specs.Endings.{abandoned_jsons, idle_ones, is_open, open_of, sessions_at}
 use Rattle.lrs_history.specs.Enrolments.{enrolled_as}
 use Rattle.lrs_history.specs.Launches.{Target, activity_at, address_at, data_at, data_key, launch_at, launched_at}
 use Rattle.lrs_history.specs.Made.{left_behind, made_under, owed_made, waived_at}
 use Rattle.lrs_history.specs.Sessions.{is_closed}
-use Rattle.lrs_parts.specs.Courses.{course_under}
-use Rattle.lrs_parts.specs.Sessions.{unchanged_sessions}
-use Rattle.lrs_parts.specs.State.{State, no_change}
-use Rattle.lrs_parts.specs.declared.acceptance.Acceptance.{Acceptance}
-use Rattle.lrs_parts.specs.declared.acceptance.Acceptance.TheVariants as acceptance
-use Rattle.lrs_parts.specs.declared.launches.HeldKey.{HeldKey}
-use Rattle.lrs_parts.specs.declared.registrations.HeldRegistration.{HeldRegistration}
-use Rattle.lrs_parts.specs.declared.sessions.MadeSession.{MadeSession}
-use Rattle.lrs_parts.specs.declared.sessions.SessionsChange.{SessionsChange}
+use Rattle.lrs_state.specs.Courses.{course_under}
+use Rattle.lrs_state.specs.Sessions.{unchanged_sessions}
+use Rattle.lrs_state.specs.State.{State, no_change}
+use Rattle.lrs_state.specs.declared.acceptance.Acceptance.{Acceptance}
+use Rattle.lrs_state.specs.declared.acceptance.Acceptance.TheVariants as acceptance
+use Rattle.lrs_state.specs.declared.launches.HeldKey.{HeldKey}
+use Rattle.lrs_state.specs.declared.registrations.HeldRegistration.{HeldRegistration}
+use Rattle.lrs_state.specs.declared.sessions.MadeSession.{MadeSession}
+use Rattle.lrs_state.specs.declared.sessions.SessionsChange.{SessionsChange}
 use Rattle.lrs_json.specs.Json.{Json}
 use Rattle.lrs_register.specs.Changes.{unchanged}
 use Rattle.lrs_register.specs.declared.change.Change.{Change}
-use Rattle.lrs_parts.specs.declared.effect.Effect.{Effect}
+use Rattle.lrs_state.specs.declared.effect.Effect.{Effect}
 use Rattle.xapi_docs.specs.declared.changes.DocumentsChange.TheVariants.{Written}
 use Rattle.lrs_ids.specs.Ids.{rest_of}
 use Rattle.xapi_statement.specs.Stored.{StoredStatement}

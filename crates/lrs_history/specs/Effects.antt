@@ -8,12 +8,12 @@ use Rattle.lrs_history.specs.Enrolments.{enrolled}
 use Rattle.lrs_history.specs.Launches.{target}
 use Rattle.lrs_history.specs.Made.{owed_made}
 use Rattle.lrs_history.specs.Whose.{authority_of, launch_of}
-use Rattle.lrs_parts.specs.Courses.{place_of_course}
-use Rattle.lrs_parts.specs.Launches.{key_under, place_of_session}
-use Rattle.lrs_parts.specs.Providers.{unchanged_providers}
-use Rattle.lrs_parts.specs.State.{State, no_change}
-use Rattle.lrs_parts.specs.declared.acceptance.Acceptance.TheVariants as acceptance
-use Rattle.lrs_parts.specs.declared.effect.Effect.{Effect}
+use Rattle.lrs_state.specs.Courses.{place_of_course}
+use Rattle.lrs_state.specs.Launches.{key_under, place_of_session}
+use Rattle.lrs_state.specs.Providers.{unchanged_providers}
+use Rattle.lrs_state.specs.State.{State, no_change}
+use Rattle.lrs_state.specs.declared.acceptance.Acceptance.TheVariants as acceptance
+use Rattle.lrs_state.specs.declared.effect.Effect.{Effect}
 use Rattle.lrs_record.specs.declared.entry.Entry.{Entry}
 use Rattle.lrs_record.specs.declared.entry.Write.{Write}
 use Rattle.lrs_record.specs.declared.entry.How.{How}

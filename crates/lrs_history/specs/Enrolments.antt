@@ -2,11 +2,11 @@
 -- they are satisfied.
 use Rattle.std.specs.Prelude.{ℕ, Bool, List, ◌++◌, Option, option_and_then, option_map, slice_get}
 use Rattle.cmi5_course.specs.Courses.{Course}
-use Rattle.lrs_parts.specs.Cmi5VerdictNodes.{SeenEnrolment, owed, verdicts}
-use Rattle.lrs_parts.specs.Registrations.{registration_under}
-use Rattle.lrs_parts.specs.State.{State}
-use Rattle.lrs_parts.specs.declared.founding.Founding.{Founding}
-use Rattle.lrs_parts.specs.declared.registrations.HeldRegistration.{HeldRegistration}
+use Rattle.cmi5_verdict.specs.Nodes.{SeenEnrolment, owed, verdicts}
+use Rattle.lrs_state.specs.Registrations.{registration_under}
+use Rattle.lrs_state.specs.State.{State}
+use Rattle.lrs_state.specs.declared.founding.Founding.{Founding}
+use Rattle.lrs_state.specs.declared.registrations.HeldRegistration.{HeldRegistration}
 use Rattle.xapi_statement.specs.Stored.{StoredStatement}
 
 -- a registration and its course

@@ -12,8 +12,8 @@ use Rattle.lrs_history.specs.Refusals.{barred, read_refusal, refusal, refused_in
 use Rattle.lrs_history.specs.Whose.{who_is}
 use Rattle.lrs_journal.specs.Store.{need_at, need_told, store}
 use Rattle.lrs_names.specs.declared.draw.Draw.{Draw}
-use Rattle.lrs_parts.specs.Founding.{is_base, is_token}
-use Rattle.lrs_parts.specs.State.{State, apply, changes_nothing, nothing}
+use Rattle.lrs_state.specs.Founding.{is_base, is_token}
+use Rattle.lrs_state.specs.State.{State, apply, changes_nothing, nothing}
 use Rattle.lrs_record.specs.Entries.{IsLawful, written_entry}
 use Rattle.lrs_time.specs.Moments.{clamped}
 use Rattle.lrs_record.specs.declared.entry.Caller.{Caller}

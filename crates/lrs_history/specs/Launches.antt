@@ -10,10 +10,10 @@ use Rattle.cmi5_launch.specs.Data.{launch_data}
 use Rattle.cmi5_launch.specs.Made.{launched_json}
 use Rattle.cmi5_launch.specs.Names.{launch_data_state}
 use Rattle.lrs_json.specs.Trees.{tree_of}
-use Rattle.lrs_parts.specs.Registrations.{registration_under}
-use Rattle.lrs_parts.specs.State.{State}
-use Rattle.lrs_parts.specs.declared.founding.Founding.{Founding}
-use Rattle.lrs_parts.specs.declared.registrations.HeldRegistration.{HeldRegistration}
+use Rattle.lrs_state.specs.Registrations.{registration_under}
+use Rattle.lrs_state.specs.State.{State}
+use Rattle.lrs_state.specs.declared.founding.Founding.{Founding}
+use Rattle.lrs_state.specs.declared.registrations.HeldRegistration.{HeldRegistration}
 use Rattle.xapi_docs.specs.Changes.{document_of}
 use Rattle.xapi_docs.specs.declared.documents.Document.{Document}
 use Rattle.xapi_format.specs.declared.authority.Authority.TheVariants.{Desk}

@@ -1,15 +1,13 @@
-pub use Rattle.lrs_parts.specs.Cmi5VerdictNodes as Cmi5VerdictNodes
-pub use Rattle.lrs_parts.specs.Cmi5VerdictUnits as Cmi5VerdictUnits
-pub use Rattle.lrs_parts.specs.Courses as LrsPartsCourses
-pub use Rattle.lrs_parts.specs.Founding as LrsPartsFounding
-pub use Rattle.lrs_parts.specs.Launches as LrsPartsLaunches
-pub use Rattle.lrs_parts.specs.Learners as LrsPartsLearners
-pub use Rattle.lrs_parts.specs.Parts as LrsPartsParts
-pub use Rattle.lrs_parts.specs.Progress as LrsPartsProgress
-pub use Rattle.lrs_parts.specs.Registrations as LrsPartsRegistrations
-pub use Rattle.lrs_parts.specs.State as LrsPartsState
-pub use Rattle.lrs_parts.specs.declared.founding.Founding as LrsPartsFoundingFounding
-pub use Rattle.lrs_parts.specs.declared.registrations.HeldRegistration as LrsPartsRegistrationsHeldRegistration
+pub use Rattle.cmi5_verdict.specs.Nodes as Cmi5VerdictNodes
+pub use Rattle.cmi5_verdict.specs.Units as Cmi5VerdictUnits
+pub use Rattle.lrs_state.specs.Courses as LrsStateCourses
+pub use Rattle.lrs_state.specs.Founding as LrsStateFounding
+pub use Rattle.lrs_state.specs.Launches as LrsStateLaunches
+pub use Rattle.lrs_state.specs.Learners as LrsStateLearners
+pub use Rattle.lrs_state.specs.Registrations as LrsStateRegistrations
+pub use Rattle.lrs_state.specs.State as LrsStateState
+pub use Rattle.lrs_state.specs.declared.founding.Founding as LrsStateFoundingFounding
+pub use Rattle.lrs_state.specs.declared.registrations.HeldRegistration as LrsStateRegistrationsHeldRegistration
 pub use Rattle.xapi_pages.specs.Listings as XapiPagesListings
 pub mod Whose
 pub mod Sessions

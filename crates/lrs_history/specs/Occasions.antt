@@ -3,7 +3,7 @@ use Rattle.std.specs.Prelude.{ℕ, List, [], ◌∷◌}
 use Rattle.lrs_command.specs.declared.who.Who.{Who}
 use Rattle.lrs_history.specs.Whose.{who_is}
 use Rattle.lrs_names.specs.declared.draw.Draw.{Draw}
-use Rattle.lrs_parts.specs.State.{State, used_in}
+use Rattle.lrs_state.specs.State.{State, used_in}
 use Rattle.lrs_record.specs.declared.entry.Entry.{Entry}
 use Rattle.lrs_record.specs.declared.entry.Write.{Write}
 use Rattle.lrs_record.specs.declared.entry.Write.TheVariants.{Put, Post}

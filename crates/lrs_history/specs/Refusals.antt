@@ -13,9 +13,9 @@ use Rattle.std.specs.Str.{bytes_eq}
 use Rattle.cmi5_course.specs.Courses.{Course, course_key, course_of, same_course}
 use Rattle.cmi5_course.specs.Rules as course
 use Rattle.cmi5_course.specs.declared.launch.Launch.{Launch}
-use Rattle.lrs_parts.specs.Cmi5SessionRules.{broken_outside}
-use Rattle.lrs_parts.specs.Cmi5SessionRules as session
-use Rattle.lrs_parts.specs.Cmi5SessionViews.{view_of}
+use Rattle.cmi5_session.specs.Rules.{broken_outside}
+use Rattle.cmi5_session.specs.Rules as session
+use Rattle.cmi5_session.specs.Views.{view_of}
 use Rattle.lrs_record.specs.declared.entry.Area.{Area}
 use Rattle.lrs_record.specs.declared.entry.Area.TheVariants.{Free, Store, Desk}
 use Rattle.lrs_command.specs.Areas.{read_area}
@@ -40,11 +40,11 @@ use Rattle.lrs_history.specs.declared.admitting.TheConstants.{LONGEST_DOCUMENT, 
 use Rattle.lrs_json.specs.Json.{Json}
 use Rattle.lrs_json.specs.View.{view}
 use Rattle.lrs_json.specs.declared.tree.Tree.{Tree}
-use Rattle.lrs_parts.specs.Courses.{course_under, place_of_course}
-use Rattle.lrs_parts.specs.Launches.{key_under, place_of_session}
-use Rattle.lrs_parts.specs.Learners.{is_learner}
-use Rattle.lrs_parts.specs.Providers.{is_name}
-use Rattle.lrs_parts.specs.State.{State}
+use Rattle.lrs_state.specs.Courses.{course_under, place_of_course}
+use Rattle.lrs_state.specs.Launches.{key_under, place_of_session}
+use Rattle.lrs_state.specs.Learners.{is_learner}
+use Rattle.lrs_state.specs.Providers.{is_name}
+use Rattle.lrs_state.specs.State.{State}
 use Rattle.lrs_record.specs.declared.entry.Entry.{Entry}
 use Rattle.lrs_record.specs.declared.entry.Write.{Write}
 use Rattle.lrs_record.specs.declared.entry.How.TheVariants as how

@@ -4,12 +4,12 @@ use Rattle.std.specs.Option.{option_map_or}
 use Rattle.std.specs.Str.{bytes_eq}
 use Rattle.cmi5_course.specs.declared.launch.Launch.{Launch}
 use Rattle.cmi5_launch.specs.Names.{launch_data_state, terminated}
-use Rattle.lrs_parts.specs.Cmi5SessionOwn.{has_own}
+use Rattle.cmi5_session.specs.Own.{has_own}
 use Rattle.lrs_agents.specs.Identifiers.{same_ifi}
 use Rattle.lrs_agents.specs.declared.identifiers.Ifi.{Ifi}
 use Rattle.lrs_ids.specs.Choices.{first_some, when}
-use Rattle.lrs_parts.specs.Sessions.{is_abandoned_in}
-use Rattle.lrs_parts.specs.State.{State}
+use Rattle.lrs_state.specs.Sessions.{is_abandoned_in}
+use Rattle.lrs_state.specs.State.{State}
 use Rattle.lrs_replies.specs.declared.answered.Refusal.{Refusal}
 use Rattle.lrs_replies.specs.declared.answered.Refusal.TheVariants.{Forbidden}
 use Rattle.lrs_rules.specs.declared.rule.Rule.TheVariants as rule

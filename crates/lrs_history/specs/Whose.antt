@@ -3,10 +3,10 @@ use Rattle.std.specs.Prelude.{ℕ, Bool, true, false, List, Option, Some, None, 
 use Rattle.lrs_command.specs.declared.who.Who.{Who}
 use Rattle.lrs_command.specs.declared.who.Who.TheVariants as who
 use Rattle.cmi5_course.specs.declared.launch.Launch.{Launch}
-use Rattle.lrs_parts.specs.Launches.{launch_of_token}
-use Rattle.lrs_parts.specs.Providers.{place_of_token}
-use Rattle.lrs_parts.specs.Founding.{is_admin}
-use Rattle.lrs_parts.specs.State.{State}
+use Rattle.lrs_state.specs.Launches.{launch_of_token}
+use Rattle.lrs_state.specs.Providers.{place_of_token}
+use Rattle.lrs_state.specs.Founding.{is_admin}
+use Rattle.lrs_state.specs.State.{State}
 use Rattle.lrs_record.specs.declared.entry.Caller.{Caller}
 use Rattle.lrs_record.specs.declared.entry.Caller.TheVariants.{Nobody, Operator, Token}
 use Rattle.xapi_format.specs.declared.authority.Authority.{Authority}

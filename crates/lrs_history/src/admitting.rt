@@ -11,9 +11,9 @@ use lrs_agents::{Agent, Ifi};
 use lrs_command::{Area, Who};
 use lrs_json::Text;
 use lrs_names::Id;
-use lrs_parts::{is_learner, is_name};
 use lrs_replies::Refusal;
 use lrs_rules::{LONGEST_IDLE, Rule};
+use lrs_state::{is_learner, is_name};
 
 /// How many statements may come together.
 pub const MOST_OF_BATCH: usize = 500;

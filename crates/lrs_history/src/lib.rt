@@ -9,6 +9,4 @@ pub use admitting::{
     LONGEST_DOCUMENT, LONGEST_MEDIA, MOST_OF_BATCH, barred, outside, overstepped, refused_actor,
     refused_agent, refused_document, refused_idle, refused_name, refused_with,
 };
-pub use lrs_parts;
-pub use lrs_parts::cmi5_verdict;
 pub use xapi_pages;

@@ -22,12 +22,12 @@ use Rattle.lrs_laws.proofs.Launched.{after_one}
 use Rattle.lrs_laws.proofs.Permitted.{permitted}
 use Rattle.lrs_laws.proofs.Walking.{Met, met_post, met_put, none_told}
 use Rattle.lrs_laws.specs.Speaking.{AbandonedSessionsAreSilent}
-use Rattle.lrs_parts.specs.Launches.{key_under}
-use Rattle.lrs_parts.specs.Sessions.{as_abandoned, as_of, is_abandoned_in, sessions_after, with_abandoned, with_changed, with_fetched, with_launched}
-use Rattle.lrs_parts.specs.State.{State, nothing}
-use Rattle.lrs_parts.specs.declared.effect.Effect.{Effect}
-use Rattle.lrs_parts.specs.declared.sessions.HeldSession.{HeldSession}
-use Rattle.lrs_parts.specs.declared.sessions.SessionsChange.{SessionsChange}
+use Rattle.lrs_state.specs.Launches.{key_under}
+use Rattle.lrs_state.specs.Sessions.{as_abandoned, as_of, is_abandoned_in, sessions_after, with_abandoned, with_changed, with_fetched, with_launched}
+use Rattle.lrs_state.specs.State.{State, nothing}
+use Rattle.lrs_state.specs.declared.effect.Effect.{Effect}
+use Rattle.lrs_state.specs.declared.sessions.HeldSession.{HeldSession}
+use Rattle.lrs_state.specs.declared.sessions.SessionsChange.{SessionsChange}
 use Rattle.lrs_record.specs.Writes.{write_area}
 use Rattle.lrs_record.specs.declared.entry.Area.TheVariants.{Desk}
 use Rattle.lrs_record.specs.declared.entry.Entry.{Entry}

@@ -10,7 +10,7 @@ use Rattle.lrs_history.specs.History.{answer, answer_of, end_place, need, next_e
 use Rattle.lrs_history.specs.Refusals.{refusal}
 use Rattle.lrs_ids.specs.Choices.{when}
 use Rattle.lrs_laws.specs.Laws.{IsAccepted}
-use Rattle.lrs_parts.specs.State.{changes_nothing}
+use Rattle.lrs_state.specs.State.{changes_nothing}
 use Rattle.lrs_record.specs.declared.entry.Entry.{Entry}
 use Rattle.lrs_replies.specs.declared.answered.Answered.{Answered}
 use Rattle.lrs_replies.specs.declared.answered.Refusal.{Refusal}

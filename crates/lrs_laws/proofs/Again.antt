@@ -15,7 +15,7 @@ use Rattle.lrs_json.specs.View.{view}
 use Rattle.lrs_json.specs.declared.tree.Tree.{Tree}
 use Rattle.lrs_laws.specs.Laws.{BatchConflictsAreTold, ComeTogether, ConflictsAreTold, Contradicts, ComesUnder, Repeats, RepeatedBatchesAreTaken, RepeatsAreTaken, occasion_of, who_in}
 use Rattle.lrs_names.specs.declared.draw.Draw.{Draw}
-use Rattle.lrs_parts.specs.State.{State, changes_nothing, no_change}
+use Rattle.lrs_state.specs.State.{State, changes_nothing, no_change}
 use Rattle.lrs_record.specs.declared.entry.Caller.{Caller}
 use Rattle.lrs_record.specs.declared.entry.Entry.{Entry}
 use Rattle.lrs_record.specs.declared.entry.Write.{Write}

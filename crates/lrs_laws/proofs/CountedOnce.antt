@@ -26,7 +26,7 @@ use Rattle.lrs_laws.proofs.Permitted.{broken_as, permitted, spoken, when_none}
 use Rattle.lrs_laws.proofs.Walking.{KeptByDesk, KeptByWrites, NonePass, SpeaksIn, Steps, by_speaker, its_new, its_rule, none_pass, over_legal, undefined_outside}
 use Rattle.lrs_laws.specs.Speaking.{ResultsCountOnce, count_once, counts_again}
 use Rattle.lrs_names.specs.Members.{is_one_of}
-use Rattle.lrs_parts.specs.State.{State}
+use Rattle.lrs_state.specs.State.{State}
 use Rattle.xapi_format.specs.declared.authority.Authority.TheVariants.{Session}
 use Rattle.xapi_index.specs.Batches.{held_of}
 use Rattle.xapi_index.specs.Statements.{add, add_each, is_held, is_target, is_that_id, voids}

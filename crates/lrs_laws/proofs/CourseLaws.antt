@@ -15,10 +15,10 @@ use Rattle.lrs_laws.proofs.Keepers.{distinct_push}
 use Rattle.lrs_laws.proofs.Launched.{after_one, by_entries}
 use Rattle.lrs_laws.specs.Laws.{CoursesNameOne}
 use Rattle.lrs_names.specs.Members.{is_one_of}
-use Rattle.lrs_parts.specs.Courses.{course_under, courses_after, place_of_course, unchanged_courses}
-use Rattle.lrs_parts.specs.Launches.{key_under, place_of_session}
-use Rattle.lrs_parts.specs.State.{State}
-use Rattle.lrs_parts.specs.declared.effect.Effect.{Effect}
+use Rattle.lrs_state.specs.Courses.{course_under, courses_after, place_of_course, unchanged_courses}
+use Rattle.lrs_state.specs.Launches.{key_under, place_of_session}
+use Rattle.lrs_state.specs.State.{State}
+use Rattle.lrs_state.specs.declared.effect.Effect.{Effect}
 use Rattle.lrs_record.specs.declared.entry.Write.{Write}
 use Rattle.lrs_record.specs.declared.entry.Write.TheVariants.{Enrol, Fetch, Waive, Abandon}
 use Rattle.lrs_record.specs.declared.entry.Write.TheVariants as write

@@ -30,9 +30,9 @@ use Rattle.lrs_laws.proofs.Lists.{each_front, each_push}
 use Rattle.lrs_laws.proofs.NewIds.{and_left, and_right}
 use Rattle.lrs_names.specs.Members.{faults_of_member, has_member, has_member_that, has_only}
 use Rattle.lrs_names.specs.Rules.{least, unless}
-use Rattle.lrs_parts.specs.Courses.{course_under, courses_after}
-use Rattle.lrs_parts.specs.State.{State}
-use Rattle.lrs_parts.specs.declared.effect.Effect.{Effect}
+use Rattle.lrs_state.specs.Courses.{course_under, courses_after}
+use Rattle.lrs_state.specs.State.{State}
+use Rattle.lrs_state.specs.declared.effect.Effect.{Effect}
 use Rattle.lrs_record.specs.Writes.{write_area}
 use Rattle.lrs_record.specs.declared.entry.Entry.{Entry}
 use Rattle.lrs_record.specs.declared.entry.Write.{Write}

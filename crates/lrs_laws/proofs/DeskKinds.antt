@@ -11,11 +11,11 @@ use Rattle.lrs_history.specs.Made.{waived_at}
 use Rattle.lrs_history.specs.Occasions.{Occasion}
 use Rattle.lrs_history.specs.Sessions.{is_closed}
 use Rattle.lrs_ids.specs.Ids.{rest_of}
-use Rattle.lrs_parts.specs.State.{State, no_change}
-use Rattle.lrs_parts.specs.declared.acceptance.Acceptance.{Acceptance}
-use Rattle.lrs_parts.specs.declared.acceptance.Acceptance.TheVariants as acceptance
-use Rattle.lrs_parts.specs.declared.effect.Effect.{Effect}
-use Rattle.lrs_parts.specs.declared.launches.HeldKey.{HeldKey}
+use Rattle.lrs_state.specs.State.{State, no_change}
+use Rattle.lrs_state.specs.declared.acceptance.Acceptance.{Acceptance}
+use Rattle.lrs_state.specs.declared.acceptance.Acceptance.TheVariants as acceptance
+use Rattle.lrs_state.specs.declared.effect.Effect.{Effect}
+use Rattle.lrs_state.specs.declared.launches.HeldKey.{HeldKey}
 
 -- the unit is waived, behind what the statement of it says
 abbrev pub waived_by : State → Occasion → Reason → Target → Effect

@@ -30,10 +30,10 @@ use Rattle.lrs_laws.proofs.NewIds.{differs}
 use Rattle.lrs_laws.proofs.Registered.{AreIds, IsEnrolled, MakesIds, is_enrolled, is_enrolled_as, target_id}
 use Rattle.lrs_laws.proofs.SeenTrees.{seen_tree}
 use Rattle.lrs_names.specs.Members.{is_one_of}
-use Rattle.lrs_parts.specs.State.{State, no_change}
-use Rattle.lrs_parts.specs.declared.effect.Effect.{Effect}
-use Rattle.lrs_parts.specs.declared.launches.HeldKey.{HeldKey}
-use Rattle.lrs_parts.specs.declared.registrations.HeldRegistration.{HeldRegistration}
+use Rattle.lrs_state.specs.State.{State, no_change}
+use Rattle.lrs_state.specs.declared.effect.Effect.{Effect}
+use Rattle.lrs_state.specs.declared.launches.HeldKey.{HeldKey}
+use Rattle.lrs_state.specs.declared.registrations.HeldRegistration.{HeldRegistration}
 use Rattle.xapi_format.specs.declared.authority.Authority.TheVariants.{Desk}
 use Rattle.xapi_statement.specs.Statement.{verb_of}
 use Rattle.xapi_statement.specs.Stored.{StoredStatement}

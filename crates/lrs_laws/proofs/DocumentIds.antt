@@ -14,7 +14,7 @@ use Rattle.lrs_history.specs.History.{state, state_from, step}
 use Rattle.lrs_laws.proofs.HeldDocuments.{same_is, same_sym, those}
 use Rattle.lrs_laws.specs.Documents.{IdsTellDocuments}
 use Rattle.lrs_names.specs.Members.{is_one_of}
-use Rattle.lrs_parts.specs.State.{State, nothing}
+use Rattle.lrs_state.specs.State.{State, nothing}
 use Rattle.lrs_record.specs.declared.entry.Entry.{Entry}
 use Rattle.xapi_docs.proofs.Keyed.{ids, keys_tied, keys_total, states_less}
 use Rattle.xapi_docs.specs.Changes.{documents_after}

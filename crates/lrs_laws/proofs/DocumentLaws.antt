@@ -22,10 +22,10 @@ use Rattle.lrs_laws.specs.Documents.{DocumentsAreFolds, HeldDocumentsAreShown, N
 use Rattle.lrs_laws.specs.Laws.{who_in}
 use Rattle.lrs_media.specs.Media.{is_json}
 use Rattle.lrs_names.specs.declared.draw.Draw.{Draw}
-use Rattle.lrs_parts.specs.Courses.{place_of_course}
-use Rattle.lrs_parts.specs.Launches.{key_under, place_of_session}
-use Rattle.lrs_parts.specs.State.{State, changes_nothing, no_change, nothing}
-use Rattle.lrs_parts.specs.declared.effect.Effect.{Effect}
+use Rattle.lrs_state.specs.Courses.{place_of_course}
+use Rattle.lrs_state.specs.Launches.{key_under, place_of_session}
+use Rattle.lrs_state.specs.State.{State, changes_nothing, no_change, nothing}
+use Rattle.lrs_state.specs.declared.effect.Effect.{Effect}
 use Rattle.lrs_record.specs.declared.entry.Area.TheVariants.{Store}
 use Rattle.lrs_record.specs.declared.entry.Caller.{Caller}
 use Rattle.lrs_record.specs.declared.entry.Entry.{Entry}

@@ -23,11 +23,11 @@ use Rattle.lrs_laws.proofs.Lists.{found_passes}
 use Rattle.lrs_laws.proofs.Moves.{IsGift, Moves, moves, new_key}
 use Rattle.lrs_laws.proofs.NewIds.{and_right}
 use Rattle.lrs_laws.specs.Fetches.{FetchesGive, KeysGiveOnce, UsedKeysAreTold}
-use Rattle.lrs_parts.specs.Launches.{key_under, keys_after}
-use Rattle.lrs_parts.specs.State.{State, changes_nothing, nothing}
-use Rattle.lrs_parts.specs.declared.acceptance.Acceptance.TheVariants as acceptance
-use Rattle.lrs_parts.specs.declared.effect.Effect.{Effect}
-use Rattle.lrs_parts.specs.declared.launches.HeldKey.{HeldKey}
+use Rattle.lrs_state.specs.Launches.{key_under, keys_after}
+use Rattle.lrs_state.specs.State.{State, changes_nothing, nothing}
+use Rattle.lrs_state.specs.declared.acceptance.Acceptance.TheVariants as acceptance
+use Rattle.lrs_state.specs.declared.effect.Effect.{Effect}
+use Rattle.lrs_state.specs.declared.launches.HeldKey.{HeldKey}
 use Rattle.lrs_record.specs.declared.entry.Entry.{Entry}
 use Rattle.lrs_record.specs.declared.entry.Write.{Write}
 use Rattle.lrs_record.specs.declared.entry.Write.TheVariants.{Fetch}

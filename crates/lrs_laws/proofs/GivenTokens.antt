@@ -17,12 +17,12 @@ use Rattle.lrs_laws.proofs.Launched.{after_one, by_entries}
 use Rattle.lrs_laws.proofs.Lists.{each_found, each_push, each_weaker, found_passes}
 use Rattle.lrs_laws.proofs.Moves.{Moves, MovesProviders, moves}
 use Rattle.lrs_laws.specs.Sessions.{WasGiven}
-use Rattle.lrs_parts.specs.Launches.{launch_of_token, token_under, tokens_after}
-use Rattle.lrs_parts.specs.Providers.{place_of_token, providers_after}
-use Rattle.lrs_parts.specs.State.{State, nothing}
-use Rattle.lrs_parts.specs.declared.effect.Effect.{Effect}
-use Rattle.lrs_parts.specs.declared.launches.HeldToken.{HeldToken}
-use Rattle.lrs_parts.specs.declared.providers.HeldProvider.{HeldProvider}
+use Rattle.lrs_state.specs.Launches.{launch_of_token, token_under, tokens_after}
+use Rattle.lrs_state.specs.Providers.{place_of_token, providers_after}
+use Rattle.lrs_state.specs.State.{State, nothing}
+use Rattle.lrs_state.specs.declared.effect.Effect.{Effect}
+use Rattle.lrs_state.specs.declared.launches.HeldToken.{HeldToken}
+use Rattle.lrs_state.specs.declared.providers.HeldProvider.{HeldProvider}
 use Rattle.lrs_fields.proofs.Words.{length-word_text}
 use Rattle.lrs_record.specs.Entries.{word_text}
 use Rattle.lrs_record.specs.declared.entry.Entry.{Entry}

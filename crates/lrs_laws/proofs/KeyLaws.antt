@@ -13,10 +13,10 @@ use Rattle.lrs_laws.proofs.Launched.{after_one, by_entries, there_after}
 use Rattle.lrs_laws.proofs.Lists.{each_first, each_found, each_push, each_weaker, found_passes}
 use Rattle.lrs_laws.proofs.Moves.{Moves, moves, new_key}
 use Rattle.lrs_laws.specs.Sessions.{KeysAreTheirLaunches, WasLaunched}
-use Rattle.lrs_parts.specs.Launches.{keys_after, launches_after}
-use Rattle.lrs_parts.specs.State.{State}
-use Rattle.lrs_parts.specs.declared.effect.Effect.{Effect}
-use Rattle.lrs_parts.specs.declared.launches.HeldKey.{HeldKey}
+use Rattle.lrs_state.specs.Launches.{keys_after, launches_after}
+use Rattle.lrs_state.specs.State.{State}
+use Rattle.lrs_state.specs.declared.effect.Effect.{Effect}
+use Rattle.lrs_state.specs.declared.launches.HeldKey.{HeldKey}
 use Rattle.lrs_record.specs.declared.entry.Entry.{Entry}
 use Rattle.lrs_replies.specs.Texts.{token_text}
 

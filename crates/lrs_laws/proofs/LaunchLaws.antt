@@ -24,7 +24,7 @@ use Rattle.lrs_laws.proofs.WholeBatches.{found_add, unheld_add}
 use Rattle.lrs_laws.specs.Laws.{IsUnused}
 use Rattle.lrs_laws.specs.Sessions.{LaunchesLeaveStatements, LeavesStatement, said_first}
 use Rattle.lrs_names.specs.declared.id.TheConstants.{WORDS}
-use Rattle.lrs_parts.specs.State.{State, used_in}
+use Rattle.lrs_state.specs.State.{State, used_in}
 use Rattle.lrs_record.specs.Writes.{write_area}
 use Rattle.lrs_record.specs.declared.entry.Entry.{Entry}
 use Rattle.lrs_record.specs.declared.entry.Write.TheVariants as write

@@ -13,15 +13,15 @@ use Rattle.lrs_laws.proofs.Keepers.{state_from-append}
 use Rattle.lrs_laws.proofs.Lists.{each_first, each_found, each_push, each_weaker, item_still, item_there}
 use Rattle.lrs_laws.proofs.Moves.{Moves, moves, new_key}
 use Rattle.lrs_command.specs.declared.who.Who.TheVariants as who
-use Rattle.lrs_parts.specs.Founding.{is_admin}
-use Rattle.lrs_parts.specs.Providers.{place_of_token}
+use Rattle.lrs_state.specs.Founding.{is_admin}
+use Rattle.lrs_state.specs.Providers.{place_of_token}
 use Rattle.lrs_record.specs.declared.entry.Caller.{Caller}
 use Rattle.lrs_record.specs.declared.entry.Caller.TheVariants.{Nobody, Operator, Token}
-use Rattle.lrs_parts.specs.Launches.{keys_after, launch_of_token, launches_after, token_under, tokens_after, unchanged_keys, unchanged_launches, unchanged_tokens}
-use Rattle.lrs_parts.specs.State.{State, apply, nothing}
-use Rattle.lrs_parts.specs.declared.effect.Effect.{Effect}
-use Rattle.lrs_parts.specs.declared.launches.HeldKey.{HeldKey}
-use Rattle.lrs_parts.specs.declared.launches.HeldToken.{HeldToken}
+use Rattle.lrs_state.specs.Launches.{keys_after, launch_of_token, launches_after, token_under, tokens_after, unchanged_keys, unchanged_launches, unchanged_tokens}
+use Rattle.lrs_state.specs.State.{State, apply, nothing}
+use Rattle.lrs_state.specs.declared.effect.Effect.{Effect}
+use Rattle.lrs_state.specs.declared.launches.HeldKey.{HeldKey}
+use Rattle.lrs_state.specs.declared.launches.HeldToken.{HeldToken}
 use Rattle.lrs_record.specs.declared.entry.Entry.{Entry}
 use Rattle.lrs_record.specs.declared.entry.Write.{Write}
 use Rattle.lrs_register.specs.declared.change.Change.{Change}

@@ -18,7 +18,7 @@ use Rattle.lrs_laws.proofs.Keepers.{left_false, or_false, right_false}
 use Rattle.lrs_laws.proofs.NewIds.{and_left, and_right, both_true, or_right}
 use Rattle.lrs_laws.proofs.Permitted.{broken_as, permitted, spoken, unless_none}
 use Rattle.lrs_laws.specs.Speaking.{are_in_order, goes_on, is_between, own_statements}
-use Rattle.lrs_parts.specs.State.{is_empty}
+use Rattle.lrs_state.specs.State.{is_empty}
 use Rattle.xapi_statement.specs.Statement.{verb_of}
 use Rattle.xapi_statement.specs.Stored.{StoredStatement}
 

@@ -7,12 +7,12 @@ use Rattle.lrs_history.specs.DeskEffects.{coming, giving}
 use Rattle.lrs_history.specs.Launches.{launch_at, target}
 use Rattle.lrs_history.specs.Sessions.{is_closed}
 use Rattle.lrs_laws.proofs.DeskKinds.{of_ending, of_enrolment, of_fetch, of_launch, of_waiver}
-use Rattle.lrs_parts.specs.Courses.{place_of_course}
-use Rattle.lrs_parts.specs.Launches.{key_under, place_of_session, unchanged_keys, unchanged_launches, unchanged_tokens}
-use Rattle.lrs_parts.specs.Providers.{unchanged_providers}
-use Rattle.lrs_parts.specs.State.{State, no_change}
-use Rattle.lrs_parts.specs.declared.effect.Effect.{Effect}
-use Rattle.lrs_parts.specs.declared.launches.HeldKey.{HeldKey}
+use Rattle.lrs_state.specs.Courses.{place_of_course}
+use Rattle.lrs_state.specs.Launches.{key_under, place_of_session, unchanged_keys, unchanged_launches, unchanged_tokens}
+use Rattle.lrs_state.specs.Providers.{unchanged_providers}
+use Rattle.lrs_state.specs.State.{State, no_change}
+use Rattle.lrs_state.specs.declared.effect.Effect.{Effect}
+use Rattle.lrs_state.specs.declared.launches.HeldKey.{HeldKey}
 use Rattle.lrs_record.specs.declared.entry.Write.{Write}
 use Rattle.lrs_record.specs.declared.entry.Write.TheVariants.{Provider, Enrol, Fetch, Waive, Abandon}
 use Rattle.lrs_record.specs.declared.entry.Write.TheVariants as write

@@ -19,10 +19,10 @@ use Rattle.lrs_names.specs.Ids.{id_of_word}
 use Rattle.lrs_names.specs.Members.{is_one_of}
 use Rattle.lrs_ids.proofs.FreshLemmas.{not_all_used}
 use Rattle.lrs_names.specs.declared.id.TheConstants.{WORDS}
-use Rattle.lrs_parts.specs.Launches.{session_ids}
-use Rattle.lrs_parts.specs.Registrations.{registration_ids}
-use Rattle.lrs_parts.specs.Sessions.{made_session_ids}
-use Rattle.lrs_parts.specs.State.{State, used_in}
+use Rattle.lrs_state.specs.Launches.{session_ids}
+use Rattle.lrs_state.specs.Registrations.{registration_ids}
+use Rattle.lrs_state.specs.Sessions.{made_session_ids}
+use Rattle.lrs_state.specs.State.{State, used_in}
 use Rattle.lrs_replies.specs.declared.answered.Refusal.TheVariants.{Broken, TooLong}
 use Rattle.xapi_index.specs.Batches.{WithId, given_ids, id_for, with_ids, ids_under, supply_behind, with_given}
 use Rattle.lrs_ids.specs.Choices.{first_some, when}

@@ -24,15 +24,15 @@ use Rattle.lrs_laws.proofs.Moves.{MovesProviders, moves}
 use Rattle.lrs_laws.proofs.NewIds.{and_right}
 use Rattle.lrs_laws.proofs.PageLaws.{has_founding}
 use Rattle.lrs_laws.specs.Sessions.{GivenTokensAct, WasGiven}
-use Rattle.lrs_parts.specs.Founding.{is_admin, is_token}
-use Rattle.lrs_parts.specs.Launches.{key_under, launch_of_token, token_under, tokens_after}
-use Rattle.lrs_parts.specs.Providers.{place_of_token, providers_after}
-use Rattle.lrs_parts.specs.State.{State, nothing}
-use Rattle.lrs_parts.specs.declared.effect.Effect.{Effect}
-use Rattle.lrs_parts.specs.declared.founding.Founding.{Founding}
-use Rattle.lrs_parts.specs.declared.launches.HeldKey.{HeldKey}
-use Rattle.lrs_parts.specs.declared.launches.HeldToken.{HeldToken}
-use Rattle.lrs_parts.specs.declared.providers.HeldProvider.{HeldProvider}
+use Rattle.lrs_state.specs.Founding.{is_admin, is_token}
+use Rattle.lrs_state.specs.Launches.{key_under, launch_of_token, token_under, tokens_after}
+use Rattle.lrs_state.specs.Providers.{place_of_token, providers_after}
+use Rattle.lrs_state.specs.State.{State, nothing}
+use Rattle.lrs_state.specs.declared.effect.Effect.{Effect}
+use Rattle.lrs_state.specs.declared.founding.Founding.{Founding}
+use Rattle.lrs_state.specs.declared.launches.HeldKey.{HeldKey}
+use Rattle.lrs_state.specs.declared.launches.HeldToken.{HeldToken}
+use Rattle.lrs_state.specs.declared.providers.HeldProvider.{HeldProvider}
 use Rattle.lrs_record.specs.Entries.{word_text}
 use Rattle.lrs_record.specs.declared.entry.Entry.{Entry}
 use Rattle.lrs_replies.specs.Texts.{token_text}

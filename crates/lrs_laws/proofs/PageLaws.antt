@@ -24,12 +24,12 @@ use Rattle.lrs_laws.proofs.NewIds.{and_left, and_right}
 use Rattle.lrs_laws.proofs.Paging.{IsInOrder, Links, distinct_in_order, each_at, each_filtered, filtered_in_order, linked, positions_in_order, unlinked}
 use Rattle.lrs_laws.proofs.GivenTokens.{launch_on, no_provider_on, state_length, token_given}
 use Rattle.lrs_laws.proofs.Launched.{launched_on, session_launched}
-use Rattle.lrs_parts.proofs.Keys.{place_kept}
-use Rattle.lrs_parts.specs.Launches.{launch_of_token}
-use Rattle.lrs_parts.specs.Providers.{place_of_token, token_of}
-use Rattle.lrs_parts.specs.Founding.{founding_after, is_admin, is_base, is_token}
-use Rattle.lrs_parts.specs.State.{State, nothing}
-use Rattle.lrs_parts.specs.declared.founding.Founding.{Founding}
+use Rattle.lrs_state.proofs.Keys.{place_kept}
+use Rattle.lrs_state.specs.Launches.{launch_of_token}
+use Rattle.lrs_state.specs.Providers.{place_of_token, token_of}
+use Rattle.lrs_state.specs.Founding.{founding_after, is_admin, is_base, is_token}
+use Rattle.lrs_state.specs.State.{State, nothing}
+use Rattle.lrs_state.specs.declared.founding.Founding.{Founding}
 use Rattle.lrs_record.specs.declared.entry.Caller.{Caller}
 use Rattle.lrs_record.specs.declared.entry.Caller.TheVariants.{Nobody, Operator, Token}
 use Rattle.lrs_record.specs.declared.entry.Entry.{Entry}

@@ -20,13 +20,13 @@ use Rattle.lrs_laws.proofs.Lists.{all_mapped, all_then, each_found, each_push}
 use Rattle.lrs_names.proofs.WordBytes.{small_word_bytes}
 use Rattle.lrs_names.specs.Ids.{IsId, bits_of, id_of_word}
 use Rattle.lrs_names.specs.declared.id.TheConstants.{WORDS}
-use Rattle.lrs_parts.specs.Courses.{place_of_course}
-use Rattle.lrs_parts.specs.Launches.{key_under, place_of_session}
-use Rattle.lrs_parts.specs.Registrations.{registration_under, registrations_after, unchanged_registrations}
-use Rattle.lrs_parts.specs.State.{State, used_in}
-use Rattle.lrs_parts.specs.declared.effect.Effect.{Effect}
-use Rattle.lrs_parts.specs.declared.founding.Founding.{Founding}
-use Rattle.lrs_parts.specs.declared.registrations.HeldRegistration.{HeldRegistration}
+use Rattle.lrs_state.specs.Courses.{place_of_course}
+use Rattle.lrs_state.specs.Launches.{key_under, place_of_session}
+use Rattle.lrs_state.specs.Registrations.{registration_under, registrations_after, unchanged_registrations}
+use Rattle.lrs_state.specs.State.{State, used_in}
+use Rattle.lrs_state.specs.declared.effect.Effect.{Effect}
+use Rattle.lrs_state.specs.declared.founding.Founding.{Founding}
+use Rattle.lrs_state.specs.declared.registrations.HeldRegistration.{HeldRegistration}
 use Rattle.lrs_record.specs.declared.entry.Entry.{Entry}
 use Rattle.lrs_record.specs.declared.entry.Write.{Write}
 use Rattle.lrs_record.specs.declared.entry.Write.TheVariants.{Enrol, Fetch, Waive, Abandon}

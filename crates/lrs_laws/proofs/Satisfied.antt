@@ -39,7 +39,7 @@ use Rattle.lrs_laws.proofs.Walking.{KeptByDesk, KeptByOwed, KeptByWrites, NonePa
 use Rattle.lrs_laws.specs.Verdicts.{SatisfiedOnce}
 use Rattle.lrs_names.proofs.IdTexts.{id_of-id_text}
 use Rattle.lrs_names.specs.Ids.{IsId, id_of, id_text}
-use Rattle.lrs_parts.specs.State.{State}
+use Rattle.lrs_state.specs.State.{State}
 use Rattle.lrs_record.specs.declared.entry.Entry.{Entry}
 use Rattle.xapi_format.specs.declared.authority.Authority.TheVariants.{Desk}
 use Rattle.xapi_index.specs.Batches.{WithId, held_of}

@@ -26,9 +26,9 @@ use Rattle.lrs_laws.proofs.Launched.{acting, session_launched}
 use Rattle.lrs_laws.specs.Laws.{IsAccepted, who_in}
 use Rattle.lrs_laws.specs.Sessions.{ActsIn, OtherTokensAreUnknown, SessionTokensWereGiven, SessionsAreBarredFromTheDesk, SessionsAreLaunched, SessionsKeepLaunchData, SessionsKeepToTheirDocuments, SessionsSeeTheirRegistration}
 use Rattle.lrs_names.specs.declared.draw.Draw.{Draw}
-use Rattle.lrs_parts.specs.Launches.{launch_of_token}
-use Rattle.lrs_parts.specs.Providers.{place_of_token}
-use Rattle.lrs_parts.specs.State.{changes_nothing}
+use Rattle.lrs_state.specs.Launches.{launch_of_token}
+use Rattle.lrs_state.specs.Providers.{place_of_token}
+use Rattle.lrs_state.specs.State.{changes_nothing}
 use Rattle.lrs_record.specs.Writes.{write_area}
 use Rattle.lrs_record.specs.declared.entry.Area.TheVariants.{Desk}
 use Rattle.lrs_record.specs.declared.entry.Caller.{Caller}

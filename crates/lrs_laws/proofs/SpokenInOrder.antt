@@ -19,8 +19,8 @@ use Rattle.lrs_laws.proofs.MayFollow.{AreInOrder, follows, own_append, own_push}
 use Rattle.lrs_laws.proofs.NewIds.{and_left, and_right, both_true}
 use Rattle.lrs_laws.proofs.Walking.{KeptByDesk, KeptByWrites, SpeaksIn, Steps, its_authority, its_new, its_rule, over_legal}
 use Rattle.lrs_laws.specs.Speaking.{SessionsSpeakInOrder, are_in_order, goes_on, is_between, own_statements}
-use Rattle.lrs_parts.specs.State.{State, is_empty}
-use Rattle.lrs_parts.specs.declared.providers.HeldProvider.{HeldProvider}
+use Rattle.lrs_state.specs.State.{State, is_empty}
+use Rattle.lrs_state.specs.declared.providers.HeldProvider.{HeldProvider}
 use Rattle.xapi_format.specs.declared.authority.Authority.{Authority}
 use Rattle.xapi_format.specs.declared.authority.Authority.TheVariants.{Admin, Provider, Session}
 use Rattle.xapi_index.proofs.Adding.{add-new}

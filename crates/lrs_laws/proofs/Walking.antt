@@ -33,10 +33,10 @@ use Rattle.lrs_laws.proofs.NewIds.{and_right, or_right}
 use Rattle.lrs_laws.proofs.Permitted.{permitted, when_none}
 use Rattle.lrs_laws.proofs.Registered.{AreIds, MakesIds, all_ids, makes_ids}
 use Rattle.lrs_names.specs.Members.{is_one_of}
-use Rattle.lrs_parts.specs.Courses.{place_of_course}
-use Rattle.lrs_parts.specs.Launches.{key_under, place_of_session}
-use Rattle.lrs_parts.specs.State.{State, nothing}
-use Rattle.lrs_parts.specs.declared.effect.Effect.{Effect}
+use Rattle.lrs_state.specs.Courses.{place_of_course}
+use Rattle.lrs_state.specs.Launches.{key_under, place_of_session}
+use Rattle.lrs_state.specs.State.{State, nothing}
+use Rattle.lrs_state.specs.declared.effect.Effect.{Effect}
 use Rattle.lrs_record.specs.Writes.{write_area}
 use Rattle.lrs_record.specs.declared.entry.Entry.{Entry}
 use Rattle.lrs_record.specs.declared.entry.Write.{Write}

@@ -30,11 +30,11 @@ use Rattle.lrs_laws.proofs.Lists.{each_weaker}
 use Rattle.lrs_laws.proofs.NewIds.{batch_distinct, batch_new, not_true, and_left, and_right}
 use Rattle.lrs_names.specs.Members.{is_one_of}
 use Rattle.cmi5_course.specs.declared.launch.Launch.{Launch}
-use Rattle.lrs_parts.specs.Launches.{launch_of_token}
-use Rattle.lrs_parts.specs.Providers.{place_of_token}
-use Rattle.lrs_parts.specs.Founding.{is_admin}
-use Rattle.lrs_parts.specs.State.{State, changes_no_learning, changes_nothing, is_empty, nothing}
-use Rattle.lrs_parts.specs.declared.providers.HeldProvider.{HeldProvider}
+use Rattle.lrs_state.specs.Launches.{launch_of_token}
+use Rattle.lrs_state.specs.Providers.{place_of_token}
+use Rattle.lrs_state.specs.Founding.{is_admin}
+use Rattle.lrs_state.specs.State.{State, changes_no_learning, changes_nothing, is_empty, nothing}
+use Rattle.lrs_state.specs.declared.providers.HeldProvider.{HeldProvider}
 use Rattle.lrs_record.specs.Entries.{AreLawfulTrees}
 use Rattle.lrs_record.specs.declared.entry.Caller.{Caller}
 use Rattle.lrs_record.specs.declared.entry.Caller.TheVariants.{Nobody, Operator, Token}

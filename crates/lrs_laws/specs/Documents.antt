@@ -21,7 +21,7 @@ use Rattle.lrs_laws.specs.Laws.{IsLetIn, who_in}
 use Rattle.lrs_media.specs.Media.{is_json}
 use Rattle.lrs_names.specs.Members.{is_one_of}
 use Rattle.lrs_names.specs.declared.draw.Draw.{Draw}
-use Rattle.lrs_parts.specs.State.{State}
+use Rattle.lrs_state.specs.State.{State}
 use Rattle.lrs_record.specs.declared.entry.Caller.{Caller}
 use Rattle.lrs_record.specs.declared.entry.Entry.{Entry}
 use Rattle.lrs_record.specs.declared.entry.How.TheVariants as how

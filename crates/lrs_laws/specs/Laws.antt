@@ -19,10 +19,10 @@ use Rattle.lrs_json.specs.declared.tree.Tree.{Tree}
 use Rattle.lrs_names.specs.declared.draw.Draw.{Draw}
 use Rattle.lrs_names.specs.declared.id.TheConstants.{WORDS}
 use Rattle.lrs_names.specs.Members.{is_one_of}
-use Rattle.lrs_parts.specs.Launches.{session_ids}
-use Rattle.lrs_parts.specs.Registrations.{registration_ids}
-use Rattle.lrs_parts.specs.Sessions.{made_session_ids}
-use Rattle.lrs_parts.specs.State.{State, used_in}
+use Rattle.lrs_state.specs.Launches.{session_ids}
+use Rattle.lrs_state.specs.Registrations.{registration_ids}
+use Rattle.lrs_state.specs.Sessions.{made_session_ids}
+use Rattle.lrs_state.specs.State.{State, used_in}
 use Rattle.lrs_record.specs.Entries.{AreLawfulTrees, IsLawfulTree}
 use Rattle.lrs_record.specs.declared.entry.Caller.{Caller}
 use Rattle.lrs_record.specs.declared.entry.Entry.{Entry}

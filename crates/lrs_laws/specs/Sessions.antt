@@ -21,11 +21,11 @@ use Rattle.lrs_json.specs.Json.{Json}
 use Rattle.lrs_laws.specs.Laws.{IsAccepted, sight_in, who_in}
 use Rattle.lrs_names.specs.declared.draw.Draw.{Draw}
 use Rattle.lrs_names.specs.declared.id.TheConstants.{WORDS}
-use Rattle.lrs_parts.specs.Founding.{is_admin}
-use Rattle.lrs_parts.specs.Launches.{key_under}
-use Rattle.lrs_parts.specs.Providers.{place_of_token}
-use Rattle.lrs_parts.specs.State.{State, used_in}
-use Rattle.lrs_parts.specs.declared.launches.HeldKey.{HeldKey}
+use Rattle.lrs_state.specs.Founding.{is_admin}
+use Rattle.lrs_state.specs.Launches.{key_under}
+use Rattle.lrs_state.specs.Providers.{place_of_token}
+use Rattle.lrs_state.specs.State.{State, used_in}
+use Rattle.lrs_state.specs.declared.launches.HeldKey.{HeldKey}
 use Rattle.lrs_record.specs.declared.entry.Area.TheVariants.{Desk}
 use Rattle.lrs_record.specs.declared.entry.Caller.{Caller}
 use Rattle.lrs_record.specs.declared.entry.Caller.TheVariants.{Token}

@@ -11,7 +11,7 @@ use Rattle.lrs_history.specs.Sessions.{is_abandoned}
 use Rattle.lrs_json.specs.Json.{Json}
 use Rattle.lrs_json.specs.View.{view}
 use Rattle.lrs_laws.specs.Laws.{who_in}
-use Rattle.lrs_parts.specs.State.{is_empty}
+use Rattle.lrs_state.specs.State.{is_empty}
 use Rattle.lrs_record.specs.declared.entry.Entry.{Entry}
 use Rattle.xapi_statement.specs.Stored.{StoredStatement}
 

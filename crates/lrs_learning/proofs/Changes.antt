@@ -19,11 +19,11 @@ use Rattle.lrs_json.specs.Json.{Json}
 use Rattle.lrs_learning.specs.Occasions.{occasion_at, supply_at}
 use Rattle.lrs_sessions.specs.LrsMadeSameProofs.{made_same, owed_same, rest_same}
 use Rattle.lrs_names.specs.declared.draw.Draw.{Draw}
-use Rattle.lrs_parts.specs.State.{State, no_change}
-use Rattle.lrs_parts.specs.declared.acceptance.Acceptance.TheVariants as acceptance
-use Rattle.lrs_parts.specs.declared.effect.Effect.{Effect}
-use Rattle.lrs_parts.specs.declared.launches.HeldKey.{HeldKey}
-use Rattle.lrs_parts.specs.declared.registrations.HeldRegistration.{HeldRegistration}
+use Rattle.lrs_sessions.specs.LrsStateState.{State, no_change}
+use Rattle.lrs_sessions.specs.LrsStateAcceptanceAcceptanceTheVariants as acceptance
+use Rattle.lrs_sessions.specs.LrsStateEffectEffect.{Effect}
+use Rattle.lrs_sessions.specs.LrsStateLaunchesHeldKey.{HeldKey}
+use Rattle.lrs_sessions.specs.LrsStateRegistrationsHeldRegistration.{HeldRegistration}
 use Rattle.lrs_replies.specs.Texts.{token_text}
 use Rattle.xapi_docs.specs.declared.changes.DocumentsChange.TheVariants.{Written}
 use Rattle.xapi_statement.specs.Stored.{StoredStatement}

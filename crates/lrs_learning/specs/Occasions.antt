@@ -4,7 +4,7 @@ use Rattle.lrs_command.specs.declared.who.Who.{Who}
 use Rattle.lrs_sessions.specs.LrsHistoryOccasions.{Occasion}
 use Rattle.lrs_ids.specs.Ids.{Supply, supply_of}
 use Rattle.lrs_names.specs.declared.draw.Draw.{Draw}
-use Rattle.lrs_parts.specs.State.{State, used_in}
+use Rattle.lrs_sessions.specs.LrsStateState.{State, used_in}
 use Rattle.lrs_replies.specs.Texts.{token_text}
 
 -- the ids that it can make

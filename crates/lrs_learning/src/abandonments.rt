@@ -5,16 +5,16 @@ ghost use Rattle.lrs_sessions.specs.LrsHistoryDeskEffects.{sessions_abandoned, a
 ghost use Rattle.lrs_sessions.specs.LrsHistoryEndings.{abandoned_jsons};
 ghost use Rattle.lrs_sessions.specs.LrsHistoryMade.{made_under};
 ghost use Rattle.lrs_learning.specs.Occasions.{occasion_at, supply_at};
-ghost use Rattle.lrs_parts.specs.Launches.{place_of_session};
-ghost use Rattle.lrs_parts.specs.Parts.{state_of};
-ghost use Rattle.lrs_parts.specs.State.{no_change};
+ghost use Rattle.lrs_sessions.specs.LrsStateLaunches.{place_of_session};
+ghost use Rattle.lrs_sessions.specs.LrsPartsParts.{state_of};
+ghost use Rattle.lrs_sessions.specs.LrsStateState.{no_change};
 
 use crate::ids::supply_of;
 use lrs_json::{Items, Memory};
 use lrs_names::{Draw, Id};
-use lrs_parts::{Acceptance, Effect, Parts, SessionsChange};
 use lrs_record::Moment;
 use lrs_sessions::lrs_made::make_under;
+use lrs_sessions::lrs_parts::{Acceptance, Effect, Parts, SessionsChange};
 use lrs_sessions::{abandoned_statements, idle_ones, is_open, sessions_at};
 use std::alloc::Global;
 use xapi_statement::StoredStatement;

@@ -5,13 +5,13 @@ ghost use Rattle.cmi5_course.specs.Rules.{broken_rule};
 ghost use Rattle.lrs_sessions.specs.LrsHistoryDeskEffects.{new_course, taking};
 ghost use Rattle.lrs_json.specs.Fits.{Fits};
 ghost use Rattle.lrs_json.specs.View.{view};
-ghost use Rattle.lrs_parts.specs.Courses.{course_under};
-ghost use Rattle.lrs_parts.specs.Parts.{state_of};
+ghost use Rattle.lrs_sessions.specs.LrsStateCourses.{course_under};
+ghost use Rattle.lrs_sessions.specs.LrsPartsParts.{state_of};
 
 use cmi5_course::{Course, CourseRefused};
 use lrs_json::{Memory, Text, Tree};
-use lrs_parts::{Acceptance, CoursesChange, Effect, Parts, course_id};
 use lrs_record::Moment;
+use lrs_sessions::lrs_parts::{Acceptance, CoursesChange, Effect, Parts, course_id};
 use std::alloc::Global;
 
 /// Takes a course up.

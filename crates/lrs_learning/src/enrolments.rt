@@ -6,23 +6,23 @@ ghost use Rattle.lrs_sessions.specs.LrsHistoryEnrolments.{enrolled_as};
 ghost use Rattle.lrs_sessions.specs.LrsHistoryMade.{owed_made};
 ghost use Rattle.lrs_ids.specs.IdSupply.{left_of};
 ghost use Rattle.lrs_learning.specs.Occasions.{occasion_at};
-ghost use Rattle.lrs_parts.specs.Courses.{place_of_course};
-ghost use Rattle.lrs_parts.specs.Learners.{is_learner};
-ghost use Rattle.lrs_parts.specs.Parts.{state_of};
-ghost use Rattle.lrs_parts.specs.State.{no_change, used_in};
-ghost use Rattle.lrs_parts.specs.declared.acceptance.Acceptance.TheVariants as acceptance;
+ghost use Rattle.lrs_sessions.specs.LrsStateCourses.{place_of_course};
+ghost use Rattle.lrs_sessions.specs.LrsStateLearners.{is_learner};
+ghost use Rattle.lrs_sessions.specs.LrsPartsParts.{state_of};
+ghost use Rattle.lrs_sessions.specs.LrsStateState.{no_change, used_in};
+ghost use Rattle.lrs_sessions.specs.LrsStateAcceptanceAcceptanceTheVariants as acceptance;
 
 use crate::ids::first_two;
 use lrs_agents::Agent;
 use lrs_ids::IdSupply;
 use lrs_json::{Items, Memory};
 use lrs_names::{Draw, Id, Iri};
-use lrs_parts::{
+use lrs_record::Moment;
+use lrs_sessions::lrs_made::{add_owed, enrolled_as};
+use lrs_sessions::lrs_parts::{
     Acceptance, Effect, HeldRegistration, Learner, MadeSession, MadeSessionsChange, Parts,
     RegistrationsChange, place_of_course,
 };
-use lrs_record::Moment;
-use lrs_sessions::lrs_made::{add_owed, enrolled_as};
 use std::alloc::Global;
 use xapi_statement::StoredStatement;
 

@@ -3,15 +3,15 @@ ghost use Rattle.std.specs.Prelude.{◌≡◌, IfOk};
 ghost use Rattle.lrs_command.specs.declared.who.Who.{Who as SpecWho};
 ghost use Rattle.lrs_sessions.specs.LrsHistoryDeskEffects.{fetching, giving, telling};
 ghost use Rattle.lrs_learning.specs.Occasions.{occasion_at};
-ghost use Rattle.lrs_parts.specs.Launches.{key_under};
-ghost use Rattle.lrs_parts.specs.Parts.{state_of};
+ghost use Rattle.lrs_sessions.specs.LrsStateLaunches.{key_under};
+ghost use Rattle.lrs_sessions.specs.LrsPartsParts.{state_of};
 
 use lrs_json::{Memory, Text};
 use lrs_names::Draw;
-use lrs_parts::{Acceptance, Effect, HeldKey, HeldToken, Parts, TokensChange};
 use lrs_record::Moment;
 use lrs_replies::token_text;
 use lrs_sessions::is_closed;
+use lrs_sessions::lrs_parts::{Acceptance, Effect, HeldKey, HeldToken, Parts, TokensChange};
 use std::alloc::Global;
 
 /// Gives the token of a key's session away, unless it was given or the session is closed.

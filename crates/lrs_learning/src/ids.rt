@@ -3,13 +3,13 @@ ghost use Rattle.std.specs.Prelude.{◌≡◌, IfOk};
 ghost use Rattle.lrs_ids.specs.Ids.{rest_of};
 ghost use Rattle.lrs_ids.specs.IdSupply.{GiveSame, left_of};
 ghost use Rattle.lrs_learning.specs.Occasions.{supply_at};
-ghost use Rattle.lrs_parts.specs.Parts.{state_of};
-ghost use Rattle.lrs_parts.specs.State.{used_in};
+ghost use Rattle.lrs_sessions.specs.LrsPartsParts.{state_of};
+ghost use Rattle.lrs_sessions.specs.LrsStateState.{used_in};
 
 use lrs_ids::IdSupply;
 use lrs_json::Memory;
 use lrs_names::{Draw, Id};
-use lrs_parts::Parts;
+use lrs_sessions::lrs_parts::Parts;
 use std::alloc::Global;
 
 /// All of them.

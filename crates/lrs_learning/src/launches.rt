@@ -10,9 +10,9 @@ ghost use Rattle.lrs_ids.specs.IdSupply.{left_of};
 ghost use Rattle.lrs_learning.specs.Occasions.{occasion_at, supply_at};
 ghost use Rattle.lrs_sessions.specs.LrsMadeLent.{seen_target};
 ghost use Rattle.lrs_sessions.specs.LrsMadeSaid.{jsons_of};
-ghost use Rattle.lrs_parts.specs.Parts.{state_of};
-ghost use Rattle.lrs_parts.specs.State.{no_change, used_in};
-ghost use Rattle.lrs_parts.specs.declared.acceptance.Acceptance.TheVariants as acceptance;
+ghost use Rattle.lrs_sessions.specs.LrsPartsParts.{state_of};
+ghost use Rattle.lrs_sessions.specs.LrsStateState.{no_change, used_in};
+ghost use Rattle.lrs_sessions.specs.LrsStateAcceptanceAcceptanceTheVariants as acceptance;
 ghost use Rattle.lrs_replies.specs.Texts.{token_text};
 ghost use Rattle.xapi_docs.specs.declared.changes.DocumentsChange.TheVariants.{Written};
 
@@ -23,10 +23,12 @@ use cmi5_launch::{Made, launch_address, launch_data};
 use lrs_ids::IdSupply;
 use lrs_json::{Items, Memory, Number, Text};
 use lrs_names::{Draw, Id, Iri};
-use lrs_parts::{Acceptance, Effect, HeldKey, KeysChange, LaunchesChange, Parts, SessionsChange};
 use lrs_record::Moment;
 use lrs_replies::token_text;
 use lrs_sessions::lrs_made::{LentTarget, make_one, make_under, statement_of, target};
+use lrs_sessions::lrs_parts::{
+    Acceptance, Effect, HeldKey, KeysChange, LaunchesChange, Parts, SessionsChange,
+};
 use lrs_sessions::{abandoned_statements, launch_count, open_of};
 use std::alloc::Global;
 use xapi_docs::{Document, DocumentsChange};

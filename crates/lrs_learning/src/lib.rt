@@ -18,4 +18,5 @@ pub use courses::taking;
 pub use enrolments::enrolling;
 pub use fetches::fetching;
 pub use launches::launching;
+pub use lrs_sessions::lrs_parts;
 pub use waivers::waiving;

@@ -10,19 +10,19 @@ ghost use Rattle.lrs_ids.specs.IdSupply.{left_of};
 ghost use Rattle.lrs_json.specs.View.{view};
 ghost use Rattle.lrs_learning.specs.Occasions.{occasion_at, supply_at};
 ghost use Rattle.lrs_sessions.specs.LrsMadeLent.{seen_target};
-ghost use Rattle.lrs_parts.specs.Parts.{state_of};
-ghost use Rattle.lrs_parts.specs.State.{no_change, used_in};
+ghost use Rattle.lrs_sessions.specs.LrsPartsParts.{state_of};
+ghost use Rattle.lrs_sessions.specs.LrsStateState.{no_change, used_in};
 
 use crate::ids::supply_of;
 use cmi5_course::Reason;
 use lrs_ids::IdSupply;
 use lrs_json::{Items, Memory};
 use lrs_names::{Draw, Id, Iri};
-use lrs_parts::{Effect, MadeSession, MadeSessionsChange, Parts};
 use lrs_record::Moment;
 use lrs_sessions::lrs_made::{
     LentTarget, add_owed, enrolled_as, is_waived, make_one, target, waived_statement,
 };
+use lrs_sessions::lrs_parts::{Effect, MadeSession, MadeSessionsChange, Parts};
 use std::alloc::Global;
 use xapi_statement::{Statement, StoredStatement};
 

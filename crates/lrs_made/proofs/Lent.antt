@@ -10,11 +10,11 @@ use Rattle.lrs_history.specs.Launches.{Target, target, target_in, target_of}
 use Rattle.lrs_made.specs.Lent.{IsLentBy, IsTargetOf, enrolled_of, seen_enrolled}
 use Rattle.lrs_made.specs.declared.enrolments.LentEnrolled.{LentEnrolled}
 use Rattle.lrs_made.specs.declared.targets.LentTarget.{LentTarget}
-use Rattle.lrs_history.specs.LrsPartsProgress.{enrolment_in, enrolment_with}
-use Rattle.lrs_history.specs.LrsPartsRegistrations.{registration_under}
-use Rattle.lrs_history.specs.LrsPartsState.{State}
-use Rattle.lrs_history.specs.LrsPartsFoundingFounding.{Founding}
-use Rattle.lrs_history.specs.LrsPartsRegistrationsHeldRegistration.{HeldRegistration}
+use Rattle.lrs_parts.specs.Progress.{enrolment_in, enrolment_with}
+use Rattle.lrs_history.specs.LrsStateRegistrations.{registration_under}
+use Rattle.lrs_history.specs.LrsStateState.{State}
+use Rattle.lrs_history.specs.LrsStateFoundingFounding.{Founding}
+use Rattle.lrs_history.specs.LrsStateRegistrationsHeldRegistration.{HeldRegistration}
 
 abbrev in_course : Founding → HeldRegistration → Course → Enrolled
 in_course f r = λ (course : Course). record { base = f.base; registration = r; course = course }

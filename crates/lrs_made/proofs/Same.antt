@@ -5,7 +5,7 @@ use Rattle.lrs_history.specs.Made.{left_behind, made_under, owed_jsons, owed_mad
 use Rattle.lrs_ids.specs.Ids.{Supply, rest_of}
 use Rattle.lrs_ids.specs.IdSupply.{GiveSame}
 use Rattle.lrs_json.specs.Json.{Json}
-use Rattle.lrs_history.specs.LrsPartsState.{State}
+use Rattle.lrs_history.specs.LrsStateState.{State}
 use Rattle.xapi_statement.specs.Stored.{StoredStatement}
 
 pub made_same : (supply other : Supply) (moment : ℕ) (js : List Json) → GiveSame supply other → made_under supply moment js ≡ made_under other moment js

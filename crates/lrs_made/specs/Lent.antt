@@ -4,7 +4,7 @@ use Rattle.lrs_history.specs.Enrolments.{Enrolled, enrolled_as}
 use Rattle.lrs_history.specs.Launches.{Target}
 use Rattle.lrs_made.specs.declared.enrolments.LentEnrolled.{LentEnrolled}
 use Rattle.lrs_made.specs.declared.targets.LentTarget.{LentTarget}
-use Rattle.lrs_history.specs.LrsPartsState.{State}
+use Rattle.lrs_history.specs.LrsStateState.{State}
 
 -- ---- registrations
 

@@ -7,17 +7,24 @@ pub use Rattle.lrs_history.specs.Endings as LrsHistoryEndings
 pub use Rattle.lrs_history.specs.Enrolments as LrsHistoryEnrolments
 pub use Rattle.lrs_history.specs.History as LrsHistoryHistory
 pub use Rattle.lrs_history.specs.Launches as LrsHistoryLaunches
-pub use Rattle.lrs_history.specs.LrsPartsCourses as LrsPartsCourses
-pub use Rattle.lrs_history.specs.LrsPartsFounding as LrsPartsFounding
-pub use Rattle.lrs_history.specs.LrsPartsLaunches as LrsPartsLaunches
-pub use Rattle.lrs_history.specs.LrsPartsLearners as LrsPartsLearners
-pub use Rattle.lrs_history.specs.LrsPartsParts as LrsPartsParts
-pub use Rattle.lrs_history.specs.LrsPartsState as LrsPartsState
+pub use Rattle.lrs_history.specs.LrsStateCourses as LrsStateCourses
+pub use Rattle.lrs_history.specs.LrsStateFounding as LrsStateFounding
+pub use Rattle.lrs_history.specs.LrsStateLaunches as LrsStateLaunches
+pub use Rattle.lrs_history.specs.LrsStateLearners as LrsStateLearners
+pub use Rattle.lrs_history.specs.LrsStateRegistrationsHeldRegistration as LrsStateRegistrationsHeldRegistration
+pub use Rattle.lrs_history.specs.LrsStateState as LrsStateState
 pub use Rattle.lrs_history.specs.Made as LrsHistoryMade
 pub use Rattle.lrs_history.specs.Occasions as LrsHistoryOccasions
 pub use Rattle.lrs_history.specs.Refusals as LrsHistoryRefusals
 pub use Rattle.lrs_history.specs.Sessions as LrsHistorySessions
 pub use Rattle.lrs_history.specs.Whose as LrsHistoryWhose
 pub use Rattle.lrs_history.specs.XapiPagesListings as XapiPagesListings
+pub use Rattle.lrs_parts.specs.LrsStateAcceptanceAcceptance as LrsStateAcceptanceAcceptance
+pub use Rattle.lrs_parts.specs.LrsStateAcceptanceAcceptanceTheVariants as LrsStateAcceptanceAcceptanceTheVariants
+pub use Rattle.lrs_parts.specs.LrsStateEffectEffect as LrsStateEffectEffect
+pub use Rattle.lrs_parts.specs.LrsStateLaunchesHeldKey as LrsStateLaunchesHeldKey
+pub use Rattle.lrs_parts.specs.LrsStateRegistrations as LrsStateRegistrations
+pub use Rattle.lrs_parts.specs.LrsStateSessions as LrsStateSessions
+pub use Rattle.lrs_parts.specs.Parts as LrsPartsParts
 pub mod Lent
 pub mod Said

@@ -3,15 +3,15 @@ ghost use Rattle.std.specs.Prelude.{◌≡◌, option_map, IfOk, IfSome};
 ghost use Rattle.lrs_history.specs.Cmi5VerdictNodes.{seen};
 ghost use Rattle.lrs_history.specs.Enrolments.{enrolled, enrolled_as, enrolled_from, enrolment_of, verdicts_of};
 ghost use Rattle.lrs_made.specs.Lent.{IsLentBy, seen_enrolled};
-ghost use Rattle.lrs_history.specs.LrsPartsParts.{state_of};
-ghost use Rattle.lrs_history.specs.LrsPartsFoundingFounding.{Founding as SpecFounding};
+ghost use Rattle.lrs_parts.specs.Parts.{state_of};
+ghost use Rattle.lrs_history.specs.LrsStateFoundingFounding.{Founding as SpecFounding};
 
 use crate::held::{course_of, founding_of, registration_under};
 use cmi5_course::Course;
-use lrs_history::cmi5_verdict::Enrolment;
-use lrs_history::lrs_parts::{HeldRegistration, Parts};
 use lrs_json::Memory;
 use lrs_names::{Id, Iri};
+use lrs_parts::cmi5_verdict::Enrolment;
+use lrs_parts::{HeldRegistration, Parts};
 use std::alloc::Global;
 
 /// A registration, its course, and the address that the store's own names begin with: all lent by the parts.

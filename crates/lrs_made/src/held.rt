@@ -1,12 +1,12 @@
 // What is held of registrations and of their courses.
 ghost use Rattle.std.specs.Prelude.{◌≡◌, slice_get};
 ghost use Rattle.std.specs.Option.{option_copied};
-ghost use Rattle.lrs_history.specs.LrsPartsParts.{state_of};
-ghost use Rattle.lrs_history.specs.LrsPartsRegistrations.{registration_under};
+ghost use Rattle.lrs_parts.specs.Parts.{state_of};
+ghost use Rattle.lrs_history.specs.LrsStateRegistrations.{registration_under};
 
 use cmi5_course::Course;
-use lrs_history::lrs_parts::{Founding, HeldRegistration, Parts};
 use lrs_names::Id;
+use lrs_parts::{Founding, HeldRegistration, Parts};
 
 /// What the store was founded with, if it was.
 pub(crate) fn founding_of(parts: &Parts) -> Option<&Founding>

@@ -5,12 +5,12 @@ ghost use Rattle.lrs_ids.specs.IdSupply.{GiveSame, left_of};
 ghost use Rattle.lrs_ids.specs.Ids.{rest_of};
 ghost use Rattle.lrs_json.specs.View.{view};
 ghost use Rattle.lrs_made.specs.Said.{jsons_of};
-ghost use Rattle.lrs_history.specs.LrsPartsParts.{state_of};
-ghost use Rattle.lrs_history.specs.LrsPartsState.{used_in};
+ghost use Rattle.lrs_parts.specs.Parts.{state_of};
+ghost use Rattle.lrs_history.specs.LrsStateState.{used_in};
 
-use lrs_history::lrs_parts::Parts;
 use lrs_ids::IdSupply;
 use lrs_json::Memory;
+use lrs_parts::Parts;
 use lrs_time::Moment;
 use xapi_statement::{Authority, Statement, StoredStatement};
 

@@ -4,9 +4,9 @@ ghost use Rattle.cmi5_launch.specs.Made.{said, saying_json};
 ghost use Rattle.lrs_json.specs.View.{view};
 
 use cmi5_launch::{Made, made_statement};
-use lrs_history::lrs_parts::HeldRegistration;
 use lrs_json::Memory;
 use lrs_names::{Id, Iri};
+use lrs_parts::HeldRegistration;
 use std::alloc::Global;
 use xapi_statement::Statement;
 

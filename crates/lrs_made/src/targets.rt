@@ -3,14 +3,14 @@ ghost use Rattle.std.specs.Prelude.{◌≡◌, ◌<◌, length, option_map, IfOk
 ghost use Rattle.cmi5_launch.specs.Addresses.{IsAddress};
 ghost use Rattle.lrs_history.specs.Launches.{activity_at, target, target_at, target_in};
 ghost use Rattle.lrs_made.specs.Lent.{IsTargetOf, enrolled_of, seen_target};
-ghost use Rattle.lrs_history.specs.LrsPartsParts.{state_of};
+ghost use Rattle.lrs_parts.specs.Parts.{state_of};
 
 use crate::enrolments::enrolled;
 use cmi5_course::{Course, Unit};
 use cmi5_launch::activity_id;
-use lrs_history::lrs_parts::{HeldRegistration, Parts};
 use lrs_json::Memory;
 use lrs_names::{Id, Iri};
+use lrs_parts::{HeldRegistration, Parts};
 use std::alloc::Global;
 
 /// A unit of a registration's course, its place among the nodes, and the address that the store's own names begin with:

@@ -4,16 +4,16 @@ ghost use Rattle.lrs_history.specs.DeskEffects.{is_waived};
 ghost use Rattle.lrs_history.specs.Made.{waived_json};
 ghost use Rattle.lrs_json.specs.View.{view};
 ghost use Rattle.lrs_made.specs.Lent.{IsTargetOf, seen_target};
-ghost use Rattle.lrs_history.specs.LrsPartsParts.{state_of};
+ghost use Rattle.lrs_parts.specs.Parts.{state_of};
 
 use crate::enrolments::LentEnrolled;
 use crate::saying::statement_of;
 use crate::targets::LentTarget;
 use cmi5_course::Reason;
 use cmi5_launch::Made;
-use lrs_history::lrs_parts::Parts;
 use lrs_json::Memory;
 use lrs_names::Id;
+use lrs_parts::Parts;
 use std::alloc::Global;
 use xapi_statement::Statement;
 

@@ -3,14 +3,14 @@ use Rattle.std.specs.Cmp.Lexicographic.{slice_cmp}
 use Rattle.std.specs.Ordering.{nat_cmp}
 use Rattle.cmi5_course.specs.Courses.{course_key}
 use Rattle.cmi5_course.specs.Launches.{session_of}
-use Rattle.lrs_parts.specs.Counted.{AddsNone, MakesPlaceFor, TakesPlaceBackFor}
-use Rattle.lrs_parts.specs.Launches.{key_text, token_text}
-use Rattle.lrs_parts.specs.Learning.{AddsNoLearningPlaces, MakesLearningPlaces, TakesLearningPlacesBack}
+use Rattle.lrs_state.specs.Counted.{AddsNone, MakesPlaceFor, TakesPlaceBackFor}
+use Rattle.lrs_state.specs.Launches.{key_text, token_text}
+use Rattle.lrs_state.specs.Learning.{AddsNoLearningPlaces, MakesLearningPlaces, TakesLearningPlacesBack}
 use Rattle.lrs_parts.specs.Parts.{AddsNoPlaces, SeenParts}
-use Rattle.lrs_parts.specs.Registrations.{registration_key}
-use Rattle.lrs_parts.specs.Sessions.{made_session_id}
-use Rattle.lrs_parts.specs.declared.effect.Effect.{Effect}
-use Rattle.lrs_parts.specs.declared.learning.Learning.{Learning}
+use Rattle.lrs_state.specs.Registrations.{registration_key}
+use Rattle.lrs_state.specs.Sessions.{made_session_id}
+use Rattle.lrs_state.specs.declared.effect.Effect.{Effect}
+use Rattle.lrs_state.specs.declared.learning.Learning.{Learning}
 use Rattle.lrs_register.proofs.Ahead.{made_and_back}
 use Rattle.lrs_register.specs.Register.{Registered, is_key_of}
 use Rattle.lrs_register.specs.declared.change.Change.{Change}

@@ -14,13 +14,13 @@ use Rattle.cmi5_running_verdicts.specs.declared.tally.Tally.{Tally}
 use Rattle.cmi5_running_sessions.specs.Cmi5SessionMarked.{MarkedStatement}
 use Rattle.cmi5_running_verdicts.specs.Cmi5VerdictNodes.{SeenEnrolment}
 use Rattle.lrs_json.specs.View.{view}
-use Rattle.lrs_parts.specs.Counted.{has_key_of, place_under}
-use Rattle.lrs_parts.specs.Courses.{courses_after}
-use Rattle.lrs_parts.specs.Founding.{founding_after}
+use Rattle.lrs_state.specs.Counted.{has_key_of, place_under}
+use Rattle.lrs_state.specs.Courses.{courses_after}
+use Rattle.lrs_state.specs.Founding.{founding_after}
 use Rattle.lrs_parts.specs.Progress.{AreCounted, HasTallies, IsReadyToEnrol, enrolment_at, enrolment_in, enrolment_with, number_held, number_in, number_named}
-use Rattle.lrs_parts.specs.Registrations.{registration_key, registrations_after}
-use Rattle.lrs_parts.specs.declared.founding.Founding.{Founding}
-use Rattle.lrs_parts.specs.declared.registrations.HeldRegistration.{HeldRegistration}
+use Rattle.lrs_state.specs.Registrations.{registration_key, registrations_after}
+use Rattle.lrs_state.specs.declared.founding.Founding.{Founding}
+use Rattle.lrs_state.specs.declared.registrations.HeldRegistration.{HeldRegistration}
 use Rattle.lrs_parts.proofs.Events.{passes_there, same_bytes, stands_there}
 use Rattle.lrs_register.proofs.Firsts.{position-push}
 use Rattle.lrs_register.specs.Changes.{with_replaced}

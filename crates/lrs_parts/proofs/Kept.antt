@@ -16,14 +16,14 @@ use Rattle.cmi5_running_verdicts.specs.Running.{SeenRunning}
 use Rattle.cmi5_running_verdicts.specs.declared.tally.Tally.{Tally}
 use Rattle.cmi5_running_sessions.specs.Cmi5SessionMarked.{MarkedStatement, marked, statements_of}
 use Rattle.lrs_ids.specs.Ids.{are_distinct}
-use Rattle.lrs_parts.specs.Courses.{courses_after}
-use Rattle.lrs_parts.specs.Founding.{founding_after}
+use Rattle.lrs_state.specs.Courses.{courses_after}
+use Rattle.lrs_state.specs.Founding.{founding_after}
 use Rattle.lrs_parts.specs.Progress.{AreCounted, Follows, HasTallies, IsKept}
-use Rattle.lrs_parts.specs.Registrations.{registrations_after}
-use Rattle.lrs_parts.specs.State.{State}
-use Rattle.lrs_parts.specs.declared.founding.Founding.{Founding}
+use Rattle.lrs_state.specs.Registrations.{registrations_after}
+use Rattle.lrs_state.specs.State.{State}
+use Rattle.lrs_state.specs.declared.founding.Founding.{Founding}
 use Rattle.lrs_parts.specs.declared.progress.Progress.{Progress}
-use Rattle.lrs_parts.specs.declared.registrations.HeldRegistration.{HeldRegistration}
+use Rattle.lrs_state.specs.declared.registrations.HeldRegistration.{HeldRegistration}
 use Rattle.lrs_parts.proofs.Enrolling.{counted_under, enrolled_on, registered}
 use Rattle.lrs_register.specs.Register.{with_new}
 use Rattle.lrs_register.specs.declared.change.Change.{Change}

@@ -10,10 +10,10 @@ use Rattle.cmi5_running_verdicts.specs.Cmi5VerdictNodes.{SeenEnrolment, seen}
 use Rattle.cmi5_running_verdicts.specs.Cmi5VerdictEnrolmentEnrolment.{Enrolment}
 use Rattle.lrs_parts.specs.Progress.{IsEnrolmentOf, IsProgressReadyFor, IsReadyToEnrol}
 use Rattle.lrs_parts.specs.Trees.{AreTargets}
-use Rattle.lrs_parts.specs.declared.effect.Effect.{Effect}
-use Rattle.lrs_parts.specs.declared.founding.Founding.{Founding}
+use Rattle.lrs_state.specs.declared.effect.Effect.{Effect}
+use Rattle.lrs_state.specs.declared.founding.Founding.{Founding}
 use Rattle.lrs_parts.specs.declared.progress.Progress.{Progress}
-use Rattle.lrs_parts.specs.declared.registrations.HeldRegistration.{HeldRegistration}
+use Rattle.lrs_state.specs.declared.registrations.HeldRegistration.{HeldRegistration}
 use Rattle.xapi_statement.specs.Stored.{StoredStatement}
 
 -- what is known anyway

@@ -3,18 +3,18 @@ use Rattle.std.specs.Prelude.{◌≡◌, ◌⊎◌, ◌+◌, ◌<◌, ◌^◌, �
 use Rattle.std.specs.Cmp.Lexicographic.{slice_cmp}
 use Rattle.std.specs.Ordering.{nat_cmp}
 use Rattle.lrs_ids.specs.Ids.{Used, either, those}
-use Rattle.lrs_parts.specs.Counted.{AddsNone, HasRoomToCount, MakesPlaceFor}
-use Rattle.lrs_parts.specs.Launches.{session_ids}
-use Rattle.lrs_parts.specs.Learning.{AddsNoLearningPlaces, IsLearningReadyFor, MakesLearningPlaces}
-use Rattle.lrs_parts.specs.Providers.{token_of}
-use Rattle.lrs_parts.specs.Registrations.{registration_ids}
-use Rattle.lrs_parts.specs.Sessions.{made_session_ids}
-use Rattle.lrs_parts.specs.State.{State}
-use Rattle.lrs_parts.specs.declared.effect.Effect.{Effect}
-use Rattle.lrs_parts.specs.declared.founding.Founding.{Founding}
-use Rattle.lrs_parts.specs.declared.learning.Learning.{Learning}
+use Rattle.lrs_state.specs.Counted.{AddsNone, HasRoomToCount, MakesPlaceFor}
+use Rattle.lrs_state.specs.Launches.{session_ids}
+use Rattle.lrs_state.specs.Learning.{AddsNoLearningPlaces, IsLearningReadyFor, MakesLearningPlaces}
+use Rattle.lrs_state.specs.Providers.{token_of}
+use Rattle.lrs_state.specs.Registrations.{registration_ids}
+use Rattle.lrs_state.specs.Sessions.{made_session_ids}
+use Rattle.lrs_state.specs.State.{State}
+use Rattle.lrs_state.specs.declared.effect.Effect.{Effect}
+use Rattle.lrs_state.specs.declared.founding.Founding.{Founding}
+use Rattle.lrs_state.specs.declared.learning.Learning.{Learning}
 use Rattle.lrs_parts.specs.declared.progress.Progress.{Progress}
-use Rattle.lrs_parts.specs.declared.providers.HeldProvider.{HeldProvider}
+use Rattle.lrs_state.specs.declared.providers.HeldProvider.{HeldProvider}
 use Rattle.lrs_parts.specs.Progress.{IsProgressReadyFor}
 use Rattle.cmi5_running_sessions.specs.Room as room
 use Rattle.lrs_register.specs.Register.{Registered}

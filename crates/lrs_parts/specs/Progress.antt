@@ -12,13 +12,13 @@ use Rattle.cmi5_running_sessions.specs.Cmi5SessionMarked.{MarkedStatement, marke
 use Rattle.cmi5_running_verdicts.specs.Cmi5VerdictNodes.{SeenEnrolment}
 use Rattle.lrs_ids.specs.Ids.{are_distinct}
 use Rattle.lrs_json.specs.View.{view}
-use Rattle.lrs_parts.specs.Counted.{place_under}
-use Rattle.lrs_parts.specs.Registrations.{registration_key}
+use Rattle.lrs_state.specs.Counted.{place_under}
+use Rattle.lrs_state.specs.Registrations.{registration_key}
 use Rattle.lrs_parts.specs.Trees.{AreTargets}
-use Rattle.lrs_parts.specs.declared.effect.Effect.{Effect}
-use Rattle.lrs_parts.specs.declared.founding.Founding.{Founding}
+use Rattle.lrs_state.specs.declared.effect.Effect.{Effect}
+use Rattle.lrs_state.specs.declared.founding.Founding.{Founding}
 use Rattle.lrs_parts.specs.declared.progress.Progress.{Progress}
-use Rattle.lrs_parts.specs.declared.registrations.HeldRegistration.{HeldRegistration}
+use Rattle.lrs_state.specs.declared.registrations.HeldRegistration.{HeldRegistration}
 use Rattle.xapi_index.specs.Statements.{ids_of, is_voided, referred_at}
 use Rattle.xapi_statement.specs.Statement.{registration_of}
 use Rattle.xapi_statement.specs.Stored.{StoredStatement}

@@ -14,18 +14,19 @@ ghost use Rattle.lrs_parts.specs.Progress.{AreCounted, Follows, IsKept, IsReadyT
 ghost use Rattle.lrs_parts.specs.Progress.{enrolment_at, enrolment_in, enrolment_with, is_at, is_voided_anew};
 ghost use Rattle.lrs_parts.specs.Progress.{number_named, place_behind, voided_anew};
 ghost use Rattle.lrs_parts.specs.Trees.{AreTargets, voided_in};
-ghost use Rattle.lrs_parts.specs.declared.founding.Founding.{Founding as SpecFounding};
-ghost use Rattle.lrs_parts.specs.declared.registrations.HeldRegistration.{HeldRegistration as SpecRegistration};
+ghost use Rattle.lrs_state.specs.declared.founding.Founding.{Founding as SpecFounding};
+ghost use Rattle.lrs_state.specs.declared.registrations.HeldRegistration.{HeldRegistration as SpecRegistration};
 ghost use Rattle.lrs_register.specs.Register.{with_new};
 ghost use Rattle.xapi_index.specs.Index.{HoldsNothingAhead, IsIndexReadyFor};
 ghost use Rattle.xapi_index.specs.Statements.{add_each, ids_of, is_voided};
 ghost use Rattle.xapi_statement.specs.Stored.{StoredStatement as SpecStatement};
 
+use crate::Progress;
 use crate::trees::{is_same_id, take_out, tree_voided_by};
-use crate::{Courses, Founding, HeldRegistration, Learning, Progress, Registrations};
 use cmi5_course::Course;
 use cmi5_running_verdicts::Running;
 use cmi5_running_verdicts::cmi5_verdict::Enrolment;
+use lrs_state::{Courses, Founding, HeldRegistration, Learning, Registrations};
 use xapi_index::Index;
 use xapi_statement::{StoredStatement, registration_of};
 

@@ -1,16 +1,17 @@
 // All parts together.
 ghost use Rattle.std.specs.Prelude.{◌≡◌, ◌<◌, ◌^◌, OnOk};
-ghost use Rattle.lrs_parts.specs.Founding.{founding_after};
+ghost use Rattle.lrs_state.specs.Founding.{founding_after};
 ghost use Rattle.lrs_parts.specs.Parts.{state_of, used_with, AddsNoPlaces, HoldsNothingMore, IsReadyFor};
 ghost use Rattle.lrs_parts.specs.Parts.{MakesPlacesFor, SeenParts};
-ghost use Rattle.lrs_parts.specs.State.{apply, nothing};
+ghost use Rattle.lrs_state.specs.State.{apply, nothing};
 
+use crate::Progress;
 use crate::following::{enrol_new, take_in_each};
 use crate::readying::ready_each;
-use crate::{Effect, Founding, Learning, Progress, Providers};
 use lrs_ids::UsedIds;
 use lrs_json::Memory;
 use lrs_names::Id;
+use lrs_state::{Effect, Founding, Learning, Providers};
 use lrs_time::Moment;
 use std::alloc::Global;
 use std::marker::Model;
@@ -160,7 +161,7 @@ impl Parts {
 // The ids of the statements and of the registrations are used, and those of sessions.
 impl UsedIds for Parts {
     ghost use Rattle.lrs_parts.specs.Parts.{state_of};
-    ghost use Rattle.lrs_parts.specs.State.{used_in};
+    ghost use Rattle.lrs_state.specs.State.{used_in};
 
     ghost used = { λ parts. used_in (state_of parts) };
 

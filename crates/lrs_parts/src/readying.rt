@@ -5,21 +5,22 @@ ghost use Rattle.std.specs.Ordering.{nat_cmp};
 ghost use Rattle.cmi5_running_sessions.specs.Room as room;
 ghost use Rattle.cmi5_running_verdicts.specs.Holding.{StandBehindHolders};
 ghost use Rattle.cmi5_running_verdicts.specs.Cmi5VerdictNodes.{seen};
-ghost use Rattle.lrs_parts.specs.Counted.{HasRoomToCount, MakesPlaceFor};
-ghost use Rattle.lrs_parts.specs.Learning.{IsLearningReadyFor, KeepsLearning, MakesLearningPlaces};
+ghost use Rattle.lrs_state.specs.Counted.{HasRoomToCount, MakesPlaceFor};
+ghost use Rattle.lrs_state.specs.Learning.{IsLearningReadyFor, KeepsLearning, MakesLearningPlaces};
 ghost use Rattle.lrs_parts.specs.Progress.{IsEnrolmentOf, IsProgressReadyFor};
-ghost use Rattle.lrs_parts.specs.Providers.{token_of};
-ghost use Rattle.lrs_parts.specs.declared.registrations.HeldRegistration.{HeldRegistration as SpecRegistration};
+ghost use Rattle.lrs_state.specs.Providers.{token_of};
+ghost use Rattle.lrs_state.specs.declared.registrations.HeldRegistration.{HeldRegistration as SpecRegistration};
 ghost use Rattle.xapi_docs.specs.Docs as docs;
 ghost use Rattle.xapi_docs.specs.Docs.{HasRoomForDocuments, documents_in, is_written};
 ghost use Rattle.xapi_index.specs.Index.{IsIndexReadyFor};
 
+use crate::Progress;
 use crate::following::enrolment_in;
-use crate::{
-    Courses, Effect, Founding, HeldRegistration, Learning, Progress, Providers, RegistrationsChange,
-};
 use cmi5_running_verdicts::cmi5_verdict::Enrolment;
 use lrs_json::Memory;
+use lrs_state::{
+    Courses, Effect, Founding, HeldRegistration, Learning, Providers, RegistrationsChange,
+};
 use xapi_docs::Docs;
 use xapi_index::Index;
 

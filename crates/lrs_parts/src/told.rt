@@ -11,12 +11,13 @@ ghost use Rattle.cmi5_running_verdicts.specs.Cmi5VerdictStatements.{all_of};
 ghost use Rattle.cmi5_running_verdicts.specs.Cmi5VerdictUnits.{stands};
 ghost use Rattle.lrs_parts.specs.Progress.{enrolment_in, number_held, number_in};
 
-use crate::{HeldRegistration, Parts, Registrations};
+use crate::Parts;
 use cmi5_course::Launch;
 use cmi5_running_sessions::cmi5_session::SessionView;
 use cmi5_running_verdicts::cmi5_verdict::{Enrolment, Statements, owed, verdicts, waived};
 use lrs_json::Memory;
 use lrs_names::Id;
+use lrs_state::{HeldRegistration, Registrations};
 use lrs_time::Moment;
 use std::alloc::Global;
 use xapi_statement::StoredStatement;

@@ -1,5 +1,7 @@
+pub use Rattle.lrs_refusals.proofs.Handed as LrsRefusalsHandedProofs
 pub use Rattle.lrs_refusals.proofs.Naming as LrsRefusalsNamingProofs
 pub use Rattle.lrs_refusals.specs.Judged as LrsRefusalsJudged
+pub use Rattle.lrs_refusals.specs.Known as LrsRefusalsKnown
 pub use Rattle.lrs_refusals.specs.LrsHistoryAnswers as LrsHistoryAnswers
 pub use Rattle.lrs_refusals.specs.LrsHistoryDeskEffects as LrsHistoryDeskEffects
 pub use Rattle.lrs_refusals.specs.LrsHistoryEffects as LrsHistoryEffects
@@ -17,3 +19,5 @@ pub use Rattle.lrs_refusals.specs.LrsMadeLent as LrsMadeLent
 pub use Rattle.lrs_refusals.specs.Meeting as LrsRefusalsMeeting
 pub use Rattle.lrs_refusals.specs.Naming as LrsRefusalsNaming
 pub use Rattle.lrs_refusals.specs.XapiPagesListings as XapiPagesListings
+pub use Rattle.lrs_refusals.specs.declared.known.Batch as LrsRefusalsKnownBatch
+pub use Rattle.lrs_refusals.specs.declared.known.Known as LrsRefusalsKnownKnown

@@ -16,7 +16,7 @@ use Rattle.lrs_record.specs.declared.entry.Write.TheVariants.{Found, Put, Post, 
 use Rattle.lrs_record.specs.declared.entry.Write.TheVariants as write
 use Rattle.lrs_replies.specs.declared.answered.Refusal.TheVariants.{Broken, TooLong}
 use Rattle.xapi_index.specs.Batches.{given_ids}
-use Rattle.lrs_made.specs.LrsPartsLearners.{is_learner}
+use Rattle.lrs_made.specs.LrsStateLearners.{is_learner}
 use Rattle.lrs_ids.specs.Choices.{first_some, when}
 use Rattle.lrs_ids.specs.Ids.{are_distinct}
 use Rattle.xapi_rules.specs.Rules.{broken_rule}

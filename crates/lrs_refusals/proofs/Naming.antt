@@ -1,8 +1,8 @@
 -- Statements with the ids that were found for them are those that go under them.
-use Rattle.std.proofs.Common.{◌≡◌, zero, suc, ℕ, ◌+◌, ◌≤◌, List, [], ◌∷◌, length, drop, Some, None, inl, inr, refl, sym, ap, subst, ◌∙◌}
+use Rattle.std.proofs.Common.{◌≡◌, zero, suc, ℕ, ◌+◌, ◌≤◌, List, [], ◌∷◌, length, drop, Some, refl, sym, ap, subst, ◌∙◌}
 use Rattle.std.specs.Prelude.{slice_get}
 use Rattle.std.proofs.lemmas.List.{at_drop_all}
-use Rattle.std.proofs.lemmas.Option.{get_or_from_slice_get, none-some, same_Some, slice_get_cases, slice_get_within}
+use Rattle.std.proofs.lemmas.Option.{get_or_from_slice_get, none-some, same_Some, slice_get_within}
 use Rattle.lrs_ids.proofs.Turns.{turn}
 use Rattle.lrs_refusals.specs.Naming.{with_these_ids}
 use Rattle.lrs_json.specs.View.{view}
@@ -19,10 +19,7 @@ with_ids_again supply (t ∷ ts) =
 
 -- ---- a walk over both lists by place
 
-beyond : {A : Type 0} (xs : List A) (i : ℕ) → slice_get xs i ≡ None → length xs ≤ i
-beyond xs i none = elim (slice_get_cases xs i).1 [ inl w ↦ cc (w.2, none) | inr w ↦ w.0 ]
-
--- the next of both, or that nothing is left
+-- the next of both
 pub next_with_id : (ids : List (List ℕ)) (ts : List Tree) (at : ℕ) (id : List ℕ) (t : Tree) → slice_get ids at ≡ Some id → slice_get ts at ≡ Some t
     → with_these_ids (drop at ids) (drop at ts) ≡ record { id = id; tree = t } ∷ with_these_ids (drop (at + 1) ids) (drop (at + 1) ts)
 next_with_id ids ts at id t first second =
@@ -32,9 +29,6 @@ next_with_id ids ts at id t first second =
 none_of : (ids : List (List ℕ)) → with_these_ids ids [] ≡ []
 none_of [] = refl
 none_of (id ∷ ids) = refl
-
-pub no_ids_left : (ids : List (List ℕ)) (ts : List Tree) (at : ℕ) → slice_get ids at ≡ None → with_these_ids (drop at ids) (drop at ts) ≡ []
-no_ids_left ids ts at none = at_drop_all (λ is. with_these_ids is (drop at ts)) ids at (beyond ids at none)
 
 pub no_trees_left : (ids : List (List ℕ)) (ts : List Tree) (at : ℕ) → length ts ≤ at → with_these_ids (drop at ids) (drop at ts) ≡ []
 no_trees_left ids ts at end = at_drop_all (λ rest. with_these_ids (drop at ids) rest) ts at end ∙ none_of (drop at ids)

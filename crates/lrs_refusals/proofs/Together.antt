@@ -20,7 +20,7 @@ use Rattle.lrs_json.specs.View.{view}
 use Rattle.lrs_json.specs.declared.tree.Tree.{Tree}
 use Rattle.lrs_ids.specs.Choices.{first_some, when}
 use Rattle.lrs_ids.specs.Ids.{Supply}
-use Rattle.lrs_made.specs.LrsPartsState.{State}
+use Rattle.lrs_made.specs.LrsStateState.{State}
 use Rattle.lrs_record.specs.declared.entry.Write.TheVariants.{Post}
 use Rattle.lrs_replies.specs.declared.answered.Refusal.{Refusal}
 use Rattle.xapi_format.specs.declared.authority.Authority.TheVariants as authority

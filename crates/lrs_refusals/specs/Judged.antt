@@ -5,8 +5,8 @@ use Rattle.cmi5_course.specs.Rules as course
 use Rattle.lrs_json.specs.Fits.{Fits}
 use Rattle.lrs_json.specs.View.{view}
 use Rattle.lrs_json.specs.declared.tree.Tree.{Tree}
-use Rattle.lrs_made.specs.LrsPartsFounding.{IsBase}
-use Rattle.lrs_made.specs.LrsPartsLearners.{is_learner}
+use Rattle.lrs_made.specs.LrsStateFounding.{IsBase}
+use Rattle.lrs_made.specs.LrsStateLearners.{is_learner}
 use Rattle.lrs_record.specs.declared.entry.Write.{Write}
 use Rattle.lrs_record.specs.declared.entry.Write.TheVariants.{Found, Put, Post, Enrol}
 use Rattle.lrs_record.specs.declared.entry.Write.TheVariants as write

@@ -16,4 +16,5 @@ pub use Rattle.lrs_made.specs.XapiPagesListings as XapiPagesListings
 pub use Rattle.lrs_made.specs.declared.enrolments.LentEnrolled as LrsMadeEnrolmentsLentEnrolled
 pub mod Judged
 pub mod Naming
+pub mod Known
 pub mod Meeting

@@ -14,7 +14,7 @@ use Rattle.lrs_json.specs.Json.{Json}
 use Rattle.lrs_json.specs.View.{view}
 use Rattle.lrs_json.specs.declared.tree.Tree.{Tree}
 use Rattle.lrs_names.specs.declared.draw.Draw.{Draw}
-use Rattle.lrs_made.specs.LrsPartsState.{State}
+use Rattle.lrs_made.specs.LrsStateState.{State}
 use Rattle.lrs_record.specs.declared.entry.Write.{Write}
 use Rattle.lrs_refusals.specs.Naming.{with_these_ids}
 use Rattle.lrs_replies.specs.declared.answered.Refusal.{Refusal}
@@ -61,12 +61,16 @@ abbrev pub session_behind : State → SeenSession → WithId → SeenSession
 session_behind st session n =
     if is_held n.id st.statements then session else view_behind session (view n.tree) (is_target n.id st.statements)
 
+-- why the next statement of a session isn't kept
+abbrev pub refused_next : State → SeenSession → Tree → Option Refusal
+refused_next st session t =
+    refused_under st (told_forbidden (broken_rule session (view t))) (own_id (view t)) (view t)
+
 -- the refusal of the first that is refused of a session's statements, each behind those before it
 abbrev pub refused_behind : State → SeenSession → List WithId → Option Refusal
 refused_behind st session [] = None
-refused_behind st session (n ∷ ns) = option_or
-    (refused_under st (told_forbidden (broken_rule session (view n.tree))) (own_id (view n.tree)) (view n.tree))
-    (refused_behind st (session_behind st session n) ns)
+refused_behind st session (n ∷ ns) =
+    option_or (refused_next st session n.tree) (refused_behind st (session_behind st session n) ns)
 
 -- the same of those from that place on
 abbrev pub refused_from : State → SeenSession → List (List ℕ) → List Tree → ℕ → Option Refusal

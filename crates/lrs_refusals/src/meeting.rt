@@ -1,33 +1,40 @@
-// What the statements of a write meet in the store.
-ghost use Rattle.std.specs.Prelude.{◌≡◌, ◌+◌, ◌<◌, ℕ, List, length, not, true, IfOk, MatchResult, None, Some};
+// What the statements of a write meet in the store. What is found out about them on the way is noted.
+ghost use Rattle.std.specs.Prelude.{◌≡◌, ◌++◌, ◌∷◌, [], ℕ, List, length, not, true, IfOk, MatchResult, None, OnOk};
+ghost use Rattle.std.specs.Prelude.{Some};
 ghost use Rattle.cmi5_session.specs.Rules.{broken_outside, broken_rule};
 ghost use Rattle.cmi5_session.specs.Views.{seen, view_of};
+ghost use Rattle.lrs_made.specs.LrsHistoryOccasions.{supply_in};
 ghost use Rattle.lrs_made.specs.LrsHistoryRefusals.{conflict, forbidden, refused_under, told_forbidden};
 ghost use Rattle.lrs_ids.specs.Choices.{when};
 ghost use Rattle.lrs_json.specs.View.{view};
 ghost use Rattle.lrs_made.specs.LrsPartsParts.{state_of};
 ghost use Rattle.lrs_record.specs.Entries.{AreLawfulTrees, IsLawfulTree};
 ghost use Rattle.lrs_record.specs.declared.entry.Write.TheVariants as write;
-ghost use Rattle.lrs_refusals.specs.Meeting.{occasion_of, refused_behind, refused_each, refused_from, session_behind};
+ghost use Rattle.lrs_refusals.specs.Known.{is_given_held, is_own_held, own_held, AreTold, IsKnownOf, IsKnownUnder};
+ghost use Rattle.lrs_refusals.specs.Known.{IsTold};
+ghost use Rattle.lrs_refusals.specs.Meeting.{occasion_of, refused_behind, refused_each, refused_next, session_behind};
 ghost use Rattle.lrs_refusals.specs.Meeting.{told_if_held, was_abandoned};
 ghost use Rattle.lrs_refusals.specs.Naming.{with_these_ids};
 ghost use Rattle.lrs_replies.specs.declared.answered.Refusal.TheVariants as refusal;
 ghost use Rattle.lrs_rules.specs.declared.rule.Rule.TheVariants as rule;
 ghost use Rattle.xapi_alike.specs.Same.{same};
+ghost use Rattle.xapi_index.specs.Batches.{with_ids};
+ghost use Rattle.xapi_index.specs.Statements.{is_held};
 ghost use Rattle.xapi_statement.specs.Statement.{own_id};
 
+use crate::batch::batch_of;
 use crate::whose::{launch_of, was_abandoned};
+use crate::{Batch, Known};
 use cmi5_course::Launch;
 use cmi5_session::{Forbidden, SessionView, permitted, permitted_outside};
 use lrs_command::Who;
-use lrs_json::{Memory, Tree};
+use lrs_json::{Items, Memory, Tree};
 use lrs_made::lrs_parts::Parts;
 use lrs_names::{Draw, Id};
 use lrs_replies::Refusal;
 use lrs_rules::Rule;
 use std::alloc::Global;
 use xapi_alike::same_received;
-use xapi_index::batch_ids;
 use xapi_statement::{HeldStatement, own_id};
 
 // ---- a new statement
@@ -139,64 +146,117 @@ fn told_if_held(
     }
 }
 
-/// Why a statement isn't kept that comes under that id, or under none.
-pub(crate) fn refused_under(
+// What a statement meets that comes under an id, or under none.
+#[derive(Drop)]
+struct Meeting {
+    // Why it isn't kept.
+    refused: Option<Refusal>,
+    // Whether one is held under its id.
+    is_held: bool,
+}
+
+// The same of a caller, behind what is held alone.
+fn meeting_under(
     alloc: Global,
     parts: &Parts,
     who: Who,
     id: Option<Id>,
     statement: &Tree,
-) -> Result<Option<Refusal>, Memory>
+) -> Result<Meeting, Memory>
     requires { IsLawfulTree (view statement.now) }
-    ensures { IfOk result (λ refused. refused ≡ refused_under (state_of parts.now)
+    ensures refused { IfOk result (λ m. m.refused ≡ refused_under (state_of parts.now)
         (forbidden (state_of parts.now) who parts.now.statements.held (view statement.now))
         id (view statement.now)) }
+    ensures held { IfOk result (λ m. m.is_held ≡ is_given_held (state_of parts.now) id) }
 {
     if let Some(told) = told_if_held(alloc, parts, id, statement)? {
-        return Ok(told);
+        return Ok(Meeting {
+            refused: told,
+            is_held: true,
+        });
     }
-    Ok(forbidden(parts, who, statement))
+    Ok(Meeting {
+        refused: forbidden(parts, who, statement),
+        is_held: false,
+    })
+}
+
+/// Why the statement of a put isn't kept, under that id. Whether one is held under it is noted.
+pub(crate) fn refused_put(
+    alloc: Global,
+    parts: &Parts,
+    who: Who,
+    id: &Id,
+    statement: &Tree,
+    known: &mut Known,
+) -> Result<Option<Refusal>, Memory>
+    requires lawful { IsLawfulTree (view statement.now) }
+    requires known { IsKnownUnder (state_of parts.now) id.now known.old }
+    ensures refused { IfOk result (λ refused. refused ≡ refused_under (state_of parts.now)
+        (forbidden (state_of parts.now) who parts.now.statements.held (view statement.now))
+        (Some id.now) (view statement.now)) }
+    ensures known { IsKnownUnder (state_of parts.now) id.now known.new }
+{
+    let meeting = meeting_under(alloc, parts, who, Some(*id), statement)?;
+    let Meeting { refused, is_held } = meeting;
+    *known = Known::Put { is_held };
+    Ok(refused)
 }
 
 // ---- statements that come together
 
-/// Why statements that come together aren't kept: the refusal of the first that is refused.
+/// Why statements that come together aren't kept: the refusal of the first that is refused. If none is, the ids under
+/// which they go are noted, and under which of them one is held.
 pub(crate) fn refused_together(
     alloc: Global,
     parts: &Parts,
     who: Who,
     draw: &Draw,
     statements: &[Tree],
+    known: &mut Known,
 ) -> Result<Option<Refusal>, Memory>
-    requires { AreLawfulTrees statements.now }
-    ensures { IfOk result (λ refused. (moment : ℕ) (token : List ℕ) → refused ≡ conflict (state_of parts.now)
+    requires lawful { AreLawfulTrees statements.now }
+    requires known { IsKnownOf (state_of parts.now) draw.now statements.now known.old }
+    ensures refused { IfOk result (λ refused. (moment : ℕ) (token : List ℕ) → refused ≡ conflict (state_of parts.now)
         (occasion_of (state_of parts.now) who draw.now (write.Post statements.now) moment token)
         (write.Post statements.now)) }
+    ensures known { IsKnownOf (state_of parts.now) draw.now statements.now known.new }
 {
     match launch_of(parts, who) {
-        Some(launch) => {
-            let ids = batch_ids(alloc, parts, statements, draw)?;
-            let session = session_of(parts, who, launch);
-            refused_behind(alloc, parts, session, ids.as_slice(), statements)
-        }
-        None => refused_each(alloc, parts, who, statements),
+        Some(launch) => refused_in_session(alloc, parts, who, launch, draw, statements, known),
+        None => refused_alone(alloc, parts, who, draw, statements, known),
     }
 }
 
 // ---- of a caller whose statements are looked at one by one
 
-fn refused_own(
+fn refused_alone(
     alloc: Global,
     parts: &Parts,
     who: Who,
-    statement: &Tree,
+    draw: &Draw,
+    statements: &[Tree],
+    known: &mut Known,
 ) -> Result<Option<Refusal>, Memory>
-    requires { IsLawfulTree (view statement.now) }
-    ensures { IfOk result (λ refused. refused ≡ refused_under (state_of parts.now)
-        (forbidden (state_of parts.now) who parts.now.statements.held (view statement.now))
-        (own_id (view statement.now)) (view statement.now)) }
+    requires lawful { AreLawfulTrees statements.now }
+    requires known { IsKnownOf (state_of parts.now) draw.now statements.now known.old }
+    ensures refused { IfOk result (λ refused. refused ≡ refused_each (state_of parts.now) who statements.now) }
+    ensures known { IsKnownOf (state_of parts.now) draw.now statements.now known.new }
 {
-    refused_under(alloc, parts, who, own_id(statement), statement)
+    let batch = batch_of(alloc, parts, draw, statements)?;
+    let Batch {
+        ids,
+        mut held,
+        supply,
+    } = batch;
+    let refused = refused_each(alloc, parts, who, statements, &mut held)?;
+    match refused {
+        Some(refusal) => Ok(Some(refusal)),
+        None => {
+            *known = Known::Batch(Batch { ids, held, supply });
+            Ok(None)
+        }
+    }
 }
 
 fn refused_each(
@@ -204,19 +264,75 @@ fn refused_each(
     parts: &Parts,
     who: Who,
     statements: &[Tree],
+    held: &mut Items<bool>,
 ) -> Result<Option<Refusal>, Memory>
     requires { AreLawfulTrees statements.now }
-    ensures { IfOk result (λ refused. refused ≡ refused_each (state_of parts.now) who statements.now) }
+    ensures refused { IfOk result (λ refused. refused ≡ refused_each (state_of parts.now) who statements.now) }
+    ensures held { IfOk result (λ refused. refused ≡ None
+        → held.new ≡ held.old ++ own_held (state_of parts.now) statements.now) }
 {
     for statement in statements {
-        if let Some(refusal) = refused_own(alloc, parts, who, statement)? {
+        if let Some(refusal) = refused_own(alloc, parts, who, statement, held)? {
             return Ok(Some(refusal));
         }
     }
     Ok(None)
 }
 
+// Under its own id.
+fn refused_own(
+    alloc: Global,
+    parts: &Parts,
+    who: Who,
+    statement: &Tree,
+    held: &mut Items<bool>,
+) -> Result<Option<Refusal>, Memory>
+    requires { IsLawfulTree (view statement.now) }
+    ensures refused { IfOk result (λ refused. refused ≡ refused_under (state_of parts.now)
+        (forbidden (state_of parts.now) who parts.now.statements.held (view statement.now))
+        (own_id (view statement.now)) (view statement.now)) }
+    ensures held { OnOk result (held.new ≡ held.old ++ is_own_held (state_of parts.now) statement.now ∷ []) }
+{
+    let meeting = meeting_under(alloc, parts, who, own_id(statement), statement)?;
+    let Meeting { refused, is_held } = meeting;
+    held.push(is_held)?;
+    Ok(refused)
+}
+
 // ---- of a session
+
+fn refused_in_session(
+    alloc: Global,
+    parts: &Parts,
+    who: Who,
+    launch: &Launch,
+    draw: &Draw,
+    statements: &[Tree],
+    known: &mut Known,
+) -> Result<Option<Refusal>, Memory>
+    requires lawful { AreLawfulTrees statements.now }
+    requires known { IsKnownOf (state_of parts.now) draw.now statements.now known.old }
+    ensures refused { IfOk result (λ refused. refused ≡ refused_behind (state_of parts.now)
+        (view_of launch.now true (was_abandoned (state_of parts.now) who) parts.now.statements.held)
+        (with_ids (supply_in (state_of parts.now) (write.Post statements.now) draw.now) statements.now)) }
+    ensures known { IsKnownOf (state_of parts.now) draw.now statements.now known.new }
+{
+    let batch = batch_of(alloc, parts, draw, statements)?;
+    let Batch {
+        ids,
+        mut held,
+        supply,
+    } = batch;
+    let session = session_of(parts, who, launch);
+    let refused = refused_behind(alloc, parts, session, ids.as_slice(), statements, &mut held)?;
+    match refused {
+        Some(refusal) => Ok(Some(refusal)),
+        None => {
+            *known = Known::Batch(Batch { ids, held, supply });
+            Ok(None)
+        }
+    }
+}
 
 fn refused_behind(
     alloc: Global,
@@ -224,77 +340,92 @@ fn refused_behind(
     session: SessionView<'_>,
     ids: &[Id],
     statements: &[Tree],
+    held: &mut Items<bool>,
 ) -> Result<Option<Refusal>, Memory>
-    requires { AreLawfulTrees statements.now }
-    ensures { IfOk result (λ refused. refused ≡ refused_behind (state_of parts.now) (seen session.entry)
+    requires lawful { AreLawfulTrees statements.now }
+    requires long { length ids.now ≡ length statements.now }
+    requires told { AreTold (state_of parts.now) (with_these_ids ids.now statements.now) }
+    ensures refused { IfOk result (λ refused. refused ≡ refused_behind (state_of parts.now) (seen session.entry)
         (with_these_ids ids.now statements.now)) }
+    ensures held { IfOk result (λ refused. refused ≡ None
+        → held.new ≡ held.old ++ own_held (state_of parts.now) statements.now) }
 {
     let mut session = session;
     for at in 0..statements.len() {
-        let behind = behind_next(alloc, parts, session, ids, statements, at)?;
+        let behind = behind_one(alloc, parts, session, &ids[at], &statements[at], held)?;
         match behind {
             Ok(next) => session = next,
-            Err(told) => return Ok(told),
+            Err(refusal) => return Ok(Some(refusal)),
         }
     }
     Ok(None)
 }
 
-// The session behind the statement at that place, if that isn't refused; else what all from there on are told.
-#[tactic(auto, using(crate::proofs::Naming::next_with_id, crate::proofs::Naming::no_ids_left, crate::proofs::Naming::lawful_at))]
-fn behind_next<'a>(
+// The session behind its next statement, which goes under that id, or why that isn't kept. Whether one is held under
+// its own id is noted.
+fn behind_one<'a>(
     alloc: Global,
     parts: &Parts,
     session: SessionView<'a>,
-    ids: &[Id],
-    statements: &[Tree],
-    at: usize,
-) -> Result<Result<SessionView<'a>, Option<Refusal>>, Memory>
-    requires within { at < length statements.now }
-    requires lawful { AreLawfulTrees statements.now }
-    ensures { IfOk result (λ behind. MatchResult behind
-        (λ next. refused_from (state_of parts.now) (seen session.entry) ids.now statements.now at
-        ≡ refused_from (state_of parts.now) (seen next) ids.now statements.now (at + 1))
-        (λ told. refused_from (state_of parts.now) (seen session.entry) ids.now statements.now at ≡ told)) }
+    id: &Id,
+    statement: &Tree,
+    held: &mut Items<bool>,
+) -> Result<Result<SessionView<'a>, Refusal>, Memory>
+    requires lawful { IsLawfulTree (view statement.now) }
+    requires told { IsTold (state_of parts.now) (record { id = id.now; tree = statement.now }) }
+    ensures refused { IfOk result (λ behind. MatchResult behind
+        (λ next. (refused_next (state_of parts.now) (seen session.entry) statement.now ≡ None)
+        × (seen next ≡ session_behind (state_of parts.now) (seen session.entry)
+        (record { id = id.now; tree = statement.now })))
+        (λ refusal. refused_next (state_of parts.now) (seen session.entry) statement.now ≡ Some refusal)) }
+    ensures held { OnOk result (held.new ≡ held.old ++ is_own_held (state_of parts.now) statement.now ∷ []) }
 {
-    let (Some(id), Some(statement)) = (ids.get(at), statements.get(at)) else {
-        return Ok(Err(None));
-    };
-    match refused_of_session(alloc, parts, &session, statement)? {
-        Some(refusal) => Ok(Err(Some(refusal))),
-        None => Ok(Ok(session_behind(parts, session, id, statement))),
+    let meeting = meeting_in(alloc, parts, &session, statement)?;
+    let Meeting { refused, is_held } = meeting;
+    held.push(is_held)?;
+    match refused {
+        Some(refusal) => Ok(Err(refusal)),
+        None => Ok(Ok(session_behind(parts, session, id, statement, is_held))),
     }
 }
 
-// Why the next statement of a session isn't kept, under its own id or a made one.
-fn refused_of_session(
+// What the next statement of a session meets, under its own id or a made one.
+fn meeting_in(
     alloc: Global,
     parts: &Parts,
     session: &SessionView<'_>,
     statement: &Tree,
-) -> Result<Option<Refusal>, Memory>
+) -> Result<Meeting, Memory>
     requires { IsLawfulTree (view statement.now) }
-    ensures { IfOk result (λ refused. refused ≡ refused_under (state_of parts.now)
-        (told_forbidden (broken_rule (seen session.now) (view statement.now)))
-        (own_id (view statement.now)) (view statement.now)) }
+    ensures refused { IfOk result (λ m. m.refused
+        ≡ refused_next (state_of parts.now) (seen session.now) statement.now) }
+    ensures held { IfOk result (λ m. m.is_held ≡ is_own_held (state_of parts.now) statement.now) }
 {
     if let Some(told) = told_if_held(alloc, parts, own_id(statement), statement)? {
-        return Ok(told);
+        return Ok(Meeting {
+            refused: told,
+            is_held: true,
+        });
     }
-    Ok(forbidden_to(session, statement))
+    Ok(Meeting {
+        refused: forbidden_to(session, statement),
+        is_held: false,
+    })
 }
 
-// The session behind a statement that comes under that id.
+// The session behind a statement that comes under that id, if none is held under it.
 fn session_behind<'a>(
     parts: &Parts,
     session: SessionView<'a>,
     id: &Id,
     statement: &Tree,
+    held: bool,
 ) -> SessionView<'a>
+    requires { held ≡ is_held id.now (state_of parts.now).statements }
     ensures { seen result ≡ session_behind (state_of parts.now) (seen session.entry)
         (record { id = id.now; tree = statement.now }) }
 {
-    if parts.statements.is_held(id) {
+    if held {
         return session;
     }
     session.behind(statement, parts.statements.is_target(id))

@@ -2,16 +2,19 @@
 ghost use Rattle.std.specs.Prelude.{◌≡◌, ℕ, List, IfOk, Ok, None};
 ghost use Rattle.std.specs.Option.{option_copied};
 ghost use Rattle.lrs_made.specs.LrsHistoryRefusals.{bad_form, conflict, refusal, refusal_at, unmergeable, unmergeable_with};
+ghost use Rattle.lrs_made.specs.LrsHistoryWhose.{who_is};
 ghost use Rattle.lrs_made.specs.LrsPartsParts.{state_of};
 ghost use Rattle.lrs_record.specs.Entries.{IsLawfulWrite};
 ghost use Rattle.lrs_refusals.specs.Judged.{IsJudged};
+ghost use Rattle.lrs_refusals.specs.Known.{IsKnown};
 ghost use Rattle.lrs_refusals.specs.Meeting.{occasion_of};
 
+use crate::Known;
 use crate::absent::missing;
 use crate::courses::{course_conflict, refused_course};
 use crate::forms::{refused_batch, refused_form};
-use crate::meeting::{refused_together, refused_under};
-use crate::whose::{bad_role, who_is};
+use crate::meeting::{refused_put, refused_together};
+use crate::whose::bad_role;
 use lrs_command::Who;
 use lrs_json::{Memory, Text};
 use lrs_made::lrs_history::{
@@ -27,18 +30,22 @@ use std::alloc::Global;
 use xapi_docs::{Document, MergeRefused, merge};
 
 /// Why an entry's write is refused whatever room there is. What isn't refused breaks no rule on statements and courses.
-pub fn refusal(alloc: Global, parts: &Parts, entry: &Entry) -> Result<Option<Refusal>, Memory>
-    requires { IsLawfulWrite entry.now.write }
+/// Who its caller is was found before; what is found out about its statements is handed on.
+pub fn refusal(
+    alloc: Global,
+    parts: &Parts,
+    who: Who,
+    entry: &Entry,
+    known: &mut Known,
+) -> Result<Option<Refusal>, Memory>
+    requires lawful { IsLawfulWrite entry.now.write }
+    requires who { who ≡ who_is (state_of parts.now) entry.now.caller }
+    requires known { IsKnown (state_of parts.now) entry.now.draw entry.now.write known.old }
     ensures refused { IfOk result (λ refused. refused ≡ refusal (state_of parts.now) entry.now) }
     ensures judged { result ≡ Ok None → IsJudged entry.now.write }
+    ensures known { IsKnown (state_of parts.now) entry.now.draw entry.now.write known.new }
 {
-    refusal_of(
-        alloc,
-        parts,
-        who_is(parts, &entry.caller),
-        &entry.draw,
-        &entry.write,
-    )
+    refusal_of(alloc, parts, who, &entry.draw, &entry.write, known)
 }
 
 #[tactic(auto, using(crate::proofs::Judged::judged_form))]
@@ -48,12 +55,15 @@ fn refusal_of(
     who: Who,
     draw: &Draw,
     write: &Write,
+    known: &mut Known,
 ) -> Result<Option<Refusal>, Memory>
-    requires { IsLawfulWrite write.now }
+    requires lawful { IsLawfulWrite write.now }
+    requires known { IsKnown (state_of parts.now) draw.now write.now known.old }
     ensures refused { IfOk result (λ refused. (moment : ℕ) (token : List ℕ) → refused
         ≡ refusal_at (state_of parts.now)
         (occasion_of (state_of parts.now) who draw.now write.now moment token) write.now) }
     ensures judged { result ≡ Ok None → IsJudged write.now }
+    ensures known { IsKnown (state_of parts.now) draw.now write.now known.new }
 {
     if let Some(refusal) = barred(write.area(), who) {
         return Ok(Some(refusal));
@@ -70,7 +80,7 @@ fn refusal_of(
     if let Some(refusal) = unmergeable(alloc, parts, write)? {
         return Ok(Some(refusal));
     }
-    conflict(alloc, parts, who, draw, write)
+    conflict(alloc, parts, who, draw, write, known)
 }
 
 // Why a write isn't looked at, whatever the store holds.
@@ -144,16 +154,19 @@ fn conflict(
     who: Who,
     draw: &Draw,
     write: &Write,
+    known: &mut Known,
 ) -> Result<Option<Refusal>, Memory>
-    requires { IsLawfulWrite write.now }
-    ensures { IfOk result (λ refused. (moment : ℕ) (token : List ℕ) → refused
+    requires lawful { IsLawfulWrite write.now }
+    requires known { IsKnown (state_of parts.now) draw.now write.now known.old }
+    ensures refused { IfOk result (λ refused. (moment : ℕ) (token : List ℕ) → refused
         ≡ conflict (state_of parts.now)
         (occasion_of (state_of parts.now) who draw.now write.now moment token) write.now) }
+    ensures known { IsKnown (state_of parts.now) draw.now write.now known.new }
 {
     match write {
-        Write::Put { id, statement } => refused_under(alloc, parts, who, Some(*id), statement),
+        Write::Put { id, statement } => refused_put(alloc, parts, who, id, statement, known),
         Write::Post { statements } => {
-            refused_together(alloc, parts, who, draw, statements.as_slice())
+            refused_together(alloc, parts, who, draw, statements.as_slice(), known)
         }
         Write::Course { tree } => course_conflict(alloc, parts, tree),
         _ => Ok(None),

@@ -1,9 +1,9 @@
 // Who a caller is, which launch a session has, and what a caller does with documents.
-ghost use Rattle.std.specs.Prelude.{◌≡◌};
+ghost use Rattle.std.specs.Prelude.{◌≡◌, None};
 ghost use Rattle.std.specs.Option.{option_copied};
 ghost use Rattle.lrs_made.specs.LrsHistoryRefusals.{bad_role};
 ghost use Rattle.lrs_made.specs.LrsHistoryWhose.{known_as, launch_of, who_is, who_presents};
-ghost use Rattle.lrs_made.specs.LrsPartsLaunches.{launch_of_token};
+ghost use Rattle.lrs_made.specs.LrsStateLaunches.{launch_of_token};
 ghost use Rattle.lrs_made.specs.LrsPartsParts.{state_of};
 ghost use Rattle.lrs_refusals.specs.Meeting.{was_abandoned};
 
@@ -32,7 +32,27 @@ fn who_presents(parts: &Parts, token: &Text) -> Who
     if is_admin(&parts.founding, token) {
         return Who::Admin;
     }
-    known_as(parts.providers.place(token), launch_of_token(parts, token))
+    known_as(parts, parts.providers.place(token), token)
+}
+
+// The provider of that place, or the session that a token opens.
+fn known_as(parts: &Parts, provider: Option<u32>, token: &Text) -> Who
+    ensures { result ≡ known_as provider (launch_of_token token.now (state_of parts.now).tokens) }
+{
+    match provider {
+        Some(provider) => Who::Provider(provider),
+        None => session_with(parts, token),
+    }
+}
+
+// The session that a token opens, if it opens one.
+fn session_with(parts: &Parts, token: &Text) -> Who
+    ensures { result ≡ known_as None (launch_of_token token.now (state_of parts.now).tokens) }
+{
+    match launch_of_token(parts, token) {
+        Some(launch) => Who::Session(launch),
+        None => Who::Unknown,
+    }
 }
 
 // The number of the launch whose session a token opens.
@@ -42,17 +62,6 @@ fn launch_of_token(parts: &Parts, token: &Text) -> Option<u32>
     match parts.learning.tokens.find(token) {
         Some(held) => Some(held.launch),
         None => None,
-    }
-}
-
-// The provider of that place, or the session of that launch.
-fn known_as(provider: Option<u32>, launch: Option<u32>) -> Who
-    ensures { result ≡ known_as provider launch }
-{
-    match (provider, launch) {
-        (Some(provider), _) => Who::Provider(provider),
-        (None, Some(launch)) => Who::Session(launch),
-        (None, None) => Who::Unknown,
     }
 }
 

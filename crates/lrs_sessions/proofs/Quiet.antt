@@ -6,7 +6,7 @@ use Rattle.cmi5_course.specs.declared.launch.Launch.{Launch}
 use Rattle.cmi5_session.specs.Moments.{last_own}
 use Rattle.lrs_made.specs.LrsHistoryEndings.{desk_moment, is_idle, is_open}
 use Rattle.lrs_made.specs.LrsHistorySessions.{is_closed}
-use Rattle.lrs_made.specs.LrsPartsState.{State}
+use Rattle.lrs_made.specs.LrsStateState.{State}
 
 -- what comes behind one that is too late is too late
 later_still : (a b more moment : ℕ) → nat_le (a + more) moment ≡ false → nat_le (max a b + more) moment ≡ false

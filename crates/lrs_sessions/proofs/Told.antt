@@ -5,7 +5,7 @@ use Rattle.cmi5_course.specs.declared.launch.Launch.{Launch}
 use Rattle.lrs_made.specs.LrsHistoryEndings.{abandoned_at, abandoned_from, abandoned_json, abandoned_jsons, lasted}
 use Rattle.lrs_made.specs.LrsHistoryLaunches.{Target, target}
 use Rattle.lrs_json.specs.Json.{Json}
-use Rattle.lrs_made.specs.LrsPartsState.{State}
+use Rattle.lrs_made.specs.LrsStateState.{State}
 
 -- ---- of one session
 

@@ -1,8 +1,8 @@
 -- What is told of each acceptance.
 use Rattle.std.proofs.Common.{◌≡◌, Bool, IfOk, Result, if◌then◌else◌, sym, ap, subst, ◌∙◌}
 use Rattle.lrs_reads.specs.LrsHistoryAnswers.{acceptance_said}
-use Rattle.lrs_parts.specs.declared.acceptance.Acceptance.{Acceptance}
-use Rattle.lrs_parts.specs.declared.acceptance.Acceptance.TheVariants as acceptance
+use Rattle.lrs_learning.specs.LrsStateAcceptanceAcceptance.{Acceptance}
+use Rattle.lrs_learning.specs.LrsStateAcceptanceAcceptanceTheVariants as acceptance
 use Rattle.lrs_replies.specs.Texts.{course_body, ids_body, key_used_body, launch_body, provider_body, registration_body, session_closed_body, session_token_body, swept_body}
 use Rattle.lrs_replies.specs.declared.answered.Answered.{Answered}
 use Rattle.lrs_replies.specs.declared.answered.Answered.TheVariants.{Kept, Same}

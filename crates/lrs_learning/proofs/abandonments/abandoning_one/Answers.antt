@@ -4,8 +4,8 @@ use Rattle.lrs_command.specs.declared.who.Who.{Who}
 use Rattle.lrs_sessions.specs.LrsHistoryDeskEffects.{abandoning_each, abandoning_one}
 use Rattle.lrs_learning.proofs.Changes.{one_is}
 use Rattle.lrs_learning.specs.Occasions.{occasion_at}
-use Rattle.lrs_parts.specs.Launches.{place_of_session}
-use Rattle.lrs_parts.specs.Parts.{SeenParts, state_of}
+use Rattle.lrs_sessions.specs.LrsStateLaunches.{place_of_session}
+use Rattle.lrs_sessions.specs.LrsPartsParts.{SeenParts, state_of}
 use Rattle.lrs_learning.proofs.abandonments.abandoning_one.Goals as goal
 
 pub returns : goal.returns

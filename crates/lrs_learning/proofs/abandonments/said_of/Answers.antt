@@ -4,8 +4,8 @@ use Rattle.lrs_ids.specs.IdSupply.{left_of}
 use Rattle.lrs_learning.proofs.Changes.{first_made}
 use Rattle.lrs_learning.specs.Occasions.{supply_at}
 use Rattle.lrs_sessions.specs.LrsMadeSuppliedProofs.{value_of}
-use Rattle.lrs_parts.specs.Parts.{state_of}
-use Rattle.lrs_parts.specs.State.{used_in}
+use Rattle.lrs_sessions.specs.LrsPartsParts.{state_of}
+use Rattle.lrs_sessions.specs.LrsStateState.{used_in}
 use Rattle.lrs_learning.proofs.abandonments.said_of.Goals as goal
 
 pub returns : goal.returns

@@ -2,7 +2,7 @@ use Rattle.std.proofs.Common.{◌∙◌, ap}
 use Rattle.lrs_sessions.specs.LrsHistoryEndings.{sessions_at}
 use Rattle.lrs_learning.proofs.Changes.{swept_is}
 use Rattle.lrs_learning.specs.Occasions.{occasion_at}
-use Rattle.lrs_parts.specs.Parts.{state_of}
+use Rattle.lrs_sessions.specs.LrsPartsParts.{state_of}
 use Rattle.lrs_learning.proofs.abandonments.sweeping.Goals as goal
 
 pub returns : goal.returns

@@ -5,8 +5,8 @@ use Rattle.lrs_sessions.specs.LrsHistoryDeskEffects.{enrolling}
 use Rattle.lrs_ids.specs.IdSupply.{left_of}
 use Rattle.lrs_learning.proofs.Changes.{enrolled_is, enrolled_under, registered}
 use Rattle.lrs_learning.specs.Occasions.{occasion_at}
-use Rattle.lrs_parts.specs.Parts.{state_of}
-use Rattle.lrs_parts.specs.State.{used_in}
+use Rattle.lrs_sessions.specs.LrsPartsParts.{state_of}
+use Rattle.lrs_sessions.specs.LrsStateState.{used_in}
 use Rattle.lrs_learning.proofs.enrolments.enrol_in.Goals as goal
 
 pub returns-in-Ok : goal.returns-in-Ok

@@ -3,8 +3,8 @@ use Rattle.std.proofs.lemmas.Result.{IfOk-weaker}
 use Rattle.lrs_command.specs.declared.who.Who.{Who}
 use Rattle.lrs_sessions.specs.LrsHistoryDeskEffects.{enrolling}
 use Rattle.lrs_learning.specs.Occasions.{occasion_at}
-use Rattle.lrs_parts.specs.Courses.{place_of_course}
-use Rattle.lrs_parts.specs.Parts.{SeenParts, state_of}
+use Rattle.lrs_sessions.specs.LrsStateCourses.{place_of_course}
+use Rattle.lrs_sessions.specs.LrsPartsParts.{SeenParts, state_of}
 use Rattle.lrs_learning.proofs.enrolments.enrolling.Goals as goal
 
 pub returns : goal.returns

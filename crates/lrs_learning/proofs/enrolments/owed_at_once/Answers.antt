@@ -1,7 +1,7 @@
 use Rattle.std.proofs.Common.{Option, IfSome, subst, sym}
 use Rattle.lrs_sessions.specs.LrsMadeLent.{IsLentBy}
 use Rattle.lrs_sessions.specs.LrsMadeEnrolmentsLentEnrolled.{LentEnrolled}
-use Rattle.lrs_parts.specs.Parts.{state_of}
+use Rattle.lrs_sessions.specs.LrsPartsParts.{state_of}
 use Rattle.lrs_learning.proofs.enrolments.owed_at_once.Goals as goal
 
 pub add_owed-requires : goal.add_owed-requires

@@ -5,8 +5,8 @@ use Rattle.lrs_command.specs.declared.who.Who.{Who}
 use Rattle.lrs_learning.proofs.Changes.{given_is}
 use Rattle.lrs_learning.specs.Occasions.{occasion_at}
 use Rattle.lrs_sessions.specs.LrsHistoryDeskEffects.{fetching, giving}
-use Rattle.lrs_parts.specs.Launches.{key_under}
-use Rattle.lrs_parts.specs.Parts.{SeenParts, state_of}
+use Rattle.lrs_sessions.specs.LrsStateLaunches.{key_under}
+use Rattle.lrs_sessions.specs.LrsPartsParts.{SeenParts, state_of}
 use Rattle.lrs_learning.proofs.fetches.fetching.Goals as goal
 
 pub returns : goal.returns

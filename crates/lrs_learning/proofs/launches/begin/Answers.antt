@@ -9,8 +9,8 @@ use Rattle.lrs_learning.specs.Occasions.{supply_at}
 use Rattle.lrs_sessions.specs.LrsMadeSameProofs.{behind_mapped, behind_same}
 use Rattle.lrs_sessions.specs.LrsMadeSuppliedProofs.{value_of}
 use Rattle.lrs_sessions.specs.LrsMadeLent.{seen_target}
-use Rattle.lrs_parts.specs.Parts.{state_of}
-use Rattle.lrs_parts.specs.State.{used_in}
+use Rattle.lrs_sessions.specs.LrsPartsParts.{state_of}
+use Rattle.lrs_sessions.specs.LrsStateState.{used_in}
 use Rattle.xapi_statement.specs.Stored.{StoredStatement}
 use Rattle.lrs_learning.proofs.launches.begin.Goals as goal
 

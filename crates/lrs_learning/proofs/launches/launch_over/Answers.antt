@@ -6,9 +6,9 @@ use Rattle.lrs_sessions.specs.LrsHistoryLaunches.{address_at, data_at, data_key,
 use Rattle.lrs_learning.proofs.Changes.{launched_over}
 use Rattle.lrs_sessions.specs.LrsMadeSuppliedProofs.{value_of}
 use Rattle.lrs_sessions.specs.LrsMadeLent.{seen_target}
-use Rattle.lrs_parts.specs.Parts.{state_of}
-use Rattle.lrs_parts.specs.declared.acceptance.Acceptance.TheVariants as acceptance
-use Rattle.lrs_parts.specs.declared.effect.Effect.{Effect}
+use Rattle.lrs_sessions.specs.LrsPartsParts.{state_of}
+use Rattle.lrs_sessions.specs.LrsStateAcceptanceAcceptanceTheVariants as acceptance
+use Rattle.lrs_sessions.specs.LrsStateEffectEffect.{Effect}
 use Rattle.lrs_replies.specs.Texts.{token_text}
 use Rattle.xapi_docs.specs.declared.changes.DocumentsChange.TheVariants.{Written}
 use Rattle.lrs_learning.proofs.launches.launch_over.Goals as goal

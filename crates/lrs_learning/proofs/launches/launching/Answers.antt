@@ -3,7 +3,7 @@ use Rattle.std.proofs.Common.{sym}
 use Rattle.lrs_learning.specs.Occasions.{occasion_at}
 use Rattle.lrs_sessions.specs.LrsMadeLent.{seen_target}
 use Rattle.lrs_sessions.specs.LrsHistoryLaunches.{target}
-use Rattle.lrs_parts.specs.Parts.{state_of}
+use Rattle.lrs_sessions.specs.LrsPartsParts.{state_of}
 use Rattle.lrs_learning.proofs.Changes.{launched_is}
 use Rattle.lrs_learning.proofs.launches.launching.Goals as goal
 

@@ -5,8 +5,8 @@ use Rattle.lrs_sessions.specs.LrsHistoryMade.{made_under}
 use Rattle.lrs_ids.specs.IdSupply.{left_of}
 use Rattle.lrs_json.specs.Json.{Json}
 use Rattle.lrs_sessions.specs.LrsMadeLent.{seen_target}
-use Rattle.lrs_parts.specs.Parts.{state_of}
-use Rattle.lrs_parts.specs.State.{used_in}
+use Rattle.lrs_sessions.specs.LrsPartsParts.{state_of}
+use Rattle.lrs_sessions.specs.LrsStateState.{used_in}
 use Rattle.lrs_learning.proofs.launches.push_launched.Goals as goal
 
 pub returns : goal.returns

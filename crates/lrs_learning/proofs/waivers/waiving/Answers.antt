@@ -8,7 +8,7 @@ use Rattle.lrs_ids.specs.Ids.{rest_of}
 use Rattle.lrs_learning.proofs.Changes.{waiver_is}
 use Rattle.lrs_learning.specs.Occasions.{occasion_at, supply_at}
 use Rattle.lrs_sessions.specs.LrsMadeLent.{seen_target}
-use Rattle.lrs_parts.specs.Parts.{state_of}
+use Rattle.lrs_sessions.specs.LrsPartsParts.{state_of}
 use Rattle.lrs_learning.proofs.waivers.waiving.Goals as goal
 
 pub is_waived-requires : goal.is_waived-requires

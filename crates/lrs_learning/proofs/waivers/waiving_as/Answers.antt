@@ -3,8 +3,8 @@ use Rattle.lrs_ids.specs.IdSupply.{left_of}
 use Rattle.lrs_json.specs.View.{view}
 use Rattle.lrs_learning.proofs.Changes.{waived_is, waived_with}
 use Rattle.lrs_sessions.specs.LrsMadeLent.{seen_target}
-use Rattle.lrs_parts.specs.Parts.{state_of}
-use Rattle.lrs_parts.specs.State.{used_in}
+use Rattle.lrs_sessions.specs.LrsPartsParts.{state_of}
+use Rattle.lrs_sessions.specs.LrsStateState.{used_in}
 use Rattle.lrs_learning.proofs.waivers.waiving_as.Goals as goal
 
 pub returns : goal.returns

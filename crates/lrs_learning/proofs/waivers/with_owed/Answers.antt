@@ -8,8 +8,8 @@ use Rattle.lrs_json.specs.View.{view}
 use Rattle.lrs_learning.proofs.Changes.{owed_behind_waived}
 use Rattle.lrs_sessions.specs.LrsMadeLent.{IsLentBy, seen_enrolled, seen_target}
 use Rattle.lrs_sessions.specs.LrsMadeEnrolmentsLentEnrolled.{LentEnrolled}
-use Rattle.lrs_parts.specs.Parts.{state_of}
-use Rattle.lrs_parts.specs.State.{used_in}
+use Rattle.lrs_sessions.specs.LrsPartsParts.{state_of}
+use Rattle.lrs_sessions.specs.LrsStateState.{used_in}
 use Rattle.xapi_statement.specs.Stored.{StoredStatement}
 use Rattle.lrs_learning.proofs.waivers.with_owed.Goals as goal
 

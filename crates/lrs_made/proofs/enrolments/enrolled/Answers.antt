@@ -1,7 +1,7 @@
 use Rattle.std.proofs.Common.{◌∙◌, Option, ap, option_and_then}
 use Rattle.lrs_history.specs.Enrolments.{enrolled_as}
-use Rattle.lrs_history.specs.LrsPartsParts.{state_of}
-use Rattle.lrs_history.specs.LrsPartsRegistrationsHeldRegistration.{HeldRegistration}
+use Rattle.lrs_parts.specs.Parts.{state_of}
+use Rattle.lrs_history.specs.LrsStateRegistrationsHeldRegistration.{HeldRegistration}
 use Rattle.lrs_made.proofs.enrolments.enrolled.Goals as goal
 
 pub returns-in-Some-clause-found : goal.returns-in-Some-clause-found

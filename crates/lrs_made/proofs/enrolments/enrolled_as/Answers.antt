@@ -2,8 +2,8 @@ use Rattle.std.proofs.Common.{Option, ap, refl, option_and_then, option_map}
 use Rattle.lrs_history.specs.Enrolments.{enrolled_from}
 use Rattle.lrs_made.proofs.Lent.{found_under, lent_as}
 use Rattle.lrs_made.specs.Lent.{seen_enrolled}
-use Rattle.lrs_history.specs.LrsPartsParts.{state_of}
-use Rattle.lrs_history.specs.LrsPartsFoundingFounding.{Founding}
+use Rattle.lrs_parts.specs.Parts.{state_of}
+use Rattle.lrs_history.specs.LrsStateFoundingFounding.{Founding}
 use Rattle.lrs_made.proofs.enrolments.enrolled_as.Goals as goal
 
 pub returns-in-Some-clause-found : goal.returns-in-Some-clause-found

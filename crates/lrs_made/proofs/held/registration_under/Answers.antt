@@ -1,6 +1,6 @@
 use Rattle.std.proofs.Common.{◌∙◌, ap}
-use Rattle.lrs_history.specs.LrsPartsParts.{SeenParts}
-use Rattle.lrs_history.specs.LrsPartsRegistrations.{registration_under}
+use Rattle.lrs_parts.specs.Parts.{SeenParts}
+use Rattle.lrs_history.specs.LrsStateRegistrations.{registration_under}
 use Rattle.lrs_made.proofs.held.registration_under.Goals as goal
 
 pub returns : goal.returns

@@ -1,6 +1,6 @@
 use Rattle.lrs_ids.specs.IdSupply.{left_of}
-use Rattle.lrs_history.specs.LrsPartsParts.{state_of}
-use Rattle.lrs_history.specs.LrsPartsState.{used_in}
+use Rattle.lrs_parts.specs.Parts.{state_of}
+use Rattle.lrs_history.specs.LrsStateState.{used_in}
 use Rattle.lrs_made.proofs.Supplied.{one_made}
 use Rattle.lrs_made.proofs.making.make_one.Goals as goal
 

@@ -4,8 +4,8 @@ use Rattle.std.specs.Vec.Iter.{into_iter_items}
 use Rattle.lrs_history.specs.Made.{left_behind, made_under}
 use Rattle.lrs_ids.specs.Ids.{Supply}
 use Rattle.lrs_ids.specs.IdSupply.{GiveSame, left_of}
-use Rattle.lrs_history.specs.LrsPartsParts.{state_of}
-use Rattle.lrs_history.specs.LrsPartsState.{used_in}
+use Rattle.lrs_parts.specs.Parts.{state_of}
+use Rattle.lrs_history.specs.LrsStateState.{used_in}
 use Rattle.xapi_statement.specs.declared.statement.Statement.{Statement}
 use Rattle.lrs_made.proofs.Supplied.{behind_more, made_all, made_more, value_of}
 use Rattle.lrs_made.proofs.making.make_under.Goals as goal

@@ -2,8 +2,8 @@ use Rattle.std.proofs.Common.{◌≡◌, ◌++◌, map}
 use Rattle.std.specs.Vec.Iter.{into_iter_items}
 use Rattle.lrs_history.specs.Made.{left_behind, made_under}
 use Rattle.lrs_ids.specs.IdSupply.{GiveSame, left_of}
-use Rattle.lrs_history.specs.LrsPartsParts.{state_of}
-use Rattle.lrs_history.specs.LrsPartsState.{used_in}
+use Rattle.lrs_parts.specs.Parts.{state_of}
+use Rattle.lrs_history.specs.LrsStateState.{used_in}
 use Rattle.lrs_made.proofs.Supplied.{value_of}
 use Rattle.lrs_made.proofs.making.make_under.Given as goal
 

@@ -4,8 +4,8 @@ use Rattle.lrs_ids.specs.Ids.{Supply}
 use Rattle.lrs_ids.specs.IdSupply.{GiveSame, left_of}
 use Rattle.lrs_made.specs.Lent.{IsLentBy, seen_enrolled}
 use Rattle.lrs_made.specs.declared.enrolments.LentEnrolled.{LentEnrolled}
-use Rattle.lrs_history.specs.LrsPartsParts.{state_of}
-use Rattle.lrs_history.specs.LrsPartsState.{used_in}
+use Rattle.lrs_parts.specs.Parts.{state_of}
+use Rattle.lrs_history.specs.LrsStateState.{used_in}
 use Rattle.lrs_made.proofs.Same.{behind_made}
 use Rattle.lrs_made.proofs.owing.add_owed.Goals as goal
 

@@ -4,8 +4,8 @@ use Rattle.lrs_ids.specs.Ids.{Supply}
 use Rattle.lrs_ids.specs.IdSupply.{GiveSame, left_of}
 use Rattle.lrs_json.specs.Json.{Json}
 use Rattle.lrs_made.specs.Lent.{seen_enrolled}
-use Rattle.lrs_history.specs.LrsPartsParts.{state_of}
-use Rattle.lrs_history.specs.LrsPartsState.{used_in}
+use Rattle.lrs_parts.specs.Parts.{state_of}
+use Rattle.lrs_history.specs.LrsStateState.{used_in}
 use Rattle.xapi_statement.specs.Stored.{StoredStatement}
 use Rattle.lrs_made.proofs.Same.{behind_mapped}
 use Rattle.lrs_made.proofs.Supplied.{value_of}

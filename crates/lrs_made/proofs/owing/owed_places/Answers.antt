@@ -3,7 +3,7 @@ use Rattle.std.proofs.Common.{◌≡◌, ◌++◌, IfOk, subst}
 use Rattle.lrs_history.specs.Cmi5VerdictNodes.{SeenEnrolment, owed, seen}
 use Rattle.lrs_made.proofs.Lent.{enrolment_lent}
 use Rattle.lrs_made.specs.Lent.{seen_enrolled}
-use Rattle.lrs_history.specs.LrsPartsParts.{state_of}
+use Rattle.lrs_parts.specs.Parts.{state_of}
 use Rattle.lrs_made.proofs.owing.owed_places.Goals as goal
 
 pub owed-requires : goal.owed-requires

@@ -1,7 +1,7 @@
 use Rattle.std.proofs.Common.{◌∙◌, Option, ap, option_and_then}
 use Rattle.lrs_history.specs.Enrolments.{Enrolled}
 use Rattle.lrs_made.proofs.Lent.{target_is, target_lent, unit_of}
-use Rattle.lrs_history.specs.LrsPartsParts.{state_of}
+use Rattle.lrs_parts.specs.Parts.{state_of}
 use Rattle.lrs_made.proofs.targets.target.Goals as goal
 
 pub returns-in-Some-clause-found : goal.returns-in-Some-clause-found

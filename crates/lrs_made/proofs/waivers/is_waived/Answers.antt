@@ -5,7 +5,7 @@ use Rattle.lrs_history.specs.Cmi5VerdictNodes.{SeenEnrolment, activity_at, seen}
 use Rattle.lrs_history.specs.Cmi5VerdictUnits.{stands}
 use Rattle.lrs_made.proofs.Lent.{enrolment_lent}
 use Rattle.lrs_made.specs.Lent.{enrolled_of}
-use Rattle.lrs_history.specs.LrsPartsParts.{state_of}
+use Rattle.lrs_parts.specs.Parts.{state_of}
 use Rattle.lrs_made.proofs.waivers.is_waived.Goals as goal
 
 pub is_waived-requires-clause-enrolled : goal.is_waived-requires-clause-enrolled

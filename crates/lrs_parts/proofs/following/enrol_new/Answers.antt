@@ -1,6 +1,6 @@
 use Rattle.std.proofs.Common.{◌∙◌, Option, subst, sym}
 use Rattle.lrs_parts.specs.Progress.{AreCounted, IsReadyToEnrol}
-use Rattle.lrs_parts.specs.declared.registrations.HeldRegistration.{HeldRegistration}
+use Rattle.lrs_state.specs.declared.registrations.HeldRegistration.{HeldRegistration}
 use Rattle.lrs_parts.proofs.Enrolling.{counted_more}
 use Rattle.lrs_parts.proofs.Voided.{no_item, some_item}
 use Rattle.lrs_register.specs.Register.{with_new}

@@ -1,7 +1,7 @@
 use Rattle.std.proofs.Common.{◌∙◌, Option, ap, option_copied, sym}
 use Rattle.std.specs.Prelude.{option_and_then}
 use Rattle.lrs_parts.specs.Progress.{enrolment_in}
-use Rattle.lrs_parts.specs.declared.registrations.HeldRegistration.{HeldRegistration}
+use Rattle.lrs_state.specs.declared.registrations.HeldRegistration.{HeldRegistration}
 use Rattle.lrs_parts.proofs.following.enrolment_at.Goals as goal
 
 pub returns-in-Some-clause-value : goal.returns-in-Some-clause-value

@@ -1,6 +1,6 @@
 use Rattle.std.proofs.Common.{◌∙◌, Option, ap, sym}
 use Rattle.lrs_parts.specs.Progress.{enrolment_in}
-use Rattle.lrs_parts.specs.declared.founding.Founding.{Founding}
+use Rattle.lrs_state.specs.declared.founding.Founding.{Founding}
 use Rattle.lrs_parts.proofs.following.enrolment_in.Goals as goal
 
 pub returns-in-Some-clause-value : goal.returns-in-Some-clause-value

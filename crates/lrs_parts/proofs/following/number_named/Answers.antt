@@ -2,8 +2,8 @@ use Rattle.std.proofs.Common.{◌∙◌, ℕ, List, Option, ap, sym}
 use Rattle.std.specs.Prelude.{option_and_then}
 use Rattle.lrs_json.specs.View.{view}
 use Rattle.lrs_json.specs.declared.tree.Tree.{Tree}
-use Rattle.lrs_parts.specs.Counted.{place_under}
-use Rattle.lrs_parts.specs.Registrations.{registration_key}
+use Rattle.lrs_state.specs.Counted.{place_under}
+use Rattle.lrs_state.specs.Registrations.{registration_key}
 use Rattle.xapi_statement.specs.Statement.{registration_of}
 use Rattle.lrs_parts.proofs.following.number_named.Goals as goal
 

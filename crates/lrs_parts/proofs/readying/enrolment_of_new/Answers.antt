@@ -5,7 +5,7 @@ use Rattle.std.proofs.lemmas.Result.{IfOk-weaker}
 use Rattle.cmi5_running_verdicts.specs.Cmi5VerdictNodes.{seen}
 use Rattle.cmi5_running_verdicts.specs.Cmi5VerdictEnrolmentEnrolment.{Enrolment}
 use Rattle.lrs_parts.specs.Progress.{IsEnrolmentOf}
-use Rattle.lrs_parts.specs.declared.registrations.HeldRegistration.{HeldRegistration}
+use Rattle.lrs_state.specs.declared.registrations.HeldRegistration.{HeldRegistration}
 use Rattle.lrs_parts.proofs.readying.enrolment_of_new.Goals as goal
 
 pub returns-in-Some-clause-enrolment : goal.returns-in-Some-clause-enrolment

@@ -1,6 +1,6 @@
 use Rattle.std.proofs.Common.{◌==◌, ◌∙◌, Bool, Option, Some, None, ap, option_copied, sym}
 use Rattle.std.specs.Prelude.{option_and_then, if◌then◌else◌}
-use Rattle.lrs_parts.specs.declared.registrations.HeldRegistration.{HeldRegistration}
+use Rattle.lrs_state.specs.declared.registrations.HeldRegistration.{HeldRegistration}
 use Rattle.lrs_parts.proofs.told.number_in.Goals as goal
 
 pub returns-then-is_in_same_course : goal.returns-then-is_in_same_course

@@ -2,7 +2,7 @@ use Rattle.std.proofs.Common.{◌∙◌, ap, sym}
 use Rattle.std.specs.Option.{option_copied}
 use Rattle.cmi5_course.specs.Courses.{course_key, course_of}
 use Rattle.lrs_made.specs.LrsHistoryRefusals.{refused_beside}
-use Rattle.lrs_made.specs.LrsPartsCourses.{course_under}
+use Rattle.lrs_made.specs.LrsStateCourses.{course_under}
 use Rattle.lrs_made.specs.LrsPartsParts.{SeenParts}
 use Rattle.lrs_refusals.proofs.courses.course_conflict.Goals as goal
 

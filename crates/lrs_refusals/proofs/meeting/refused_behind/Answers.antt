@@ -1,9 +1,34 @@
-use Rattle.std.proofs.Common.{◌≡◌, ◌+◌, sym, ap, ◌∙◌, arith}
+use Rattle.std.proofs.Common.{◌≡◌, ◌≤◌, ◌<◌, ◌+◌, ◌++◌, List, None, Some, length, refl, sym, ap, ◌∙◌, arith}
+use Rattle.std.proofs.lemmas.Option.{slice_get_read}
 use Rattle.cmi5_session.specs.Views.{seen}
-use Rattle.lrs_refusals.proofs.Naming.{no_trees_left}
-use Rattle.lrs_refusals.specs.Meeting.{refused_behind, refused_from}
+use Rattle.lrs_ids.proofs.Turns.{turn}
+use Rattle.lrs_refusals.proofs.Handed.{held_all, held_more, told_at}
+use Rattle.lrs_refusals.proofs.Naming.{lawful_at, no_trees_left}
+use Rattle.lrs_refusals.proofs.Walked.{next_passed_on, next_refused}
+use Rattle.lrs_refusals.specs.Known.{own_held}
+use Rattle.lrs_refusals.specs.Meeting.{refused_behind, refused_next, session_behind}
 use Rattle.lrs_made.specs.LrsPartsParts.{state_of}
 use Rattle.lrs_refusals.proofs.meeting.refused_behind.Goals as goal
+
+pub behind_one-requires-clause-lawful : goal.behind_one-requires-clause-lawful
+behind_one-requires-clause-lawful c =
+    let ts = c.args.statements.now in
+    let at = c.loop-at.at in
+    let t = c.index-statements-at.result in
+    let within : at < length ts = omega arith in
+    lawful_at ts at t c.requires.lawful (slice_get_read ts (length ts) at t refl within c.index-statements-at.is)
+
+pub behind_one-requires-clause-told : goal.behind_one-requires-clause-told
+behind_one-requires-clause-told c =
+    let ids = c.args.ids.now in
+    let ts = c.args.statements.now in
+    let at = c.loop-at.at in
+    let id = c.index-ids-at.result in
+    let t = c.index-statements-at.result in
+    let named : at < length ids = omega arith in
+    let within : at < length ts = omega arith in
+    told_at (state_of c.args.parts.now) ids ts at id t c.requires.told (slice_get_read ids (length ids) at id refl named c.index-ids-at.is)
+    (slice_get_read ts (length ts) at t refl within c.index-statements-at.is)
 
 pub loop-at-preserved : goal.loop-at-preserved
 loop-at-preserved c =
@@ -11,16 +36,44 @@ loop-at-preserved c =
     let ids = c.args.ids.now in
     let ts = c.args.statements.now in
     let at = c.loop-at.at in
-    let goes_on : refused_from st (seen c.loop-at.session) ids ts at ≡ refused_from st (seen c.in-Ok.next) ids ts (at + 1) = rw c.in-Ok.is at c.in_ok-behind.ensures in
-    sym goes_on ∙ c.loop-at.invariant
+    let id = c.index-ids-at.result in
+    let t = c.index-statements-at.result in
+    let named : at < length ids = omega arith in
+    let within : at < length ts = omega arith in
+    let goes_on : (refused_next st (seen c.loop-at.session) t ≡ None) × (seen c.in-Ok.next ≡ session_behind st (seen c.loop-at.session) (record { id = id; tree = t })) = rw c.in-Ok.is at c.in_ok-behind.ensures.refused in
+    record {
+      refused = sym (next_passed_on st (seen c.loop-at.session) (seen c.in-Ok.next) ids ts at id t (slice_get_read ids (length ids) at id refl named c.index-ids-at.is)
+          (slice_get_read ts (length ts) at t refl within c.index-statements-at.is) goes_on.0 goes_on.1)
+          ∙ c.loop-at.invariant.refused;
+      held = held_more st ts at t c.loop-at.held c.behind_one.new.held (c.args.held.now ++ own_held st ts) (turn ts at t within c.index-statements-at.is) c.in_ok-behind.ensures.held c.loop-at.invariant.held;
+    }
 
-pub returns-in-Err : goal.returns-in-Err
-returns-in-Err c =
+pub returns-in-Err-clause-refused : goal.returns-in-Err-clause-refused
+returns-in-Err-clause-refused c =
     let st = state_of c.args.parts.now in
-    let ends : refused_from st (seen c.loop-at.session) c.args.ids.now c.args.statements.now c.loop-at.at ≡ c.in-Err.told = rw c.in-Err.is at c.in_ok-behind.ensures in
-    sym ends ∙ c.loop-at.invariant
+    let ids = c.args.ids.now in
+    let ts = c.args.statements.now in
+    let at = c.loop-at.at in
+    let id = c.index-ids-at.result in
+    let t = c.index-statements-at.result in
+    let named : at < length ids = omega arith in
+    let within : at < length ts = omega arith in
+    let ends : refused_next st (seen c.loop-at.session) t ≡ Some c.in-Err.refusal = rw c.in-Err.is at c.in_ok-behind.ensures.refused in
+    sym (next_refused st (seen c.loop-at.session) ids ts at id t c.in-Err.refusal (slice_get_read ids (length ids) at id refl named c.index-ids-at.is)
+    (slice_get_read ts (length ts) at t refl within c.index-statements-at.is) ends)
+    ∙ c.loop-at.invariant.refused
 
-pub returns : goal.returns
-returns c =
+pub returns-in-Err-clause-held : goal.returns-in-Err-clause-held
+returns-in-Err-clause-held c = λ is. cc is
+
+pub returns-clause-refused : goal.returns-clause-refused
+returns-clause-refused c =
     sym (ap (refused_behind (state_of c.args.parts.now) (seen c.loop-at.session)) (no_trees_left c.args.ids.now c.args.statements.now c.loop-at.at (omega arith)))
-    ∙ c.loop-at.invariant
+    ∙ c.loop-at.invariant.refused
+
+pub returns-clause-held : goal.returns-clause-held
+returns-clause-held c =
+    let st = state_of c.args.parts.now in
+    let ts = c.args.statements.now in
+    let end : length ts ≤ c.loop-at.at = omega arith in
+    λ is. held_all st ts c.loop-at.at c.loop-at.held (c.args.held.now ++ own_held st ts) end c.loop-at.invariant.held

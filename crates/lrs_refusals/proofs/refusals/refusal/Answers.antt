@@ -12,5 +12,5 @@ returns-clause-refused c =
     let e = c.args.entry.now in
     let token = token_text st.length e.draw.secret in
     IfOk-weaker c.refusal_of.result _ _
-    (λ refused told. told e.moment token ∙ ap (λ who. refusal_at st (occasion_of st who e.draw e.write e.moment token) e.write) c.who_is.ensures)
+    (λ refused told. told e.moment token ∙ ap (λ who. refusal_at st (occasion_of st who e.draw e.write e.moment token) e.write) c.requires.who)
     c.refusal_of.ensures.refused

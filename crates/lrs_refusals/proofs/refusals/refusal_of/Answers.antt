@@ -14,4 +14,4 @@ returns-clause-refused c =
     (sym c.bad_role.ensures ∙ c.in_default-bad_role.is)
     (sym c.missing.ensures ∙ c.in_default-missing.is)
     (sym c.in_ok-refusal-2.ensures ∙ c.in_default-3.is))
-    c.conflict.ensures
+    c.conflict.ensures.refused

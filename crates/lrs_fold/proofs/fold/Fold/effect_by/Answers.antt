@@ -4,13 +4,14 @@ use Rattle.std.proofs.lemmas.Result.{IfOk-weaker}
 use Rattle.lrs_command.specs.declared.who.Who.{Who}
 use Rattle.lrs_fold.proofs.Written.{GivesEffect}
 use Rattle.lrs_reads.specs.LrsRefusalsJudged.{IsJudged}
+use Rattle.lrs_reads.specs.LrsRefusalsKnown.{IsKnown}
 use Rattle.lrs_fold.specs.Written.{effect_by}
 use Rattle.lrs_reads.specs.LrsHistoryDeskEffects.{abandoning_one, enrolling, fetching, launching, sweeping, waiving}
 use Rattle.lrs_reads.specs.LrsHistoryLaunches.{target}
 use Rattle.lrs_learning.specs.Occasions.{occasion_at}
-use Rattle.lrs_parts.specs.Courses.{place_of_course}
-use Rattle.lrs_parts.specs.Launches.{key_under, place_of_session}
-use Rattle.lrs_parts.specs.Parts.{state_of}
+use Rattle.lrs_learning.specs.LrsStateCourses.{place_of_course}
+use Rattle.lrs_learning.specs.LrsStateLaunches.{key_under, place_of_session}
+use Rattle.lrs_learning.specs.LrsPartsParts.{state_of}
 use Rattle.lrs_record.specs.declared.entry.Write.{Write}
 use Rattle.lrs_record.specs.declared.entry.Write.TheVariants as write
 use Rattle.lrs_fold.proofs.fold.Fold.effect_by.Goals as goal
@@ -20,7 +21,7 @@ returns-in-Found c =
     c.founding.ensures ∙ ap (λ (w : Write). effect_by (state_of c.args.self.now.parts) c.args.who c.args.moment c.args.draw.now w) (sym c.in-Found.is)
 
 pub founding-requires : goal.founding-requires
-founding-requires c = subst IsJudged c.in-Found.is c.requires
+founding-requires c = subst IsJudged c.in-Found.is c.requires.judged
 
 pub returns-in-Provider : goal.returns-in-Provider
 returns-in-Provider c =
@@ -29,14 +30,20 @@ returns-in-Provider c =
 pub returns-in-Put : goal.returns-in-Put
 returns-in-Put c = subst (GivesEffect (state_of c.args.self.now.parts) c.args.who c.args.moment c.args.draw.now c.put.result) (sym c.in-Put.is) c.put.ensures
 
-pub put-requires : goal.put-requires
-put-requires c = subst IsJudged c.in-Put.is c.requires
+pub put-requires-clause-judged : goal.put-requires-clause-judged
+put-requires-clause-judged c = subst IsJudged c.in-Put.is c.requires.judged
+
+pub put-requires-clause-known : goal.put-requires-clause-known
+put-requires-clause-known c = subst (λ (w : Write). IsKnown (state_of c.args.self.now.parts) c.args.draw.now w c.args.known.now) c.in-Put.is c.requires.known
 
 pub returns-in-Post : goal.returns-in-Post
 returns-in-Post c = subst (GivesEffect (state_of c.args.self.now.parts) c.args.who c.args.moment c.args.draw.now c.post.result) (sym c.in-Post.is) c.post.ensures
 
-pub post-requires : goal.post-requires
-post-requires c = subst IsJudged c.in-Post.is c.requires
+pub post-requires-clause-judged : goal.post-requires-clause-judged
+post-requires-clause-judged c = subst IsJudged c.in-Post.is c.requires.judged
+
+pub post-requires-clause-known : goal.post-requires-clause-known
+post-requires-clause-known c = subst (λ (w : Write). IsKnown (state_of c.args.self.now.parts) c.args.draw.now w c.args.known.now) c.in-Post.is c.requires.known
 
 pub returns-in-State : goal.returns-in-State
 returns-in-State c = subst (GivesEffect (state_of c.args.self.now.parts) c.args.who c.args.moment c.args.draw.now c.state.result) (sym c.in-State.is) c.state.ensures
@@ -50,10 +57,10 @@ returns-in-Course c =
     subst (GivesEffect (state_of c.args.self.now.parts) c.args.who c.args.moment c.args.draw.now c.course.result) (sym c.in-Course.is) c.course.ensures
 
 pub course-requires-clause-fits : goal.course-requires-clause-fits
-course-requires-clause-fits c = (subst IsJudged c.in-Course.is c.requires).0
+course-requires-clause-fits c = (subst IsJudged c.in-Course.is c.requires.judged).0
 
 pub course-requires-clause-unbroken : goal.course-requires-clause-unbroken
-course-requires-clause-unbroken c = (subst IsJudged c.in-Course.is c.requires).1
+course-requires-clause-unbroken c = (subst IsJudged c.in-Course.is c.requires.judged).1
 
 -- ---- of the desk's, whoever asks
 
@@ -66,7 +73,7 @@ returns-in-Enrol c =
     (λ made. made ≡ effect_by st c.args.who c.args.moment draw (write.Enrol c.in-Enrol.course c.in-Enrol.actor)) (λ made known. known c.args.who) c.enrolling.ensures)
 
 pub enrolling-requires : goal.enrolling-requires
-enrolling-requires c = subst IsJudged c.in-Enrol.is c.requires
+enrolling-requires c = subst IsJudged c.in-Enrol.is c.requires.judged
 
 pub returns-in-Launch : goal.returns-in-Launch
 returns-in-Launch c =

@@ -1,7 +1,7 @@
 use Rattle.std.proofs.Common.{◌∙◌, ℕ, IfOk, ap, max, subst, sym}
 use Rattle.lrs_fold.specs.Outcomes.{IsOutcome}
 use Rattle.lrs_reads.specs.LrsHistoryHistory.{entry_at, outcome, write_outcome}
-use Rattle.lrs_parts.specs.Parts.{state_of}
+use Rattle.lrs_learning.specs.LrsPartsParts.{state_of}
 use Rattle.lrs_time.specs.Moments.{clamped}
 use Rattle.lrs_fold.proofs.fold.Fold.outcome.Goals as goal
 

@@ -3,7 +3,7 @@ use Rattle.lrs_fold.proofs.Outcomes.{outcome_now}
 use Rattle.lrs_reads.specs.LrsHistoryAnswers.{write_said}
 use Rattle.lrs_reads.specs.LrsHistoryHistory.{write_outcome}
 use Rattle.lrs_fold.specs.Outcomes.{IsOutcome}
-use Rattle.lrs_parts.specs.Parts.{state_of}
+use Rattle.lrs_learning.specs.LrsPartsParts.{state_of}
 use Rattle.lrs_fold.proofs.fold.Fold.outcome_with.Goals as goal
 
 pub returns-in-Ok : goal.returns-in-Ok

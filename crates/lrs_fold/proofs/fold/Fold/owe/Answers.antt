@@ -5,8 +5,8 @@ use Rattle.lrs_reads.specs.LrsHistoryMade.{owed_made}
 use Rattle.lrs_ids.specs.IdSupply.{left_of}
 use Rattle.lrs_reads.specs.LrsMadeLent.{IsLentBy, seen_enrolled}
 use Rattle.lrs_reads.specs.LrsMadeEnrolmentsLentEnrolled.{LentEnrolled}
-use Rattle.lrs_parts.specs.Parts.{state_of}
-use Rattle.lrs_parts.specs.State.{used_in}
+use Rattle.lrs_learning.specs.LrsPartsParts.{state_of}
+use Rattle.lrs_learning.specs.LrsStateState.{used_in}
 use Rattle.lrs_fold.proofs.fold.Fold.owe.Goals as goal
 
 pub add_owed-requires : goal.add_owed-requires

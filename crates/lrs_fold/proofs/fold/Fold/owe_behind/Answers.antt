@@ -2,8 +2,8 @@ use Rattle.std.proofs.lemmas.Result.{on_ok_weaker}
 use Rattle.lrs_fold.proofs.Owed.{spoken, unspoken}
 use Rattle.lrs_reads.specs.LrsHistoryWhose.{launch_of}
 use Rattle.lrs_ids.specs.IdSupply.{left_of}
-use Rattle.lrs_parts.specs.Parts.{state_of}
-use Rattle.lrs_parts.specs.State.{used_in}
+use Rattle.lrs_learning.specs.LrsPartsParts.{state_of}
+use Rattle.lrs_learning.specs.LrsStateState.{used_in}
 use Rattle.lrs_fold.proofs.fold.Fold.owe_behind.Goals as goal
 
 pub returns-in-Some : goal.returns-in-Some

@@ -4,8 +4,8 @@ use Rattle.lrs_reads.specs.LrsHistoryEnrolments.{enrolled}
 use Rattle.lrs_reads.specs.LrsHistoryMade.{owed_made}
 use Rattle.lrs_ids.specs.IdSupply.{left_of}
 use Rattle.lrs_ids.specs.Ids.{Supply, supply_of}
-use Rattle.lrs_parts.specs.Parts.{state_of}
-use Rattle.lrs_parts.specs.State.{used_in}
+use Rattle.lrs_learning.specs.LrsPartsParts.{state_of}
+use Rattle.lrs_learning.specs.LrsStateState.{used_in}
 use Rattle.lrs_fold.proofs.fold.Fold.owe_drawn.Goals as goal
 
 pub returns : goal.returns

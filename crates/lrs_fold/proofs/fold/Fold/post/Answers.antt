@@ -1,20 +1,26 @@
-use Rattle.std.proofs.Common.{List, ◌∙◌, subst, sym}
+use Rattle.std.proofs.Common.{ℕ, List, Bool, ◌∙◌, subst, sym}
 use Rattle.std.specs.List.{AllByRecursion}
 use Rattle.lrs_fold.proofs.Owed.{post_kept}
 use Rattle.lrs_reads.specs.LrsRefusalsJudged.{IsJudgedTree}
-use Rattle.lrs_ids.specs.IdSupply.{left_of}
+use Rattle.lrs_reads.specs.LrsRefusalsKnown.{IsKnownOf, TellHeld}
 use Rattle.lrs_json.specs.declared.tree.Tree.{Tree}
-use Rattle.lrs_parts.specs.Parts.{state_of}
-use Rattle.lrs_parts.specs.State.{used_in}
+use Rattle.lrs_learning.specs.LrsPartsParts.{state_of}
 use Rattle.lrs_fold.proofs.fold.Fold.post.Goals as goal
 
-pub new_of_batch-requires : goal.new_of_batch-requires
-new_of_batch-requires c = subst (λ (ts : List Tree). AllByRecursion IsJudgedTree ts) (sym c.into_vec.ensures) c.requires
+pub known_batch-requires : goal.known_batch-requires
+known_batch-requires c = subst (λ (ts : List Tree). IsKnownOf (state_of c.args.self.now.parts) c.args.draw.now ts c.args.known.now) (sym c.as_slice.ensures) c.requires.known
+
+pub new_of_batch-requires-clause-judged : goal.new_of_batch-requires-clause-judged
+new_of_batch-requires-clause-judged c = subst (λ (ts : List Tree). AllByRecursion IsJudgedTree ts) (sym c.into_vec-trees.ensures) c.requires.judged
+
+pub new_of_batch-requires-clause-told : goal.new_of_batch-requires-clause-told
+new_of_batch-requires-clause-told c =
+    let st = state_of c.args.self.now.parts in
+    subst (λ (flags : List Bool). TellHeld st flags c.as_slice-2.result.now) (sym c.into_vec-flags.ensures)
+    (subst (λ (ids : List (List ℕ)). TellHeld st c.in_ok-batch.batch.held ids) (sym c.as_slice-2.ensures) c.in_ok-batch.ensures.held)
 
 pub returns : goal.returns
 returns c =
-    let st = state_of c.args.self.now.parts in
     c.writing_all.ensures
-    ∙ post_kept st c.args.who c.args.moment c.args.draw.now c.args.statements c.as_slice.result.now c.as_slice-2.result.now c.into_vec.result.items (left_of (used_in st) c.in_ok-supply.supply) _ c.in_ok-ids.ids.items c.as_slice-3.result.now
-    c.in_ok-added.added.items c.owe_behind.new.added.items c.as_slice.ensures c.as_slice-2.ensures c.into_vec.ensures c.as_slice-3.ensures.value
-    c.in_ok-supply.ensures c.in_ok-ids.ensures.ids c.in_ok-ids.ensures.left c.in_ok-added.ensures c.in_ok-owe_behind.ensures
+    ∙ post_kept (state_of c.args.self.now.parts) c.args.who c.args.moment c.args.draw.now c.args.statements c.as_slice.result.now c.into_vec-trees.result.items c.in_ok-batch.batch c.as_slice-2.result.now
+    c.in_ok-added.added.items c.owe_behind.new.added.items c.as_slice.ensures c.into_vec-trees.ensures c.as_slice-2.ensures c.in_ok-batch.ensures c.in_ok-added.ensures c.in_ok-owe_behind.ensures

@@ -1,11 +1,6 @@
-use Rattle.std.proofs.Common.{subst}
-use Rattle.lrs_command.specs.declared.who.Who.{Who}
-use Rattle.lrs_fold.proofs.Written.{GivesEffect}
-use Rattle.lrs_parts.specs.Parts.{state_of}
+use Rattle.lrs_learning.specs.LrsPartsParts.{state_of}
+use Rattle.lrs_reads.specs.LrsRefusalsHandedProofs.{nothing_known}
 use Rattle.lrs_fold.proofs.fold.Fold.prepare.Goals as goal
 
-pub returns : goal.returns
-returns c =
-    let st = state_of c.args.self.now.parts in
-    let e = c.args.entry in
-    subst (λ (by : Who). GivesEffect st by e.moment e.draw c.effect_by.result e.write) c.who_is-who.ensures c.effect_by.ensures
+pub prepare_known-requires-clause-known : goal.prepare_known-requires-clause-known
+prepare_known-requires-clause-known c = nothing_known (state_of c.args.self.now.parts) c.args.entry.draw c.args.entry.write

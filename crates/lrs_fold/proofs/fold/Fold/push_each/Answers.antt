@@ -1,14 +1,19 @@
-use Rattle.std.proofs.Common.{◌≡◌, ◌++◌, List, OnOk, subst, sym}
+use Rattle.std.proofs.Common.{◌≡◌, ◌++◌, List, Bool, OnOk, subst, sym}
 use Rattle.std.specs.List.{AllByRecursion}
 use Rattle.lrs_reads.specs.LrsRefusalsJudged.{IsJudgedTree}
+use Rattle.lrs_reads.specs.LrsRefusalsKnown.{TellHeld}
 use Rattle.lrs_reads.specs.LrsRefusalsNaming.{with_these_ids}
 use Rattle.lrs_reads.specs.LrsHistoryEffects.{new_by}
 use Rattle.lrs_json.specs.declared.tree.Tree.{Tree}
-use Rattle.lrs_parts.specs.Parts.{state_of}
+use Rattle.lrs_learning.specs.LrsPartsParts.{state_of}
 use Rattle.lrs_fold.proofs.fold.Fold.push_each.Goals as goal
 
-pub push_left-pushed-requires : goal.push_left-pushed-requires
-push_left-pushed-requires c = subst (λ (ts : List Tree). AllByRecursion IsJudgedTree ts) (sym c.into_iter-left.ensures.rest) c.requires
+pub push_left-pushed-requires-clause-judged : goal.push_left-pushed-requires-clause-judged
+push_left-pushed-requires-clause-judged c = subst (λ (ts : List Tree). AllByRecursion IsJudgedTree ts) (sym c.into_iter-left.ensures.rest) c.requires.judged
+
+pub push_left-pushed-requires-clause-told : goal.push_left-pushed-requires-clause-told
+push_left-pushed-requires-clause-told c =
+    subst (λ (flags : List Bool). TellHeld (state_of c.args.self.now.parts) flags c.args.ids.now) (sym c.into_iter-flags.ensures.rest) c.requires.told
 
 pub returns : goal.returns
 returns c =

@@ -1,6 +1,6 @@
 use Rattle.std.proofs.Common.{◌∙◌}
 use Rattle.lrs_fold.proofs.Owed.{put_kept}
-use Rattle.lrs_parts.specs.Parts.{state_of}
+use Rattle.lrs_learning.specs.LrsPartsParts.{state_of}
 use Rattle.lrs_fold.proofs.fold.Fold.put.Goals as goal
 
 pub returns : goal.returns

@@ -1,6 +1,6 @@
 use Rattle.lrs_fold.proofs.Owed.{says_new, says_nothing}
 use Rattle.lrs_reads.specs.LrsHistoryWhose.{launch_of}
-use Rattle.lrs_parts.specs.Parts.{state_of}
+use Rattle.lrs_learning.specs.LrsPartsParts.{state_of}
 use Rattle.lrs_fold.proofs.fold.Fold.speaks_in.Goals as goal
 
 pub returns-in-Some : goal.returns-in-Some

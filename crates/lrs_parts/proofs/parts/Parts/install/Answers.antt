@@ -2,13 +2,13 @@
 use Rattle.std.proofs.Common.{◌+◌, ◌∙◌, List, ap, refl, subst, sym}
 use Rattle.cmi5_running_sessions.specs.Room.{HasPlacesForEach}
 use Rattle.cmi5_running_sessions.specs.Cmi5SessionMarked.{marked}
-use Rattle.lrs_parts.specs.Courses.{courses_after}
-use Rattle.lrs_parts.specs.Founding.{founding_after}
-use Rattle.lrs_parts.specs.Launches.{keys_after, launches_after, tokens_after}
+use Rattle.lrs_state.specs.Courses.{courses_after}
+use Rattle.lrs_state.specs.Founding.{founding_after}
+use Rattle.lrs_state.specs.Launches.{keys_after, launches_after, tokens_after}
 use Rattle.lrs_parts.specs.Parts.{IsReadyFor, SeenParts}
-use Rattle.lrs_parts.specs.Providers.{providers_after}
-use Rattle.lrs_parts.specs.Registrations.{registrations_after}
-use Rattle.lrs_parts.specs.Sessions.{made_sessions_after, sessions_after}
+use Rattle.lrs_state.specs.Providers.{providers_after}
+use Rattle.lrs_state.specs.Registrations.{registrations_after}
+use Rattle.lrs_state.specs.Sessions.{made_sessions_after, sessions_after}
 use Rattle.lrs_parts.specs.Trees.{AreTargets}
 use Rattle.lrs_parts.proofs.Enrolling.{ready_on}
 use Rattle.lrs_parts.proofs.Kept.{kept_enrolled, same_states}

@@ -4,11 +4,11 @@ use Rattle.cmi5_course.specs.Courses.{Course}
 use Rattle.cmi5_running_sessions.specs.Room as room
 use Rattle.std.specs.Cmp.Lexicographic.{slice_cmp}
 use Rattle.std.specs.Ordering.{nat_cmp}
-use Rattle.lrs_parts.specs.Counted.{MakesPlaceFor}
-use Rattle.lrs_parts.specs.Learning.{MakesLearningPlaces}
+use Rattle.lrs_state.specs.Counted.{MakesPlaceFor}
+use Rattle.lrs_state.specs.Learning.{MakesLearningPlaces}
 use Rattle.lrs_parts.specs.Parts.{SeenParts}
 use Rattle.lrs_parts.specs.Progress.{IsProgressReadyFor}
-use Rattle.lrs_parts.specs.Providers.{token_of}
+use Rattle.lrs_state.specs.Providers.{token_of}
 use Rattle.lrs_parts.proofs.Kept.{all_ok, kept_still, same_states}
 use Rattle.xapi_docs.specs.Docs as docs
 use Rattle.xapi_docs.specs.Docs.{documents_in, is_written}

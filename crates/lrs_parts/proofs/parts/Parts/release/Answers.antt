@@ -3,7 +3,7 @@ use Rattle.cmi5_running_sessions.specs.Room as room
 use Rattle.lrs_parts.proofs.Ahead.{back, learning_back}
 use Rattle.lrs_parts.proofs.Kept.{kept_still, said_back, same_states}
 use Rattle.lrs_parts.specs.Parts.{MakesPlacesFor, SeenParts}
-use Rattle.lrs_parts.specs.Providers.{token_of}
+use Rattle.lrs_state.specs.Providers.{token_of}
 use Rattle.xapi_docs.specs.Docs.{documents_in, is_written}
 use Rattle.xapi_docs.proofs.Back.{made_and_back}
 use Rattle.xapi_statement.specs.Stored.{StoredStatement}

@@ -1,11 +1,11 @@
 use Rattle.lrs_ids.specs.Ids.{either, those}
 use Rattle.lrs_parts.proofs.Counting.{either_counted, those_counted}
-use Rattle.lrs_parts.specs.Launches.{session_ids}
-use Rattle.lrs_parts.specs.Registrations.{registration_ids}
-use Rattle.lrs_parts.specs.Sessions.{made_session_ids}
+use Rattle.lrs_state.specs.Launches.{session_ids}
+use Rattle.lrs_state.specs.Registrations.{registration_ids}
+use Rattle.lrs_state.specs.Sessions.{made_session_ids}
 use Rattle.xapi_index.specs.Statements.{ids_of}
 use Rattle.lrs_parts.specs.Parts.{SeenParts, state_of}
-use Rattle.lrs_parts.specs.State.{used_in}
+use Rattle.lrs_state.specs.State.{used_in}
 use Rattle.std.proofs.Common.{◌∙◌, ap}
 use Rattle.lrs_parts.proofs.parts.PartsUsedIds.count.Goals as goal
 

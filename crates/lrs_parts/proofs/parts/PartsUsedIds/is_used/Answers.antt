@@ -1,6 +1,6 @@
 use Rattle.std.proofs.Common.{◌∙◌, ap}
 use Rattle.lrs_parts.specs.Parts.{SeenParts, state_of}
-use Rattle.lrs_parts.specs.State.{used_in}
+use Rattle.lrs_state.specs.State.{used_in}
 use Rattle.lrs_parts.proofs.parts.PartsUsedIds.is_used.Goals as goal
 
 pub returns : goal.returns

@@ -1,0 +1,63 @@
+-- What a store holds of courses and of their learners, and room for an effect in it.
+use Rattle.std.specs.Prelude.{◌≡◌}
+use Rattle.std.specs.Cmp.Lexicographic.{slice_cmp}
+use Rattle.std.specs.Ordering.{nat_cmp}
+use Rattle.cmi5_course.specs.Courses.{course_key}
+use Rattle.cmi5_course.specs.Launches.{session_of}
+use Rattle.lrs_state.specs.Counted.{AddsNone, HasRoomToCount, MakesPlaceFor, TakesPlaceBackFor}
+use Rattle.lrs_state.specs.Launches.{key_text, token_text}
+use Rattle.lrs_state.specs.Registrations.{registration_key}
+use Rattle.lrs_state.specs.Sessions.{HasRoomForSession, made_session_id}
+use Rattle.lrs_state.specs.declared.effect.Effect.{Effect}
+use Rattle.lrs_state.specs.declared.learning.Learning.{Learning}
+
+-- each of its lists is the same
+pub record KeepsLearning (old new : Learning) : Type 0 where
+  pub courses : new.courses.held ≡ old.courses.held
+  pub registrations : new.registrations.held ≡ old.registrations.held
+  pub launches : new.launches.held ≡ old.launches.held
+  pub sessions : new.sessions.held ≡ old.sessions.held
+  pub made_sessions : new.made_sessions.held ≡ old.made_sessions.held
+  pub keys : new.keys.held ≡ old.keys.held
+  pub tokens : new.tokens.held ≡ old.tokens.held
+
+-- there is room for each of its changes
+pub record IsLearningReadyFor (learning : Learning) (effect : Effect) : Type 0 where
+  pub courses : HasRoomToCount (slice_cmp nat_cmp) course_key learning.courses effect.courses
+  pub registrations : HasRoomToCount (slice_cmp nat_cmp) registration_key learning.registrations effect.registrations
+  pub launches : HasRoomToCount (slice_cmp nat_cmp) session_of learning.launches effect.launches
+  pub sessions : HasRoomForSession learning.sessions effect.sessions
+  pub made_sessions : HasRoomToCount (slice_cmp nat_cmp) made_session_id learning.made_sessions effect.made_sessions
+  pub keys : HasRoomToCount (slice_cmp nat_cmp) key_text learning.keys effect.keys
+  pub tokens : HasRoomToCount (slice_cmp nat_cmp) token_text learning.tokens effect.tokens
+
+-- places were made for what an effect brings, and for nothing else
+pub record MakesLearningPlaces (old new : Learning) (effect : Effect) : Type 0 where
+  pub courses : MakesPlaceFor (slice_cmp nat_cmp) course_key effect.courses old.courses new.courses
+  pub registrations : MakesPlaceFor (slice_cmp nat_cmp) registration_key effect.registrations
+      old.registrations new.registrations
+  pub launches : MakesPlaceFor (slice_cmp nat_cmp) session_of effect.launches old.launches new.launches
+  pub made_sessions : MakesPlaceFor (slice_cmp nat_cmp) made_session_id effect.made_sessions old.made_sessions
+      new.made_sessions
+  pub keys : MakesPlaceFor (slice_cmp nat_cmp) key_text effect.keys old.keys new.keys
+  pub tokens : MakesPlaceFor (slice_cmp nat_cmp) token_text effect.tokens old.tokens new.tokens
+
+-- and taken back, where nothing came
+pub record TakesLearningPlacesBack (old new : Learning) (effect : Effect) : Type 0 where
+  pub courses : TakesPlaceBackFor (slice_cmp nat_cmp) course_key effect.courses old.courses new.courses
+  pub registrations : TakesPlaceBackFor (slice_cmp nat_cmp) registration_key effect.registrations
+      old.registrations new.registrations
+  pub launches : TakesPlaceBackFor (slice_cmp nat_cmp) session_of effect.launches old.launches new.launches
+  pub made_sessions : TakesPlaceBackFor (slice_cmp nat_cmp) made_session_id effect.made_sessions old.made_sessions
+      new.made_sessions
+  pub keys : TakesPlaceBackFor (slice_cmp nat_cmp) key_text effect.keys old.keys new.keys
+  pub tokens : TakesPlaceBackFor (slice_cmp nat_cmp) token_text effect.tokens old.tokens new.tokens
+
+-- none of it has a place that it hadn't
+pub record AddsNoLearningPlaces (old new : Learning) : Type 0 where
+  pub courses : AddsNone (slice_cmp nat_cmp) old.courses new.courses
+  pub registrations : AddsNone (slice_cmp nat_cmp) old.registrations new.registrations
+  pub launches : AddsNone (slice_cmp nat_cmp) old.launches new.launches
+  pub made_sessions : AddsNone (slice_cmp nat_cmp) old.made_sessions new.made_sessions
+  pub keys : AddsNone (slice_cmp nat_cmp) old.keys new.keys
+  pub tokens : AddsNone (slice_cmp nat_cmp) old.tokens new.tokens

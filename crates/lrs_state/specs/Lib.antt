@@ -1,0 +1,10 @@
+pub mod Counted
+pub mod Founding
+pub mod Providers
+pub mod Courses
+pub mod Learners
+pub mod Registrations
+pub mod Launches
+pub mod Sessions
+pub mod State
+pub mod Learning
