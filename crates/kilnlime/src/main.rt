@@ -18,7 +18,7 @@ const NO_COMMAND: u8 = 1;
 
 const USAGE: &str = "usage: kilnlime init FILE --admin TOKEN [--base URL] [--limit BYTES]
        kilnlime intake FILE < STATEMENT
-       kilnlime serve FILE ADDRESS --workers 1 --connections N
+       kilnlime serve FILE ADDRESS --workers W --connections N
        kilnlime load FILE SEED N
 see `bin/kilnlime --help`, or docs/FORMATS.md, section \"Words and statuses\"";
 
@@ -65,6 +65,7 @@ fn main(rt: HostRuntime) -> ExitCode {
     let mut lobby = TcpLobby::new(rt);
     let mut input = StdSource::new(rt.stdin());
     let ended = run(
+        &rt,
         rt.alloc(),
         words.as_slice(),
         &mut shelf,

@@ -8,3 +8,5 @@ pub mod Batches
 pub mod Loading
 pub mod Loads
 pub mod Serving
+pub mod Alone
+pub mod Served

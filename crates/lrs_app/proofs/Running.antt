@@ -1,5 +1,7 @@
 -- From the steps of a command to what a run says.
-use Rattle.std.proofs.Common.{◌≡◌, append-nil, ℕ, List, [], Option, Some, None, MatchOption, Result, Ok, Err, IfOk, ap, refl, sym, ◌∙◌, subst}
+use Rattle.std.proofs.Common.{◌≤◌, ◌≡◌, append-nil, ℕ, List, [], Option, Some, None, IfSome, MatchOption, Result, Ok, Err, IfOk, ap, refl, sym, ◌∙◌, subst, arith}
+use Rattle.std.specs.Option.{option_map_or}
+use Rattle.std.specs.Str.Parse.{digits_value}
 use Rattle.lrs_disk.specs.Door.{DoorState}
 use Rattle.lrs_disk.specs.Faults.{HasCause}
 use Rattle.lrs_disk.specs.Lobby.{DoorsAsked}
@@ -14,13 +16,15 @@ use Rattle.lrs_names.specs.declared.draw.Draw.{Draw}
 use Rattle.lrs_record.specs.declared.entry.Entry.{Entry}
 use Rattle.lrs_hall.specs.Draws.{Draws, draw_at, start_of}
 use Rattle.lrs_hall.specs.Serving.{AddsReadings}
-use Rattle.lrs_command_line.specs.CommandLine.{CommandLine, init, intake, serve, load, IsInRange, base_of, seed_of}
+use Rattle.lrs_command_line.specs.CommandLine.{CommandLine, init, intake, serve, load, IsInRange, IsNumberIn, base_of, seed_of, workers_of}
 use Rattle.lrs_command_line.specs.Shapes.{Denotes}
 use Rattle.lrs_command_line.specs.declared.words.ProgramCommand.{ProgramCommand}
 use Rattle.lrs_command_line.specs.declared.words.ProgramCommand.TheVariants as words
 use Rattle.lrs_console.specs.declared.ending.Ending.{Ending}
 use Rattle.lrs_hall.specs.LrsFoldOwn.{founding_entry}
-use Rattle.lrs_parts.specs.Founding.{IsBase}
+use Rattle.lrs_parts.specs.Founding.{IsBase, IsToken}
+use Rattle.lrs_journal.specs.Store.{IsLimit}
+use Rattle.lrs_journal.specs.declared.sizes.TheConstants.{LEAST_BYTES, MOST_BYTES}
 use Rattle.lrs_hall.specs.Talks.{Talk}
 use Rattle.lrs_app.specs.Disks.{Taken, taken_now}
 use Rattle.lrs_app.specs.Doing.{InitDoes, IntakeDoes, LoadDoes, ServeDoes}
@@ -77,15 +81,15 @@ module _ {D : Type 0} (d : disks.Ghosts D) (disk : D) (taken : Taken) (n : ℕ) 
     subst (λ (t : Taken). HasEndingCause t.mark.faults (d.fault_count disk) 0 0 end) same cause,
   )
 
-  pub serve_leaves : (old : D) (address : List ℕ) (connections : ℕ) (seed : List ℕ) (before after : Doors) (talks : List Talk) → taken_now d old ≡ taken
-      → ServesDisk d (taken_now d old) disk address connections seed before after talks n end → HasEndingCause (d.fault_count old) (d.fault_count disk) 0 0 end
+  pub serve_leaves : (old : D) (address : List ℕ) (workers connections : ℕ) (seed : List ℕ) (before after : Doors) (talks : List (List Talk)) → taken_now d old ≡ taken
+      → ServesDisk d (taken_now d old) disk address workers connections seed before after talks n end → HasEndingCause (d.fault_count old) (d.fault_count disk) 0 0 end
       → CountsOn (d.fault_count old) talks (d.fault_count disk)
       → HasEndingCause taken.mark.faults (d.fault_count disk) 0 0 end × CountsOn taken.mark.faults talks (d.fault_count disk)
-      × ServesDisk d taken disk address connections seed before after talks n end
-  serve_leaves old address connections seed before after talks same serves cause counts = (
+      × ServesDisk d taken disk address workers connections seed before after talks n end
+  serve_leaves old address workers connections seed before after talks same serves cause counts = (
     subst (λ (t : Taken). HasEndingCause t.mark.faults (d.fault_count disk) 0 0 end) same cause,
     subst (λ (t : Taken). CountsOn t.mark.faults talks (d.fault_count disk)) same counts,
-    subst (λ (t : Taken). ServesDisk d t disk address connections seed before after talks n end) same serves,
+    subst (λ (t : Taken). ServesDisk d t disk address workers connections seed before after talks n end) same serves,
   )
 
 -- what a shelf tells of the disk that it gave for a file, or of the call that failed
@@ -171,19 +175,19 @@ module _ {S D B E L I O : Type 0} (d : disks.Ghosts D) (s : shelves.Ghosts S D) 
     (does.0.talks, does.0.responses),
   )
 
-  serve_left : (taken : Result D Failed) (address : List ℕ) (connections : ℕ) (seed : List ℕ) → IsTakenFrom d before after file taken
-      → ServeDoes d b taken address connections seed lobby lobby_now done
-      → ServeLeaves d file address connections seed before after done.disk done.report.talks done.report.length done.ending
+  serve_left : (taken : Result D Failed) (address : List ℕ) (workers connections : ℕ) (seed : List ℕ) → IsTakenFrom d before after file taken
+      → ServeDoes d b taken address workers connections seed lobby lobby_now done
+      → ServeLeaves d file address workers connections seed before after done.disk done.report.talks done.report.length done.ending
       × (done.report.responses ≡ responses_of done.report.talks)
-  serve_left (Ok old) address connections seed from does = (
-    subst (λ (o : Option D). ServeLeaves d file address connections seed before after o done.report.talks done.report.length done.ending) (sym does.1)
-        (serve_leaves d does.0 (taken_from before file) done.report.length done.ending old address connections seed before.lobby after.lobby done.report.talks
+  serve_left (Ok old) address workers connections seed from does = (
+    subst (λ (o : Option D). ServeLeaves d file address workers connections seed before after o done.report.talks done.report.length done.ending) (sym does.1)
+        (serve_leaves d does.0 (taken_from before file) done.report.length done.ending old address workers connections seed before.lobby after.lobby done.report.talks
         (same_taken (d.told old) (d.fault_count old) (d.time old) before.holds before.begins before.starts {name = file} {file = file} refl from.told from.begins from.starts)
         does.5 does.3 does.4),
     does.2,
   )
-  serve_left (Err failed) address connections seed from does = (
-    subst (λ (o : Option D). ServeLeaves d file address connections seed before after o done.report.talks done.report.length done.ending) (sym does.0.disk)
+  serve_left (Err failed) address workers connections seed from does = (
+    subst (λ (o : Option D). ServeLeaves d file address workers connections seed before after o done.report.talks done.report.length done.ending) (sym does.0.disk)
         ((does.0.ended, from.cause.failed refl, does.0.length), does.1, does.0.talks),
     does.0.responses ∙ sym (ap responses_of does.0.talks),
   )
@@ -240,17 +244,17 @@ module _ {S D B E L I O : Type 0} (d : disks.Ghosts D) (s : shelves.Ghosts S D) 
           prints,
         )
 
-    pub serve_runs : (taken : Result D Failed) (address : List ℕ) (connections : ℕ) (seed : List ℕ) → after.readings ≡ before.readings
-        → IsTakenFrom d before after file taken → ServeDoes d b taken address connections seed lobby lobby_now done
-        → ServeRuns d file address connections seed before after ended
-    serve_runs taken address connections seed readings from does =
-        let left = serve_left taken address connections seed from does in (
+    pub serve_runs : (taken : Result D Failed) (address : List ℕ) (workers connections : ℕ) (seed : List ℕ) → after.readings ≡ before.readings
+        → IsTakenFrom d before after file taken → ServeDoes d b taken address workers connections seed lobby lobby_now done
+        → ServeRuns d file address workers connections seed before after ended
+    serve_runs taken address workers connections seed readings from does =
+        let left = serve_left taken address workers connections seed from does in (
           done.ending,
           readings,
           takes,
           subst (λ (r : Report). r.responses ≡ responses_of r.talks) (sym same_report) left.1,
-          subst (λ (x : Option D). ServeLeaves d file address connections seed before after x ended.report.talks ended.report.length done.ending) (sym same_disk)
-              (subst (λ (r : Report). ServeLeaves d file address connections seed before after done.disk r.talks r.length done.ending) (sym same_report) left.0),
+          subst (λ (x : Option D). ServeLeaves d file address workers connections seed before after x ended.report.talks ended.report.length done.ending) (sym same_disk)
+              (subst (λ (r : Report). ServeLeaves d file address workers connections seed before after done.disk r.talks r.length done.ending) (sym same_report) left.0),
           prints,
         )
 
@@ -272,14 +276,33 @@ does_init d c read file admin base limit seed before after o is_read means spare
       let based : InitRuns d w.file w.admin (base_of w) limit before after o = subst (λ (b : List ℕ). InitRuns d w.file w.admin b limit before after o) means.2 known in
       (spares, subst (λ (n : ℕ). InitRuns d w.file w.admin (base_of w) n before after o) means.3 based)
 
--- the base of a line that is meant is one
-pub meant_base : (read : ProgramCommand) (file admin base : List ℕ) (limit : ℕ) → read ≡ words.Init file admin base limit → DenotesInRange read → IsBase base
-meant_base read file admin base limit is_read meant = ranged meant.0 meant.1 (subst (λ (r : ProgramCommand). Denotes r meant.0) is_read meant.2) where
-  ranged : (c : CommandLine) → IsInRange c → Denotes (words.Init file admin base limit) c → IsBase base
+-- the limit of words of init that are meant, the admin's token and the base are such
+pub meant_init : (read : ProgramCommand) (file admin base : List ℕ) (limit : ℕ) → read ≡ words.Init file admin base limit → DenotesInRange read
+    → IsLimit limit × IsToken admin × IsBase base
+meant_init read file admin base limit is_read meant = ranged meant.0 meant.1 (subst (λ (r : ProgramCommand). Denotes r meant.0) is_read meant.2) where
+  -- the limit of words that name none is the last number here
+  limit_within : (word : Option (List ℕ)) → IfSome word (IsNumberIn LEAST_BYTES MOST_BYTES) → IsLimit (option_map_or (digits_value 10) word 268435456)
+  limit_within None within = (omega arith, omega arith)
+  limit_within (Some word) within = (within.least, within.most)
+
+  ranged : (c : CommandLine) → IsInRange c → Denotes (words.Init file admin base limit) c → IsLimit limit × IsToken admin × IsBase base
   ranged (intake name) range means = absurd means
   ranged (serve w) range means = absurd means
   ranged (load w) range means = absurd means
-  ranged (init w) range means = subst (λ (b : List ℕ). IsBase b) (sym means.2) range.base
+  ranged (init w) range means = (
+    subst (λ (n : ℕ). IsLimit n) (sym means.3) (limit_within w.limit range.limit),
+    subst (λ (a : List ℕ). IsToken a) (sym means.1) range.admin,
+    subst (λ (b : List ℕ). IsBase b) (sym means.2) range.base,
+  )
+
+-- the number of workers of a line that is meant is in its range
+pub meant_workers : (read : ProgramCommand) (file address : List ℕ) (workers connections : ℕ) → read ≡ words.Serve file address workers connections → DenotesInRange read → (1 ≤ workers) × (workers ≤ 16)
+meant_workers read file address workers connections is_read meant = ranged meant.0 meant.1 (subst (λ (r : ProgramCommand). Denotes r meant.0) is_read meant.2) where
+  ranged : (c : CommandLine) → IsInRange c → Denotes (words.Serve file address workers connections) c → (1 ≤ workers) × (workers ≤ 16)
+  ranged (intake name) range means = absurd means
+  ranged (init w) range means = absurd means
+  ranged (load w) range means = absurd means
+  ranged (serve w) range means = (subst (λ (n : ℕ). 1 ≤ n) (sym means.2) range.workers.least, subst (λ (n : ℕ). n ≤ 16) (sym means.2) range.workers.most)
 
 -- the same of intake
 pub does_intake : {D : Type 0} (d : disks.Ghosts D) (c : CommandLine) (read : ProgramCommand) (file : List ℕ) (seed : List ℕ) (drawn : Draw) (before after : Outside) (o : program.Ended D)
@@ -293,18 +316,19 @@ does_intake d c read file seed drawn before after o is_read is_drawn means run =
       subst (λ (f : List ℕ). IntakeRuns d f (draw_at (start_of seed 0)) before after o) means (subst (λ (w : Draw). IntakeRuns d file w before after o) is_drawn run)
 
 -- the same of serve
-pub does_serve : {D : Type 0} (d : disks.Ghosts D) (c : CommandLine) (read : ProgramCommand) (file address : List ℕ) (connections : ℕ) (seed : List ℕ) (before after : Outside) (o : program.Ended D)
-    → read ≡ words.Serve file address connections → Denotes read c → SparesInput before after → ServeRuns d file address connections seed before after o
+pub does_serve : {D : Type 0} (d : disks.Ghosts D) (c : CommandLine) (read : ProgramCommand) (file address : List ℕ) (workers connections : ℕ) (seed : List ℕ) (before after : Outside) (o : program.Ended D)
+    → read ≡ words.Serve file address workers connections → Denotes read c → SparesInput before after → ServeRuns d file address workers connections seed before after o
     → CommandRuns d c seed before after o
-does_serve d c read file address connections seed before after o is_read means spares run = meant c (subst (λ (r : ProgramCommand). Denotes r c) is_read means) where
-  meant : (c : CommandLine) → Denotes (words.Serve file address connections) c → CommandRuns d c seed before after o
+does_serve d c read file address workers connections seed before after o is_read means spares run = meant c (subst (λ (r : ProgramCommand). Denotes r c) is_read means) where
+  meant : (c : CommandLine) → Denotes (words.Serve file address workers connections) c → CommandRuns d c seed before after o
   meant (intake name) means = absurd means
   meant (init w) means = absurd means
   meant (load w) means = absurd means
   meant (serve w) means =
-      let named : ServeRuns d w.file address connections seed before after o = subst (λ (f : List ℕ). ServeRuns d f address connections seed before after o) means.0 run in
-      let known : ServeRuns d w.file w.address connections seed before after o = subst (λ (a : List ℕ). ServeRuns d w.file a connections seed before after o) means.1 named in
-      (spares, subst (λ (n : ℕ). ServeRuns d w.file w.address n seed before after o) means.2 known)
+      let named : ServeRuns d w.file address workers connections seed before after o = subst (λ (f : List ℕ). ServeRuns d f address workers connections seed before after o) means.0 run in
+      let known : ServeRuns d w.file w.address workers connections seed before after o = subst (λ (a : List ℕ). ServeRuns d w.file a workers connections seed before after o) means.1 named in
+      let many : ServeRuns d w.file w.address (workers_of w) connections seed before after o = subst (λ (n : ℕ). ServeRuns d w.file w.address n connections seed before after o) means.2 known in
+      (spares, subst (λ (n : ℕ). ServeRuns d w.file w.address (workers_of w) n seed before after o) means.3 many)
 
 -- the same of load
 pub does_load : {D : Type 0} (d : disks.Ghosts D) (c : CommandLine) (read : ProgramCommand) (file : List ℕ) (number count : ℕ) (seed : List ℕ) (draws : Draws) (before after : Outside) (o : program.Ended D)

@@ -57,13 +57,14 @@ LoadDoes d b (Err failed) seed count draws lobby lobby_now done = IsUndone endin
     × (b.readings lobby_now ≡ b.readings lobby)
 
 -- serve, over the lobby before and after it
-abbrev pub ServeDoes : {D B E L : Type 0} → disks.Ghosts D → lobbies.Ghosts B E L → Result D Failed → List ℕ → ℕ
+abbrev pub ServeDoes : {D B E L : Type 0} → disks.Ghosts D → lobbies.Ghosts B E L → Result D Failed → List ℕ → ℕ → ℕ
     → List ℕ → B → B → program.Done D → Type 0
-ServeDoes {D} d b (Ok taken) address connections seed lobby lobby_now done = (disk : D) × (done.disk ≡ Some disk)
+ServeDoes {D} d b (Ok taken) address workers connections seed lobby lobby_now done = (disk : D)
+    × (done.disk ≡ Some disk)
     × (done.report.responses ≡ responses_of done.report.talks)
     × HasEndingCause (d.fault_count taken) (d.fault_count disk) 0 0 done.ending
     × CountsOn (d.fault_count taken) done.report.talks (d.fault_count disk)
-    × ServesDisk d (taken_now d taken) disk address connections seed (doors b lobby) (doors b lobby_now)
+    × ServesDisk d (taken_now d taken) disk address workers connections seed (doors b lobby) (doors b lobby_now)
     done.report.talks done.report.length done.ending
-ServeDoes d b (Err failed) address connections seed lobby lobby_now done =
+ServeDoes d b (Err failed) address workers connections seed lobby lobby_now done =
     IsUndone ending.DiskFault done × (doors b lobby_now ≡ doors b lobby)

@@ -1,6 +1,6 @@
 -- What a run does: the outside before and after it, the ending, and what it leaves on the disk.
 use Rattle.std.specs.Prelude.{◌≡◌, ◌⊎◌, ◌<◌, ◌≤◌, ℕ, List, [], ◌∷◌, ◌++◌, Option, Some, None, IfSome}
-use Rattle.lrs_disk.specs.Door.{Returned}
+use Rattle.lrs_disk.specs.Door.{DoorState}
 use Rattle.lrs_disk.specs.Faults.{Rises}
 use Rattle.lrs_disk.specs.Readings.{AddsReading}
 use Rattle.lrs_disk.specs.Shelf.{AddsName}
@@ -20,13 +20,14 @@ use Rattle.lrs_generator.specs.Generated.{batch_count}
 use Rattle.lrs_hall.specs.Draws.{Draws, draw_at, start_of}
 use Rattle.lrs_hall.specs.Serving.{AddsReadings}
 use Rattle.lrs_hall.specs.Talks.{Talk}
+use Rattle.lrs_hall.specs.declared.serving.ServeEnd.{ServeEnd}
 use Rattle.lrs_app.specs.Disks.{AnyStopLeaves, Holds, LeavesFinal, LeavesLoaded, LeavesUnopened, StopNowLeaves}
 use Rattle.lrs_app.specs.Disks.{Taken}
 use Rattle.lrs_app.specs.Load.{LoadsFrom}
-use Rattle.lrs_app.specs.Service.{Doors, doors, HasNoDoor, ServesDoor, HoldsServed, CountsOn, responses_of}
+use Rattle.lrs_app.specs.Service.{CountsOn, Doors, EndsService, HadDoors, HasNoDoor, HoldsServed, doors, responses_of}
 use Rattle.lrs_app.specs.declared.program.Ended as program
 use Rattle.lrs_command_line.specs.CommandLine.{CommandLine, init, intake, serve, load, IsCommandLine, base_of, limit_of}
-use Rattle.lrs_command_line.specs.CommandLine.{connections_of, count_of, seed_of}
+use Rattle.lrs_command_line.specs.CommandLine.{connections_of, count_of, seed_of, workers_of}
 use Rattle.lrs_console.specs.Endings.{ending_status, ending_line}
 use Rattle.lrs_console.specs.Printing.{Prints}
 use Rattle.lrs_console.specs.Reading.{AreOfInput}
@@ -243,53 +244,70 @@ InitLeaves d file admin base limit clock before after (Some disk) n end =
 
 -- No store was opened, and no door was asked for.
 pub record ServesUnopened {D : Type 0} (d : disks.Ghosts D) (taken : Taken) (disk : D) (before after : Doors)
-    (talks : List Talk) (n : ℕ) (end : Ending) : Type 0 where
+    (talks : List (List Talk)) (n : ℕ) (end : Ending) : Type 0 where
   pub leaves : LeavesUnopened d taken disk n end
   pub lobby : after ≡ before
   pub silent : talks ≡ []
 
--- No door was had: the store stays as it was.
-pub record ServesDoorless {D : Type 0} (d : disks.Ghosts D) (taken : Taken) (disk : D) (address : List ℕ)
-    (before after : Doors) (talks : List Talk) (n : ℕ) (end : Ending) : Type 0 where
+-- No doors were had: the store stays as it was.
+pub record ServesDoorless {D : Type 0} (d : disks.Ghosts D) (taken : Taken) (disk : D) (address : List ℕ) (workers : ℕ)
+    (before after : Doors) (talks : List (List Talk)) (n : ℕ) (end : Ending) : Type 0 where
   pub limit : ℕ
   pub opened : List Entry
   pub store : IfSome taken.held (λ bytes. IsStoreOf bytes limit opened)
-  pub none : HasNoDoor address before after end
+  pub none : HasNoDoor address workers before after end
   pub leaves : LeavesFinal d taken disk limit opened opened n end
   pub silent : talks ≡ []
 
--- The connections of a door were served: each response is the abstract store's reply over the one history that the
--- store finally has.
-pub record ServesLinks {D : Type 0} (d : disks.Ghosts D) (taken : Taken) (disk : D) (address : List ℕ) (connections : ℕ)
-    (seed : List ℕ) (before after : Doors) (talks : List Talk) (n : ℕ) (end : Ending) : Type 0 where
+-- Memory ran out before the workers began: the doors were given back as they came, and the store stays as it was.
+pub record ServesNobody {D : Type 0} (d : disks.Ghosts D) (taken : Taken) (disk : D) (address : List ℕ) (workers : ℕ)
+    (before after : Doors) (talks : List (List Talk)) (n : ℕ) (end : Ending) : Type 0 where
   pub limit : ℕ
   pub opened : List Entry
   pub store : IfSome taken.held (λ bytes. IsStoreOf bytes limit opened)
-  pub links : List Returned
-  pub door : ServesDoor address connections before after links talks (d.fault_count disk) end
-  pub served : HoldsServed d taken disk limit opened seed links talks n end
+  pub openings : List DoorState
+  pub doors : HadDoors address workers openings openings before after
+  pub leaves : LeavesFinal d taken disk limit opened opened n end
+  pub silent : talks ≡ []
+  pub wanting : end ≡ ending.Memory
+
+-- The connections of the doors were served: each response is the abstract store's reply over the one history that the
+-- store finally has.
+pub record ServesLinks {D : Type 0} (d : disks.Ghosts D) (taken : Taken) (disk : D) (address : List ℕ)
+    (workers connections : ℕ) (seed : List ℕ) (before after : Doors) (talks : List (List Talk)) (n : ℕ)
+    (end : Ending) : Type 0 where
+  pub limit : ℕ
+  pub opened : List Entry
+  pub store : IfSome taken.held (λ bytes. IsStoreOf bytes limit opened)
+  pub openings : List DoorState
+  pub closings : List DoorState
+  pub doors : HadDoors address workers openings closings before after
+  pub why : ServeEnd
+  pub ended : EndsService why talks (d.fault_count disk) end
+  pub served : HoldsServed d taken disk limit opened connections seed openings closings talks n why end
 
 -- the lobby's fault is told only if its count rose
 abbrev pub HasLobbyCause : Doors → Doors → Ending → Type 0
 HasLobbyCause before after end = end ≡ ending.LobbyFault → Rises before.faults after.faults
 
 -- what serve does over a disk
-abbrev pub ServesDisk : {D : Type 0} → disks.Ghosts D → Taken → D → List ℕ → ℕ → List ℕ → Doors → Doors → List Talk → ℕ
-    → Ending → Type 0
-ServesDisk d taken disk address connections seed before after talks n end = HasLobbyCause before after end
+abbrev pub ServesDisk : {D : Type 0} → disks.Ghosts D → Taken → D → List ℕ → ℕ → ℕ → List ℕ → Doors → Doors
+    → List (List Talk) → ℕ → Ending → Type 0
+ServesDisk d taken disk address workers connections seed before after talks n end = HasLobbyCause before after end
     × (ServesUnopened d taken disk before after talks n end
-    ⊎ (ServesDoorless d taken disk address before after talks n end
-    ⊎ ServesLinks d taken disk address connections seed before after talks n end))
+    ⊎ (ServesDoorless d taken disk address workers before after talks n end
+    ⊎ (ServesNobody d taken disk address workers before after talks n end
+    ⊎ ServesLinks d taken disk address workers connections seed before after talks n end)))
 
 -- what serve leaves, with the disk that it took or without one
-abbrev pub ServeLeaves : {D : Type 0} → disks.Ghosts D → List ℕ → List ℕ → ℕ → List ℕ → Outside → Outside → Option D
-    → List Talk → ℕ → Ending → Type 0
-ServeLeaves d file address connections seed before after None talks n end =
+abbrev pub ServeLeaves : {D : Type 0} → disks.Ghosts D → List ℕ → List ℕ → ℕ → ℕ → List ℕ → Outside → Outside
+    → Option D → List (List Talk) → ℕ → Ending → Type 0
+ServeLeaves d file address workers connections seed before after None talks n end =
     HasNoDisk before after n end × SparesDoors before after × (talks ≡ [])
-ServeLeaves d file address connections seed before after (Some disk) talks n end =
+ServeLeaves d file address workers connections seed before after (Some disk) talks n end =
     HasEndingCause (before.begins file) (d.fault_count disk) 0 0 end
     × CountsOn (before.begins file) talks (d.fault_count disk)
-    × ServesDisk d (taken_from before file) disk address connections seed before.lobby after.lobby talks n end
+    × ServesDisk d (taken_from before file) disk address workers connections seed before.lobby after.lobby talks n end
 
 -- ---- the headline
 
@@ -323,13 +341,13 @@ LoadRuns d file seed count draws before after o = (clocks : List ℕ) × (end : 
     × LoadLeaves d file seed count draws clocks before after o.disk o.report.length end
     × PrintsEnding end before after o.status
 
--- serve reads no clock but that of its door
-abbrev pub ServeRuns : {D : Type 0} → disks.Ghosts D → List ℕ → List ℕ → ℕ → List ℕ → Outside → Outside
+-- serve reads no clock but those of its doors
+abbrev pub ServeRuns : {D : Type 0} → disks.Ghosts D → List ℕ → List ℕ → ℕ → ℕ → List ℕ → Outside → Outside
     → program.Ended D → Type 0
-ServeRuns d file address connections seed before after o = (end : Ending) × (after.readings ≡ before.readings)
+ServeRuns d file address workers connections seed before after o = (end : Ending) × (after.readings ≡ before.readings)
     × TakesFile file before after
     × (o.report.responses ≡ responses_of o.report.talks)
-    × ServeLeaves d file address connections seed before after o.disk o.report.talks o.report.length end
+    × ServeLeaves d file address workers connections seed before after o.disk o.report.talks o.report.length end
     × PrintsEnding end before after o.status
 
 -- the one draw of intake is the first of stream 0, and those of load are the first ones
@@ -339,7 +357,7 @@ CommandRuns d (intake file) seed before after o = IntakeRuns d file (draw_at (st
 CommandRuns d (init w) seed before after o = SparesInput before after
     × InitRuns d w.file w.admin (base_of w) (limit_of w) before after o
 CommandRuns d (serve w) seed before after o =
-    SparesInput before after × ServeRuns d w.file w.address (connections_of w) seed before after o
+    SparesInput before after × ServeRuns d w.file w.address (workers_of w) (connections_of w) seed before after o
 CommandRuns d (load w) seed before after o =
     SparesInput before after × LoadRuns d w.file (seed_of w) (count_of w) (start_of seed 0) before after o
 

@@ -1,9 +1,10 @@
--- What serve does: it asks for a door of the address, serves its connections, and gives the door back.
+-- What serve does: it asks for doors of the address, serves their connections by one worker each, and gives the doors
+-- back.
 use Rattle.std.specs.Prelude.{◌≡◌, ◌≢◌, ◌⊎◌, ◌<◌, ◌≤◌, ◌++◌, ◌∷◌, [], ◌-◌, ◌^◌, ℕ, min, List, Option, option_map}
 use Rattle.std.specs.Prelude.{length, Bool, true}
 use Rattle.std.specs.List.{AllByRecursion}
 use Rattle.std.specs.Option.{ForSome}
-use Rattle.lrs_disk.specs.Door.{DoorState, IsFresh, Returned}
+use Rattle.lrs_disk.specs.Door.{DoorState, IsFresh}
 use Rattle.lrs_disk.specs.Faults.{Rises}
 use Rattle.lrs_disk.specs.Lobby.{DoorsAsked, CountsFaults}
 use Rattle.lrs_disk.specs.declared.disk.Disk as disks
@@ -12,13 +13,13 @@ use Rattle.lrs_record.specs.declared.entry.Entry.{Entry}
 use Rattle.lrs_history.specs.History.{IsLegal}
 use Rattle.lrs_hall.specs.LrsMachineActs.{Receipt}
 use Rattle.lrs_hall.specs.LrsMachineDesk.{HoldsPrefix, IsStoreOf}
-use Rattle.lrs_hall.specs.LrsMachineLine.{BeginsWith, Record, entries, in_doubt, opened_line, sure}
-use Rattle.lrs_hall.specs.Acts.{ActsIn}
-use Rattle.lrs_hall.specs.Draws.{Draws, start_of}
-use Rattle.lrs_hall.specs.Laws.{IsKept, entries_at}
-use Rattle.lrs_hall.specs.Serving.{AddsReadings, AreOnLinks, AreWithin, Counts, EndsServing, Passes, all_receipts}
-use Rattle.lrs_hall.specs.Serving.{clocks, mark_of, worker_at}
+use Rattle.lrs_hall.specs.LrsMachineLine.{Record, entries, in_doubt, opened_line, sure}
+use Rattle.lrs_hall.specs.Acts.{ActsNext}
+use Rattle.lrs_hall.specs.Draws.{start_of}
+use Rattle.lrs_hall.specs.Laws.{IsKept}
+use Rattle.lrs_hall.specs.Serving.{AreCounted, AreOnLinks, AreWithin, IsNotBelow, Mark, all_receipts, mark_of, worker_at}
 use Rattle.lrs_hall.specs.Talks.{Talk}
+use Rattle.lrs_hall.specs.Workers.{AreStints, ServesDoors, Stint}
 use Rattle.lrs_hall.specs.declared.serving.ServeEnd.{ServeEnd}
 use Rattle.lrs_hall.specs.declared.serving.ServeEnd.TheVariants as serve
 use Rattle.lrs_app.specs.Disks.{AnyStopLeaves, Holds, HoldsIn, StopNowLeaves, Taken}
@@ -38,59 +39,59 @@ pub record Doors : Type 0 where
 abbrev pub doors : {B E L : Type 0} → lobbies.Ghosts B E L → B → Doors
 doors b lobby = record { asked = b.asked lobby; returned = b.returned lobby; faults = b.fault_count lobby }
 
--- one door of this address was asked for
-abbrev pub AsksDoor : List ℕ → Doors → Doors → Type 0
-AsksDoor address before after =
+-- so many doors of this address were asked for
+abbrev pub AsksDoors : List ℕ → ℕ → Doors → Doors → Type 0
+AsksDoors address workers before after =
     after.asked ≡ option_map
-    (λ (asked : List DoorsAsked). asked ++ record { address = address; count = 1 } ∷ []) before.asked
+    (λ (asked : List DoorsAsked). asked ++ record { address = address; count = workers } ∷ []) before.asked
 
--- No door was had, so no connection is served.
-abbrev pub HasNoDoor : List ℕ → Doors → Doors → Ending → Type 0
-HasNoDoor address before after ending.LobbyFault = AsksDoor address before after × (after.returned ≡ before.returned)
-    × Rises before.faults after.faults
-HasNoDoor address before after ending.Memory = after ≡ before
-HasNoDoor address before after other = ⊥
+-- No doors were had, so no connection is served.
+abbrev pub HasNoDoor : List ℕ → ℕ → Doors → Doors → Ending → Type 0
+HasNoDoor address workers before after ending.LobbyFault = AsksDoors address workers before after
+    × (after.returned ≡ before.returned) × Rises before.faults after.faults
+HasNoDoor address workers before after ending.Memory = after ≡ before
+HasNoDoor address workers before after other = ⊥
 
--- One door was asked for, and given back as it is seen at the end.
-pub record GivesBack (address : List ℕ) (door : DoorState) (before after : Doors) : Type 0 where
-  pub asked : AsksDoor address before after
-  pub returned : after.returned ≡ option_map (λ _. door ∷ []) before.returned
-  pub counts : CountsFaults before.faults after.faults (door ∷ [])
+-- Fresh doors were asked for, one for each worker, and given back as they are seen at the end.
+pub record HadDoors (address : List ℕ) (workers : ℕ) (openings closings : List DoorState)
+    (before after : Doors) : Type 0 where
+  pub number : length openings ≡ workers
+  pub fresh : AllByRecursion IsFresh openings
+  pub asked : AsksDoors address workers before after
+  pub returned : after.returned ≡ option_map (λ _. closings) before.returned
+  pub counts : CountsFaults before.faults after.faults closings
 
 -- ---- how serving ends
 
--- the number of responses of all talks; it stands still at the last value of u64
-abbrev pub responses_of : List Talk → ℕ
-responses_of talks = min (length (all_receipts talks)) (2 ^ 64 - 1)
+-- the receipts of all workers, one worker after the other
+abbrev pub receipts_of_all : List (List Talk) → List Receipt
+receipts_of_all [] = []
+receipts_of_all (talks ∷ others) = all_receipts talks ++ receipts_of_all others
 
-abbrev pub ending_of_serving : ServeEnd → List Talk → Ending
+-- the number of responses of all talks; it stands still at the last value of u64
+abbrev pub responses_of : List (List Talk) → ℕ
+responses_of talks = min (length (receipts_of_all talks)) (2 ^ 64 - 1)
+
+abbrev pub ending_of_serving : ServeEnd → List (List Talk) → Ending
 ending_of_serving serve.Done talks = ending.Served (responses_of talks)
 ending_of_serving serve.DoorFault talks = ending.LobbyFault
 ending_of_serving serve.Memory talks = ending.Memory
 
--- The disk's count of faults from its taking to its return: what the acts told of it goes on from one to the next, and
+-- The disk's count of faults from its taking to its return: what the acts of each worker told of it lies between, and
 -- the closing ends no lower. So a fault that an act tells is one of this disk's.
-abbrev pub CountsOn : ℕ → List Talk → ℕ → Type 0
-CountsOn begins talks now = (last : ℕ) × Counts begins (all_receipts talks) last × (last ≤ now)
+abbrev pub CountsOn : ℕ → List (List Talk) → ℕ → Type 0
+CountsOn begins talks now = (last : ℕ)
+    × AllByRecursion (λ (of_one : List Talk). AreCounted begins last (all_receipts of_one)) talks
+    × (begins ≤ last) × (last ≤ now)
 
 -- the count of the disk's faults rose after each act
 abbrev pub RoseSince : List Receipt → ℕ → Type 0
 RoseSince receipts now = AllByRecursion (λ (receipt : Receipt). receipt.acted ≡ true → Rises receipt.is now) receipts
 
--- A fresh door was had, these links passed through it, each with its talk and each act with a reading of the door's
--- clock, and it was given back. A disk that fails at the closing takes precedence over the door and over memory.
-pub record ServesDoor (address : List ℕ) (connections : ℕ) (before after : Doors) (links : List Returned)
-    (talks : List Talk) (disk_faults : ℕ) (end : Ending) : Type 0 where
-  pub opening : DoorState
-  pub closing : DoorState
-  pub fresh : IsFresh opening
-  pub back : GivesBack address closing before after
-  pub passes : Passes opening closing links
-  pub readings : AddsReadings opening.readings closing.readings (clocks (all_receipts talks))
-  pub why : ServeEnd
-  pub ends : EndsServing connections (length talks) opening closing why
-  pub ended : (end ≡ ending_of_serving why talks)
-      ⊎ ((end ≡ ending.DiskFault) × RoseSince (all_receipts talks) disk_faults)
+-- A disk that fails at the closing takes precedence over the doors and over memory.
+abbrev pub EndsService : ServeEnd → List (List Talk) → ℕ → Ending → Type 0
+EndsService why talks disk_faults end = (end ≡ ending_of_serving why talks)
+    ⊎ ((end ≡ ending.DiskFault) × RoseSince (receipts_of_all talks) disk_faults)
 
 -- ---- what the store holds then
 
@@ -100,28 +101,39 @@ abbrev pub HoldsAfter : Ending → Bool → Option (List ℕ) → ℕ → List E
 HoldsAfter ending.DiskFault doubt told limit h = (doubt ≡ true) × HoldsIn true told limit h
 HoldsAfter other doubt told limit h = Holds told limit h
 
+-- Where there was one worker, no other act came between two of its acts: each was on just what stood before it, from the
+-- opening to the end of the line.
+abbrev pub IsAlone : (limit : ℕ) (line : List Record) (opened : ℕ) (opening closing : Mark) (connections : ℕ)
+    (seed : List ℕ) (stints : List Stint) → AreStints limit line opened opening closing connections seed 1 stints
+    → Type 0
+IsAlone limit line opened opening closing connections seed [] each = Unit {0}
+IsAlone limit line opened opening closing connections seed (s ∷ []) each =
+    AreOnLinks (ActsNext limit line) s.talks each.0.links (worker_at (start_of seed 1) opened [] opening)
+    (worker_at each.0.last (length line) s.reach.own s.reach.mark)
+IsAlone limit line opened opening closing connections seed (s ∷ t ∷ stints) each = Unit {0}
+
 -- What serving a store leaves that was opened with a history: one line of records, whose entries are the one history
 -- in the end.
 pub record HoldsServed {D : Type 0} (d : disks.Ghosts D) (taken : Taken) (disk : D) (limit : ℕ) (opened : List Entry)
-    (seed : List ℕ) (links : List Returned) (talks : List Talk) (n : ℕ) (end : Ending) : Type 0 where
+    (connections : ℕ) (seed : List ℕ) (openings closings : List DoorState) (talks : List (List Talk)) (n : ℕ)
+    (why : ServeEnd) (end : Ending) : Type 0 where
   pub line : List Record
   -- the history can have come about
   pub legal : IsLegal limit (entries line)
   pub counts : n ≡ length (entries line)
-  -- it goes on from the one at the opening, which ended at `opened_at`; serving ended at `served_at`
-  pub opened_at : ℕ
-  pub served_at : ℕ
-  pub moments : (taken.mark.moment ≤ opened_at) × (opened_at ≤ served_at) × (served_at ≤ d.time disk)
-  pub begins : BeginsWith (opened_line opened_at opened) line
-  -- each response of an act is the abstract store's reply over the entries before its point
-  pub behind : Draws
-  pub replies : AreOnLinks (ActsIn limit line) talks links (worker_at (start_of seed 1) (length opened) opened_at)
-      (worker_at behind (length line) served_at)
-  -- each further entry is that of just one response
-  pub once : (place : ℕ) → length opened ≤ place → place < length (entries line)
-      → entries_at place (all_receipts talks) ≡ 1
+  -- how far the disk had come when serving began, at the end of the opening, and when all workers had ended
+  pub began : Mark
+  pub served : Mark
+  pub marks : IsNotBelow taken.mark began × IsNotBelow began served
+      × IsNotBelow served (mark_of d.fault_count d.time disk)
+  -- Each worker has served its door with the draws of its stream: each response of an act is the abstract store's reply
+  -- over the entries before its point. Each further entry is that of just one response of all workers.
+  pub serves : ServesDoors limit (opened_line began.moment opened) line began served connections seed openings closings
+      talks why
+  pub alone : IsAlone limit line (length (opened_line began.moment opened)) began served connections seed serves.stints
+      serves.each
   -- what acts tell of the disk's count and moment lies between its taking and its return
-  pub marks : AreWithin taken.mark (mark_of d.fault_count d.time disk) (all_receipts talks)
+  pub within : AreWithin taken.mark (mark_of d.fault_count d.time disk) (receipts_of_all talks)
   -- the disk fails at the closing only if the last entry is in doubt
   pub doubtful : end ≡ ending.DiskFault → in_doubt line ≡ true
   -- the disk holds the history
@@ -129,7 +141,7 @@ pub record HoldsServed {D : Type 0} (d : disks.Ghosts D) (taken : Taken) (disk :
   -- a stop at any moment leaves its first entries, at least those at the opening
   pub stops : ForSome taken.held (λ _. AnyStopLeaves d taken disk (HoldsPrefix limit (length opened) (entries line)))
   -- a stop at any moment since a response without trouble leaves what it was answered over, and its own entry
-  pub kept : ForSome taken.held (λ _. AllByRecursion (IsKept limit (d.image_since disk) line) (all_receipts talks))
+  pub kept : ForSome taken.held (λ _. AllByRecursion (IsKept limit (d.image_since disk) line) (receipts_of_all talks))
   -- a stop now leaves what stands without doubt
   pub stops_now : ForSome taken.held (λ _. StopNowLeaves d disk (HoldsPrefix limit (sure line) (entries line)))
   -- after a good closing a stop leaves all of it

@@ -1,11 +1,14 @@
-ghost use Rattle.std.specs.Prelude.{◌≡◌, [], IfOk};
+ghost use Rattle.std.specs.Prelude.{◌≡◌, ◌≤◌, [], IfOk};
 ghost use Rattle.lrs_hall.specs.LrsFoldOwn.{founding_entry};
 ghost use Rattle.lrs_journal.specs.Journal.{IsSynced};
 ghost use Rattle.lrs_journal.specs.Store.{IsLimit};
 ghost use Rattle.lrs_parts.specs.Founding.{IsToken, IsBase};
+ghost use Rattle.lrs_command_line.specs.CommandLine.{CommandLine};
+ghost use Rattle.lrs_command_line.specs.Shapes.{Denotes};
 ghost use Rattle.lrs_app.specs.Doing.{InitDoes, IntakeDoes, IsUndone, LoadDoes, ServeDoes};
 ghost use Rattle.lrs_app.specs.Service.{doors};
-ghost use Rattle.lrs_app.specs.Run.{PrintsLine, Runs, outside};
+ghost use Rattle.lrs_app.specs.Run.{CommandRuns, InitRuns, IntakeRuns, LoadRuns, PrintsLine, Runs, ServeRuns, outside};
+ghost use Rattle.lrs_app.specs.Steps.{DenotesInRange};
 
 use crate::init::init_disk;
 use crate::intake::intake_disk;
@@ -13,17 +16,19 @@ use crate::load::load_disk;
 use crate::serve::{count_responses, serve_disk};
 use lrs_command_line::{ProgramCommand, read_words};
 use lrs_console::{Ending, finish};
-use lrs_disk::{Disk, Failed, Lobby, Shelf, Sink, Source};
+use lrs_disk::{Disk, Door, Failed, Lobby, Shelf, Sink, Source};
 use lrs_hall::{Draws, Talk};
 use lrs_json::{Items, Memory, Text};
 use lrs_names::Draw;
 use std::alloc::Global;
+use std::sync::Wait;
+use std::thread::Threads;
 
 /// What a run tells of itself.
 #[derive(Drop)]
 pub struct Report {
-    /// The conversations that were served, in their order.
-    pub talks: Items<Talk>,
+    /// The conversations that each worker served, in their order.
+    pub talks: Items<Items<Talk>>,
     /// The number of their responses.
     pub responses: u64,
     /// The number of entries of the final history, or 0 if no store was opened.
@@ -169,21 +174,26 @@ fn init<D: Disk>(
 }
 
 // Serves over the file's disk.
-fn serve<D: Disk, B: Lobby>(
+fn serve<R: Threads + Wait + Sync, D: Disk + Send, B: Lobby>(
+    rt: &R,
     alloc: Global,
     taken: Result<D, Failed>,
     lobby: &mut B,
     address: &Text,
+    workers: u32,
     connections: u32,
     seed: [u8; 32],
 ) -> Done<D>
-    requires { IfOk taken (λ disk. IsSynced D.told D.image disk) }
-    ensures serves { ServeDoes D.Disk B.Lobby taken address.now connections seed lobby.old lobby.new result }
+where
+    <B::Door as Door>::Link: Send,
+    requires workers { (1 ≤ workers) × (workers ≤ 16) }
+    requires settled { IfOk taken (λ disk. IsSynced D.told D.image disk) }
+    ensures serves { ServeDoes D.Disk B.Lobby taken address.now workers connections seed lobby.old lobby.new result }
     ensures readings { B.readings lobby.new ≡ B.readings lobby.old }
 {
     match taken {
         Ok(disk) => {
-            let service = serve_disk(alloc, disk, lobby, address, connections, seed);
+            let service = serve_disk(rt, alloc, disk, lobby, address, workers, connections, seed);
             let responses = count_responses(service.talks.as_slice());
             Done {
                 ending: service.ending,
@@ -199,19 +209,168 @@ fn serve<D: Disk, B: Lobby>(
     }
 }
 
+// ---- a command, from its file to its line
+
+fn run_init<S: Shelf, B: Lobby, I: Source, O: Sink>(
+    alloc: Global,
+    file: &Text,
+    admin: &Text,
+    base: &Text,
+    limit: u64,
+    shelf: &mut S,
+    lobby: &mut B,
+    input: &I,
+    out: &mut O,
+) -> Ended<S::Disk>
+    requires limit { IsLimit limit }
+    requires admin { IsToken admin.now }
+    requires base { IsBase base.now }
+    ensures { let seen = outside S.Shelf B.Lobby I.Source O.Sink in InitRuns S.Disk.Disk file.now admin.now base.now
+        limit
+        (seen shelf.old lobby.old input.now out.old) (seen shelf.new lobby.new input.now out.new) result }
+{
+    let clock = lobby.now();
+    let taken = shelf.take(file.as_str());
+    end_run(out, init(alloc, taken, admin, base, limit, clock))
+}
+
+fn run_intake<S: Shelf, B: Lobby, I: Source, O: Sink>(
+    alloc: Global,
+    file: &Text,
+    draw: &Draw,
+    shelf: &mut S,
+    lobby: &mut B,
+    input: &mut I,
+    out: &mut O,
+) -> Ended<S::Disk>
+    ensures { let seen = outside S.Shelf B.Lobby I.Source O.Sink in IntakeRuns S.Disk.Disk file.now draw.now
+        (seen shelf.old lobby.old input.old out.old) (seen shelf.new lobby.new input.new out.new) result }
+{
+    let clock = lobby.now();
+    let taken = shelf.take(file.as_str());
+    end_run(out, intake(alloc, taken, input, clock, draw))
+}
+
+fn run_serve<R: Threads + Wait + Sync, S: Shelf, B: Lobby, I: Source, O: Sink>(
+    rt: &R,
+    alloc: Global,
+    file: &Text,
+    address: &Text,
+    workers: u32,
+    connections: u32,
+    seed: [u8; 32],
+    shelf: &mut S,
+    lobby: &mut B,
+    input: &I,
+    out: &mut O,
+) -> Ended<S::Disk>
+where
+    S::Disk: Send,
+    <B::Door as Door>::Link: Send,
+    requires { (1 ≤ workers) × (workers ≤ 16) }
+    ensures { let seen = outside S.Shelf B.Lobby I.Source O.Sink in ServeRuns S.Disk.Disk file.now address.now workers
+        connections seed
+        (seen shelf.old lobby.old input.now out.old) (seen shelf.new lobby.new input.now out.new) result }
+{
+    let taken = shelf.take(file.as_str());
+    let done = serve(rt, alloc, taken, lobby, address, workers, connections, seed);
+    end_run(out, done)
+}
+
+fn run_load<S: Shelf, B: Lobby, I: Source, O: Sink>(
+    alloc: Global,
+    file: &Text,
+    number: u64,
+    count: u32,
+    draws: &mut Draws,
+    shelf: &mut S,
+    lobby: &mut B,
+    input: &I,
+    out: &mut O,
+) -> Ended<S::Disk>
+    ensures { let seen = outside S.Shelf B.Lobby I.Source O.Sink in LoadRuns S.Disk.Disk file.now number count draws.old
+        (seen shelf.old lobby.old input.now out.old) (seen shelf.new lobby.new input.now out.new) result }
+{
+    let taken = shelf.take(file.as_str());
+    end_run(out, load(alloc, taken, lobby, number, count, draws))
+}
+
+fn run_command<R: Threads + Wait + Sync, S: Shelf, B: Lobby, I: Source, O: Sink>(
+    rt: &R,
+    alloc: Global,
+    command: &ProgramCommand,
+    shelf: &mut S,
+    lobby: &mut B,
+    input: &mut I,
+    out: &mut O,
+    seed: [u8; 32],
+) -> Ended<S::Disk>
+where
+    S::Disk: Send,
+    <B::Door as Door>::Link: Send,
+    requires { DenotesInRange command.now }
+    ensures { let seen = outside S.Shelf B.Lobby I.Source O.Sink in (line : CommandLine) → Denotes command.now line
+        → CommandRuns S.Disk.Disk line seed
+        (seen shelf.old lobby.old input.old out.old) (seen shelf.new lobby.new input.new out.new) result }
+{
+    match command {
+        ProgramCommand::Init {
+            file,
+            admin,
+            base,
+            limit,
+        } => run_init(alloc, file, admin, base, *limit, shelf, lobby, input, out),
+        ProgramCommand::Intake { file } => {
+            let draw = Draws::new(seed, 0).next();
+            run_intake(alloc, file, &draw, shelf, lobby, input, out)
+        }
+        ProgramCommand::Serve {
+            file,
+            address,
+            workers,
+            connections,
+        } => {
+            run_serve(
+                rt,
+                alloc,
+                file,
+                address,
+                *workers,
+                *connections,
+                seed,
+                shelf,
+                lobby,
+                input,
+                out,
+            )
+        }
+        ProgramCommand::Load {
+            file,
+            seed: number,
+            count,
+        } => {
+            let mut draws = Draws::new(seed, 0);
+            run_load(
+                alloc, file, *number, *count, &mut draws, shelf, lobby, input, out,
+            )
+        }
+    }
+}
+
 /// The program: all that it does with its words, over the outside.
 ///
 /// `words` are the arguments after the program's name. `init FILE --admin TOKEN [--base URL] [--limit BYTES]` makes a
 /// store. `intake FILE` keeps one statement of the input and prints its id. `load FILE SEED N` makes N statements of a
 /// number, posts them in batches of 100, and prints N and how many statements the store lists then. `serve FILE ADDRESS
-/// --workers 1 --connections N` serves N connections over HTTP and prints the number of their responses. Every line is
-/// printed to `out`. The one draw of an intake is the first of stream 0 under the seed, those of a load are the first
-/// ones; serving has those of stream 1.
+/// --workers W --connections N` serves N connections by each of W workers over HTTP and prints the number of their
+/// responses. Every line is printed to `out`. The one draw of an intake is the first of stream 0 under the seed, those
+/// of a load are the first ones; worker k, counted from 1, has those of stream k.
 ///
 /// It may be stopped at any moment. Then the file holds the first entries of the final history: at least those from
 /// before the run, and whatever a response without trouble promised. A stopped `init` leaves no store or the new one,
 /// and what isn't open to a new store as it was.
-pub fn run<S: Shelf, B: Lobby, I: Source, O: Sink>(
+pub fn run<R: Threads + Wait + Sync, S: Shelf, B: Lobby, I: Source, O: Sink>(
+    rt: &R,
     alloc: Global,
     words: &[Text],
     shelf: &mut S,
@@ -220,6 +379,9 @@ pub fn run<S: Shelf, B: Lobby, I: Source, O: Sink>(
     out: &mut O,
     seed: [u8; 32],
 ) -> Ended<S::Disk>
+where
+    S::Disk: Send,
+    <B::Door as Door>::Link: Send,
     ensures { let seen = outside S.Shelf B.Lobby I.Source O.Sink in Runs S.Disk.Disk words.now seed
         (seen shelf.old lobby.old input.old out.old) (seen shelf.new lobby.new input.new out.new) result }
 {
@@ -228,39 +390,7 @@ pub fn run<S: Shelf, B: Lobby, I: Source, O: Sink>(
         Ok(None) => return end_run(out, undone(alloc, Ending::Usage)),
         Err(Memory) => return end_run(out, undone(alloc, Ending::Memory)),
     };
-    match command {
-        ProgramCommand::Init {
-            file,
-            admin,
-            base,
-            limit,
-        } => {
-            let clock = lobby.now();
-            let taken = shelf.take(file.as_str());
-            end_run(out, init(alloc, taken, &admin, &base, limit, clock))
-        }
-        ProgramCommand::Intake { file } => {
-            let clock = lobby.now();
-            let taken = shelf.take(file.as_str());
-            let draw = Draws::new(seed, 0).next();
-            end_run(out, intake(alloc, taken, input, clock, &draw))
-        }
-        ProgramCommand::Serve {
-            file,
-            address,
-            connections,
-        } => {
-            let taken = shelf.take(file.as_str());
-            end_run(out, serve(alloc, taken, lobby, &address, connections, seed))
-        }
-        ProgramCommand::Load {
-            file,
-            seed: number,
-            count,
-        } => {
-            let taken = shelf.take(file.as_str());
-            let mut draws = Draws::new(seed, 0);
-            end_run(out, load(alloc, taken, lobby, number, count, &mut draws))
-        }
-    }
+    let ended = run_command(rt, alloc, &command, shelf, lobby, input, out, seed);
+    drop(command);
+    ended
 }

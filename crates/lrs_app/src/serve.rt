@@ -1,12 +1,13 @@
-// The connections of a door, served over a store.
-ghost use Rattle.std.specs.Prelude.{◌≡◌, All, map, length};
-ghost use Rattle.lrs_disk.specs.Door.{IsFresh};
-ghost use Rattle.lrs_hall.specs.Serving.{AreWithin, Counts, all_receipts, mark_of};
+// The connections of doors, served over a store by one worker each.
+ghost use Rattle.std.specs.Prelude.{◌≡◌, ◌≤◌, ◌-◌, ◌^◌, length, min};
+ghost use Rattle.std.specs.List.{AllByRecursion};
+ghost use Rattle.lrs_hall.specs.Serving.{AreCounted, AreWithin, all_receipts, mark_of};
 ghost use Rattle.lrs_journal.specs.Journal.{IsSynced};
+ghost use Rattle.lrs_hall.specs.LrsMachineDesk.{history};
 ghost use Rattle.lrs_app.specs.Disks.{taken_now};
-ghost use Rattle.lrs_app.specs.Service.{CountsOn, doors, responses_of, ending_of_serving};
+ghost use Rattle.lrs_app.specs.Service.{CountsOn, doors, ending_of_serving, receipts_of_all, responses_of};
 ghost use Rattle.lrs_app.specs.Steps.{GoesOn, IsOpened};
-ghost use Rattle.lrs_app.specs.ServeSteps.{ServesOne, ServesDesk, ServesOpened, ending_of_refusal};
+ghost use Rattle.lrs_app.specs.ServeSteps.{ServesDesk, ServesOpened, ending_of_refusal};
 ghost use Rattle.lrs_app.specs.Run.{HasEndingCause, ServesDisk};
 
 use crate::intake::unopened;
@@ -16,10 +17,23 @@ use lrs_hall::lrs_machine::Desk;
 use lrs_hall::{ServeEnd, Talk, serve_all};
 use lrs_json::{Items, Text};
 use std::alloc::Global;
+use std::sync::Wait;
+use std::thread::Threads;
 
-/// The number of responses of these talks. It stands still at the last value of u64.
-pub(crate) fn count_responses(talks: &[Talk]) -> u64
+/// The number of responses of these talks of all workers. It stands still at the last value of u64.
+pub(crate) fn count_responses(talks: &[Items<Talk>]) -> u64
     ensures { result ≡ responses_of talks.now }
+{
+    let mut responses: u64 = 0;
+    for of_one in talks {
+        responses = responses.saturating_add(count_of_one(of_one.as_slice()));
+    }
+    responses
+}
+
+// The number of responses of one worker's talks. It stands still at the last value of u64.
+fn count_of_one(talks: &[Talk]) -> u64
+    ensures { result ≡ min (length (all_receipts talks.now)) (2 ^ 64 - 1) }
 {
     let mut responses: u64 = 0;
     for talk in talks {
@@ -29,7 +43,7 @@ pub(crate) fn count_responses(talks: &[Talk]) -> u64
 }
 
 // How a command ends whose serving ended so.
-fn served(end: ServeEnd, talks: &[Talk]) -> Ending
+fn served(end: ServeEnd, talks: &[Items<Talk>]) -> Ending
     ensures { result ≡ ending_of_serving end talks.now }
 {
     match end {
@@ -37,34 +51,6 @@ fn served(end: ServeEnd, talks: &[Talk]) -> Ending
         ServeEnd::DoorFault => Ending::LobbyFault,
         ServeEnd::Memory => Ending::Memory,
     }
-}
-
-// Serves the connections of the one door.
-fn serve_door<D: Disk, O: Door>(
-    alloc: Global,
-    desk: Desk<D>,
-    doors: Vec<O>,
-    connections: u32,
-    seed: [u8; 32],
-) -> (Desk<D>, Vec<O>, Items<Talk>, ServeEnd)
-    requires one { length doors.items ≡ 1 }
-    requires fresh { All (λ door. IsFresh (O.state door)) doors.items }
-    requires opened { IsOpened D.Disk desk }
-    ensures served { ServesOne D.Disk desk result.0 connections seed (map O.state result.1.items) result.2 result.3 }
-    ensures counts { Counts (D.fault_count desk.disk) (all_receipts result.2) (D.fault_count result.0.disk) }
-    ensures marks { AreWithin (mark_of D.fault_count D.time desk.disk) (mark_of D.fault_count D.time result.0.disk)
-        (all_receipts result.2) }
-    ensures goes_on { GoesOn D.Disk desk result.0 }
-{
-    let mut doors = doors;
-    let Some(door) = doors.pop() else {
-        unreachable!();
-    };
-    let (desk, door, talks, end) = serve_all(alloc, desk, door, connections, seed);
-    let Ok(()) = doors.push(door) else {
-        unreachable!();
-    };
-    (desk, doors, talks, end)
 }
 
 fn ending_of_refusal(refused: DoorsRefused) -> Ending
@@ -76,28 +62,36 @@ fn ending_of_refusal(refused: DoorsRefused) -> Ending
     }
 }
 
-// Serves the connections of a door of the address.
-fn serve_desk<D: Disk, B: Lobby>(
+// Serves the connections of doors of the address, each door by a worker of its own.
+fn serve_desk<R: Threads + Wait + Sync, D: Disk + Send, B: Lobby>(
+    rt: &R,
     alloc: Global,
     desk: Desk<D>,
     lobby: &mut B,
     address: &Text,
+    workers: u32,
     connections: u32,
     seed: [u8; 32],
-) -> (Desk<D>, Items<Talk>, Ending)
+) -> (Desk<D>, Items<Items<Talk>>, Ending)
+where
+    <B::Door as Door>::Link: Send,
+    requires workers { (1 ≤ workers) × (workers ≤ 16) }
     requires opened { IsOpened D.Disk desk }
-    ensures served { ServesDesk D.Disk desk result.0 address.now connections seed
+    requires origin { (desk.opened ≡ length (history desk)) × (desk.origin ≡ desk.disk) }
+    ensures served { ServesDesk (mark_of D.fault_count D.time) desk result.0 address.now workers connections seed
         (doors B.Lobby lobby.old)
         (doors B.Lobby lobby.new) result.1 result.2 }
-    ensures counts { Counts (D.fault_count desk.disk) (all_receipts result.1) (D.fault_count result.0.disk) }
-    ensures marks { AreWithin (mark_of D.fault_count D.time desk.disk) (mark_of D.fault_count D.time result.0.disk)
-        (all_receipts result.1) }
+    ensures counts { AllByRecursion (λ of_one. AreCounted (D.fault_count desk.disk) (D.fault_count result.0.disk)
+        (all_receipts of_one)) result.1 }
+    ensures later { D.fault_count desk.disk ≤ D.fault_count result.0.disk }
+    ensures within { AreWithin (mark_of D.fault_count D.time desk.disk) (mark_of D.fault_count D.time result.0.disk)
+        (receipts_of_all result.1) }
     ensures goes_on { GoesOn D.Disk desk result.0 }
     ensures readings { B.readings lobby.new ≡ B.readings lobby.old }
 {
-    match lobby.doors(alloc, address.as_str(), 1) {
+    match lobby.doors(alloc, address.as_str(), workers as usize) {
         Ok(doors) => {
-            let (desk, doors, talks, end) = serve_door(alloc, desk, doors, connections, seed);
+            let (desk, doors, talks, end) = serve_all(rt, alloc, desk, doors, connections, seed);
             lobby.back(doors);
             let ending = served(end, talks.as_slice());
             (desk, talks, ending)
@@ -113,20 +107,27 @@ pub(crate) struct Service<D> {
     pub(crate) disk: D,
     /// The number of the history's entries, or 0 if no store was opened.
     pub(crate) length: u64,
-    pub(crate) talks: Items<Talk>,
+    /// The conversations of each worker, in their order.
+    pub(crate) talks: Items<Items<Talk>>,
 }
 
 // Serves over an open desk, and closes it.
-fn serve_opened<D: Disk, B: Lobby>(
+fn serve_opened<R: Threads + Wait + Sync, D: Disk + Send, B: Lobby>(
+    rt: &R,
     alloc: Global,
     desk: Desk<D>,
     lobby: &mut B,
     address: &Text,
+    workers: u32,
     connections: u32,
     seed: [u8; 32],
 ) -> Service<D>
+where
+    <B::Door as Door>::Link: Send,
+    requires workers { (1 ≤ workers) × (workers ≤ 16) }
     requires opened { IsOpened D.Disk desk }
-    ensures served { ServesOpened D.Disk desk result.disk address.now connections seed
+    requires origin { (desk.opened ≡ length (history desk)) × (desk.origin ≡ desk.disk) }
+    ensures served { ServesOpened D.Disk desk result.disk address.now workers connections seed
         (doors B.Lobby lobby.old)
         (doors B.Lobby lobby.new)
         result.talks result.length result.ending }
@@ -134,7 +135,16 @@ fn serve_opened<D: Disk, B: Lobby>(
     ensures counts { CountsOn (D.fault_count desk.disk) result.talks (D.fault_count result.disk) }
     ensures readings { B.readings lobby.new ≡ B.readings lobby.old }
 {
-    let (desk, talks, ending) = serve_desk(alloc, desk, lobby, address, connections, seed);
+    let (desk, talks, ending) = serve_desk(
+        rt,
+        alloc,
+        desk,
+        lobby,
+        address,
+        workers,
+        connections,
+        seed,
+    );
     let length = desk.length();
     match desk.close() {
         Ok(disk) => Service {
@@ -153,16 +163,21 @@ fn serve_opened<D: Disk, B: Lobby>(
 }
 
 /// Serves the store of a disk.
-pub(crate) fn serve_disk<D: Disk, B: Lobby>(
+pub(crate) fn serve_disk<R: Threads + Wait + Sync, D: Disk + Send, B: Lobby>(
+    rt: &R,
     alloc: Global,
     disk: D,
     lobby: &mut B,
     address: &Text,
+    workers: u32,
     connections: u32,
     seed: [u8; 32],
 ) -> Service<D>
+where
+    <B::Door as Door>::Link: Send,
+    requires workers { (1 ≤ workers) × (workers ≤ 16) }
     requires settled { IsSynced D.told D.image disk }
-    ensures served { ServesDisk D.Disk (taken_now D.Disk disk) result.disk address.now connections seed
+    ensures served { ServesDisk D.Disk (taken_now D.Disk disk) result.disk address.now workers connections seed
         (doors B.Lobby lobby.old)
         (doors B.Lobby lobby.new)
         result.talks result.length result.ending }
@@ -171,7 +186,7 @@ pub(crate) fn serve_disk<D: Disk, B: Lobby>(
     ensures readings { B.readings lobby.new ≡ B.readings lobby.old }
 {
     match Desk::recover(alloc, disk) {
-        Ok(desk) => serve_opened(alloc, desk, lobby, address, connections, seed),
+        Ok(desk) => serve_opened(rt, alloc, desk, lobby, address, workers, connections, seed),
         Err((refused, disk)) => Service {
             ending: unopened(refused),
             disk,

@@ -1,5 +1,5 @@
 //! Runs over the outside in memory.
-ghost use Rattle.std.specs.Prelude.{IfOk};
+ghost use Rattle.std.specs.Prelude.{All, IfOk};
 ghost use Rattle.lrs_in_memory.specs.MemDoor.{IsUntouched};
 ghost use Rattle.lrs_in_memory.specs.MemLink.{IsUnused};
 
@@ -8,7 +8,9 @@ use lrs_app::{Ended, Report, run};
 use lrs_in_memory::{MemDisk, MemDoor, MemLink, MemLobby, MemShelf, MemSink, MemSource};
 use lrs_json::{Items, Text};
 use std::alloc::Global;
+use std::sync::Wait;
 use std::test::Fail;
+use std::thread::Threads;
 
 const CLOCK: u64 = 1_700_000_000_000;
 
@@ -18,10 +20,14 @@ pub struct Around<'a> {
     /// What the file `s` holds.
     pub stored: &'a [u8],
     pub input: &'a [u8],
-    /// What the connections bring, and where reads of them end.
+    /// What the connections of the first door bring, and where reads of them end.
     pub streams: &'a [&'a str],
     pub cuts: &'a [usize],
-    /// The numbers of the calls that fail: of the disk, of the input, and of the door's `next`.
+    /// What the one connection of each further door brings.
+    pub others: &'a [String],
+    /// How many calls the disk takes. All later ones fail.
+    pub disk_calls: u64,
+    /// The numbers of the calls that fail: of the disk, of the input, and of the `next` of each door.
     pub disk_fails: &'a [u64],
     pub input_fails: &'a [u64],
     pub door_fails: &'a [u64],
@@ -37,6 +43,8 @@ impl<'a> Around<'a> {
             input: input.as_bytes(),
             streams,
             cuts: &[],
+            others: &[],
+            disk_calls: 64,
             disk_fails: &[],
             input_fails: &[],
             door_fails: &[],
@@ -54,15 +62,21 @@ pub struct Ran {
     pub printed: Vec<u8>,
     /// The disk of the file, where it was taken.
     pub disks: Vec<MemDisk>,
-    pub talks: Items<Talk>,
-    /// What went out over the first connection, where one was served.
-    pub sent: Vec<u8>,
+    /// The conversations of each worker.
+    pub talks: Items<Items<Talk>>,
+    /// What went out over the first connection of each door where one was served.
+    pub sent: Vec<Vec<u8>>,
 }
 
 impl Ran {
     /// Whether the run ended with this status and line.
     pub fn ends(&self, status: u8, line: &str) -> bool {
         self.status == status && self.printed.as_slice() == line.as_bytes()
+    }
+
+    /// The first conversation of the first worker.
+    pub fn talk(&self) -> Option<&Talk> {
+        self.talks.as_slice().first()?.as_slice().first()
     }
 
     pub fn disk(&self) -> Option<&MemDisk> {
@@ -95,9 +109,12 @@ impl Ran {
         self.file() == Some(file)
     }
 
-    /// Whether this went out over the first connection.
+    /// Whether this went out over the first connection of the first door.
     pub fn sends(&self, answers: &str) -> bool {
-        self.sent.as_slice() == answers.as_bytes()
+        match self.sent.first() {
+            Some(sent) => sent.as_slice() == answers.as_bytes(),
+            None => answers.is_empty(),
+        }
     }
 }
 
@@ -135,10 +152,11 @@ pub fn joined(alloc: Global, parts: &[&str]) -> Result<String, Fail> {
     Ok(text)
 }
 
-fn shelf(alloc: Global, stored: &[u8], failing: &[u64]) -> Result<MemShelf, Fail> {
+fn shelf(alloc: Global, around: &Around<'_>) -> Result<MemShelf, Fail> {
     let name = String::from_str(alloc, "s")?;
-    let stored = stored.to_vec(alloc)?;
-    let disk = MemDisk::new(alloc, stored, failing.to_vec(alloc)?, 64, 1 << 20)?;
+    let stored = around.stored.to_vec(alloc)?;
+    let failing = around.disk_fails.to_vec(alloc)?;
+    let disk = MemDisk::new(alloc, stored, failing, around.disk_calls, 1 << 20)?;
     let disks = vec![in alloc; (name, disk)]?;
     Ok(MemShelf::new(disks, Vec::new(alloc), Vec::new(alloc)))
 }
@@ -150,20 +168,31 @@ fn link(alloc: Global, stream: &str, cuts: &[usize]) -> Result<MemLink, Fail>
     Ok(MemLink::new(alloc, input, cuts.to_vec(alloc)?, 4_096, Vec::new(alloc))?)
 }
 
-fn door(alloc: Global, around: &Around<'_>) -> Result<MemDoor, Fail>
+// A door whose connections bring these streams.
+fn door(alloc: Global, around: &Around<'_>, streams: &[&str]) -> Result<MemDoor, Fail>
     ensures { IfOk result IsUntouched }
 {
     let mut links = Vec::new(alloc);
-    for stream in around.streams {
+    for stream in streams {
         links.push(link(alloc, stream, around.cuts)?)?;
     }
     let clock = vec![in alloc; CLOCK]?;
     Ok(MemDoor::new(alloc, links, clock, around.door_fails.to_vec(alloc)?)?)
 }
 
-// A lobby with one door.
+// The first door, and one for each further stream.
+fn doors(alloc: Global, around: &Around<'_>) -> Result<Vec<MemDoor>, Fail>
+    ensures { IfOk result (λ doors. All IsUntouched doors.items) }
+{
+    let mut doors = vec![in alloc; door(alloc, around, around.streams)?]?;
+    for stream in around.others {
+        doors.push(door(alloc, around, &[stream.as_str()])?)?;
+    }
+    Ok(doors)
+}
+
 fn lobby(alloc: Global, around: &Around<'_>) -> Result<MemLobby, Fail> {
-    let doors = vec![in alloc; door(alloc, around)?]?;
+    let doors = doors(alloc, around)?;
     Ok(MemLobby::new(doors, vec![in alloc; CLOCK]?, Vec::new(alloc)))
 }
 
@@ -176,7 +205,7 @@ fn outside(alloc: Global, around: &Around<'_>) -> Result<World, Fail> {
     let out = MemSink::new(alloc, around.room, Vec::new(alloc))?;
     let input = source(alloc, around)?;
     let lobby = lobby(alloc, around)?;
-    let shelf = shelf(alloc, around.stored, around.disk_fails)?;
+    let shelf = shelf(alloc, around)?;
     Ok(World {
         shelf,
         lobby,
@@ -185,23 +214,30 @@ fn outside(alloc: Global, around: &Around<'_>) -> Result<World, Fail> {
     })
 }
 
-fn sent(alloc: Global, lobby: &MemLobby) -> Result<Vec<u8>, Fail> {
-    let Some(door) = lobby.returned().first() else {
-        return Ok(Vec::new(alloc));
-    };
-    let Some(link) = door.returned().first() else {
-        return Ok(Vec::new(alloc));
-    };
-    Ok(link.taken().to_vec(alloc)?)
+// What went out over the first connection of each of these doors.
+fn sent(alloc: Global, doors: &[MemDoor]) -> Result<Vec<Vec<u8>>, Fail> {
+    let mut sent = Vec::new(alloc);
+    for door in doors {
+        if let Some(link) = door.returned().first() {
+            sent.push(link.taken().to_vec(alloc)?)?;
+        }
+    }
+    Ok(sent)
 }
 
-fn run_in(alloc: Global, words: &[Text], outside: &mut World) -> Result<Ran, Fail> {
+fn run_in<R: Threads + Wait + Sync>(
+    rt: &R,
+    alloc: Global,
+    words: &[Text],
+    outside: &mut World,
+) -> Result<Ran, Fail> {
     let mut disks = Vec::with_capacity(alloc, 1)?;
     let Ended {
         status,
         disk,
         report,
     } = run(
+        rt,
         alloc,
         words,
         &mut outside.shelf,
@@ -219,7 +255,7 @@ fn run_in(alloc: Global, words: &[Text], outside: &mut World) -> Result<Ran, Fai
         length,
     } = report;
     let printed = outside.out.taken().to_vec(alloc)?;
-    let sent = sent(alloc, &outside.lobby)?;
+    let sent = sent(alloc, outside.lobby.returned())?;
     Ok(Ran {
         status,
         length,
@@ -232,24 +268,38 @@ fn run_in(alloc: Global, words: &[Text], outside: &mut World) -> Result<Ran, Fai
 }
 
 /// Runs the words of a line with this around them.
-pub fn run_over(alloc: Global, line: &str, around: &Around<'_>) -> Result<Ran, Fail> {
+pub fn run_over<R: Threads + Wait + Sync>(
+    rt: &R,
+    alloc: Global,
+    line: &str,
+    around: &Around<'_>,
+) -> Result<Ran, Fail> {
     let words = words_of(alloc, line)?;
     let mut outside = outside(alloc, around)?;
-    let ran = run_in(alloc, words.as_slice(), &mut outside);
+    let ran = run_in(rt, alloc, words.as_slice(), &mut outside);
     drop(outside);
     ran
 }
 
 /// The file that a run leaves.
-pub fn file_behind(alloc: Global, line: &str, around: &Around<'_>) -> Result<Vec<u8>, Fail> {
-    let ran = run_over(alloc, line, around)?;
+pub fn file_behind<R: Threads + Wait + Sync>(
+    rt: &R,
+    alloc: Global,
+    line: &str,
+    around: &Around<'_>,
+) -> Result<Vec<u8>, Fail> {
+    let ran = run_over(rt, alloc, line, around)?;
     let file = ran.copy(alloc);
     drop(ran);
     file
 }
 
 /// The bytes of a new store with this limit.
-pub fn store(alloc: Global, limit: &str) -> Result<Vec<u8>, Fail> {
+pub fn store<R: Threads + Wait + Sync>(
+    rt: &R,
+    alloc: Global,
+    limit: &str,
+) -> Result<Vec<u8>, Fail> {
     let line = format!(in alloc; "init s --admin adminadmin --limit {limit}")?;
-    file_behind(alloc, line.as_str(), &Around::calm(&[], "", &[]))
+    file_behind(rt, alloc, line.as_str(), &Around::calm(&[], "", &[]))
 }

@@ -6,7 +6,9 @@ use lrs_disk::Disk;
 use lrs_in_memory::{MemDisk, Pending};
 use lrs_machine::Receipt;
 use std::alloc::Global;
+use std::sync::Wait;
 use std::test::Fail;
+use std::thread::Threads;
 
 const PENDING: [Pending; 4] = [
     Pending::Lost,
@@ -29,38 +31,48 @@ const FILES: [&[u8]; 5] = [
 ];
 
 // A run that opens this file, if it is a store, and keeps nothing.
-fn opened(alloc: Global, file: &[u8]) -> Result<Ran, Fail> {
-    run_over(alloc, "intake s", &Around::calm(file, "{", &[]))
+fn opened<R: Threads + Wait + Sync>(rt: &R, alloc: Global, file: &[u8]) -> Result<Ran, Fail> {
+    run_over(rt, alloc, "intake s", &Around::calm(file, "{", &[]))
 }
 
 // Whether this is the whole new store, as it stands and as it opens.
-fn is_whole(alloc: Global, image: &[u8]) -> Result<bool, Fail> {
-    let ran = opened(alloc, image)?;
+fn is_whole<R: Threads + Wait + Sync>(rt: &R, alloc: Global, image: &[u8]) -> Result<bool, Fail> {
+    let ran = opened(rt, alloc, image)?;
     let is_whole = ran.length == 1 && ran.leaves(stored());
     drop(ran);
     Ok(is_whole)
 }
 
 // Whether a stop in `init` left no store, so that one is made, or the whole one.
-fn is_none_or_whole(alloc: Global, image: &[u8]) -> Result<bool, Fail> {
-    let ran = run_over(alloc, INIT, &Around::calm(image, "", &[]))?;
+fn is_none_or_whole<R: Threads + Wait + Sync>(
+    rt: &R,
+    alloc: Global,
+    image: &[u8],
+) -> Result<bool, Fail> {
+    let ran = run_over(rt, alloc, INIT, &Around::calm(image, "", &[]))?;
     let (status, is_made) = (ran.status, ran.leaves(stored()));
     drop(ran);
     match status {
         0 => Ok(is_made),
-        4 => is_whole(alloc, image),
+        4 => is_whole(rt, alloc, image),
         _ => Ok(false),
     }
 }
 
 // Whether each image of the disk at this moment is one that a stop in `init` may leave of this file.
-fn is_stopped_well(alloc: Global, file: &[u8], disk: &MemDisk, moment: u64) -> Result<bool, Fail> {
+fn is_stopped_well<R: Threads + Wait + Sync>(
+    rt: &R,
+    alloc: Global,
+    file: &[u8],
+    disk: &MemDisk,
+    moment: u64,
+) -> Result<bool, Fail> {
     for pending in PENDING.iter() {
         let image = disk.image(moment.min(disk.moment()), *pending)?;
         let is_well = if file == FOREIGN {
             image.as_slice() == FOREIGN
         } else {
-            is_none_or_whole(alloc, image.as_slice())?
+            is_none_or_whole(rt, alloc, image.as_slice())?
         };
         if !is_well {
             return Ok(false);
@@ -70,10 +82,15 @@ fn is_stopped_well(alloc: Global, file: &[u8], disk: &MemDisk, moment: u64) -> R
 }
 
 // Fails with the first moment of `init` over this file at which a stop leaves something else.
-fn check_moments(alloc: Global, file: &[u8], ran: &Ran) -> Result<(), Fail> {
+fn check_moments<R: Threads + Wait + Sync>(
+    rt: &R,
+    alloc: Global,
+    file: &[u8],
+    ran: &Ran,
+) -> Result<(), Fail> {
     let disk = ran.disk().ok_or("no disk")?;
     for moment in 0..disk.moment().saturating_add(1) {
-        if !is_stopped_well(alloc, file, disk, moment)? {
+        if !is_stopped_well(rt, alloc, file, disk, moment)? {
             return wrong_at(alloc, moment);
         }
     }
@@ -82,14 +99,19 @@ fn check_moments(alloc: Global, file: &[u8], ran: &Ran) -> Result<(), Fail> {
 
 // Whether `init` fails over this file where this call of the disk does. It has to say so just where the disk failed, and
 // a stop at any moment has to leave what it may.
-fn fails(alloc: Global, file: &[u8], call: u64) -> Result<bool, Fail> {
+fn fails<R: Threads + Wait + Sync>(
+    rt: &R,
+    alloc: Global,
+    file: &[u8],
+    call: u64,
+) -> Result<bool, Fail> {
     let disk_fails = [call];
     let around = Around {
         disk_fails: &disk_fails,
         ..Around::calm(file, "", &[])
     };
-    let ran = run_over(alloc, INIT, &around)?;
-    let checked = check_moments(alloc, file, &ran);
+    let ran = run_over(rt, alloc, INIT, &around)?;
+    let checked = check_moments(rt, alloc, file, &ran);
     let fails = ran.ends(5, "disk fault\n");
     let faults = match ran.disk() {
         Some(disk) => disk.faults(),
@@ -104,9 +126,9 @@ fn fails(alloc: Global, file: &[u8], call: u64) -> Result<bool, Fail> {
 }
 
 // Each call of `init` over this file may fail, and there are some. After them a run fails no more.
-fn check_calls(alloc: Global, file: &[u8]) -> Result<(), Fail> {
+fn check_calls<R: Threads + Wait + Sync>(rt: &R, alloc: Global, file: &[u8]) -> Result<(), Fail> {
     for call in 0..99 {
-        if !fails(alloc, file, call)? {
+        if !fails(rt, alloc, file, call)? {
             return if call == 0 {
                 Err(Fail::from("no call fails"))
             } else {
@@ -121,7 +143,7 @@ fn check_calls(alloc: Global, file: &[u8]) -> Result<(), Fail> {
 #[test]
 fn a_stop_in_init_leaves_no_store_or_the_whole(rt: HostRuntime) -> Result<(), Fail> {
     for file in FILES.iter() {
-        check_calls(rt.alloc(), file)?;
+        check_calls(&rt, rt.alloc(), file)?;
     }
     Ok(())
 }
@@ -149,8 +171,13 @@ fn is_front(file: &[u8], entries: u64, whole: &[u8]) -> bool {
 }
 
 // How many entries a file has that opens with a front of the whole history.
-fn front_of(alloc: Global, file: &[u8], whole: &[u8]) -> Result<Option<u64>, Fail> {
-    let ran = opened(alloc, file)?;
+fn front_of<R: Threads + Wait + Sync>(
+    rt: &R,
+    alloc: Global,
+    file: &[u8],
+    whole: &[u8],
+) -> Result<Option<u64>, Fail> {
+    let ran = opened(rt, alloc, file)?;
     let length = ran.length;
     let is_front = match ran.file() {
         Some(front) => is_front(front, length, whole),
@@ -180,7 +207,8 @@ fn demanded_by(receipts: &[Receipt], moment: u64) -> u64 {
 }
 
 // Whether each image of the disk at this moment opens with the first entries of the whole history, at least so many.
-fn is_served_well(
+fn is_served_well<R: Threads + Wait + Sync>(
+    rt: &R,
     alloc: Global,
     disk: &MemDisk,
     moment: u64,
@@ -189,7 +217,7 @@ fn is_served_well(
 ) -> Result<bool, Fail> {
     for pending in PENDING.iter() {
         let image = disk.image(moment.min(disk.moment()), *pending)?;
-        match front_of(alloc, image.as_slice(), whole)? {
+        match front_of(rt, alloc, image.as_slice(), whole)? {
             Some(entries) if entries >= least => {}
             _ => return Ok(false),
         }
@@ -199,10 +227,15 @@ fn is_served_well(
 
 // Fails with the first moment of a disk at which a stop leaves something else, where these receipts tell what was
 // acknowledged.
-fn check_images(alloc: Global, disk: &MemDisk, receipts: &[Receipt]) -> Result<(), Fail> {
+fn check_images<R: Threads + Wait + Sync>(
+    rt: &R,
+    alloc: Global,
+    disk: &MemDisk,
+    receipts: &[Receipt],
+) -> Result<(), Fail> {
     for moment in 0..disk.moment().saturating_add(1) {
         let least = demanded_by(receipts, moment);
-        if !is_served_well(alloc, disk, moment, least, disk.bytes())? {
+        if !is_served_well(rt, alloc, disk, moment, least, disk.bytes())? {
             return wrong_at(alloc, moment);
         }
     }
@@ -210,23 +243,28 @@ fn check_images(alloc: Global, disk: &MemDisk, receipts: &[Receipt]) -> Result<(
 }
 
 // The same for a run. At its end a stop leaves the whole history.
-fn check_run(alloc: Global, ran: &Ran) -> Result<(), Fail> {
+fn check_run<R: Threads + Wait + Sync>(rt: &R, alloc: Global, ran: &Ran) -> Result<(), Fail> {
     let disk = ran.disk().ok_or("no disk")?;
-    let receipts = match ran.talks.as_slice().first() {
+    let receipts = match ran.talk() {
         Some(talk) => talk.receipts(),
         None => &[],
     };
-    check_images(alloc, disk, receipts)?;
-    if is_served_well(alloc, disk, disk.moment(), ran.length, disk.bytes())? {
+    check_images(rt, alloc, disk, receipts)?;
+    if is_served_well(rt, alloc, disk, disk.moment(), ran.length, disk.bytes())? {
         Ok(())
     } else {
         Err(Fail::from("at the end"))
     }
 }
 
-fn check_stops(alloc: Global, words: &str, around: &Around<'_>) -> Result<(), Fail> {
-    let ran = run_over(alloc, words, around)?;
-    let checked = check_run(alloc, &ran);
+fn check_stops<R: Threads + Wait + Sync>(
+    rt: &R,
+    alloc: Global,
+    words: &str,
+    around: &Around<'_>,
+) -> Result<(), Fail> {
+    let ran = run_over(rt, alloc, words, around)?;
+    let checked = check_run(rt, alloc, &ran);
     drop(ran);
     checked
 }
@@ -234,6 +272,7 @@ fn check_stops(alloc: Global, words: &str, around: &Around<'_>) -> Result<(), Fa
 #[test]
 fn a_stop_in_intake_leaves_the_statement_out_or_whole(rt: HostRuntime) -> Result<(), Fail> {
     check_stops(
+        &rt,
         rt.alloc(),
         "intake s",
         &Around::calm(stored(), STATEMENT, &[]),
@@ -254,16 +293,21 @@ fn stream(alloc: Global) -> Result<String, Fail> {
 fn a_stop_in_serve_leaves_what_was_acknowledged(rt: HostRuntime) -> Result<(), Fail> {
     let stream = stream(rt.alloc())?;
     let streams = [stream.as_str()];
-    check_stops(rt.alloc(), SERVE, &Around::calm(stored(), "", &streams))
+    check_stops(
+        &rt,
+        rt.alloc(),
+        SERVE,
+        &Around::calm(stored(), "", &streams),
+    )
 }
 
 // What is left of serving a PUT over a disk on which these calls fail.
-fn put_over(alloc: Global, failing: &[u64]) -> Result<Ran, Fail> {
+fn put_over<R: Threads + Wait + Sync>(rt: &R, alloc: Global, failing: &[u64]) -> Result<Ran, Fail> {
     let around = Around {
         disk_fails: failing,
         ..Around::calm(stored(), "", &[PUT])
     };
-    run_over(alloc, SERVE, &around)
+    run_over(rt, alloc, SERVE, &around)
 }
 
 // What becomes of the gate that isn't synced, and how many entries there are then.
@@ -275,10 +319,15 @@ const IN_DOUBT: [(Pending, u64); 4] = [
 ];
 
 // Whether a stop at the end leaves the history with the last entry or without.
-fn is_in_doubt(alloc: Global, disk: &MemDisk, whole: &[u8]) -> Result<bool, Fail> {
+fn is_in_doubt<R: Threads + Wait + Sync>(
+    rt: &R,
+    alloc: Global,
+    disk: &MemDisk,
+    whole: &[u8],
+) -> Result<bool, Fail> {
     for (pending, entries) in IN_DOUBT.iter() {
         let image = disk.image(disk.moment(), *pending)?;
-        if front_of(alloc, image.as_slice(), whole)? != Some(*entries) {
+        if front_of(rt, alloc, image.as_slice(), whole)? != Some(*entries) {
             return Ok(false);
         }
     }
@@ -286,19 +335,24 @@ fn is_in_doubt(alloc: Global, disk: &MemDisk, whole: &[u8]) -> Result<bool, Fail
 }
 
 // Whether the disk is in doubt after a run that tells of a fault, and the client is told, too.
-fn is_told_in_doubt(alloc: Global, ran: &Ran, whole: &[u8]) -> Result<bool, Fail> {
+fn is_told_in_doubt<R: Threads + Wait + Sync>(
+    rt: &R,
+    alloc: Global,
+    ran: &Ran,
+    whole: &[u8],
+) -> Result<bool, Fail> {
     let told = ran.ends(5, "disk fault\n") && ran.sends(DISK) && ran.length == 2;
     let disk = ran.disk().ok_or("no disk")?;
-    Ok(told && is_in_doubt(alloc, disk, whole)?)
+    Ok(told && is_in_doubt(rt, alloc, disk, whole)?)
 }
 
 // That is so of a PUT on which the last call of the append and the first of the closing fail. The last six calls of one
 // without faults are those of the append.
-fn check_doubt(alloc: Global, calm: &Ran) -> Result<(), Fail> {
+fn check_doubt<R: Threads + Wait + Sync>(rt: &R, alloc: Global, calm: &Ran) -> Result<(), Fail> {
     let disk = calm.disk().ok_or("no disk")?;
     let calls = disk.moment();
-    let ran = put_over(alloc, &[calls.saturating_sub(1), calls])?;
-    let told = is_told_in_doubt(alloc, &ran, disk.bytes());
+    let ran = put_over(rt, alloc, &[calls.saturating_sub(1), calls])?;
+    let told = is_told_in_doubt(rt, alloc, &ran, disk.bytes());
     drop(ran);
     if told? {
         Ok(())
@@ -309,8 +363,8 @@ fn check_doubt(alloc: Global, calm: &Ran) -> Result<(), Fail> {
 
 #[test]
 fn a_doubt_that_the_closing_cannot_end_is_status_5(rt: HostRuntime) -> Result<(), Fail> {
-    let calm = put_over(rt.alloc(), &[])?;
-    let checked = check_doubt(rt.alloc(), &calm);
+    let calm = put_over(&rt, rt.alloc(), &[])?;
+    let checked = check_doubt(&rt, rt.alloc(), &calm);
     drop(calm);
     checked
 }

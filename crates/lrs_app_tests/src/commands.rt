@@ -10,7 +10,9 @@
 use lrs_app_runs::{Around, Ran, STATEMENT, run_over, store, stored, wrong_at};
 use std::alloc::Global;
 use std::slice::from_ref;
+use std::sync::Wait;
 use std::test::Fail;
+use std::thread::Threads;
 
 const OTHER: &str =
     r#"{"id":"11111111-1111-4111-8111-111111111111","actor":{"mbox":"mailto:a@b"},"verb":{"id":"http://v/2"},"object":{"id":"http://a/1"}}"#;
@@ -61,11 +63,18 @@ fn with_fault<'a>(calm: Around<'a>, kind: &str, number: &'a u64) -> Around<'a> {
 }
 
 // A run of these words.
-fn ran(alloc: Global, fault: &str, words: &str, file: &[u8], input: &str) -> Result<Ran, Fail> {
+fn ran<R: Threads + Wait + Sync>(
+    rt: &R,
+    alloc: Global,
+    fault: &str,
+    words: &str,
+    file: &[u8],
+    input: &str,
+) -> Result<Ran, Fail> {
     let (kind, number) = fault.split_once(':').unwrap_or((fault, "0"));
     let number = number.parse::<u64>()?;
     let around = with_fault(Around::calm(file, input, &[]), kind, &number);
-    run_over(alloc, words, &around)
+    run_over(rt, alloc, words, &around)
 }
 
 // What follows the line of a run over this file.
@@ -118,22 +127,28 @@ fn compared(
 }
 
 // The same of a run that is asked for.
-fn compared_of(alloc: Global, last: &[u8], asked: &str, expected: &str) -> Result<Vec<u8>, Fail> {
+fn compared_of<R: Threads + Wait + Sync>(
+    rt: &R,
+    alloc: Global,
+    last: &[u8],
+    asked: &str,
+    expected: &str,
+) -> Result<Vec<u8>, Fail> {
     let (name, rest) = first_word(asked);
     let (fault, rest) = first_word(rest);
     let (words, input) = rest.split_once(" <").ok_or("no input")?;
     let before = file_of(name, last);
-    let ran = ran(alloc, fault, words, before, input_of(input))?;
+    let ran = ran(rt, alloc, fault, words, before, input_of(input))?;
     let file = compared(alloc, &ran, before, asked, expected);
     drop(ran);
     file
 }
 
-fn check_rows(alloc: Global, rows: &str) -> Result<(), Fail> {
+fn check_rows<R: Threads + Wait + Sync>(rt: &R, alloc: Global, rows: &str) -> Result<(), Fail> {
     let mut last = Vec::new(alloc);
     for row in rows.lines() {
         let (asked, expected) = row.split_once(" => ").ok_or("no answer")?;
-        last = compared_of(alloc, last.as_slice(), asked, expected)?;
+        last = compared_of(rt, alloc, last.as_slice(), asked, expected)?;
     }
     Ok(())
 }
@@ -141,6 +156,7 @@ fn check_rows(alloc: Global, rows: &str) -> Result<(), Fail> {
 #[test]
 fn a_statement_is_kept_once(rt: HostRuntime) -> Result<(), Fail> {
     check_rows(
+        &rt,
         rt.alloc(),
         r#"none - intake s <statement => 2 0 not a store
 last - init s --admin adminadmin < => 0 1 founded
@@ -160,6 +176,7 @@ last - intake s <statement => 0 2 11111111-1111-4111-8111-111111111111
 #[test]
 fn a_store_keeps_to_its_limit(rt: HostRuntime) -> Result<(), Fail> {
     check_rows(
+        &rt,
         rt.alloc(),
         r#"none - init s --admin adminadmin --limit 533 < => 0 1 founded
 last - intake s <statement => 0 2 11111111-1111-4111-8111-111111111111
@@ -178,6 +195,7 @@ last - intake s <statement => 0 2 11111111-1111-4111-8111-111111111111
 #[test]
 fn other_files_are_refused(rt: HostRuntime) -> Result<(), Fail> {
     check_rows(
+        &rt,
         rt.alloc(),
         r#"header - intake s <statement => 3 0 damaged 0
 letter - intake s <statement => 2 0 not a store
@@ -190,6 +208,7 @@ store - init s --admin adminadmin <statement => 4 0 already a store
 #[test]
 fn a_fault_is_told_by_its_object(rt: HostRuntime) -> Result<(), Fail> {
     check_rows(
+        &rt,
         rt.alloc(),
         r#"none disk:0 init s --admin adminadmin <statement => 5 0 disk fault
 none disk:4 init s --admin adminadmin <statement => 5 0 disk fault
@@ -205,6 +224,7 @@ store room:3 init s --admin adminadmin <statement => 4 0 alr..
 #[test]
 fn a_seed_is_loaded_once(rt: HostRuntime) -> Result<(), Fail> {
     check_rows(
+        &rt,
         rt.alloc(),
         r#"none - load s 7 100 < => 2 0 not a store
 store - load s 7 100 < => 0 2 loaded 100, listed 98
@@ -222,6 +242,7 @@ header - load s 7 1 < => 3 0 damaged 0
 #[test]
 fn a_load_ends_at_a_conflict(rt: HostRuntime) -> Result<(), Fail> {
     check_rows(
+        &rt,
         rt.alloc(),
         r#"store - intake s <{"id":"00000000-0000-4000-8000-000700000003","actor":{"mbox":"mailto:a@b"},"verb":{"id":"http://v/1"},"object":{"id":"http://a/1"}} => 0 2 00000000-0000-4000-8000-000700000003
 last - load s 7 100 < => 10 2 conflict 00000000-0000-4000-8000-000700000003
@@ -236,6 +257,7 @@ last - load s 7 150 < => 10 3 conflict 00000000-0000-4000-8000-000700000067
 #[test]
 fn a_load_ends_where_there_is_no_room(rt: HostRuntime) -> Result<(), Fail> {
     check_rows(
+        &rt,
         rt.alloc(),
         r#"none - init s --admin adminadmin --limit 19282 < => 0 1 founded
 last - load s 7 150 < => 12 1 full 19283 19282
@@ -250,6 +272,7 @@ last - load s 7 150 < => 0 3 loaded 150, listed 147
 #[test]
 fn a_load_is_told_as_far_as_the_output_goes(rt: HostRuntime) -> Result<(), Fail> {
     check_rows(
+        &rt,
         rt.alloc(),
         r#"store room:5 load s 7 100 < => 7 2 loade..
 store room:12 load s 7 100 < => 7 2 loaded 100, l..
@@ -260,13 +283,18 @@ store - load t 7 100 < => 5 0 disk fault
 }
 
 // Whether a load ends well or by the disk's fault if this call of the disk fails, and then goes on over what is left.
-fn is_loaded_again(alloc: Global, call: u64) -> Result<bool, Fail> {
+fn is_loaded_again<R: Threads + Wait + Sync>(
+    rt: &R,
+    alloc: Global,
+    call: u64,
+) -> Result<bool, Fail> {
     let failing = with_fault(Around::calm(stored(), "", &[]), "disk", &call);
-    let first = run_over(alloc, "load s 7 101", &failing)?;
+    let first = run_over(rt, alloc, "load s 7 101", &failing)?;
     let told = matches!(first.status, 0 | 5);
     let left = first.copy(alloc)?;
     drop(first);
     let again = run_over(
+        rt,
         alloc,
         "load s 7 101",
         &Around::calm(left.as_slice(), "", &[]),
@@ -279,7 +307,7 @@ fn is_loaded_again(alloc: Global, call: u64) -> Result<bool, Fail> {
 #[test]
 fn a_disk_that_fails_at_a_batch_keeps_the_earlier_ones(rt: HostRuntime) -> Result<(), Fail> {
     for call in 0..16 {
-        if !is_loaded_again(rt.alloc(), call)? {
+        if !is_loaded_again(&rt, rt.alloc(), call)? {
             return wrong_at(rt.alloc(), call);
         }
     }
@@ -288,7 +316,7 @@ fn a_disk_that_fails_at_a_batch_keeps_the_earlier_ones(rt: HostRuntime) -> Resul
 
 #[test]
 fn a_store_has_these_bytes(rt: HostRuntime) -> Result<(), Fail> {
-    let made = store(rt.alloc(), "65536")?;
+    let made = store(&rt, rt.alloc(), "65536")?;
     if made.as_slice() == stored() {
         Ok(())
     } else {
@@ -297,9 +325,15 @@ fn a_store_has_these_bytes(rt: HostRuntime) -> Result<(), Fail> {
 }
 
 // Fails if an input of so many blanks ends otherwise.
-fn check_blanks(alloc: Global, length: usize, line: &str) -> Result<(), Fail> {
+fn check_blanks<R: Threads + Wait + Sync>(
+    rt: &R,
+    alloc: Global,
+    length: usize,
+    line: &str,
+) -> Result<(), Fail> {
     let input = " ".repeat(alloc, length)?;
     let ran = run_over(
+        rt,
         alloc,
         "intake s",
         &Around::calm(stored(), input.as_str(), &[]),
@@ -315,6 +349,6 @@ fn check_blanks(alloc: Global, length: usize, line: &str) -> Result<(), Fail> {
 
 #[test]
 fn an_input_has_its_longest_length(rt: HostRuntime) -> Result<(), Fail> {
-    check_blanks(rt.alloc(), 262_144, "refused J2\n")?;
-    check_blanks(rt.alloc(), 262_145, "refused too long\n")
+    check_blanks(&rt, rt.alloc(), 262_144, "refused J2\n")?;
+    check_blanks(&rt, rt.alloc(), 262_145, "refused too long\n")
 }

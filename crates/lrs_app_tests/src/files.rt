@@ -5,15 +5,24 @@ use lrs_edge::{FileShelf, StdSource, TcpLobby};
 use lrs_in_memory::MemSink;
 use lrs_json::Text;
 use std::alloc::Global;
+use std::sync::Wait;
 use std::test::Fail;
+use std::thread::Threads;
 use std::{env, fs};
 
-// Runs the words over the real files.
-fn run_really(rt: HostRuntime, words: &[Text], input: &str, out: &mut MemSink) {
+// Runs the words over the real files. `threads` is the same runtime as what starts threads.
+fn run_really<R: Threads + Wait + Sync>(
+    threads: &R,
+    rt: HostRuntime,
+    words: &[Text],
+    input: &str,
+    out: &mut MemSink,
+) {
     let mut shelf = FileShelf::new(rt);
     let mut lobby = TcpLobby::new(rt);
     let mut input = StdSource::new(input.as_bytes());
     let ended = run(
+        threads,
         rt.alloc(),
         words,
         &mut shelf,
@@ -26,17 +35,26 @@ fn run_really(rt: HostRuntime, words: &[Text], input: &str, out: &mut MemSink) {
 }
 
 // What the program prints over the real files.
-fn printed(rt: HostRuntime, line: &str, input: &str) -> Result<Vec<u8>, Fail> {
+fn printed<R: Threads + Wait + Sync>(
+    threads: &R,
+    rt: HostRuntime,
+    line: &str,
+    input: &str,
+) -> Result<Vec<u8>, Fail> {
     let words = words_of(rt.alloc(), line)?;
     let mut out = MemSink::new(rt.alloc(), 64, Vec::new(rt.alloc()))?;
-    run_really(rt, words.as_slice(), input, &mut out);
+    run_really(threads, rt, words.as_slice(), input, &mut out);
     Ok(out.taken().to_vec(rt.alloc())?)
 }
 
 // A new store in a file.
-fn founded(rt: HostRuntime, file: &str) -> Result<Vec<u8>, Fail> {
+fn founded<R: Threads + Wait + Sync>(
+    threads: &R,
+    rt: HostRuntime,
+    file: &str,
+) -> Result<Vec<u8>, Fail> {
     let line = format!(in rt.alloc(); "init {file} --admin adminadmin")?;
-    let printed = printed(rt, line.as_str(), "")?;
+    let printed = printed(threads, rt, line.as_str(), "")?;
     if printed.as_slice() != b"founded\n".as_slice() {
         return Err(Fail::from("not founded"));
     }
@@ -44,9 +62,14 @@ fn founded(rt: HostRuntime, file: &str) -> Result<Vec<u8>, Fail> {
 }
 
 // What is printed of a statement that is taken in to this file.
-fn taken_in(rt: HostRuntime, file: &str, statement: &str) -> Result<Vec<u8>, Fail> {
+fn taken_in<R: Threads + Wait + Sync>(
+    threads: &R,
+    rt: HostRuntime,
+    file: &str,
+    statement: &str,
+) -> Result<Vec<u8>, Fail> {
     let line = format!(in rt.alloc(); "intake {file}")?;
-    printed(rt, line.as_str(), statement)
+    printed(threads, rt, line.as_str(), statement)
 }
 
 // The path of a file for one test.
@@ -66,16 +89,27 @@ fn line_at(length: usize) -> &'static str {
 }
 
 // Whether the file of this store, cut at this length, is told of as it should be.
-fn is_told(rt: HostRuntime, file: &str, whole: &[u8], length: usize) -> Result<bool, Fail> {
+fn is_told<R: Threads + Wait + Sync>(
+    threads: &R,
+    rt: HostRuntime,
+    file: &str,
+    whole: &[u8],
+    length: usize,
+) -> Result<bool, Fail> {
     fs::write(&rt, file, whole.get(..length).ok_or("short")?)?;
-    let line = taken_in(rt, file, STATEMENT)?;
+    let line = taken_in(threads, rt, file, STATEMENT)?;
     Ok(line.as_slice() == line_at(length).as_bytes())
 }
 
 // Fails with the first length at which it isn't.
-fn check_cuts(rt: HostRuntime, file: &str, whole: &[u8]) -> Result<(), Fail> {
+fn check_cuts<R: Threads + Wait + Sync>(
+    threads: &R,
+    rt: HostRuntime,
+    file: &str,
+    whole: &[u8],
+) -> Result<(), Fail> {
     for length in 208..534 {
-        if !is_told(rt, file, whole, length)? {
+        if !is_told(threads, rt, file, whole, length)? {
             return wrong_at(rt.alloc(), length as u64);
         }
     }
@@ -83,20 +117,24 @@ fn check_cuts(rt: HostRuntime, file: &str, whole: &[u8]) -> Result<(), Fail> {
 }
 
 // The same for a new store with one statement.
-fn check_store(rt: HostRuntime, file: &str) -> Result<(), Fail> {
-    founded(rt, file)?;
-    taken_in(rt, file, STATEMENT)?;
+fn check_store<R: Threads + Wait + Sync>(
+    threads: &R,
+    rt: HostRuntime,
+    file: &str,
+) -> Result<(), Fail> {
+    founded(threads, rt, file)?;
+    taken_in(threads, rt, file, STATEMENT)?;
     let whole = fs::read(&rt, file)?;
     if whole.len() != 533 {
         return Err(Fail::from("another length"));
     }
-    check_cuts(rt, file, whole.as_slice())
+    check_cuts(threads, rt, file, whole.as_slice())
 }
 
 #[test]
 fn a_store_file_that_was_cut_opens_or_says_where(rt: HostRuntime) -> Result<(), Fail> {
     let path = path_of(rt, "cut")?;
-    check_store(rt, path.as_str())?;
+    check_store(&rt, rt, path.as_str())?;
     fs::remove_file(&rt, path.as_str())?;
     Ok(())
 }
@@ -138,16 +176,25 @@ S32 {"id":"22222222-2222-4222-8222-222222222222","actor":{"mbox":"mailto:a@b"},"
 "#;
 
 // Whether the statement of a row is refused by the rule before it.
-fn is_refused(rt: HostRuntime, file: &str, row: &str) -> Result<bool, Fail> {
+fn is_refused<R: Threads + Wait + Sync>(
+    threads: &R,
+    rt: HostRuntime,
+    file: &str,
+    row: &str,
+) -> Result<bool, Fail> {
     let (rule, statement) = row.split_once(' ').ok_or("no statement")?;
     let line = format!(in rt.alloc(); "refused {rule}\n")?;
-    Ok(taken_in(rt, file, statement)?.as_slice() == line.as_bytes())
+    Ok(taken_in(threads, rt, file, statement)?.as_slice() == line.as_bytes())
 }
 
 // Fails with the first row that is refused otherwise.
-fn check_rules(rt: HostRuntime, file: &str) -> Result<(), Fail> {
+fn check_rules<R: Threads + Wait + Sync>(
+    threads: &R,
+    rt: HostRuntime,
+    file: &str,
+) -> Result<(), Fail> {
     for row in REFUSED.lines() {
-        if !is_refused(rt, file, row)? {
+        if !is_refused(threads, rt, file, row)? {
             return Err(Fail::from(row));
         }
     }
@@ -155,9 +202,13 @@ fn check_rules(rt: HostRuntime, file: &str) -> Result<(), Fail> {
 }
 
 // The same in a new store, whose file stays as it was.
-fn check_refusals(rt: HostRuntime, file: &str) -> Result<(), Fail> {
-    let stored = founded(rt, file)?;
-    check_rules(rt, file)?;
+fn check_refusals<R: Threads + Wait + Sync>(
+    threads: &R,
+    rt: HostRuntime,
+    file: &str,
+) -> Result<(), Fail> {
+    let stored = founded(threads, rt, file)?;
+    check_rules(threads, rt, file)?;
     if fs::read(&rt, file)?.as_slice() == stored.as_slice() {
         Ok(())
     } else {
@@ -168,16 +219,22 @@ fn check_refusals(rt: HostRuntime, file: &str) -> Result<(), Fail> {
 #[test]
 fn intake_names_the_least_broken_rule(rt: HostRuntime) -> Result<(), Fail> {
     let path = path_of(rt, "rules")?;
-    check_refusals(rt, path.as_str())?;
+    check_refusals(&rt, rt, path.as_str())?;
     fs::remove_file(&rt, path.as_str())?;
     Ok(())
 }
 
 // So many that a list which compares each of them with all others would take long.
-fn check_load(rt: HostRuntime, file: &str) -> Result<(), Fail> {
-    founded(rt, file)?;
+fn check_load<R: Threads + Wait + Sync>(
+    threads: &R,
+    rt: HostRuntime,
+    file: &str,
+) -> Result<(), Fail> {
+    founded(threads, rt, file)?;
     let line = format!(in rt.alloc(); "load {file} 7 20000")?;
-    if printed(rt, line.as_str(), "")?.as_slice() == b"loaded 20000\nlisted 19600\n".as_slice() {
+    if printed(threads, rt, line.as_str(), "")?.as_slice()
+        == b"loaded 20000\nlisted 19600\n".as_slice()
+    {
         Ok(())
     } else {
         Err(Fail::from("another end"))
@@ -187,7 +244,7 @@ fn check_load(rt: HostRuntime, file: &str) -> Result<(), Fail> {
 #[test]
 fn twenty_thousand_statements_are_loaded_and_listed(rt: HostRuntime) -> Result<(), Fail> {
     let path = path_of(rt, "load")?;
-    check_load(rt, path.as_str())?;
+    check_load(&rt, rt, path.as_str())?;
     fs::remove_file(&rt, path.as_str())?;
     Ok(())
 }

@@ -10,3 +10,5 @@ mod files;
 mod serving;
 #[cfg(test)]
 mod words;
+#[cfg(test)]
+mod workers;

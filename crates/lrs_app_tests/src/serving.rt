@@ -6,7 +6,9 @@ use lrs_app_runs::{
 };
 use lrs_hall::Finish;
 use std::alloc::Global;
+use std::sync::Wait;
 use std::test::Fail;
+use std::thread::Threads;
 
 const NO_CONTENT: &str = "HTTP/1.1 204 No Content\r\nX-Experience-API-Version: 1.0.3\r\n\r\n";
 
@@ -46,8 +48,13 @@ const ANSWERS: [(&str, &str); 7] = [
 ];
 
 // Whether the one connection is sent this and no entry is made.
-fn is_answered(alloc: Global, request: &str, response: &str) -> Result<bool, Fail> {
-    let ran = run_over(alloc, SERVE, &Around::calm(stored(), "", &[request]))?;
+fn is_answered<R: Threads + Wait + Sync>(
+    rt: &R,
+    alloc: Global,
+    request: &str,
+    response: &str,
+) -> Result<bool, Fail> {
+    let ran = run_over(rt, alloc, SERVE, &Around::calm(stored(), "", &[request]))?;
     let told = ran.ends(0, "served 1\n") && ran.responses == 1;
     Ok(told && ran.sends(response) && ran.leaves(stored()))
 }
@@ -55,7 +62,7 @@ fn is_answered(alloc: Global, request: &str, response: &str) -> Result<bool, Fai
 #[test]
 fn a_server_answers_to_the_byte(rt: HostRuntime) -> Result<(), Fail> {
     for (request, response) in ANSWERS.iter() {
-        if !is_answered(rt.alloc(), request, response)? {
+        if !is_answered(&rt, rt.alloc(), request, response)? {
             return Err(Fail::from(*request));
         }
     }
@@ -72,9 +79,20 @@ const LIMITS: [(&str, usize, &str); 2] = [
     ),
 ];
 
-fn keeps_to(alloc: Global, limit: &str, length: usize, response: &str) -> Result<bool, Fail> {
-    let stored = store(alloc, limit)?;
-    let ran = run_over(alloc, SERVE, &Around::calm(stored.as_slice(), "", &[PUT]))?;
+fn keeps_to<R: Threads + Wait + Sync>(
+    rt: &R,
+    alloc: Global,
+    limit: &str,
+    length: usize,
+    response: &str,
+) -> Result<bool, Fail> {
+    let stored = store(rt, alloc, limit)?;
+    let ran = run_over(
+        rt,
+        alloc,
+        SERVE,
+        &Around::calm(stored.as_slice(), "", &[PUT]),
+    )?;
     let keeps = ran.size() == length && ran.sends(response) && ran.status == 0;
     drop(ran);
     Ok(keeps)
@@ -83,7 +101,7 @@ fn keeps_to(alloc: Global, limit: &str, length: usize, response: &str) -> Result
 #[test]
 fn a_server_keeps_to_the_limit(rt: HostRuntime) -> Result<(), Fail> {
     for (limit, length, response) in LIMITS.iter() {
-        if !keeps_to(rt.alloc(), limit, *length, response)? {
+        if !keeps_to(&rt, rt.alloc(), limit, *length, response)? {
             return Err(Fail::from(*limit));
         }
     }
@@ -91,7 +109,8 @@ fn a_server_keeps_to_the_limit(rt: HostRuntime) -> Result<(), Fail> {
 }
 
 // Whether one connection, of which reads end at these places, is sent this.
-fn are_answered(
+fn are_answered<R: Threads + Wait + Sync>(
+    rt: &R,
     alloc: Global,
     stored: &[u8],
     stream: &str,
@@ -103,12 +122,18 @@ fn are_answered(
         cuts,
         ..Around::calm(stored, "", &streams)
     };
-    Ok(run_over(alloc, SERVE, &around)?.sends(answers))
+    Ok(run_over(rt, alloc, SERVE, &around)?.sends(answers))
 }
 
 // Fails if one connection isn't sent this.
-fn check_answers(alloc: Global, file: &[u8], stream: &str, answers: &str) -> Result<(), Fail> {
-    if are_answered(alloc, file, stream, &[], answers)? {
+fn check_answers<R: Threads + Wait + Sync>(
+    rt: &R,
+    alloc: Global,
+    file: &[u8],
+    stream: &str,
+    answers: &str,
+) -> Result<(), Fail> {
+    if are_answered(rt, alloc, file, stream, &[], answers)? {
         Ok(())
     } else {
         Err(Fail::from("other answers"))
@@ -116,13 +141,18 @@ fn check_answers(alloc: Global, file: &[u8], stream: &str, answers: &str) -> Res
 }
 
 // The file after two connections.
-fn behind_two(alloc: Global, first: &str, second: &str) -> Result<Vec<u8>, Fail> {
+fn behind_two<R: Threads + Wait + Sync>(
+    rt: &R,
+    alloc: Global,
+    first: &str,
+    second: &str,
+) -> Result<Vec<u8>, Fail> {
     let streams = [first, second];
-    file_behind(alloc, SERVE, &Around::calm(stored(), "", &streams))
+    file_behind(rt, alloc, SERVE, &Around::calm(stored(), "", &streams))
 }
 
-fn are_two_served(alloc: Global) -> Result<bool, Fail> {
-    let ran = run_over(alloc, SERVE, &Around::calm(stored(), "", &[PUT, GET]))?;
+fn are_two_served<R: Threads + Wait + Sync>(rt: &R, alloc: Global) -> Result<bool, Fail> {
+    let ran = run_over(rt, alloc, SERVE, &Around::calm(stored(), "", &[PUT, GET]))?;
     let served = ran.ends(0, "served 2\n");
     drop(ran);
     Ok(served)
@@ -130,17 +160,22 @@ fn are_two_served(alloc: Global) -> Result<bool, Fail> {
 
 #[test]
 fn a_server_keeps_statements_for_later_connections(rt: HostRuntime) -> Result<(), Fail> {
-    if !are_two_served(rt.alloc())? {
+    if !are_two_served(&rt, rt.alloc())? {
         return Err(Fail::from("not served"));
     }
-    let file = behind_two(rt.alloc(), PUT, GET)?;
-    check_answers(rt.alloc(), file.as_slice(), GET, SHOWN)
+    let file = behind_two(&rt, rt.alloc(), PUT, GET)?;
+    check_answers(&rt, rt.alloc(), file.as_slice(), GET, SHOWN)
 }
 
 // Fails with the first place at which a read may not end.
-fn check_cuts(alloc: Global, stream: &str, answers: &str) -> Result<(), Fail> {
+fn check_cuts<R: Threads + Wait + Sync>(
+    rt: &R,
+    alloc: Global,
+    stream: &str,
+    answers: &str,
+) -> Result<(), Fail> {
     for cut in 0..stream.len() {
-        if !are_answered(alloc, stored(), stream, &[cut], answers)? {
+        if !are_answered(rt, alloc, stored(), stream, &[cut], answers)? {
             return wrong_at(alloc, cut as u64);
         }
     }
@@ -148,9 +183,14 @@ fn check_cuts(alloc: Global, stream: &str, answers: &str) -> Result<(), Fail> {
 }
 
 // Fails if what comes one byte a read is answered otherwise.
-fn check_bytes(alloc: Global, stream: &str, answers: &str) -> Result<(), Fail> {
+fn check_bytes<R: Threads + Wait + Sync>(
+    rt: &R,
+    alloc: Global,
+    stream: &str,
+    answers: &str,
+) -> Result<(), Fail> {
     let each: Vec<usize> = (0..stream.len()).collect(alloc)?;
-    if are_answered(alloc, stored(), stream, each.as_slice(), answers)? {
+    if are_answered(rt, alloc, stored(), stream, each.as_slice(), answers)? {
         Ok(())
     } else {
         Err(Fail::from("byte by byte"))
@@ -161,8 +201,8 @@ fn check_bytes(alloc: Global, stream: &str, answers: &str) -> Result<(), Fail> {
 fn a_put_and_a_get_are_answered_alike_however_they_are_cut(rt: HostRuntime) -> Result<(), Fail> {
     let stream = joined(rt.alloc(), &[PUT, GET])?;
     let answers = joined(rt.alloc(), &[NO_CONTENT, SHOWN])?;
-    check_cuts(rt.alloc(), stream.as_str(), answers.as_str())?;
-    check_bytes(rt.alloc(), stream.as_str(), answers.as_str())
+    check_cuts(&rt, rt.alloc(), stream.as_str(), answers.as_str())?;
+    check_bytes(&rt, rt.alloc(), stream.as_str(), answers.as_str())
 }
 
 // The end of a conversation whose input ends after so many bytes of its first request.
@@ -174,16 +214,20 @@ fn finish_behind(length: usize) -> Finish {
 }
 
 fn is_silent(ran: &Ran, finish: Finish) -> bool {
-    match ran.talks.as_slice().first() {
-        Some(talk) => talk.finish() == finish && ran.sent.is_empty() && ran.responses == 0,
+    match ran.talk() {
+        Some(talk) => talk.finish() == finish && ran.sends("") && ran.responses == 0,
         None => false,
     }
 }
 
 // Whether so many bytes of a PUT get no answer and leave the file alone.
-fn is_unanswered(alloc: Global, length: usize) -> Result<bool, Fail> {
+fn is_unanswered<R: Threads + Wait + Sync>(
+    rt: &R,
+    alloc: Global,
+    length: usize,
+) -> Result<bool, Fail> {
     let part = PUT.get(..length).ok_or("no such part")?;
-    let ran = run_over(alloc, SERVE, &Around::calm(stored(), "", &[part]))?;
+    let ran = run_over(rt, alloc, SERVE, &Around::calm(stored(), "", &[part]))?;
     let told = ran.ends(0, "served 0\n") && ran.leaves(stored());
     let is_unanswered = told && is_silent(&ran, finish_behind(length));
     drop(ran);
@@ -193,7 +237,7 @@ fn is_unanswered(alloc: Global, length: usize) -> Result<bool, Fail> {
 #[test]
 fn a_part_of_a_put_is_not_answered(rt: HostRuntime) -> Result<(), Fail> {
     for length in 0..PUT.len() {
-        if !is_unanswered(rt.alloc(), length)? {
+        if !is_unanswered(&rt, rt.alloc(), length)? {
             return wrong_at(rt.alloc(), length as u64);
         }
     }
@@ -220,7 +264,7 @@ fn stream(alloc: Global) -> Result<String, Fail> {
 fn a_provider_is_made_and_keeps_to_its_area(rt: HostRuntime) -> Result<(), Fail> {
     let stream = stream(rt.alloc())?;
     let answers = joined(rt.alloc(), &[MADE, NO_CONTENT, FORBIDDEN])?;
-    check_answers(rt.alloc(), stored(), stream.as_str(), answers.as_str())
+    check_answers(&rt, rt.alloc(), stored(), stream.as_str(), answers.as_str())
 }
 
 const POST_NONE: &str =
@@ -241,15 +285,15 @@ const BATCHES: [(&str, &str); 2] = [
 #[test]
 fn a_server_tells_the_ids_of_a_batch(rt: HostRuntime) -> Result<(), Fail> {
     for (request, response) in BATCHES.iter() {
-        check_answers(rt.alloc(), stored(), request, response)?;
+        check_answers(&rt, rt.alloc(), stored(), request, response)?;
     }
     Ok(())
 }
 
 #[test]
 fn a_batch_that_comes_again_makes_no_entry(rt: HostRuntime) -> Result<(), Fail> {
-    let once = file_behind(rt.alloc(), SERVE, &Around::calm(stored(), "", &[POST]))?;
-    let twice = behind_two(rt.alloc(), POST, POST)?;
+    let once = file_behind(&rt, rt.alloc(), SERVE, &Around::calm(stored(), "", &[POST]))?;
+    let twice = behind_two(&rt, rt.alloc(), POST, POST)?;
     if twice.as_slice() == once.as_slice() {
         Ok(())
     } else {
@@ -269,20 +313,27 @@ const ENDS: [(&str, u64, u8, &str); 5] = [
 ];
 
 // Whether serving ends so over a file that stays as it is.
-fn ends(alloc: Global, stored: &[u8], failing: u64, status: u8, line: &str) -> Result<bool, Fail> {
+fn ends<R: Threads + Wait + Sync>(
+    rt: &R,
+    alloc: Global,
+    stored: &[u8],
+    failing: u64,
+    status: u8,
+    line: &str,
+) -> Result<bool, Fail> {
     let door_fails = [failing];
     let around = Around {
         door_fails: &door_fails,
         ..Around::calm(stored, "", &[ABOUT, ABOUT])
     };
-    let ran = run_over(alloc, SERVE, &around)?;
+    let ran = run_over(rt, alloc, SERVE, &around)?;
     Ok(ran.ends(status, line) && ran.leaves(stored))
 }
 
 #[test]
 fn a_server_opens_a_store_and_ends_by_what_fails_first(rt: HostRuntime) -> Result<(), Fail> {
     for (file, failing, status, line) in ENDS.iter() {
-        if !ends(rt.alloc(), file_of(file, &[]), *failing, *status, line)? {
+        if !ends(&rt, rt.alloc(), file_of(file, &[]), *failing, *status, line)? {
             return Err(Fail::from(*line));
         }
     }
@@ -299,13 +350,13 @@ const STAGES: [(&str, &str); 4] = [
 ];
 
 // A PUT over a disk of which all calls from this one on fail.
-fn served_until(alloc: Global, first: u64) -> Result<Ran, Fail> {
+fn served_until<R: Threads + Wait + Sync>(rt: &R, alloc: Global, first: u64) -> Result<Ran, Fail> {
     let failing: Vec<u64> = (first..64).collect(alloc)?;
     let around = Around {
         disk_fails: failing.as_slice(),
         ..Around::calm(stored(), "", &[PUT])
     };
-    run_over(alloc, SERVE, &around)
+    run_over(rt, alloc, SERVE, &around)
 }
 
 fn is_of_stage(ran: &Ran, stage: usize) -> bool {
@@ -316,8 +367,13 @@ fn is_of_stage(ran: &Ran, stage: usize) -> bool {
 }
 
 // The stage of such a run: this one or the next.
-fn stage_of(alloc: Global, first: u64, stage: usize) -> Result<Option<usize>, Fail> {
-    let ran = served_until(alloc, first)?;
+fn stage_of<R: Threads + Wait + Sync>(
+    rt: &R,
+    alloc: Global,
+    first: u64,
+    stage: usize,
+) -> Result<Option<usize>, Fail> {
+    let ran = served_until(rt, alloc, first)?;
     let next = stage.saturating_add(1);
     if is_of_stage(&ran, stage) {
         Ok(Some(stage))
@@ -333,7 +389,7 @@ fn stage_of(alloc: Global, first: u64, stage: usize) -> Result<Option<usize>, Fa
 fn a_failing_disk_is_told_to_the_client_and_at_the_end(rt: HostRuntime) -> Result<(), Fail> {
     let mut stage = 0;
     for first in 0..40 {
-        match stage_of(rt.alloc(), first, stage)? {
+        match stage_of(&rt, rt.alloc(), first, stage)? {
             Some(next) => stage = next,
             None => return Err(Fail::from("of no stage")),
         }

@@ -1,7 +1,9 @@
 //! Lines of words that are no command.
 use lrs_app_runs::{Around, run_over};
 use std::alloc::Global;
+use std::sync::Wait;
 use std::test::Fail;
+use std::thread::Threads;
 
 // Lines that are no command. The first has no words.
 const NO_COMMANDS: &str = r#"
@@ -31,7 +33,8 @@ init s --admin adminadmin --limit=+512
 init s --admin adminadmin --limit 000000000000000000512
 serve s a --connections 1
 serve s --workers 1 --connections 1
-serve s a --workers 2 --connections 1
+serve s a --workers 17 --connections 1
+serve s a --workers 0 --connections 1
 serve s a t --workers 1 --connections 1
 intake --help
 --help
@@ -66,15 +69,15 @@ init s --admin adminadmin --limit 000000000001073741824
 init s --admin adminadmin --base http://a
 "#;
 
-fn is_usage(alloc: Global, line: &str) -> Result<bool, Fail> {
-    let ran = run_over(alloc, line, &Around::calm(&[], "", &[]))?;
+fn is_usage<R: Threads + Wait + Sync>(rt: &R, alloc: Global, line: &str) -> Result<bool, Fail> {
+    let ran = run_over(rt, alloc, line, &Around::calm(&[], "", &[]))?;
     Ok(ran.ends(1, "usage\n") && ran.disk().is_none())
 }
 
 #[test]
 fn other_words_are_a_usage_fault(rt: HostRuntime) -> Result<(), Fail> {
     for line in NO_COMMANDS.lines() {
-        if !is_usage(rt.alloc(), line)? {
+        if !is_usage(&rt, rt.alloc(), line)? {
             return Err(Fail::from(line));
         }
     }

@@ -12,7 +12,7 @@ use Rattle.clap.specs.Walk.{Row, Rule, Text, first_of}
 use Rattle.clap.specs.Simple.{App, new_app, new_rule, with_rule, with_subcommand, subcommand_of}
 use Rattle.clap.specs.Faults.{fault_of}
 use Rattle.lrs_json.specs.Names.{is_among}
-use Rattle.lrs_parts.specs.Founding.{IsToken, IsBase}
+use Rattle.lrs_state.specs.Founding.{IsToken, IsBase}
 use Rattle.lrs_journal.specs.declared.sizes.TheConstants.{LEAST_BYTES, MOST_BYTES}
 use Rattle.lrs_command_line.specs.declared.words.TheConstants.{DEFAULT_BASE, DEFAULT_LIMIT, MOST_CONNECTIONS}
 use Rattle.lrs_command_line.specs.declared.words.TheConstants.{MOST_DIGITS, MOST_STATEMENTS, MOST_WORKERS}
@@ -209,6 +209,10 @@ pub record IsServeInRange (w : ServeWords) : Type 0 where
   pub workers : IsNumberIn 1 MOST_WORKERS w.workers
   pub connections : IsNumberIn 1 MOST_CONNECTIONS w.connections
 
+abbrev pub workers_of : ServeWords → ℕ
+workers_of w = digits_value 10 w.workers
+
+-- of each worker
 abbrev pub connections_of : ServeWords → ℕ
 connections_of w = digits_value 10 w.connections
 

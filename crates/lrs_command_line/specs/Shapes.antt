@@ -11,7 +11,7 @@ use Rattle.clap.specs.Faults.{fault_of}
 use Rattle.lrs_json.specs.Names.{is_among}
 use Rattle.lrs_command_line.specs.CommandLine.{CommandLine, init, intake, serve, load, IsInRange, base_of, limit_of}
 use Rattle.lrs_command_line.specs.CommandLine.{connections_of, count_of, is_name, options_of, program, seed_of}
-use Rattle.lrs_command_line.specs.CommandLine.{whole_line}
+use Rattle.lrs_command_line.specs.CommandLine.{whole_line, workers_of}
 use Rattle.lrs_command_line.specs.declared.words.CommandLine as code
 use Rattle.lrs_command_line.specs.declared.words.CommandLine.TheVariants as line
 use Rattle.lrs_command_line.specs.declared.words.ProgramCommand.{ProgramCommand}
@@ -30,8 +30,8 @@ abbrev pub Denotes : ProgramCommand → CommandLine → Type 0
 Denotes (words.Init file admin base limit) (init w) = (file ≡ w.file) × (admin ≡ w.admin) × (base ≡ base_of w)
     × (limit ≡ limit_of w)
 Denotes (words.Intake file) (intake name) = file ≡ name
-Denotes (words.Serve file address connections) (serve w) = (file ≡ w.file) × (address ≡ w.address)
-    × (connections ≡ connections_of w)
+Denotes (words.Serve file address workers connections) (serve w) = (file ≡ w.file) × (address ≡ w.address)
+    × (workers ≡ workers_of w) × (connections ≡ connections_of w)
 Denotes (words.Load file seed count) (load w) = (file ≡ w.file) × (seed ≡ seed_of w) × (count ≡ count_of w)
 Denotes other command = ⊥
 

@@ -3,7 +3,7 @@ ghost use Rattle.std.specs.Char.{is_ascii_digit};
 ghost use Rattle.std.specs.List.{list_all};
 ghost use Rattle.std.specs.Option.{SomeIff, option_copied, option_map_or};
 ghost use Rattle.std.specs.Str.Parse.{digits_value};
-ghost use Rattle.lrs_parts.specs.Founding.{IsToken, IsBase};
+ghost use Rattle.lrs_state.specs.Founding.{IsToken, IsBase};
 ghost use Rattle.lrs_command_line.specs.CommandLine.{CommandLine as SpecCommandLine, init, serve, load, InitWords, ServeWords, LoadWords, IsCommandLine, IsInRange, IsInitInRange, IsServeInRange, IsLoadInRange, IsNumber, IsNumberIn, IsLimit};
 ghost use Rattle.lrs_command_line.specs.Shapes.{IsReadAs, Denotes, command_of, named};
 
@@ -14,7 +14,7 @@ use crate::words::plain::{is_plain, read_plain};
 use crate::words::taken::read_taken;
 use lrs_journal::{LEAST_BYTES, MOST_BYTES};
 use lrs_json::{Memory, Text};
-use lrs_parts::{is_base, is_token};
+use lrs_state::{is_base, is_token};
 use std::alloc::Global;
 
 /// The base address of a store whose words name none.
@@ -27,7 +27,7 @@ const DEFAULT_LIMIT: u64 = 268_435_456;
 const MOST_DIGITS: usize = 20;
 
 /// How many workers may serve.
-const MOST_WORKERS: u64 = 1;
+const MOST_WORKERS: u64 = 16;
 
 /// How many connections a worker may be asked to serve.
 const MOST_CONNECTIONS: u64 = 10_000;
@@ -47,9 +47,11 @@ pub enum ProgramCommand {
     Intake {
         file: Text,
     },
+    /// So many workers at once, and so many connections of each of them.
     Serve {
         file: Text,
         address: Text,
+        workers: u32,
         connections: u32,
     },
     Load {
@@ -201,14 +203,17 @@ fn test_serve(
     } in
         MatchOption found (IsServeInRange w → ⊥) (λ words. IsServeInRange w × Denotes words (serve w))) }
 {
-    let workers = read_number(workers, 1, MOST_WORKERS);
+    let Some(workers) = read_number(workers, 1, MOST_WORKERS) else {
+        return Ok(None);
+    };
     match read_number(connections, 1, MOST_CONNECTIONS) {
-        Some(connections) if workers.is_some() => Ok(Some(ProgramCommand::Serve {
+        Some(connections) => Ok(Some(ProgramCommand::Serve {
             file: Text::of(alloc, file)?,
             address: Text::of(alloc, address)?,
+            workers: workers as u32,
             connections: connections as u32,
         })),
-        _ => Ok(None),
+        None => Ok(None),
     }
 }
 

@@ -4,22 +4,29 @@ use std::alloc::Global;
 use std::test::Fail;
 
 // Lines of words, and after `=>` the command that each is with its values, or `usage`. `''` is the empty word. From the
-// ninth to the fifteenth, and where a `--` stands, they aren't plain.
+// ninth to the sixteenth, and where a `--` or a `=` stands, they aren't plain.
 const COMMANDS: &str = r#"intake s => intake s
 init s --admin adminadmin => init s adminadmin http://127.0.0.1:8080/ 268435456
 init --admin adminadmin s => init s adminadmin http://127.0.0.1:8080/ 268435456
 init --limit 512 s --base http://a/ --admin adminadmin => init s adminadmin http://a/ 512
 init s --base http://a/ --admin adminadmin --limit 00512 => init s adminadmin http://a/ 512
-serve s a --workers 1 --connections 9 => serve s a 9
-serve --connections 9 s a --workers 1 => serve s a 9
-serve s --workers 1 a --connections 10000 => serve s a 10000
+serve s a --workers 1 --connections 9 => serve s a 1 9
+serve --connections 9 s a --workers 4 => serve s a 4 9
+serve s --workers 16 a --connections 10000 => serve s a 16 10000
 init s --admin=adminadmin => init s adminadmin http://127.0.0.1:8080/ 268435456
 init --limit=600 --admin adminadmin s => init s adminadmin http://127.0.0.1:8080/ 600
 intake -- s => intake s
 intake -- -s => intake -s
 intake - => intake -
 intake '' => intake ''
-serve --workers=1 --connections=2 -- s --workers => serve s --workers 2
+serve --workers=1 --connections=2 -- s --workers => serve s --workers 1 2
+serve s --workers=16 a --connections 2 => serve s a 16 2
+serve s a --workers 00000000000000000002 --connections 1 => serve s a 2 1
+serve s a --workers 17 --connections 1 => usage
+serve s a --workers=17 --connections 1 => usage
+serve s a --workers 0 --connections 1 => usage
+serve s a --workers 000000000000000000002 --connections 1 => usage
+serve s a --workers 16 --connections 10001 => usage
 init s --admin adminadmin --limit 1073741824 => init s adminadmin http://127.0.0.1:8080/ 1073741824
 init s --admin adminadmin --limit 1073741825 => usage
 init s --admin adminadmin --limit 00000000001073741824 => init s adminadmin http://127.0.0.1:8080/ 1073741824
@@ -78,11 +85,12 @@ fn told(alloc: Global, read: &Option<ProgramCommand>) -> Result<String, Fail> {
             ProgramCommand::Serve {
                 file,
                 address,
+                workers,
                 connections,
             },
         ) => {
             let (file, address) = (file.as_str(), address.as_str());
-            format!(in alloc; "serve {file} {address} {connections}")?
+            format!(in alloc; "serve {file} {address} {workers} {connections}")?
         }
         Some(ProgramCommand::Load { file, seed, count }) => {
             let file = file.as_str();

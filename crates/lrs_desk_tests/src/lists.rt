@@ -23,6 +23,8 @@ TOKEN GET /xapi/statements?agent=%7B%22mbox%22:%22mailto:i@b%22%7D => 200 {"stat
 TOKEN GET /xapi/statements?agent=%7B%22mbox%22:%22mailto:i@b%22%7D&related_agents=true&format=ids => 200 {"statements":[{"actor":LEARNER,"verb":{"id":"http://v/1"},"object":{"id":"http://a/1"},"context":{"registration":"ID10","instructor":{"mbox":"mailto:i@b"},"contextActivities":{"parent":[{"id":"http://a/2"}]}},"id":"ID40","timestamp":"2023-11-14T22:13:20.000Z","stored":"2023-11-14T22:13:20.000Z","authority":{"objectType":"Agent","account":{"homePage":"https://lrs.invalid/callers","name":"session:ID20"}},"version":"1.0.0"}],"more":""}
 TOKEN GET /xapi/statements?agent=%7B%22account%22:%7B%22homePage%22:%22https://lrs.invalid/callers%22,%22name%22:%22session:ID20%22%7D%7D&related_agents=true&format=ids => 200 {"statements":[{"actor":LEARNER,"verb":{"id":"http://v/1"},"object":{"id":"http://a/1"},"context":{"registration":"ID10","instructor":{"mbox":"mailto:i@b"},"contextActivities":{"parent":[{"id":"http://a/2"}]}},"id":"ID40","timestamp":"2023-11-14T22:13:20.000Z","stored":"2023-11-14T22:13:20.000Z","authority":{"objectType":"Agent","account":{"homePage":"https://lrs.invalid/callers","name":"session:ID20"}},"version":"1.0.0"},{"verb":{"id":"VERB/initialized"},FIRST,"id":"ID3f","timestamp":"2023-11-14T22:13:20.000Z","stored":"2023-11-14T22:13:20.000Z","authority":{"objectType":"Agent","account":{"homePage":"https://lrs.invalid/callers","name":"session:ID20"}},"version":"1.0.0"}],"more":""}
 TOKEN GET /xapi/statements?agent=%7B%22account%22:%7B%22homePage%22:%22https://lrs.invalid/callers%22,%22name%22:%22admin%22%7D%7D&related_agents=true => 200 {"statements":[],"more":""}
+TOKEN GET /xapi/statements?agent=%7B%22account%22:%7B%22homePage%22:%22https://lrs.invalid/callers%22,%22name%22:%22desk%22%7D%7D&related_agents=true&format=ids => 200 {"statements":[{"actor":LEARNER,"verb":{"id":"VERB/launched"},"object":{"objectType":"Activity","id":"BASEactivities/0/2"},"context":{"registration":"ID10","contextActivities":{"grouping":[{"objectType":"Activity","id":"http://c/u"}],"category":[{"objectType":"Activity","id":"CMI5"}]},"extensions":{"https://w3id.org/xapi/cmi5/context/extensions/sessionid":"ID20","https://w3id.org/xapi/cmi5/context/extensions/launchmode":"Normal","https://w3id.org/xapi/cmi5/context/extensions/launchurl":"https://au.example/u","https://w3id.org/xapi/cmi5/context/extensions/moveon":"CompletedAndPassed","https://w3id.org/xapi/cmi5/context/extensions/masteryscore":0.8}},"id":"ID21","timestamp":"2023-11-14T22:13:20.000Z","stored":"2023-11-14T22:13:20.000Z","authority":{"objectType":"Agent","account":{"homePage":"https://lrs.invalid/callers","name":"desk"}},"version":"1.0.0"}],"more":""}
+TOKEN GET /xapi/statements?agent=%7B%22account%22:%7B%22homePage%22:%22https://lrs.invalid/callers%22,%22name%22:%22desk%22%7D%7D => 200 {"statements":[],"more":""}
 TOKEN GET /xapi/statements?agent=AGENT&verb=http://v/1&format=ids => 200 {"statements":[{"actor":LEARNER,"verb":{"id":"http://v/1"},"object":{"id":"http://a/1"},"context":{"registration":"ID10","instructor":{"mbox":"mailto:i@b"},"contextActivities":{"parent":[{"id":"http://a/2"}]}},"id":"ID40","timestamp":"2023-11-14T22:13:20.000Z","stored":"2023-11-14T22:13:20.000Z","authority":{"objectType":"Agent","account":{"homePage":"https://lrs.invalid/callers","name":"session:ID20"}},"version":"1.0.0"}],"more":""}
 TOKEN GET /xapi/statements?registration=ID10&verb=http://v/1&format=ids => 200 {"statements":[{"actor":LEARNER,"verb":{"id":"http://v/1"},"object":{"id":"http://a/1"},"context":{"registration":"ID10","instructor":{"mbox":"mailto:i@b"},"contextActivities":{"parent":[{"id":"http://a/2"}]}},"id":"ID40","timestamp":"2023-11-14T22:13:20.000Z","stored":"2023-11-14T22:13:20.000Z","authority":{"objectType":"Agent","account":{"homePage":"https://lrs.invalid/callers","name":"session:ID20"}},"version":"1.0.0"}],"more":""}
 TOKEN GET /xapi/statements?registration=ID11 => 200 {"statements":[],"more":""}
@@ -36,6 +38,24 @@ TOKEN GET /xapi/statements?until=2023-11-14T22:13:19.999Z => 200 {"statements":[
 #[test]
 fn a_session_lists_the_statements_of_its_registration(rt: HostRuntime) -> Result<(), Fail> {
     check_rows(rt.alloc(), LISTED)
+}
+
+// A session whose id has a letter, which its account spells in lower case.
+const LETTERS: &str = r#"
+sample
+draw 42 3
+admin POST /desk/registrations/ID10/launches {"unit":"http://c/u"} => 200 {"session":"ID2a","launchMethod":"AnyWindow","url":"ADDRESSZEROS3-5WHOSEID10WHICH0%2F2"} kept
+draw 0 4
+nobody POST /fetch/ZEROS3-5 => 200 {"auth-token":"ZEROS4-6"} kept
+draw 64 0
+ZEROS4-6 POST /xapi/statements {INITIALIZED,SAYING"ID2a"}}} => 200 ["ID40"] kept
+admin GET /xapi/statements?agent=%7B%22account%22:%7B%22homePage%22:%22https://lrs.invalid/callers%22,%22name%22:%22session:ID2a%22%7D%7D&related_agents=true&format=ids => 200 {"statements":[{"verb":{"id":"VERB/initialized"},SAYING"ID2a"}},"id":"ID40","timestamp":"2023-11-14T22:13:20.000Z","stored":"2023-11-14T22:13:20.000Z","authority":{"objectType":"Agent","account":{"homePage":"https://lrs.invalid/callers","name":"session:ID2a"}},"version":"1.0.0"}],"more":""}
+admin GET /xapi/statements?agent=%7B%22account%22:%7B%22homePage%22:%22https://lrs.invalid/callers%22,%22name%22:%22session:ID2A%22%7D%7D&related_agents=true => 200 {"statements":[],"more":""}
+"#;
+
+#[test]
+fn a_session_is_found_by_its_account_in_lower_case(rt: HostRuntime) -> Result<(), Fail> {
+    check_rows(rt.alloc(), LETTERS)
 }
 
 // Pages, and the links from one to the next.

@@ -1,70 +1,53 @@
--- What all acts of a conversation do to the desk, its clock and its disk, and all acts of a worker's talks.
+-- What all acts of a conversation leave in the worker's pass and its clock, and all acts of a worker's talks.
 use Rattle.std.proofs.Common.{ℕ, List, Option}
-use Rattle.lrs_disk.specs.Door.{DoorState}
-use Rattle.lrs_disk.specs.declared.disk.Disk as disks
-use Rattle.lrs_hall.specs.Acts.{ActsIn, ActsOn, DeskAndClock}
-use Rattle.lrs_hall.specs.Conversation.{ActOn, Worker}
-use Rattle.lrs_hall.specs.Serving.{AreConversations, IsWholeTalk, all_receipts, worker_of}
-use Rattle.lrs_hall.specs.Steps.{Served}
+use Rattle.lrs_disk.specs.Door.{Returned}
+use Rattle.lrs_machine.specs.Line.{BeginsWith, Record}
+use Rattle.lrs_hall.specs.Acts.{ActsIn, ActsOn, Reach, SeenAndClock}
+use Rattle.lrs_hall.specs.Conversation.{Worker}
+use Rattle.lrs_hall.specs.Serving.{AddsReadings, AreOnLinks, IsWholeTalk, all_receipts, clocks}
 use Rattle.lrs_hall.specs.Talks.{Talk}
-use Rattle.lrs_hall.specs.declared.serving.ServeEnd.{ServeEnd}
-use Rattle.lrs_hall.proofs.Conversing.{CountsOn, Reads, Rises, Stays, StaysOn, counts, reads, rises, stays}
-use Rattle.lrs_hall.proofs.Lines.{begins_self}
+use Rattle.lrs_hall.proofs.Conversing.{GoesOn, Reads, goes_on, reads}
 use Rattle.lrs_hall.proofs.Talking.{all_seen, over_all, over_whole, talk_seen}
-use Rattle.lrs_hall.proofs.Translating.{IsBegun, acts_in, begun_before, seen_of}
+use Rattle.lrs_hall.proofs.Translating.{IsBegun, acts_in, begun_before, reach_of}
 
-module _ {D : Type 0} (d : disks.Ghosts D) where
-  abbrev pub DeskActs : ActOn (DeskAndClock D)
-  DeskActs = ActsOn d.told d.image d.time d.image_since d.fault_count
+-- nothing is asked of what was before
+abbrev Anything : SeenAndClock → Type 0
+Anything x = Unit {0}
 
+-- a worker over a line that begins with all that it has seen
+abbrev pub on_line : Worker SeenAndClock → Worker Reach
+on_line w = record { draws = w.draws; reached = reach_of w.reached }
+
+module _ (limit : ℕ) where
   -- ---- one conversation
 
-  module _ (stream : Option (List ℕ)) (talk : Talk) (out : List ℕ) (old new : Worker (DeskAndClock D)) (whole : IsWholeTalk DeskActs stream talk out old new) where
-    pub talk_reads : Reads d.told d.image d.time d.image_since d.fault_count talk.receipts old.reached new.reached
-    talk_reads = over_whole DeskActs (Reads d.told d.image d.time d.image_since d.fault_count) (reads d.told d.image d.time d.image_since d.fault_count) _ talk.receipts out talk.finish old new whole
+  module _ (stream : Option (List ℕ)) (talk : Talk) (out : List ℕ) (old new : Worker SeenAndClock) (whole : IsWholeTalk (ActsOn limit) stream talk out old new) where
+    pub talk_reads : AddsReadings old.reached.readings new.reached.readings (clocks talk.receipts)
+    talk_reads = over_whole (ActsOn limit) (Reads limit) (reads limit) _ talk.receipts out talk.finish old new whole
 
-    pub talk_counts : CountsOn d.told d.image d.time d.image_since d.fault_count talk.receipts old.reached new.reached
-    talk_counts = over_whole DeskActs (CountsOn d.told d.image d.time d.image_since d.fault_count) (counts d.told d.image d.time d.image_since d.fault_count) _ talk.receipts out talk.finish old new whole
+    pub talk_goes_on : BeginsWith old.reached.seen.front new.reached.seen.front
+    talk_goes_on = over_whole (ActsOn limit) (GoesOn limit) (goes_on limit) _ talk.receipts out talk.finish old new whole
 
-    pub talk_rises : Rises d.told d.image d.time d.image_since d.fault_count talk.receipts old.reached new.reached
-    talk_rises = over_whole DeskActs (Rises d.told d.image d.time d.image_since d.fault_count) (rises d.told d.image d.time d.image_since d.fault_count) _ talk.receipts out talk.finish old new whole
-
-    pub talk_stays : Stays d.told d.image d.time d.image_since old.reached.desk new.reached.desk
-    talk_stays = over_whole DeskActs (StaysOn d.told d.image d.time d.image_since d.fault_count) (stays d.told d.image d.time d.image_since d.fault_count) _ talk.receipts out talk.finish old new whole
-
-    -- its acts are acts on the one line in the end
-    pub talk_on_line : IsWholeTalk (ActsIn old.reached.desk.limit new.reached.desk.line) stream talk out (worker_of d.time old.draws old.reached.desk) (worker_of d.time new.draws new.reached.desk)
-    talk_on_line =
-        let limit = old.reached.desk.limit in
-        let line = new.reached.desk.line in
-        talk_seen (seen_of d.time) DeskActs (ActsIn limit line) (IsBegun limit line)
-        (begun_before d.told d.image d.time d.image_since d.fault_count limit line) (acts_in d.told d.image d.time d.image_since d.fault_count limit line)
-        _ talk.receipts out talk.finish old new (begins_self line, talk_stays.limit) whole
+    pub talk_on_line : (line : List Record) → IsBegun line new.reached → IsWholeTalk (ActsIn limit line) stream talk out (on_line old) (on_line new)
+    talk_on_line line begun =
+        talk_seen reach_of (ActsOn limit) (ActsIn limit line) Anything (IsBegun line) (λ caller command draw reply receipt before after on p. tt)
+        (λ caller command draw reply receipt before after on q. begun_before limit caller command draw reply receipt line before after on q)
+        (λ caller command draw reply receipt before after on p q. acts_in limit caller command draw reply receipt line before after on q)
+        _ talk.receipts out talk.finish old new tt begun whole
 
   -- ---- all talks of a worker
 
-  module _ {connections : ℕ} {old new : Worker (DeskAndClock D)} {before after : DoorState} {talks : List Talk} {end : ServeEnd} (served : Served DeskActs connections old new before after talks end) where
-    pub all_read : Reads d.told d.image d.time d.image_since d.fault_count (all_receipts talks) old.reached new.reached
-    all_read = over_all DeskActs (Reads d.told d.image d.time d.image_since d.fault_count) (reads d.told d.image d.time d.image_since d.fault_count) talks served.links old new served.on_links
+  module _ (talks : List Talk) (links : List Returned) (old new : Worker SeenAndClock) (all : AreOnLinks (ActsOn limit) talks links old new) where
+    pub all_read : AddsReadings old.reached.readings new.reached.readings (clocks (all_receipts talks))
+    all_read = over_all (ActsOn limit) (Reads limit) (reads limit) talks links old new all
 
-    pub all_count : CountsOn d.told d.image d.time d.image_since d.fault_count (all_receipts talks) old.reached new.reached
-    all_count = over_all DeskActs (CountsOn d.told d.image d.time d.image_since d.fault_count) (counts d.told d.image d.time d.image_since d.fault_count) talks served.links old new served.on_links
+    pub all_go_on : BeginsWith old.reached.seen.front new.reached.seen.front
+    all_go_on = over_all (ActsOn limit) (GoesOn limit) (goes_on limit) talks links old new all
 
-    pub all_rise : Rises d.told d.image d.time d.image_since d.fault_count (all_receipts talks) old.reached new.reached
-    all_rise = over_all DeskActs (Rises d.told d.image d.time d.image_since d.fault_count) (rises d.told d.image d.time d.image_since d.fault_count) talks served.links old new served.on_links
-
-    pub all_stay : Stays d.told d.image d.time d.image_since old.reached.desk new.reached.desk
-    all_stay = over_all DeskActs (StaysOn d.told d.image d.time d.image_since d.fault_count) (stays d.told d.image d.time d.image_since d.fault_count) talks served.links old new served.on_links
-
-    -- their acts are acts on the one line in the end
-    pub all_on_line : AreConversations d.time old.reached.desk new.reached.desk old.draws served.links talks
-    all_on_line =
-        let limit = old.reached.desk.limit in
-        let line = new.reached.desk.line in
-        record {
-          begins = all_stay.begins;
-          behind = new.draws;
-          on_links = all_seen (seen_of d.time) DeskActs (ActsIn limit line) (IsBegun limit line)
-              (begun_before d.told d.image d.time d.image_since d.fault_count limit line) (acts_in d.told d.image d.time d.image_since d.fault_count limit line)
-              talks served.links old new (begins_self line, all_stay.limit) served.on_links;
-        }
+    -- their acts are acts on each line that begins with what was seen in the end
+    pub all_on_line : (line : List Record) → IsBegun line new.reached → AreOnLinks (ActsIn limit line) talks links (on_line old) (on_line new)
+    all_on_line line begun =
+        all_seen reach_of (ActsOn limit) (ActsIn limit line) Anything (IsBegun line) (λ caller command draw reply receipt before after on p. tt)
+        (λ caller command draw reply receipt before after on q. begun_before limit caller command draw reply receipt line before after on q)
+        (λ caller command draw reply receipt before after on p q. acts_in limit caller command draw reply receipt line before after on q)
+        talks links old new tt begun all

@@ -7,6 +7,7 @@ use Rattle.lrs_disk.specs.declared.door.Next.TheVariants as answers
 use Rattle.lrs_disk.specs.Faults.{Rises}
 use Rattle.lrs_hall.specs.declared.talk.Finish.{Finish}
 use Rattle.lrs_hall.specs.declared.talk.Finish.TheVariants as finish
+use Rattle.lrs_hall.specs.Acts.{ActsOn, SeenAndClock, limit_in}
 use Rattle.lrs_hall.specs.Conversation.{ActOn, Worker}
 use Rattle.lrs_hall.specs.Serving.{AreOnLinks, Brought, EndsServing, IsWholeTalk, IsOnLink, is_fault, BringsOne}
 use Rattle.lrs_hall.specs.declared.serving.ServeEnd.{ServeEnd}
@@ -42,6 +43,11 @@ is_over acts talk old new left stream brought before now out fresh faults unread
   talks = subst (λ s. IsWholeTalk acts s talk out old new) (unread ∙ sym kept) talks;
   rose = rose_by fresh faults talk.finish zero cause;
 }
+
+-- the limit stays
+pub on_link_same : (talk : Talk) (link : Returned) (old new : Worker SeenAndClock) (marks later : List ℕ) → later ≡ marks → IsOnLink (ActsOn (limit_in later)) talk link old new
+    → IsOnLink (ActsOn (limit_in marks)) talk link old new
+on_link_same talk link old new marks later same on_link = subst (λ (ms : List ℕ). IsOnLink (ActsOn (limit_in ms)) talk link old new) same on_link
 
 pub brings_one : {L : Type 0} (stream : L → Option (List ℕ)) (link : L) (own : Option (List ℕ)) (before now : Option (List (List ℕ)))
     → own ≡ stream link → Brings stream (answers.Joined link) before now → BringsOne own before now

@@ -3,8 +3,10 @@ use Rattle.std.proofs.Common.{◌≡◌, ◌-◌, ℕ, List, [], ◌∷◌, ◌+
 use Rattle.lrs_http.specs.Links.{stream_left}
 use Rattle.lrs_http.specs.Stream.{most_requests}
 use Rattle.lrs_machine.specs.Acts.{Receipt}
+use Rattle.lrs_hall.specs.declared.exchange.Exchanged.{Exchanged}
 use Rattle.lrs_hall.specs.declared.exchange.Exchanged.TheVariants.{Next, Last}
 use Rattle.lrs_hall.specs.declared.talk.Finish.{Finish}
+use Rattle.lrs_hall.specs.Acts.{ActsOn, SeenAndClock, limit_in}
 use Rattle.lrs_hall.specs.Conversation.{ActOn, Worker, going, ended_with, Converses, EndsOpen}
 use Rattle.lrs_hall.specs.Serving.{IsWholeTalk}
 use Rattle.lrs_hall.specs.Steps.{Exchanges}
@@ -39,6 +41,19 @@ so_far_none acts start stream before = record {
   sent = map_nothing before;
   goes = λ more rest f end talks. subst (λ left. Converses acts (going most_requests left) more rest f start end) (nothing_kept stream) talks;
 }
+
+-- before the first request nothing was read and nothing answered
+pub so_far_begun : {X : Type 0} (acts : ActOn X) (start : Worker X) (stream before : Option (List ℕ)) (kept : List ℕ) (receipts : List Receipt) → kept ≡ [] → receipts ≡ []
+    → SoFar acts start stream before most_requests (stream_left kept stream) receipts before start
+so_far_begun acts start stream before kept receipts none empty =
+    subst (λ (rs : List Receipt). SoFar acts start stream before most_requests (stream_left kept stream) rs before start) (sym empty)
+    (subst (λ (bytes : List ℕ). SoFar acts start stream before most_requests (stream_left bytes stream) [] before start) (sym none) (so_far_none acts start stream before))
+
+-- the limit stays
+pub exchanges_same : (most : ℕ) (left after taken took : Option (List ℕ)) (old new : Worker SeenAndClock) (exchanged : Exchanged) (marks later : List ℕ) → later ≡ marks
+    → Exchanges (ActsOn (limit_in later)) most left after taken took old new exchanged → Exchanges (ActsOn (limit_in marks)) most left after taken took old new exchanged
+exchanges_same most left after taken took old new exchanged marks later same turn =
+    subst (λ (ms : List ℕ). Exchanges (ActsOn (limit_in ms)) most left after taken took old new exchanged) same turn
 
 pub so_far_next : {X : Type 0} (acts : ActOn X) (start now new : Worker X) (stream before left after taken took : Option (List ℕ)) (most : ℕ) (receipts : List Receipt) (receipt : Receipt)
     → SoFar acts start stream before most left receipts taken now → Exchanges acts most left after taken took now new (Next receipt)

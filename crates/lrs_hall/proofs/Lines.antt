@@ -73,11 +73,6 @@ one_has (Some e) rest some = refl
 pub entries_begin : (a b : List Record) → BeginsWith a b → BeginsWith (entries a) (entries b)
 entries_begin a b x = (entries x.0, sym (entries_append a x.0) ∙ ap entries x.1)
 
--- where there are entries, there are records
-pub has_records : (line : List Record) → 0 < length (entries line) → 1 ≤ length line
-has_records [] some = absurd (omega (arith, some))
-has_records (r ∷ line) some = omega arith
-
 -- the history before a point
 pub entries_take : (line : List Record) (n : ℕ) → entries (take n line) ≡ take (entries_in n line) (entries line)
 entries_take line n =

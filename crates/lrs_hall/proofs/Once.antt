@@ -1,13 +1,15 @@
--- Laws of acts over one line: each entry is that of one receipt, and what was acknowledged is kept.
-use Rattle.std.proofs.Common.{arith, ◌≡◌, ◌≢◌, ◌⊎◌, ℕ, zero, suc, ◌+◌, ◌-◌, ◌<◌, ◌≤◌, List, [], ◌∷◌, ◌++◌, length, take, drop, Option, Some, None, Bool, true, false, Result, Ok, Err, refl, sym, ap, ◌∙◌, subst, inl, inr, append_assoc, eq-eqb, ne_eqb}
+-- Laws of acts over one line: each entry is that of one receipt, a worker alone acts on just what it has seen, and what was
+-- acknowledged is kept.
+use Rattle.std.proofs.Common.{arith, ◌≡◌, ◌≢◌, ◌⊎◌, ℕ, zero, suc, ◌+◌, ◌-◌, ◌<◌, ◌≤◌, List, [], ◌∷◌, ◌++◌, length, take, drop, Option, Some, None, Bool, true, false, Result, Ok, Err, refl, sym, ap, ◌∙◌, subst, inl, inr, append_assoc, append-nil, eq-eqb, ne_eqb}
 use Rattle.std.specs.List.{AllByRecursion}
-use Rattle.std.specs.Prelude.{◌==◌, ◌||◌, if◌then◌else◌, nat_lt, slice_get, IsSome, is_some}
-use Rattle.std.proofs.lemmas.Bool.{cases_eq, le-ltb, lt-ltb}
+use Rattle.std.specs.Prelude.{◌==◌, ◌||◌, if◌then◌else◌, slice_get, IsSome, is_some}
+use Rattle.std.proofs.lemmas.Bool.{cases_eq}
 use Rattle.std.proofs.lemmas.List.{take-append-drop}
+use prog.Atomic.{either}
 use Rattle.lrs_history.specs.History.{Answer, answer}
-use Rattle.lrs_machine.specs.Line.{Record, entries, sure}
+use Rattle.lrs_machine.specs.Line.{Record, entries, sure, with_made}
 use Rattle.lrs_machine.specs.Acts.{Receipt, Tells, changed, made_by, place_where, record_of}
-use Rattle.lrs_machine.specs.Desk.{KeepsLine}
+use Rattle.lrs_machine.specs.Desk.{KeepsLine, Mark}
 use Rattle.lrs_machine.specs.Steps.{one_of}
 use Rattle.lrs_machine.proofs.Lines.{entries_append, entries_one, none_some, some_same}
 use Rattle.lrs_machine.proofs.Prefixes.{prefix_less}
@@ -20,11 +22,68 @@ use Rattle.lrs_replies.specs.declared.reply.Reply.{Reply}
 use Rattle.lrs_replies.specs.declared.reply.Trouble.{Trouble}
 use Rattle.lrs_replies.specs.declared.reply.Trouble.TheVariants.{Memory, Disk}
 use Rattle.lrs_replies.specs.Replies.{Says}
-use Rattle.lrs_hall.specs.Acts.{ActsIn, Reach}
-use Rattle.lrs_hall.specs.Laws.{AreInOrder, EntriesOnce, IsAnsweredBefore, InOrder, IsKept, KeepsPromises, OwnEntries, entries_at, entries_in, is_at, least_of, promised}
-use Rattle.lrs_hall.specs.Serving.{worker_at}
-use Rattle.lrs_hall.proofs.Lines.{count_next, get_last, get_past, get_some, get_take, last_of, length_take, one_has, one_length, take_next}
-use Rattle.lrs_hall.proofs.Talking.{Carries, over_all}
+use Rattle.lrs_turn.specs.Lists.{times}
+use Rattle.lrs_turn.proofs.Steps.{times_append}
+use Rattle.lrs_hall.specs.Acts.{ActsIn, ActsNext, Reach}
+use Rattle.lrs_hall.specs.Laws.{Alone, AreInOrder, EntriesOnce, IsAnsweredBefore, IsFrom, InOrder, IsKept, KeepsPromises, Makes, OwnEntries, entries_at, entries_in, is_at, least_of, promised}
+use Rattle.lrs_hall.proofs.Lines.{begins_take, count_next, get_last, get_past, get_some, get_take, last_of, length_take, one_has, one_length, take_next}
+use Rattle.lrs_hall.specs.Serving.{IsNotBelow}
+use Rattle.lrs_hall.proofs.Marks.{disk_left, is_left, mark_later, not_acted}
+use Rattle.lrs_hall.proofs.Talking.{Carries, all_seen, over_all}
+
+-- ---- places in a line
+
+made_length : (made : Option Entry) (h : List Entry) → length (with_made made h) ≡ length (one_of made) + length h
+made_length None h = omega arith
+made_length (Some e) h = omega arith
+
+-- more records have no fewer entries
+pub count_more : (line : List Record) (a b : ℕ) → a ≤ b → entries_in a line ≤ entries_in b line
+count_more [] zero zero le = omega arith
+count_more [] zero (suc b) le = omega arith
+count_more [] (suc a) zero le = omega arith
+count_more [] (suc a) (suc b) le = omega arith
+count_more (r ∷ line) zero b le = omega arith
+count_more (r ∷ line) (suc a) zero le = absurd (omega (arith, le))
+count_more (r ∷ line) (suc a) (suc b) le =
+    let rest = count_more line a b (omega (arith, le)) in
+    let x : entries_in (suc a) (r ∷ line) ≡ length (one_of r.made) + entries_in a line = made_length r.made (entries (take a line)) in
+    let y : entries_in (suc b) (r ∷ line) ≡ length (one_of r.made) + entries_in b line = made_length r.made (entries (take b line)) in
+    omega (arith, rest, x, y)
+
+apart : (a b : ℕ) → a ≢ b → (a < b) ⊎ (b < a)
+apart zero zero other = absurd (other refl)
+apart zero (suc b) other = inl (omega arith)
+apart (suc a) zero other = inr (omega arith)
+apart (suc a) (suc b) other = up (apart a b (λ is. other (ap (λ (n : ℕ). suc n) is)))
+  where
+    up : (a < b) ⊎ (b < a) → (suc a < suc b) ⊎ (suc b < suc a)
+    up (inl low) = inl (omega (arith, low))
+    up (inr high) = inr (omega (arith, high))
+
+low_or : (a b : ℕ) → (a ≤ b) ⊎ (b < a)
+low_or zero b = inl (omega arith)
+low_or (suc a) zero = inr (omega arith)
+low_or (suc a) (suc b) = elim (low_or a b) [ inl le ↦ inl (omega (arith, le)) | inr low ↦ inr (omega (arith, low)) ]
+
+-- ---- the number of an act's own record
+
+abbrev own_step : Bool → ℕ → List ℕ
+own_step changes at = if changes then at ∷ [] else []
+
+once_or : (k at : ℕ) → ((k ≡ at) × (times k (at ∷ []) ≡ 1)) ⊎ ((k ≢ at) × (times k (at ∷ []) ≡ 0))
+once_or k at = elim (cases_eq k at) [
+  | inl same ↦ inl (same, subst (λ (b : Bool). either b 1 0 + 0 ≡ 1) (sym (eq-eqb k at same)) refl)
+  | inr other ↦ inr (other, subst (λ (b : Bool). either b 1 0 + 0 ≡ 0) (sym (ne_eqb k at other)) refl)
+]
+
+times_step : (n at : ℕ) (b : Bool) → n ≢ at → times n (own_step b at) ≡ 0
+times_step n at true other = ap (λ (b : Bool). either b 1 0 + 0) (ne_eqb n at other)
+times_step n at false other = refl
+
+none_is : (o : Option Entry) → o ≡ None → IsSome o → ⊥
+none_is None is some = cc
+none_is (Some e) is some = none_some e (sym is)
 
 -- an act's own entry stands at its point, and is the answer's
 entry_is : (a : Answer) (point place : ℕ) (old new : Bool) (own : Option ℕ) (said : Result Answered Trouble) → Tells a point old new own said → own ≡ Some place → (place ≡ point) × IsSome a.entry
@@ -47,74 +106,69 @@ module _ (limit : ℕ) (line : List Record) (caller : Caller) (command : Command
   abbrev made : Record
   made = record_of (made_by a receipt) receipt
 
-  step_records : new.records ≡ (if changed receipt then old.records + 1 else old.records)
+  step_records : new.records ≡ (if changed receipt then on.at + 1 else on.at)
   step_records = ap (λ (r : Reach). r.records) on.reach
 
-  step_more : changed receipt ≡ true → new.records ≡ old.records + 1
-  step_more is = step_records ∙ ap (λ (b : Bool). if b then old.records + 1 else old.records) is
-
-  step_later : old.records ≤ new.records
-  step_later = by_change (changed receipt) step_records
+  step_own : new.own ≡ old.own ++ own_step (changed receipt) on.at
+  step_own = ap (λ (r : Reach). r.own) on.reach ∙ by_change (changed receipt)
     where
-      by_change : (b : Bool) → new.records ≡ (if b then old.records + 1 else old.records) → old.records ≤ new.records
+      by_change : (b : Bool) → (if b then old.own ++ on.at ∷ [] else old.own) ≡ old.own ++ own_step b on.at
+      by_change true = refl
+      by_change false = sym (append-nil old.own)
+
+  step_times : (n : ℕ) → times n new.own ≡ times n old.own + times n (own_step (changed receipt) on.at)
+  step_times n = ap (times n) step_own ∙ times_append n old.own (own_step (changed receipt) on.at)
+
+  step_more : changed receipt ≡ true → new.records ≡ on.at + 1
+  step_more is = step_records ∙ ap (λ (b : Bool). if b then on.at + 1 else on.at) is
+
+  at_within : on.at ≤ new.records
+  at_within = by_change (changed receipt) step_records
+    where
+      by_change : (b : Bool) → new.records ≡ (if b then on.at + 1 else on.at) → on.at ≤ new.records
       by_change true is = omega (arith, is)
       by_change false is = omega (arith, is)
 
-  step_line : changed receipt ≡ true → slice_get line old.records ≡ Some made
+  step_later : old.records ≤ new.records
+  step_later =
+      let later = on.later in
+      let within = at_within in
+      omega (arith, later, within)
+
+  -- the number of an act's own record is below what was seen after it
+  new_step : (n : ℕ) → new.records ≤ n → times n (own_step (changed receipt) on.at) ≡ 0
+  new_step n high = by_change (changed receipt) step_records
+    where
+      by_change : (b : Bool) → new.records ≡ (if b then on.at + 1 else on.at) → times n (own_step b on.at) ≡ 0
+      by_change true is = times_step n on.at true (λ same. omega (arith, same, is, high))
+      by_change false is = refl
+
+  pub step_line : changed receipt ≡ true → slice_get line on.at ≡ Some made
   step_line is =
       let more = step_more is in
       let within = on.within in
-      let len : length (take old.records line) ≡ old.records = length_take line old.records (omega (arith, more, within)) in
-      let front : take new.records line ≡ take old.records line ++ made ∷ [] =
-      on.acts.line ∙ ap (λ (b : Bool). if b then take old.records line ++ made ∷ [] else take old.records line) is in
-      sym (get_take line new.records old.records (omega (arith, more))) ∙ ap (λ (l : List Record). slice_get l old.records) front
-      ∙ ap (λ (n : ℕ). slice_get (take old.records line ++ made ∷ []) n) (sym len) ∙ get_last (take old.records line) made
+      let len : length (take on.at line) ≡ on.at = length_take line on.at (omega (arith, more, within)) in
+      let front : take new.records line ≡ take on.at line ++ made ∷ [] =
+      on.acts.line ∙ ap (λ (b : Bool). if b then take on.at line ++ made ∷ [] else take on.at line) is in
+      sym (get_take line new.records on.at (omega (arith, more))) ∙ ap (λ (l : List Record). slice_get l on.at) front
+      ∙ ap (λ (n : ℕ). slice_get (take on.at line ++ made ∷ []) n) (sym len) ∙ get_last (take on.at line) made
 
   -- it stands at its point, and the history is one longer by it
   step_some : (place : ℕ) → receipt.entry ≡ Some place
-      → (place ≡ entries_in old.records line) × (new.records ≡ suc old.records) × (entries_in (suc old.records) line ≡ entries_in old.records line + 1)
+      → (changed receipt ≡ true) × (place ≡ entries_in on.at line) × (entries_in (suc on.at) line ≡ entries_in on.at line + 1)
   step_some place own =
       let is : changed receipt ≡ true = ap (λ (o : Option ℕ). is_some o || is_some receipt.landed) own in
       let told = entry_is a receipt.point place _ _ receipt.entry on.said on.acts.tells own in
       let same : made.made ≡ a.entry = ap (λ (o : Option ℕ). if is_some o then a.entry else None) own in
-      let one : length (one_of made.made) ≡ 1 = ap (λ (o : Option Entry). length (one_of o)) same ∙ one_length a.entry told.1 in
-      let more = step_more is in (
+      let one : length (one_of made.made) ≡ 1 = ap (λ (o : Option Entry). length (one_of o)) same ∙ one_length a.entry told.1 in (
+        is,
         told.0 ∙ on.acts.point,
-        omega (arith, more),
-        count_next line old.records made (step_line is) ∙ ap (λ (n : ℕ). entries_in old.records line + n) one,
+        count_next line on.at made (step_line is) ∙ ap (λ (n : ℕ). entries_in on.at line + n) one,
       )
 
-  -- without an entry of its own it is as long as before
-  step_none : receipt.entry ≡ None → entries_in new.records line ≡ entries_in old.records line
-  step_none none = by_change (changed receipt) refl
-    where
-      by_change : (b : Bool) → changed receipt ≡ b → entries_in new.records line ≡ entries_in old.records line
-      by_change false is = ap (λ (n : ℕ). entries_in n line) (step_records ∙ ap (λ (b : Bool). if b then old.records + 1 else old.records) is)
-      by_change true is =
-          let nothing : made.made ≡ None = ap (λ (o : Option ℕ). if is_some o then a.entry else None) none in
-          let more = step_more is in
-          let next : new.records ≡ suc old.records = omega (arith, more) in
-          let zero' : length (one_of made.made) ≡ 0 = ap (λ (o : Option Entry). length (one_of o)) nothing in
-          let count = count_next line old.records made (step_line is) in
-          let same : entries_in (suc old.records) line ≡ entries_in old.records line = omega (arith, count, zero') in
-          ap (λ (n : ℕ). entries_in n line) next ∙ same
-
-  step_entries : entries_in old.records line ≤ entries_in new.records line
-  step_entries = by_entry receipt.entry refl
-    where
-      by_entry : (o : Option ℕ) → receipt.entry ≡ o → entries_in old.records line ≤ entries_in new.records line
-      by_entry None none =
-          let same = step_none none in
-          omega (arith, same)
-      by_entry (Some place) own =
-          let s = step_some place own in
-          let next = s.2 in
-          let count : entries_in new.records line ≡ entries_in (suc old.records) line = ap (λ (n : ℕ). entries_in n line) s.1 in
-          omega (arith, next, count)
-
   -- what was seen goes after the own entry
-  step_own : IsSome receipt.entry → receipt.point < entries_in new.records line
-  step_own = by_entry receipt.entry refl
+  step_past : IsSome receipt.entry → receipt.point < entries_in new.records line
+  step_past = by_entry receipt.entry refl
     where
       by_entry : (o : Option ℕ) → receipt.entry ≡ o → IsSome o → receipt.point < entries_in new.records line
       by_entry None none some = absurd (cc)
@@ -122,7 +176,8 @@ module _ (limit : ℕ) (line : List Record) (caller : Caller) (command : Command
           let s = step_some place own in
           let next = s.2 in
           let point = on.acts.point in
-          let count : entries_in new.records line ≡ entries_in (suc old.records) line = ap (λ (n : ℕ). entries_in n line) s.1 in
+          let more = step_more s.0 in
+          let count = count_more line (suc on.at) new.records (omega (arith, more)) in
           omega (arith, point, next, count)
 
   step_promised : promised receipt ≤ entries_in new.records line
@@ -131,121 +186,197 @@ module _ (limit : ℕ) (line : List Record) (caller : Caller) (command : Command
       by_entry : (o : Option ℕ) → receipt.entry ≡ o → least_of o receipt.point ≤ entries_in new.records line
       by_entry None none =
           let point = on.acts.point in
-          let same = step_none none in
-          omega (arith, point, same)
+          let count = count_more line on.at new.records at_within in
+          omega (arith, point, count)
       by_entry (Some place) own =
           let s = step_some place own in
-          let here = s.0 in
+          let here = s.1 in
           let next = s.2 in
-          let count : entries_in new.records line ≡ entries_in (suc old.records) line = ap (λ (n : ℕ). entries_in n line) s.1 in
+          let more = step_more s.0 in
+          let count = count_more line (suc on.at) new.records (omega (arith, more)) in
           omega (arith, here, next, count)
+
+  module _ (place k : ℕ) (makes : Makes line place k) where
+    step_none_made : receipt.entry ≡ None → 0 ≡ times k (own_step (changed receipt) on.at)
+    step_none_made none = by_change (changed receipt) refl
+      where
+        by_change : (b : Bool) → changed receipt ≡ b → 0 ≡ times k (own_step b on.at)
+        by_change false is = refl
+        by_change true is = elim (once_or k on.at) [
+          | inl same ↦ (
+              let one : makes.made ≡ made = some_same makes.made made (sym makes.stands ∙ ap (slice_get line) same.0 ∙ step_line is) in
+              let nothing : makes.made.made ≡ None = ap (λ (r : Record). r.made) one ∙ ap (λ (o : Option ℕ). if is_some o then a.entry else None) none in
+              absurd (none_is makes.made.made nothing makes.some))
+          | inr other ↦ sym other.1
+        ]
+
+    step_some_made : (p : ℕ) → receipt.entry ≡ Some p → (if p == place then 1 else 0) ≡ times k (own_step (changed receipt) on.at)
+    step_some_made p own =
+        let s = step_some p own in
+        let here = s.1 in
+        let after = s.2 in
+        let next : entries_in (suc k) line ≡ entries_in k line + 1 = count_next line k makes.made makes.stands ∙ ap (λ (n : ℕ). entries_in k line + n) (one_length makes.made.made makes.some) in
+        (elim (once_or k on.at) [
+          | inl same ↦ (
+              let hit : p ≡ place = here ∙ ap (λ (n : ℕ). entries_in n line) (sym same.0) ∙ makes.before in
+              ap (λ (b : Bool). if b then 1 else 0) (eq-eqb p place hit) ∙ sym same.1)
+          | inr other ↦ (
+              let miss : p ≢ place = (λ hit. elim (apart k on.at other.0) [
+                | inl low ↦ (let m = count_more line (suc k) on.at (omega (arith, low)) in let b = makes.before in omega (arith, m, next, here, hit, b))
+                | inr high ↦ (let m = count_more line (suc on.at) k (omega (arith, high)) in let b = makes.before in omega (arith, m, after, here, hit, b))
+              ]) in
+              ap (λ (b : Bool). if b then 1 else 0) (ne_eqb p place miss) ∙ sym other.1)
+        ]) ∙ ap (λ (b : Bool). times k (own_step b on.at)) (sym s.0)
+
+    step_once : (if is_at receipt.entry place then 1 else 0) ≡ times k (own_step (changed receipt) on.at)
+    step_once = by_entry receipt.entry refl
+      where
+        by_entry : (o : Option ℕ) → receipt.entry ≡ o → (if is_at o place then 1 else 0) ≡ times k (own_step (changed receipt) on.at)
+        by_entry None none = step_none_made none
+        by_entry (Some p) own = step_some_made p own
 
 -- ---- each entry once
 
-apart : (a b : ℕ) → a ≢ b → (a < b) ⊎ (b < a)
-apart zero zero other = absurd (other refl)
-apart zero (suc b) other = inl (omega arith)
-apart (suc a) zero other = inr (omega arith)
-apart (suc a) (suc b) other = up (apart a b (λ is. other (ap (λ (n : ℕ). suc n) is)))
-  where
-    up : (a < b) ⊎ (b < a) → (suc a < suc b) ⊎ (suc b < suc a)
-    up (inl low) = inl (omega (arith, low))
-    up (inr high) = inr (omega (arith, high))
-
--- a place is one of the first n
-abbrev below : ℕ → ℕ → ℕ
-below place n = if nat_lt place n then 1 else 0
-
-below_low : (place n : ℕ) → place < n → ◌≡◌ {A = ℕ} (below place n) 1
-below_low place n low = ap (λ (b : Bool). if b then 1 else 0) (lt-ltb place n low)
-
-below_high : (place n : ℕ) → n ≤ place → ◌≡◌ {A = ℕ} (below place n) 0
-below_high place n high = ap (λ (b : Bool). if b then 1 else 0) (le-ltb place n high)
-
-below_next : (place n : ℕ) → (if n == place then 1 else 0) + below place n ≡ below place (suc n)
-below_next place n = elim (cases_eq n place) [
-  | inl same ↦ (
-      let one : ◌≡◌ {A = ℕ} (if n == place then 1 else 0) 1 = ap (λ (b : Bool). if b then 1 else 0) (eq-eqb n place same) in
-      let x = below_high place n (omega (arith, same)) in
-      let y = below_low place (suc n) (omega (arith, same)) in
-      omega (arith, one, x, y))
-  | inr other ↦ (
-      let none : ◌≡◌ {A = ℕ} (if n == place then 1 else 0) 0 = ap (λ (b : Bool). if b then 1 else 0) (ne_eqb n place other) in
-      elim (apart n place other) [
-        | inl low ↦ (
-            let x = below_high place n (omega (arith, low)) in
-            let y = below_high place (suc n) (omega (arith, low)) in
-            omega (arith, none, x, y))
-        | inr high ↦ (
-            let x = below_low place n high in
-            let y = below_low place (suc n) (omega (arith, high)) in
-            omega (arith, none, x, y))
-      ])
-]
-
-module _ (limit : ℕ) (line : List Record) where
-  step_once : (place : ℕ) (caller : Caller) (command : Command) (draw : Draw) (reply : Reply) (receipt : Receipt) (old new : Reach)
-      → ActsIn limit line caller command draw reply receipt old new
-      → (if is_at receipt.entry place then 1 else 0) + below place (entries_in old.records line) ≡ below place (entries_in new.records line)
-  step_once place caller command draw reply receipt old new on = by_entry receipt.entry refl
-    where
-      by_entry : (o : Option ℕ) → receipt.entry ≡ o → (if is_at o place then 1 else 0) + below place (entries_in old.records line) ≡ below place (entries_in new.records line)
-      by_entry None none =
-          let same : below place (entries_in new.records line) ≡ below place (entries_in old.records line) = ap (below place) (step_none limit line caller command draw reply receipt old new on none) in
-          omega (arith, same)
-      by_entry (Some own) is =
-          let s = step_some limit line caller command draw reply receipt old new on own is in
-          let more = s.2 in
-          let count : suc (entries_in old.records line) ≡ entries_in (suc old.records) line = omega (arith, more) in
-          let next : suc (entries_in old.records line) ≡ entries_in new.records line = count ∙ ap (λ (n : ℕ). entries_in n line) (sym s.1) in
-          ap (λ (n : ℕ). (if n == place then 1 else 0) + below place (entries_in old.records line)) s.0
-          ∙ below_next place (entries_in old.records line) ∙ ap (below place) next
-
+module _ (limit : ℕ) (line : List Record) (place k : ℕ) (makes : Makes line place k) where
   abbrev OnceIn : List Receipt → Reach → Reach → Type 0
-  OnceIn receipts old new = (place : ℕ) → entries_at place receipts + below place (entries_in old.records line) ≡ below place (entries_in new.records line)
+  OnceIn receipts old new = entries_at place receipts + times k old.own ≡ times k new.own
 
   once_in : Carries (ActsIn limit line) OnceIn
   once_in = record {
-    none = λ x place. omega arith;
-    plain = λ status receipt receipts old new none more place.
+    none = λ x. omega arith;
+    plain = λ status receipt receipts old new none more.
         let nothing : ◌≡◌ {A = ℕ} (if is_at receipt.entry place then 1 else 0) 0 = ap (λ (r : Receipt). if is_at r.entry place then 1 else 0) none in
-        let rest = more place in
-        omega (arith, nothing, rest);
-    act = λ caller command draw reply receipt receipts old mid new on more place.
-        let here = step_once place caller command draw reply receipt old mid on in
-        let rest = more place in
-        omega (arith, here, rest);
+        omega (arith, nothing, more);
+    act = λ caller command draw reply receipt receipts old mid new on more.
+        let here = step_once limit line caller command draw reply receipt old mid on place k makes in
+        let own = step_times limit line caller command draw reply receipt old mid on k in
+        omega (arith, here, own, more);
   }
 
 pub entries_once : EntriesOnce
-entries_once limit line talks links draws behind a b start end place over high low =
-    let all = over_all (ActsIn limit line) (OnceIn limit line) (once_in limit line) talks links (worker_at draws a start) (worker_at behind b end) over place in
-    let before = below_high place (entries_in a line) high in
-    let now = below_low place (entries_in b line) low in
-    omega (arith, all, before, now)
+entries_once limit line place k talks links old new makes over = over_all (ActsIn limit line) (OnceIn limit line place k makes) (once_in limit line place k makes) talks links old new over
+
+-- ---- the record of an entry
+
+one_more : (line : List Record) (r : Record) (place k : ℕ) → Makes line place k → Makes (r ∷ line) (length (one_of r.made) + place) (suc k)
+one_more line r place k makes = record {
+  made = makes.made;
+  stands = makes.stands;
+  some = makes.some;
+  before = made_length r.made (entries (take k line)) ∙ ap (λ (n : ℕ). length (one_of r.made) + n) makes.before;
+}
+
+-- each entry was made by some record
+pub makes_at : (line : List Record) (place : ℕ) → place < length (entries line) → (k : ℕ) × Makes line place k
+makes_at [] place low = absurd (omega (arith, low))
+makes_at (r ∷ line) place low = by_made r.made refl place low (λ rest lower. makes_at line rest lower)
+  where
+    by_made : (made : Option Entry) → r.made ≡ made → (place : ℕ) → place < length (with_made made (entries line)) → ((rest : ℕ) → rest < length (entries line) → (k : ℕ) × Makes line rest k) → (k : ℕ) × Makes (r ∷ line) place k
+    by_made None is place low more =
+        let m = more place low in
+        (suc m.0, subst (λ (n : ℕ). Makes (r ∷ line) n (suc m.0)) (let l : length (one_of r.made) ≡ 0 = ap (λ (o : Option Entry). length (one_of o)) is in omega (arith, l)) (one_more line r place m.0 m.1))
+    by_made (Some e) is zero low more = (0, record { made = r; stands = refl; some = subst (λ (o : Option Entry). IsSome o) (sym is) refl; before = refl })
+    by_made (Some e) is (suc place) low more =
+        let m = more place (omega (arith, low)) in
+        (suc m.0, subst (λ (n : ℕ). Makes (r ∷ line) n (suc m.0)) (let l : length (one_of r.made) ≡ 1 = ap (λ (o : Option Entry). length (one_of o)) is in omega (arith, l)) (one_more line r place m.0 m.1))
+
+-- an entry after those of the first records was made by a later record
+pub makes_behind : (line opened rest : List Record) (place k : ℕ) → opened ++ rest ≡ line → length (entries opened) ≤ place → Makes line place k → length opened ≤ k
+makes_behind line opened rest place k is high makes = elim (low_or (length opened) k) [
+  | inl le ↦ le
+  | inr low ↦ (
+      let next : entries_in (suc k) line ≡ entries_in k line + 1 = count_next line k makes.made makes.stands ∙ ap (λ (n : ℕ). entries_in k line + n) (one_length makes.made.made makes.some) in
+      let whole : entries_in (length opened) line ≡ length (entries opened) = ap (λ (l : List Record). length (entries l)) (begins_take opened line (rest, is)) in
+      let more = count_more line (suc k) (length opened) (omega (arith, low)) in
+      let before = makes.before in
+      absurd (omega (arith, next, whole, more, before, high)))
+]
+
+-- ---- one worker
+
+module _ (limit : ℕ) (line : List Record) (start : ℕ) where
+  -- no number of a record to come is its own
+  abbrev NoneAhead : Reach → Type 0
+  NoneAhead r = (start ≤ r.records) × ((n : ℕ) → r.records ≤ n → times n r.own ≡ 0)
+
+  -- all numbers of records that it has seen since the start are its own
+  abbrev HasAll : Reach → Type 0
+  HasAll r = (n : ℕ) → start ≤ n → n < r.records → 0 < times n r.own
+
+  none_ahead : (caller : Caller) (command : Command) (draw : Draw) (reply : Reply) (receipt : Receipt) (old new : Reach) → ActsIn limit line caller command draw reply receipt old new → NoneAhead old → NoneAhead new
+  none_ahead caller command draw reply receipt old new on p =
+      let later = step_later limit line caller command draw reply receipt old new on in
+      let low = p.0 in (
+        omega (arith, low, later),
+        λ n high.
+            let before = p.1 n (omega (arith, high, later)) in
+            let here = step_times limit line caller command draw reply receipt old new on n in
+            let step = new_step limit line caller command draw reply receipt old new on n high in
+            omega (arith, before, here, step),
+      )
+
+  had_all : (caller : Caller) (command : Command) (draw : Draw) (reply : Reply) (receipt : Receipt) (old new : Reach) → ActsIn limit line caller command draw reply receipt old new → HasAll new → HasAll old
+  had_all caller command draw reply receipt old new on q n from low =
+      let later = on.later in
+      let on_later = step_later limit line caller command draw reply receipt old new on in
+      let own = q n from (omega (arith, low, on_later)) in
+      let here = step_times limit line caller command draw reply receipt old new on n in
+      let step = times_step n on.at (changed receipt) (λ is. omega (arith, is, low, later)) in
+      omega (arith, own, here, step)
+
+  acts_next : (caller : Caller) (command : Command) (draw : Draw) (reply : Reply) (receipt : Receipt) (old new : Reach) → ActsIn limit line caller command draw reply receipt old new → NoneAhead old → HasAll new
+      → ActsNext limit line caller command draw reply receipt old new
+  acts_next caller command draw reply receipt old new on p q = record {
+    on = on;
+    next = elim (low_or on.at old.records) [
+      | inl le ↦ (let later = on.later in omega (arith, le, later))
+      | inr gap ↦ (
+          let within = at_within limit line caller command draw reply receipt old new on in
+          let from = p.0 in
+          let own = q old.records from (omega (arith, gap, within)) in
+          let here = step_times limit line caller command draw reply receipt old new on old.records in
+          let before = p.1 old.records (omega arith) in
+          let step = times_step old.records on.at (changed receipt) (λ is. omega (arith, is, gap)) in
+          absurd (omega (arith, own, here, before, step)))
+    ];
+  }
+
+pub alone : Alone
+alone limit line talks links old new over all none =
+    let start = old.reached.records in
+    all_seen (λ (r : Reach). r) (ActsIn limit line) (ActsNext limit line) (NoneAhead limit line start) (HasAll limit line start)
+    (λ caller command draw reply receipt before after on p. none_ahead limit line start caller command draw reply receipt before after on p)
+    (λ caller command draw reply receipt before after on q. had_all limit line start caller command draw reply receipt before after on q)
+    (λ caller command draw reply receipt before after on p q. acts_next limit line start caller command draw reply receipt before after on p q)
+    talks links old new (omega arith, none) (λ n from low. all n from low) over
 
 -- ---- in order
 
--- the act was answered over all these entries
-abbrev HasPointFrom : ℕ → Receipt → Type 0
-HasPointFrom n receipt = receipt.acted ≡ true → n ≤ receipt.point
-
-behind_all : (n m : ℕ) (receipts : List Receipt) → n ≤ m → AllByRecursion (HasPointFrom m) receipts → AllByRecursion (HasPointFrom n) receipts
-behind_all n m [] le all = tt
-behind_all n m (receipt ∷ receipts) le all = (
+behind_all : (n m : ℕ) (a b : Mark) (receipts : List Receipt) → n ≤ m → IsNotBelow a b → AllByRecursion (IsFrom m b) receipts → AllByRecursion (IsFrom n a) receipts
+behind_all n m a b [] le low all = tt
+behind_all n m a b (receipt ∷ receipts) le low all = (
   λ acted.
       let x = all.0 acted in
-      omega (arith, le, x),
-  behind_all n m receipts le all.1,
+      let point = x.0 in
+      let was = x.1.was in
+      let ended = x.1.ended in
+      let count = low.0 in
+      let moment = low.1 in
+      (omega (arith, le, point), record { was = omega (arith, count, was); ended = omega (arith, moment, ended) }),
+  behind_all n m a b receipts le low all.1,
 )
 
-goes_all : (n : ℕ) (first : Receipt) (receipts : List Receipt) → first.point ≤ n → (IsSome first.entry → first.point < n) → AllByRecursion (HasPointFrom n) receipts → AllByRecursion (IsAnsweredBefore first) receipts
-goes_all n first [] le low all = tt
-goes_all n first (receipt ∷ receipts) le low all = (
+goes_all : (n : ℕ) (mark : Mark) (first : Receipt) (receipts : List Receipt) → first.point ≤ n → (IsSome first.entry → first.point < n) → mark.faults ≡ first.is → mark.moment ≡ first.disk
+    → AllByRecursion (IsFrom n mark) receipts → AllByRecursion (IsAnsweredBefore first) receipts
+goes_all n mark first [] le low count moment all = tt
+goes_all n mark first (receipt ∷ receipts) le low count moment all = (
   λ mine acted.
       let x = all.0 acted in
-      (omega (arith, le, x), λ own. let y = low own in omega (arith, x, y)),
-  goes_all n first receipts le low all.1,
+      let point = x.0 in
+      let was = x.1.was in
+      let ended = x.1.ended in
+      (omega (arith, le, point), λ own. let y = low own in omega (arith, point, y), omega (arith, count, was), omega (arith, moment, ended)),
+  goes_all n mark first receipts le low count moment all.1,
 )
 
 goes_none : (first : Receipt) (receipts : List Receipt) → first.acted ≡ false → AllByRecursion (IsAnsweredBefore first) receipts
@@ -260,32 +391,34 @@ goes_none first (receipt ∷ receipts) none = (
 module _ (limit : ℕ) (line : List Record) where
   -- after all that was seen, and in order
   abbrev OrderIn : List Receipt → Reach → Reach → Type 0
-  OrderIn receipts old new = AllByRecursion (HasPointFrom (entries_in old.records line)) receipts × AreInOrder receipts
+  OrderIn receipts old new = AllByRecursion (IsFrom (entries_in old.records line) old.mark) receipts × AreInOrder receipts
 
   order_in : Carries (ActsIn limit line) OrderIn
   order_in = record {
     none = λ x. (tt, tt);
     plain = λ status receipt receipts old new none more.
-        let other : receipt.acted ≡ false = ap (λ (r : Receipt). r.acted) none in (
-          (
-            λ acted.
-                let no : ⊥ = cc (acted, other) in
-                absurd no,
-            more.0,
-          ),
-          (goes_none receipt receipts other, more.1),
-        );
+        let other : receipt.acted ≡ false = ap (λ (r : Receipt). r.acted) none in
+        ((λ acted. absurd (not_acted status receipt none acted), more.0), (goes_none receipt receipts other, more.1));
     act = λ caller command draw reply receipt receipts old mid new on more.
         let point = on.acts.point in
-        let later = step_entries limit line caller command draw reply receipt old mid on in
-        let own = step_own limit line caller command draw reply receipt old mid on in (
-          (λ acted. omega (arith, point), behind_all (entries_in old.records line) (entries_in mid.records line) receipts later more.0),
-          (goes_all (entries_in mid.records line) receipt receipts (omega (arith, point, later)) own more.0, more.1),
+        let from = count_more line old.records on.at on.later in
+        let later = count_more line on.at mid.records (at_within limit line caller command draw reply receipt old mid on) in
+        let own = step_past limit line caller command draw reply receipt old mid on in
+        let low = mark_later limit line caller command draw reply receipt old mid on in (
+          (
+            λ acted. (omega (arith, point, from), on.since),
+            behind_all (entries_in old.records line) (entries_in mid.records line) old.mark mid.mark receipts (omega (arith, from, later)) low more.0,
+          ),
+          (
+            goes_all (entries_in mid.records line) mid.mark receipt receipts (omega (arith, point, later)) own
+                (is_left limit line caller command draw reply receipt old mid on) (disk_left limit line caller command draw reply receipt old mid on) more.0,
+            more.1,
+          ),
         );
   }
 
 pub in_order : InOrder
-in_order limit line talks links old new over = (over_all (ActsIn limit line) (OrderIn limit line) (order_in limit line) talks links old new over).1
+in_order limit line talks links old new over = over_all (ActsIn limit line) (OrderIn limit line) (order_in limit line) talks links old new over
 
 -- ---- what was acknowledged is kept
 
@@ -333,8 +466,8 @@ module _ (limit now : ℕ) (since : ℕ → List ℕ → Type 0) (line : List Re
   }
 
 pub keeps_promises : (now : ℕ) (since : ℕ → List ℕ → Type 0) → ((t u : ℕ) (c : List ℕ) → t ≤ u → since u c → since t c) → KeepsPromises now since
-keeps_promises now since later limit line talks links draws behind a b start end kept some over =
-    over_all (ActsIn limit line) (KeptIn limit now since line kept later) (kept_in limit now since line kept later) talks links (worker_at draws a start) (worker_at behind b end) over some
+keeps_promises now since later limit line talks links old new kept some over =
+    over_all (ActsIn limit line) (KeptIn limit now since line kept later) (kept_in limit now since line kept later) talks links old new over some
 
 -- ---- an act's own entry
 
@@ -345,16 +478,16 @@ own_entries limit line caller command draw reply receipt old new place on own =
     let told = entry_is answered receipt.point place _ _ receipt.entry on.said on.acts.tells own in
     let is : changed receipt ≡ true = ap (λ (o : Option ℕ). is_some o || is_some receipt.landed) own in
     let same : r.made ≡ answered.entry = ap (λ (o : Option ℕ). if is_some o then answered.entry else None) own in
-    let front : entries (take (suc old.records) line) ≡ entries (take old.records line) ++ one_of r.made =
-    ap entries (take_next line old.records r (step_line limit line caller command draw reply receipt old new on is)) ∙ entries_append (take old.records line) (r ∷ [])
-    ∙ ap (λ (l : List Entry). entries (take old.records line) ++ l) (entries_one r) in
-    let rest = entries (drop (suc old.records) line) in
-    let whole : entries line ≡ entries (take old.records line) ++ (one_of r.made ++ rest) =
-    ap entries (sym (take-append-drop (suc old.records) line)) ∙ entries_append (take (suc old.records) line) (drop (suc old.records) line) ∙ ap (λ (l : List Entry). l ++ rest) front
-    ∙ append_assoc (entries (take old.records line)) (one_of r.made) rest in
-    let here : place ≡ entries_in old.records line = told.0 ∙ on.acts.point in
+    let front : entries (take (suc on.at) line) ≡ entries (take on.at line) ++ one_of r.made =
+    ap entries (take_next line on.at r (step_line limit line caller command draw reply receipt old new on is)) ∙ entries_append (take on.at line) (r ∷ [])
+    ∙ ap (λ (l : List Entry). entries (take on.at line) ++ l) (entries_one r) in
+    let rest = entries (drop (suc on.at) line) in
+    let whole : entries line ≡ entries (take on.at line) ++ (one_of r.made ++ rest) =
+    ap entries (sym (take-append-drop (suc on.at) line)) ∙ entries_append (take (suc on.at) line) (drop (suc on.at) line) ∙ ap (λ (l : List Entry). l ++ rest) front
+    ∙ append_assoc (entries (take on.at line)) (one_of r.made) rest in
+    let here : place ≡ entries_in on.at line = told.0 ∙ on.acts.point in
     let some : IsSome r.made = subst (λ (o : Option Entry). IsSome o) (sym same) told.1 in (
       told.0,
-      ap (λ (h : List Entry). slice_get h place) whole ∙ ap (λ (n : ℕ). slice_get (entries (take old.records line) ++ (one_of r.made ++ rest)) n) here
-          ∙ get_past (entries (take old.records line)) (one_of r.made ++ rest) ∙ one_has r.made rest some ∙ same,
+      ap (λ (h : List Entry). slice_get h place) whole ∙ ap (λ (n : ℕ). slice_get (entries (take on.at line) ++ (one_of r.made ++ rest)) n) here
+          ∙ get_past (entries (take on.at line)) (one_of r.made ++ rest) ∙ one_has r.made rest some ∙ same,
     )

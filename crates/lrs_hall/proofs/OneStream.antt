@@ -28,7 +28,7 @@ use Rattle.lrs_routes.specs.declared.asked.Routed.{Routed}
 use Rattle.lrs_routes.proofs.Alone.{one_routed, routed_refused}
 use Rattle.lrs_hall.specs.declared.talk.Finish.{Finish}
 use Rattle.lrs_hall.specs.declared.talk.Finish.TheVariants as finish
-use Rattle.lrs_hall.specs.Acts.{ActsIn, Reach}
+use Rattle.lrs_hall.specs.Acts.{ActsNext, Reach}
 use Rattle.lrs_hall.specs.Conversation.{ActOn, AnswersTo, AnswersUnread, Worker, Phase, going, ended_with, ServesAsked, ServesRequest, with_command, closes_after, phase_after, Responds, Converses, EndsOpen, SendsResponse}
 use Rattle.lrs_hall.specs.Draws.{draw_at, next_draws}
 use Rattle.lrs_hall.specs.Laws.{OneAsked, OneText}
@@ -113,16 +113,18 @@ entries_behind line a receipt n own = by_change (changed receipt) refl
     by_change false is = ap (λ (o : Option Entry). with_entry (entries line) o) (sym (none_where a.entry receipt.entry receipt.landed n own is))
 
 pub act_says : (limit : ℕ) (line : List Record) (g : List Entry) (caller : Caller) (command : Command) (draw : Draw) (reply : Reply) (r : Receipt) (old new : Reach)
-    → ActsIn limit line caller command draw reply r old new → entries (take old.records line) ≡ g → r.status ≢ 503
+    → ActsNext limit line caller command draw reply r old new → entries (take old.records line) ≡ g → r.status ≢ 503
     → Said limit g caller command r.clock draw reply (entries (take new.records line))
-act_says limit line g caller command draw reply r old new act at calm =
+act_says limit line g caller command draw reply r old new next at calm =
+    let act = next.on in
     let ok = said_ok act.said reply act.says (λ e. calm (act.status ∙ e)) in
-    let at_point : take r.point (entries line) ≡ g = ap (λ (n : ℕ). take n (entries line)) act.acts.point ∙ sym (entries_take line old.records) ∙ at in
+    let here : entries (take act.at line) ≡ g = ap (λ (n : ℕ). entries (take n line)) next.next ∙ at in
+    let at_point : take r.point (entries line) ≡ g = ap (λ (n : ℕ). take n (entries line)) act.acts.point ∙ sym (entries_take line act.at) ∙ here in
     let mine : Answer = answer limit (take r.point (entries line)) caller command r.clock draw in
-    let tells : Tells mine r.point (in_doubt (take old.records line)) (in_doubt (take new.records line)) r.entry (Ok ok.0) =
-    subst (λ (s : Result Answered Trouble). Tells mine r.point (in_doubt (take old.records line)) (in_doubt (take new.records line)) r.entry s) ok.1 act.acts.tells in
+    let tells : Tells mine r.point (in_doubt (take act.at line)) (in_doubt (take new.records line)) r.entry (Ok ok.0) =
+    subst (λ (s : Result Answered Trouble). Tells mine r.point (in_doubt (take act.at line)) (in_doubt (take new.records line)) r.entry s) ok.1 act.acts.tells in
     let behind : entries (take new.records line) ≡ with_entry g mine.entry =
-    ap entries act.acts.line ∙ entries_behind (take old.records line) mine r r.point tells.1 ∙ ap (λ (h : List Entry). with_entry h mine.entry) at in
+    ap entries act.acts.line ∙ entries_behind (take act.at line) mine r r.point tells.1 ∙ ap (λ (h : List Entry). with_entry h mine.entry) here in
     subst (λ (h : List Entry). Said limit h caller command r.clock draw reply (entries (take new.records line))) at_point
     (subst (λ (s : Answered). Says (Ok s) reply) tells.0 (subst (λ (s : Result Answered Trouble). Says s reply) ok.1 act.says), behind ∙ ap (λ (h : List Entry). with_entry h mine.entry) (sym at_point))
 
@@ -174,20 +176,20 @@ framed_alike la lb None r s t u a b new_a new_b so x y same_a same_b = absurd x
 framed_alike la lb (Some f) r s t u a b new_a new_b so x y same_a same_b = fixed_alike la lb f true r s t u a b new_a new_b so x y same_a same_b
 
 served_alike : OneText → (limit : ℕ) (la lb : List Record) (closes : Bool) (asked : Result Asked RouteRefused) (r s : Receipt) (t u : List ℕ) (a b new_a new_b : Worker Reach)
-    → Together la lb a b → ServesAsked (ActsIn limit la) closes asked r t a new_a → ServesAsked (ActsIn limit lb) closes asked s u b new_b → r.status ≢ 503 → s.status ≢ 503
+    → Together la lb a b → ServesAsked (ActsNext limit la) closes asked r t a new_a → ServesAsked (ActsNext limit lb) closes asked s u b new_b → r.status ≢ 503 → s.status ≢ 503
     → (r.acted ≡ true → s.acted ≡ true → r.clock ≡ s.clock) → Alike la lb r s t u new_a new_b
 served_alike one_text limit la lb closes (Err e) r s t u a b new_a new_b so x y calm quiet clock = fixed_alike la lb (route_response e) closes r s t u a b new_a new_b so x.0 y.0 x.1 y.1
 served_alike one_text limit la lb closes (Ok asked) r s t u a b new_a new_b so x y calm quiet clock =
     let g : List Entry = entries (take b.reached.records lb) in
     let says_a = act_says limit la g asked.caller asked.command (draw_at a.draws) x.0 r a.reached new_a.reached x.1 so.at calm in
     let says_b = act_says limit lb g asked.caller asked.command (draw_at b.draws) y.0 s b.reached new_b.reached y.1 refl quiet in
-    let time : r.clock ≡ s.clock = clock x.1.acts.acted y.1.acts.acted in
+    let time : r.clock ≡ s.clock = clock x.1.on.acts.acted y.1.on.acts.acted in
     let Q : ℕ → Draw → Type 0 = λ k d. Said limit g asked.caller asked.command k d y.0 (entries (take new_b.reached.records lb)) in
     let mine : Q r.clock (draw_at a.draws) = subst (λ k. Q k (draw_at a.draws)) (sym time) (subst (λ d. Q s.clock (draw_at d)) (sym so.draws) says_b) in
     let answered : Answer = answer limit g asked.caller asked.command r.clock (draw_at a.draws) in
     record {
       text = one_reply_text one_text x.0 y.0 closes t u (one_reply answered.said x.0 y.0 says_a.0 mine.0) x.3 y.3;
-      acted = x.1.acts.acted ∙ sym y.1.acts.acted;
+      acted = x.1.on.acts.acted ∙ sym y.1.on.acts.acted;
       draws = x.2 ∙ ap next_draws so.draws ∙ sym y.2;
       at = says_a.1 ∙ sym mine.1;
     }
@@ -199,13 +201,13 @@ memory_calm acts closes asked r t a new_a serves calm is =
     calm (ap (λ (z : Receipt). z.status) wanting.0.0)
 
 asked_alike : OneAsked → OneText → (limit : ℕ) (la lb : List Record) (closes : Bool) (q : Request) (r s : Receipt) (t u : List ℕ) (a b new_a new_b : Worker Reach)
-    → Together la lb a b → AnswersTo (ActsIn limit la) closes q r t a new_a → AnswersTo (ActsIn limit lb) closes q s u b new_b → r.status ≢ 503 → s.status ≢ 503
+    → Together la lb a b → AnswersTo (ActsNext limit la) closes q r t a new_a → AnswersTo (ActsNext limit lb) closes q s u b new_b → r.status ≢ 503 → s.status ≢ 503
     → (r.acted ≡ true → s.acted ≡ true → r.clock ≡ s.clock) → Alike la lb r s t u new_a new_b
 asked_alike one_asked one_text limit la lb closes q r s t u a b new_a new_b so x y calm quiet clock = elim (one_asked q x.0 y.0 x.1 y.1) [
-  | inl same ↦ served_alike one_text limit la lb closes y.0 r s t u a b new_a new_b so (subst (λ z. ServesAsked (ActsIn limit la) closes z r t a new_a) same x.2) y.2 calm quiet clock
+  | inl same ↦ served_alike one_text limit la lb closes y.0 r s t u a b new_a new_b so (subst (λ z. ServesAsked (ActsNext limit la) closes z r t a new_a) same x.2) y.2 calm quiet clock
   | inr wanting ↦ elim wanting [
-    | inl mine ↦ absurd (memory_calm (ActsIn limit la) closes x.0 r t a new_a x.2 calm mine)
-    | inr other ↦ absurd (memory_calm (ActsIn limit lb) closes y.0 s u b new_b y.2 quiet other)
+    | inl mine ↦ absurd (memory_calm (ActsNext limit la) closes x.0 r t a new_a x.2 calm mine)
+    | inr other ↦ absurd (memory_calm (ActsNext limit lb) closes y.0 s u b new_b y.2 quiet other)
   ]
 ]
 
@@ -217,23 +219,23 @@ read_by_other own acts closes q r s t u a b new_a new_b (Err e, is, serves) calm
     absurd (memory_calm own closes (Err e) r t a new_a serves calm (ap (λ (x : RouteRefused). Err x) (routed_refused q unread.0 e unread.1 is)))
 
 unread_alike : OneText → (limit : ℕ) (la lb : List Record) (closes : Bool) (q : Request) (r s : Receipt) (t u : List ℕ) (a b new_a new_b : Worker Reach)
-    → Together la lb a b → AnswersUnread (ActsIn limit la) closes q r t a new_a → AnswersUnread (ActsIn limit lb) closes q s u b new_b → r.status ≢ 503 → s.status ≢ 503
+    → Together la lb a b → AnswersUnread (ActsNext limit la) closes q r t a new_a → AnswersUnread (ActsNext limit lb) closes q s u b new_b → r.status ≢ 503 → s.status ≢ 503
     → (r.acted ≡ true → s.acted ≡ true → r.clock ≡ s.clock) → Alike la lb r s t u new_a new_b
 unread_alike one_text limit la lb closes q r s t u a b new_a new_b so x y calm quiet clock =
     let same : x.0 ≡ y.0 = one_routed q x.0 y.0 x.1 y.1 in
-    let mine = subst (λ (routed : Routed). ServesAsked (ActsIn limit la) closes (Ok (with_command routed (any_command routed))) r t a new_a) same (x.2 (any_command x.0) refl) in
+    let mine = subst (λ (routed : Routed). ServesAsked (ActsNext limit la) closes (Ok (with_command routed (any_command routed))) r t a new_a) same (x.2 (any_command x.0) refl) in
     served_alike one_text limit la lb closes (Ok (with_command y.0 (any_command y.0))) r s t u a b new_a new_b so mine (y.2 (any_command y.0) refl) calm quiet clock
 
 answered_alike : OneAsked → OneText → (limit : ℕ) (la lb : List Record) (closes : Bool) (heard : Result Request RequestRefused) (r s : Receipt) (t u : List ℕ) (a b new_a new_b : Worker Reach)
-    → Together la lb a b → ServesRequest (ActsIn limit la) closes heard r t a new_a → ServesRequest (ActsIn limit lb) closes heard s u b new_b → r.status ≢ 503 → s.status ≢ 503
+    → Together la lb a b → ServesRequest (ActsNext limit la) closes heard r t a new_a → ServesRequest (ActsNext limit lb) closes heard s u b new_b → r.status ≢ 503 → s.status ≢ 503
     → (r.acted ≡ true → s.acted ≡ true → r.clock ≡ s.clock) → Alike la lb r s t u new_a new_b
 answered_alike one_asked one_text limit la lb closes (Ok q) r s t u a b new_a new_b so (inl x) (inl y) calm quiet clock =
     asked_alike one_asked one_text limit la lb closes q r s t u a b new_a new_b so x y calm quiet clock
 answered_alike one_asked one_text limit la lb closes (Ok q) r s t u a b new_a new_b so (inl x) (inr y) calm quiet clock =
-    let theirs = read_by_other (ActsIn limit la) (ActsIn limit lb) closes q r s t u a b new_a new_b x calm y in
+    let theirs = read_by_other (ActsNext limit la) (ActsNext limit lb) closes q r s t u a b new_a new_b x calm y in
     asked_alike one_asked one_text limit la lb closes q r s t u a b new_a new_b so x theirs calm quiet clock
 answered_alike one_asked one_text limit la lb closes (Ok q) r s t u a b new_a new_b so (inr x) (inl y) calm quiet clock =
-    let mine = read_by_other (ActsIn limit lb) (ActsIn limit la) closes q s r u t b a new_b new_a y quiet x in
+    let mine = read_by_other (ActsNext limit lb) (ActsNext limit la) closes q s r u t b a new_b new_a y quiet x in
     asked_alike one_asked one_text limit la lb closes q r s t u a b new_a new_b so mine y calm quiet clock
 answered_alike one_asked one_text limit la lb closes (Ok q) r s t u a b new_a new_b so (inr x) (inr y) calm quiet clock =
     unread_alike one_text limit la lb closes q r s t u a b new_a new_b so x y calm quiet clock
@@ -362,7 +364,7 @@ AreCalm receipts = AllByRecursion (λ (receipt : Receipt). receipt.status ≢ 50
 
 pub agree : OneAsked → OneText → (limit : ℕ) (la lb : List Record) (phase : Phase) (xs ys : List Receipt) (out_x out_y : List ℕ) (f k : Finish) (a b end_a end_b : Worker Reach) (readings : List ℕ)
     → Together la lb a b → IsKnown phase → BeginsWith (clocks xs) readings → BeginsWith (clocks ys) readings
-    → Converses (ActsIn limit la) phase xs out_x f a end_a → Converses (ActsIn limit lb) phase ys out_y k b end_b
+    → Converses (ActsNext limit la) phase xs out_x f a end_a → Converses (ActsNext limit lb) phase ys out_y k b end_b
     → AreCalm xs → AreCalm ys → IsCalm f → IsCalm k → (out_x ≡ out_y) × (f ≡ k)
 agree one_asked one_text limit la lb (going most None) xs ys out_x out_y f k a b end_a end_b readings so told fx fy x y cx cy calm quiet = absurd told
 agree one_asked one_text limit la lb (ended_with h) [] [] out_x out_y f k a b end_a end_b readings so told fx fy x y cx cy calm quiet = (x.0 ∙ sym y.0, x.1 ∙ sym y.1)
@@ -371,25 +373,25 @@ agree one_asked one_text limit la lb (ended_with h) [] (s ∷ ss) out_x out_y f 
 agree one_asked one_text limit la lb (going most (Some stream)) [] [] out_x out_y f k a b end_a end_b readings so told fx fy x y cx cy calm quiet =
     (x.0 ∙ sym y.0, ends_alike stream f k x.1 y.1 calm quiet)
 agree one_asked one_text limit la lb (going most (Some stream)) [] (s ∷ ss) out_x out_y f k a b end_a end_b readings so told fx fy x y cx cy calm quiet =
-    absurd (unanswered (ActsIn limit lb) stream most f s y.0 b y.3 y.2 x.1 calm y.5 cy.0)
+    absurd (unanswered (ActsNext limit lb) stream most f s y.0 b y.3 y.2 x.1 calm y.5 cy.0)
 agree one_asked one_text limit la lb (going most (Some stream)) (r ∷ rs) [] out_x out_y f k a b end_a end_b readings so told fx fy x y cx cy calm quiet =
-    absurd (unanswered (ActsIn limit la) stream most k r x.0 a x.3 x.2 y.1 quiet x.5 cx.0)
+    absurd (unanswered (ActsNext limit la) stream most k r x.0 a x.3 x.2 y.1 quiet x.5 cx.0)
 agree one_asked one_text limit la lb (going most (Some stream)) (r ∷ rs) (s ∷ ss) out_x out_y f k a b end_a end_b readings so told fx fy x y cx cy calm quiet =
     let p = x.5 in
     let q = y.5 in
-    let known_x = known (ActsIn limit la) stream p.heard p.after (closes_after most p.heard) r p.text a x.3 p.next p.answered cx.0 in
-    let known_y = known (ActsIn limit lb) stream q.heard q.after (closes_after most q.heard) s q.text b y.3 q.next q.answered cy.0 in
+    let known_x = known (ActsNext limit la) stream p.heard p.after (closes_after most p.heard) r p.text a x.3 p.next p.answered cx.0 in
+    let known_y = known (ActsNext limit lb) stream q.heard q.after (closes_after most q.heard) s q.text b y.3 q.next q.answered cy.0 in
     let same = same_heard stream most p.heard q.heard p.after q.after known_x known_y in
     let clock = clocks_step r.acted s.acted r.clock s.clock (clocks rs) (clocks ss) readings fx fy in
     let alike = answered_alike one_asked one_text limit la lb (closes_after most q.heard) q.heard r s p.text q.text a b x.3 y.3 so
-    (subst (λ h. ServesRequest (ActsIn limit la) (closes_after most h) h r p.text a x.3) same.0 p.answered) q.answered cx.0 cy.0 clock.0 in
-    let whole_x = went_whole (ActsIn limit la) p.text x.0 (phase_after most p.heard p.after) x.2 rs x.1 f x.3 end_a p.sent x.6 calm.1 in
-    let whole_y = went_whole (ActsIn limit lb) q.text y.0 (phase_after most q.heard q.after) y.2 ss y.1 k y.3 end_b q.sent y.6 quiet.1 in
+    (subst (λ h. ServesRequest (ActsNext limit la) (closes_after most h) h r p.text a x.3) same.0 p.answered) q.answered cx.0 cy.0 clock.0 in
+    let whole_x = went_whole (ActsNext limit la) p.text x.0 (phase_after most p.heard p.after) x.2 rs x.1 f x.3 end_a p.sent x.6 calm.1 in
+    let whole_y = went_whole (ActsNext limit lb) q.text y.0 (phase_after most q.heard q.after) y.2 ss y.1 k y.3 end_b q.sent y.6 quiet.1 in
     let fronts = clock.1 alike.acted in
     let so_on : Together la lb x.3 y.3 = record { draws = alike.draws; at = alike.at } in
     let more = agree one_asked one_text limit la lb (phase_after most q.heard q.after) rs ss x.1 y.1 f k x.3 y.3 end_a end_b fronts.0 so_on
     (known_behind stream most q.heard q.after known_y) fronts.1 fronts.2
-    (subst (λ z. Converses (ActsIn limit la) z rs x.1 f x.3 end_a) (whole_x.1 ∙ same.1) x.6)
-    (subst (λ z. Converses (ActsIn limit lb) z ss y.1 k y.3 end_b) whole_y.1 y.6)
+    (subst (λ z. Converses (ActsNext limit la) z rs x.1 f x.3 end_a) (whole_x.1 ∙ same.1) x.6)
+    (subst (λ z. Converses (ActsNext limit lb) z ss y.1 k y.3 end_b) whole_y.1 y.6)
     cx.1 cy.1 calm quiet in
     (x.4 ∙ ap (λ l. l ++ x.1) (whole_x.0 ∙ alike.text ∙ sym whole_y.0) ∙ ap (λ l. y.0 ++ l) more.0 ∙ sym y.4, more.1)

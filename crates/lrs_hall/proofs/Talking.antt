@@ -84,59 +84,71 @@ module _ {X : Type 0} (acts : ActOn X) (P : List Receipt → X → X → Type 0)
 
 -- ---- other acts
 
--- Acts on X are acts on what f sees of it, where Q holds of it after them; and Q held before.
-module _ {X Y : Type 0} (f : X → Y) (own : ActOn X) (acts : ActOn Y) (Q : X → Type 0)
+-- Acts on X are acts on what f sees of it, where P held of it before them, and Q holds of it after them: P goes on to
+-- later ones, and Q held at earlier ones.
+module _ {X Y : Type 0} (f : X → Y) (own : ActOn X) (acts : ActOn Y) (P Q : X → Type 0)
+    (forth : (caller : Caller) (command : Command) (draw : Draw) (reply : Reply) (receipt : Receipt) (old new : X) → own caller command draw reply receipt old new → P old → P new)
     (back : (caller : Caller) (command : Command) (draw : Draw) (reply : Reply) (receipt : Receipt) (old new : X) → own caller command draw reply receipt old new → Q new → Q old)
-    (seen : (caller : Caller) (command : Command) (draw : Draw) (reply : Reply) (receipt : Receipt) (old new : X) → own caller command draw reply receipt old new → Q new → acts caller command draw reply receipt (f old) (f new)) where
+    (seen : (caller : Caller) (command : Command) (draw : Draw) (reply : Reply) (receipt : Receipt) (old new : X) → own caller command draw reply receipt old new → P old → Q new → acts caller command draw reply receipt (f old) (f new)) where
   abbrev pub at : Worker X → Worker Y
   at w = record { draws = w.draws; reached = f w.reached }
 
-  serves_seen : (closes : Bool) (asked : Result Asked RouteRefused) (receipt : Receipt) (text : List ℕ) (old new : Worker X) → Q new.reached
+  serves_seen : (closes : Bool) (asked : Result Asked RouteRefused) (receipt : Receipt) (text : List ℕ) (old new : Worker X) → P old.reached → Q new.reached
       → ServesAsked own closes asked receipt text old new → ServesAsked acts closes asked receipt text (at old) (at new)
-  serves_seen closes (Ok asked) receipt text old new q serves =
-      (serves.0, seen asked.caller asked.command (draw_at old.draws) serves.0 receipt old.reached new.reached serves.1 q, serves.2, serves.3)
-  serves_seen closes (Err refusal) receipt text old new q serves = (serves.0, ap at serves.1)
+  serves_seen closes (Ok asked) receipt text old new p q serves =
+      (serves.0, seen asked.caller asked.command (draw_at old.draws) serves.0 receipt old.reached new.reached serves.1 p q, serves.2, serves.3)
+  serves_seen closes (Err refusal) receipt text old new p q serves = (serves.0, ap at serves.1)
 
-  answers_seen : (closes : Bool) (heard : Result Request RequestRefused) (receipt : Receipt) (text : List ℕ) (old new : Worker X) → Q new.reached
+  answers_seen : (closes : Bool) (heard : Result Request RequestRefused) (receipt : Receipt) (text : List ℕ) (old new : Worker X) → P old.reached → Q new.reached
       → ServesRequest own closes heard receipt text old new → ServesRequest acts closes heard receipt text (at old) (at new)
-  answers_seen closes (Ok request) receipt text old new q (inl answers) = inl (answers.0, answers.1, serves_seen closes answers.0 receipt text old new q answers.2)
-  answers_seen closes (Ok request) receipt text old new q (inr unread) =
-      inr (unread.0, unread.1, λ c of. serves_seen closes (Ok (with_command unread.0 c)) receipt text old new q (unread.2 c of))
-  answers_seen closes (Err refusal) receipt text old new q answers = (answers.0, ap at answers.1)
+  answers_seen closes (Ok request) receipt text old new p q (inl answers) = inl (answers.0, answers.1, serves_seen closes answers.0 receipt text old new p q answers.2)
+  answers_seen closes (Ok request) receipt text old new p q (inr unread) =
+      inr (unread.0, unread.1, λ c of. serves_seen closes (Ok (with_command unread.0 c)) receipt text old new p q (unread.2 c of))
+  answers_seen closes (Err refusal) receipt text old new p q answers = (answers.0, ap at answers.1)
 
-  responds_seen : (phase : Phase) (receipt : Receipt) (front : List ℕ) (old new : Worker X) (behind : Phase) → Q new.reached
+  responds_seen : (phase : Phase) (receipt : Receipt) (front : List ℕ) (old new : Worker X) (behind : Phase) → P old.reached → Q new.reached
       → RespondsIn own phase receipt front old new behind → RespondsIn acts phase receipt front (at old) (at new) behind
-  responds_seen (going most stream) receipt front old new behind q responds = record {
+  responds_seen (going most stream) receipt front old new behind p q responds = record {
     heard = responds.heard;
     after = responds.after;
     next = responds.next;
     text = responds.text;
-    answered = answers_seen (closes_after most responds.heard) responds.heard receipt responds.text old new q responds.answered;
+    answered = answers_seen (closes_after most responds.heard) responds.heard receipt responds.text old new p q responds.answered;
     sent = responds.sent;
   }
-  responds_seen (ended_with g) receipt front old new behind q responds = absurd responds
+  responds_seen (ended_with g) receipt front old new behind p q responds = absurd responds
 
   back_once : (receipt : Receipt) (old new : Worker X) → ActsOnce own receipt old new → Q new.reached → Q old.reached
   back_once receipt old new (inl act) q = back act.0 act.1 act.2 act.3 receipt old.reached new.reached act.4 q
   back_once receipt old new (inr none) q = subst (λ (w : Worker X). Q w.reached) none.2 q
+
+  forth_once : (receipt : Receipt) (old new : Worker X) → ActsOnce own receipt old new → P old.reached → P new.reached
+  forth_once receipt old new (inl act) p = forth act.0 act.1 act.2 act.3 receipt old.reached new.reached act.4 p
+  forth_once receipt old new (inr none) p = subst (λ (w : Worker X). P w.reached) (sym none.2) p
 
   back_talk : (phase : Phase) (receipts : List Receipt) (out : List ℕ) (g : Finish) (old new : Worker X) → Converses own phase receipts out g old new → Q new.reached → Q old.reached
   back_talk phase [] out g old new talks q = subst (λ (w : Worker X). Q w.reached) talks.2 q
   back_talk phase (receipt ∷ receipts) out g old new talks q =
       back_once receipt old talks.3 (once own phase receipt talks.0 old talks.3 talks.2 talks.5) (back_talk talks.2 receipts talks.1 g talks.3 new talks.6 q)
 
-  pub talk_seen : (phase : Phase) (receipts : List Receipt) (out : List ℕ) (g : Finish) (old new : Worker X) → Q new.reached
+  forth_talk : (phase : Phase) (receipts : List Receipt) (out : List ℕ) (g : Finish) (old new : Worker X) → Converses own phase receipts out g old new → P old.reached → P new.reached
+  forth_talk phase [] out g old new talks p = subst (λ (w : Worker X). P w.reached) (sym talks.2) p
+  forth_talk phase (receipt ∷ receipts) out g old new talks p =
+      forth_talk talks.2 receipts talks.1 g talks.3 new talks.6 (forth_once receipt old talks.3 (once own phase receipt talks.0 old talks.3 talks.2 talks.5) p)
+
+  pub talk_seen : (phase : Phase) (receipts : List Receipt) (out : List ℕ) (g : Finish) (old new : Worker X) → P old.reached → Q new.reached
       → Converses own phase receipts out g old new → Converses acts phase receipts out g (at old) (at new)
-  talk_seen phase [] out g old new q talks = (talks.0, talks.1, ap at talks.2)
-  talk_seen phase (receipt ∷ receipts) out g old new q talks =
-      let mid = back_talk talks.2 receipts talks.1 g talks.3 new talks.6 q in (
+  talk_seen phase [] out g old new p q talks = (talks.0, talks.1, ap at talks.2)
+  talk_seen phase (receipt ∷ receipts) out g old new p q talks =
+      let mid = back_talk talks.2 receipts talks.1 g talks.3 new talks.6 q in
+      let on = forth_once receipt old talks.3 (once own phase receipt talks.0 old talks.3 talks.2 talks.5) p in (
         talks.0,
         talks.1,
         talks.2,
         at talks.3,
         talks.4,
-        responds_seen phase receipt talks.0 old talks.3 talks.2 mid talks.5,
-        talk_seen talks.2 receipts talks.1 g talks.3 new q talks.6,
+        responds_seen phase receipt talks.0 old talks.3 talks.2 p mid talks.5,
+        talk_seen talks.2 receipts talks.1 g talks.3 new on q talks.6,
       )
 
   back_all : (talks : List Talk) (links : List Returned) (old new : Worker X) → AreOnLinks own talks links old new → Q new.reached → Q old.reached
@@ -146,18 +158,19 @@ module _ {X Y : Type 0} (f : X → Y) (own : ActOn X) (acts : ActOn Y) (Q : X �
   back_all (talk ∷ talks) (link ∷ links) old new is q =
       back_talk (going most_requests link.stream) talk.receipts is.1.out talk.finish old is.0 is.1.talks (back_all talks links is.0 new is.2 q)
 
-  pub all_seen : (talks : List Talk) (links : List Returned) (old new : Worker X) → Q new.reached → AreOnLinks own talks links old new → AreOnLinks acts talks links (at old) (at new)
-  all_seen [] [] old new q is = ap at is
-  all_seen [] (link ∷ links) old new q is = absurd is
-  all_seen (talk ∷ talks) [] old new q is = absurd is
-  all_seen (talk ∷ talks) (link ∷ links) old new q is =
-      let mid = back_all talks links is.0 new is.2 q in (
+  pub all_seen : (talks : List Talk) (links : List Returned) (old new : Worker X) → P old.reached → Q new.reached → AreOnLinks own talks links old new → AreOnLinks acts talks links (at old) (at new)
+  all_seen [] [] old new p q is = ap at is
+  all_seen [] (link ∷ links) old new p q is = absurd is
+  all_seen (talk ∷ talks) [] old new p q is = absurd is
+  all_seen (talk ∷ talks) (link ∷ links) old new p q is =
+      let mid = back_all talks links is.0 new is.2 q in
+      let on = forth_talk (going most_requests link.stream) talk.receipts is.1.out talk.finish old is.0 is.1.talks p in (
         at is.0,
         record {
           out = is.1.out;
           taken = is.1.taken;
-          talks = talk_seen (going most_requests link.stream) talk.receipts is.1.out talk.finish old is.0 mid is.1.talks;
+          talks = talk_seen (going most_requests link.stream) talk.receipts is.1.out talk.finish old is.0 p mid is.1.talks;
           rose = is.1.rose;
         },
-        all_seen talks links is.0 new q is.2,
+        all_seen talks links is.0 new on q is.2,
       )

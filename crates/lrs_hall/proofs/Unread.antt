@@ -12,7 +12,8 @@ use Rattle.lrs_command.specs.Areas.{command_area}
 use Rattle.lrs_history.specs.Whose.{who_is}
 use Rattle.lrs_http.specs.declared.request.Request.{Request}
 use Rattle.lrs_machine.specs.Acts.{Acts, Receipt}
-use Rattle.lrs_machine.specs.Desk.{history, lets_in}
+use Rattle.lrs_machine.specs.Line.{Record, entries}
+use Rattle.lrs_machine.specs.Desk.{lets_in}
 use Rattle.lrs_names.specs.declared.draw.Draw.{Draw}
 use Rattle.lrs_record.specs.declared.entry.Caller.{Caller}
 use Rattle.lrs_record.specs.declared.entry.Entry.{Entry}
@@ -20,13 +21,13 @@ use Rattle.lrs_replies.specs.declared.answered.Refusal.{Refusal}
 use Rattle.lrs_replies.specs.declared.reply.Reply.{Reply}
 use Rattle.lrs_routes.proofs.Alone.{asked_routed, routed_asks}
 use Rattle.lrs_routes.proofs.Areas.{goes_there}
-use Rattle.lrs_routes.specs.Asked.{IsAsked, IsRoutedAs}
+use Rattle.lrs_routes.specs.Asked.{IsAsked, IsCommandOf, IsRoutedAs}
 use Rattle.lrs_routes.specs.declared.asked.Asked.{Asked}
 use Rattle.lrs_routes.specs.declared.asked.Routed.{Routed}
-use Rattle.lrs_hall.specs.Acts.{ActsOn, DeskAndClock}
+use Rattle.lrs_hall.specs.Acts.{ActsAt, ActsOn, Seen, SeenAndClock}
 use Rattle.lrs_hall.specs.Conversation.{ActOn, AnswersTo, ServesAsked, ServesRequest, Worker, with_command}
-use Rattle.lrs_hall.specs.Draws.{draw_at}
-use Rattle.lrs_hall.specs.Steps.{IsCommandFor}
+use Rattle.lrs_hall.specs.Draws.{draw_at, next_draws}
+use Rattle.lrs_hall.specs.Responses.{IsReplyText}
 
 -- ---- a command of the area
 
@@ -50,42 +51,35 @@ told_alike limit h caller area c d clock draw out of_c of_d =
     told_barred limit h caller c clock draw r.0 (ap (λ a. barred a (who_is (state h) caller)) of_c ∙ r.1)
     ∙ sym (told_barred limit h caller d clock draw r.0 (ap (λ a. barred a (who_is (state h) caller)) of_d ∙ r.1))
 
-module _ {D : Type 0} (told : D → Option (List ℕ)) (image : D → List ℕ → Type 0) (time : D → ℕ) (since : D → ℕ → List ℕ → Type 0) (faults : D → ℕ) where
-  acts_alike : (caller : Caller) (c d : Command) (draw : Draw) (reply : Reply) (receipt : Receipt) (old new : DeskAndClock D)
-      → answer old.desk.limit (history old.desk) caller c receipt.clock draw ≡ answer old.desk.limit (history old.desk) caller d receipt.clock draw
-      → ActsOn told image time since faults caller c draw reply receipt old new → ActsOn told image time since faults caller d draw reply receipt old new
-  acts_alike caller c d draw reply receipt old new same x = record {
-    receipt_is = x.receipt_is;
-    said = x.said;
-    says = x.says;
-    acts = subst (λ (a : Answer). Acts a x.said receipt old.desk.line new.desk.line) same x.acts;
-    limit = x.limit;
-    opened = x.opened;
-    opened_at = x.opened_at;
-    later = x.later;
-    tells = x.tells;
-    stops = x.stops;
-    durable = x.durable;
-    read = x.read;
-  }
+-- an act with a command of the area where the caller isn't let in is one with each other
+pub acts_alike : (line : List Record) (limit : ℕ) (caller : Caller) (area : Area) (c d : Command) (draw : Draw) (reply : Reply) (receipt : Receipt) (old new : Seen)
+    → lets_in (entries line) caller area ≡ false → command_area c ≡ area → command_area d ≡ area
+    → ActsAt line limit caller c draw reply receipt old new → ActsAt line limit caller d draw reply receipt old new
+acts_alike line limit caller area c d draw reply receipt old new out of_c of_d x = record {
+  goes_on = x.goes_on;
+  since = x.since;
+  status = x.status;
+  said = x.said;
+  says = x.says;
+  acts = subst (λ (a : Answer). Acts a x.said receipt line new.front) (told_alike limit (entries line) caller area c d receipt.clock draw out of_c of_d) x.acts;
+  own = x.own;
+  mark = x.mark;
+}
 
-  -- an act with the request's command, or with one of the area where the caller isn't let in
-  pub serves_for : (closes : Bool) (request : Request) (routed : Routed) (c : Command) (receipt : Receipt) (text : List ℕ) (old new : Worker (DeskAndClock D))
-      → IsRoutedAs request routed → IsCommandFor (history old.reached.desk) request routed c
-      → ServesAsked (ActsOn told image time since faults) closes (Ok (with_command routed c)) receipt text old new
-      → ServesRequest (ActsOn told image time since faults) closes (Ok request) receipt text old new
-  serves_for closes request routed c receipt text old new h (inl is) serves = inl (Ok (with_command routed c), routed_asks request routed c h is, serves)
-  serves_for closes request routed c receipt text old new h (inr out) serves = inr (
-    routed,
-    h,
-    λ d of. (
-      serves.0,
-      acts_alike routed.caller c d (draw_at old.draws) serves.0 receipt old.reached new.reached
-          (told_alike old.reached.desk.limit (history old.reached.desk) routed.caller routed.area c d receipt.clock (draw_at old.draws) out.1 out.0 of) serves.1,
-      serves.2,
-      serves.3,
-    ),
-  )
+-- ---- one response
+
+module _ (limit : ℕ) (closes : Bool) (request : Request) (receipt : Receipt) (text : List ℕ) (old new : Worker SeenAndClock) where
+  -- a request that is read is answered as what it asks
+  pub serves_read : (routed : Routed) (command : Command) (reply : Reply) → IsRoutedAs request routed → IsCommandOf request routed command
+      → ActsOn limit routed.caller command (draw_at old.draws) reply receipt old.reached new.reached → new.draws ≡ next_draws old.draws → IsReplyText reply closes text
+      → ServesRequest (ActsOn limit) closes (Ok request) receipt text old new
+  serves_read routed command reply h is acts draws said = inl (Ok (with_command routed command), routed_asks request routed command h is, (reply, acts, draws, said))
+
+  -- one that isn't as each of its area
+  pub serves_unread : (routed : Routed) (reply : Reply) → IsRoutedAs request routed
+      → ((command : Command) → command_area command ≡ routed.area → ActsOn limit routed.caller command (draw_at old.draws) reply receipt old.reached new.reached)
+      → new.draws ≡ next_draws old.draws → IsReplyText reply closes text → ServesRequest (ActsOn limit) closes (Ok request) receipt text old new
+  serves_unread routed reply h acts draws said = inr (routed, h, λ command of. (reply, acts command of, draws, said))
 
 -- ---- as what is asked
 

@@ -1,10 +1,9 @@
--- What an act of a conversation tells: of the desk, and of the one line that the desk has in the end.
-use Rattle.std.specs.Prelude.{◌≡◌, ◌≤◌, ◌+◌, ℕ, List, length, take, Option, Result, if◌then◌else◌}
+-- What an act of a conversation tells: of what its worker has seen, and of the one line that there is in the end.
+use Rattle.std.specs.Prelude.{◌≡◌, ◌≤◌, ◌+◌, ℕ, List, [], ◌∷◌, ◌++◌, length, take, Option, Result, if◌then◌else◌}
 use Rattle.lrs_disk.specs.Readings.{AddsReading}
-use Rattle.lrs_journal.specs.Journal.{TellsAlike}
-use Rattle.lrs_machine.specs.Line.{Record, entries}
+use Rattle.lrs_machine.specs.Line.{BeginsWith, Record, entries}
 use Rattle.lrs_machine.specs.Acts.{Acts, Receipt, changed}
-use Rattle.lrs_machine.specs.Desk.{Desk, IsOnDisk, StopsWithin, history, receipt_of}
+use Rattle.lrs_machine.specs.Desk.{Mark}
 use Rattle.lrs_history.specs.History.{answer}
 use Rattle.lrs_replies.specs.Replies.{Says}
 use Rattle.lrs_replies.specs.declared.answered.Answered.{Answered}
@@ -13,57 +12,107 @@ use Rattle.lrs_replies.specs.declared.reply.Trouble.{Trouble}
 use Rattle.lrs_names.specs.declared.draw.Draw.{Draw}
 use Rattle.lrs_record.specs.declared.entry.Caller.{Caller}
 use Rattle.lrs_command.specs.declared.command.Command.{Command}
+use Rattle.lrs_turn.specs.Passes.{Pass}
+
+-- the numbers of a worker's own records after an act on a line of so many: one that changed the journal made the next
+abbrev pub own_behind : ℕ → Receipt → List ℕ → List ℕ
+own_behind at receipt own = if changed receipt then own ++ at ∷ [] else own
+
+-- ---- the disk
+
+-- What an act tells of the disk goes on from what its worker knew: it found no lower count of faults, and ended at no
+-- earlier moment.
+pub record IsSince (known : Mark) (receipt : Receipt) : Type 0 where
+  pub was : known.faults ≤ receipt.was
+  pub ended : known.moment ≤ receipt.disk
+
+-- what a worker knows of the disk after an act
+abbrev pub mark_behind : Receipt → Mark
+mark_behind receipt = record { faults = receipt.is; moment = receipt.disk }
 
 -- ---- over the one line
 
--- How much of the one line a worker has seen, and until which moment of its disk.
+-- How far a worker has come in the one line: it has seen so many records, and these are its own. Beside it what it
+-- knows of the disk, by its last act.
 pub record Reach : Type 0 where
   pub records : ℕ
-  pub moment : ℕ
+  pub own : List ℕ
+  pub mark : Mark
 
--- an act that changed the journal has made the next record
-abbrev pub reach_behind : Receipt → Reach → Reach
-reach_behind receipt old = record {
-  records = if changed receipt then old.records + 1 else old.records;
-  moment = receipt.disk;
+-- after an act on the first records of the line
+abbrev pub reach_behind : ℕ → Receipt → Reach → Reach
+reach_behind at receipt old = record {
+  records = if changed receipt then at + 1 else at;
+  own = own_behind at receipt old.own;
+  mark = mark_behind receipt;
 }
 
--- An act on the records of the one line that the worker has seen, after which it has seen those after the act. The
--- abstract store answers it over the entries before its point.
+-- An act on the first records of the one line: on all that the worker had seen, and maybe more, since others act too.
+-- The abstract store answers it over the entries before its point. After it the worker has seen what the act left.
 pub record ActsIn (limit : ℕ) (line : List Record) (caller : Caller) (command : Command) (draw : Draw) (reply : Reply)
     (receipt : Receipt) (old new : Reach) : Type 0 where
+  -- how many records there were
+  pub at : ℕ
+  pub later : old.records ≤ at
+  pub since : IsSince old.mark receipt
   pub status : receipt.status ≡ reply.status
   pub said : Result Answered Trouble
   pub says : Says said reply
   pub acts : Acts (answer limit (take receipt.point (entries line)) caller command receipt.clock draw) said receipt
-      (take old.records line) (take new.records line)
+      (take at line) (take new.records line)
   pub within : new.records ≤ length line
-  -- moments don't fall
-  pub began : old.moment ≤ receipt.disk
-  pub reach : new ≡ reach_behind receipt old
+  pub reach : new ≡ reach_behind at receipt old
 
--- ---- over the desk
+-- Nothing came between: the act was on just what the worker had seen.
+pub record ActsNext (limit : ℕ) (line : List Record) (caller : Caller) (command : Command) (draw : Draw) (reply : Reply)
+    (receipt : Receipt) (old new : Reach) : Type 0 where
+  pub on : ActsIn limit line caller command draw reply receipt old new
+  pub next : on.at ≡ old.records
 
--- what an act changes: the desk, and what its door tells of the clock
-pub record DeskAndClock (D : Type 0) : Type 0 where
-  pub desk : Desk D
-  pub readings : Option (List ℕ)
+-- ---- over what a worker has seen
 
--- An act of the desk, with one reading of the clock.
-pub record ActsOn {D : Type 0} (told : D → Option (List ℕ)) (image : D → List ℕ → Type 0) (time : D → ℕ)
-    (since : D → ℕ → List ℕ → Type 0) (faults : D → ℕ) (caller : Caller) (command : Command) (draw : Draw)
-    (reply : Reply) (receipt : Receipt) (old new : DeskAndClock D) : Type 0 where
-  pub receipt_is : receipt ≡ receipt_of time faults old.desk new.desk reply.status receipt.clock
+-- what the pass of a worker has seen: the first records of the one line, which of them are its own, and the disk
+pub record Seen : Type 0 where
+  pub front : List Record
+  pub own : List ℕ
+  pub mark : Mark
+
+-- no desk that a pass takes has a lower tide, which is the count of the disk's faults and the disk's moment
+abbrev pub mark_in : List ℕ → Mark
+mark_in [] = record { faults = 0; moment = 0 }
+mark_in (faults ∷ []) = record { faults = faults; moment = 0 }
+mark_in (faults ∷ moment ∷ others) = record { faults = faults; moment = moment }
+
+abbrev pub seen_of : Pass Record → Seen
+seen_of pass = record { front = pass.front; own = pass.own; mark = mark_in pass.tide }
+
+-- each desk that a pass takes has these marks, of which the first is the limit
+abbrev pub limit_in : List ℕ → ℕ
+limit_in [] = 0
+limit_in (limit ∷ others) = limit
+
+-- An act on a desk of this line, which goes on from what the worker had seen. After it the worker has seen what the act
+-- left.
+pub record ActsAt (line : List Record) (limit : ℕ) (caller : Caller) (command : Command) (draw : Draw) (reply : Reply)
+    (receipt : Receipt) (old new : Seen) : Type 0 where
+  pub goes_on : BeginsWith old.front line
+  pub since : IsSince old.mark receipt
+  pub status : receipt.status ≡ reply.status
   pub said : Result Answered Trouble
   pub says : Says said reply
-  pub acts : Acts (answer old.desk.limit (history old.desk) caller command receipt.clock draw) said receipt
-      old.desk.line new.desk.line
-  pub limit : new.desk.limit ≡ old.desk.limit
-  pub opened : new.desk.opened ≡ old.desk.opened
-  pub opened_at : new.desk.opened_at ≡ old.desk.opened_at
-  pub later : time old.desk.disk ≤ time new.desk.disk
-  pub tells : TellsAlike (told old.desk.disk) (told new.desk.disk)
-  -- what a stop leaves at any moment of it, and after it
-  pub stops : StopsWithin told time since old.desk new.desk
-  pub durable : IsOnDisk told image time since new.desk
+  pub acts : Acts (answer limit (entries line) caller command receipt.clock draw) said receipt line new.front
+  pub own : new.own ≡ own_behind (length line) receipt old.own
+  pub mark : new.mark ≡ mark_behind receipt
+
+-- what an act changes: what its worker has seen, and what its door tells of the clock
+pub record SeenAndClock : Type 0 where
+  pub seen : Seen
+  pub readings : Option (List ℕ)
+
+-- An act of a worker, with one reading of the clock.
+pub record ActsOn (limit : ℕ) (caller : Caller) (command : Command) (draw : Draw) (reply : Reply) (receipt : Receipt)
+    (old new : SeenAndClock) : Type 0 where
+  -- the desk's as it was taken
+  pub line : List Record
+  pub acts : ActsAt line limit caller command draw reply receipt old.seen new.seen
   pub read : AddsReading old.readings new.readings receipt.clock

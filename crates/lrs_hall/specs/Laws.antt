@@ -1,4 +1,5 @@
--- Laws of acts over one line, and of one stream, which is answered in one way, however the links cut it.
+-- Laws of acts over one line, be there one worker or several, and of one stream, which is answered in one way, however
+-- the links cut it.
 use Rattle.std.specs.Prelude.{◌≡◌, ◌≢◌, ◌≤◌, ◌<◌, ◌+◌, ◌==◌, ℕ, List, [], ◌∷◌, length, take, slice_get, Bool, true}
 use Rattle.std.specs.Prelude.{false, if◌then◌else◌, Option, Some, None, IsSome, Result, Ok}
 use Rattle.std.specs.List.{AllByRecursion}
@@ -16,7 +17,9 @@ use Rattle.lrs_routes.specs.Asked.{Agree, IsAsked}
 use Rattle.lrs_routes.specs.declared.asked.Asked.{Asked}
 use Rattle.lrs_routes.specs.declared.asked.RouteRefused.{RouteRefused}
 use Rattle.lrs_time.specs.Timestamp.{IsMomentText}
-use Rattle.lrs_hall.specs.Acts.{ActsIn, Reach}
+use Rattle.lrs_turn.specs.Lists.{times}
+use Rattle.lrs_machine.specs.Desk.{Mark}
+use Rattle.lrs_hall.specs.Acts.{ActsIn, ActsNext, IsSince, Reach}
 use Rattle.lrs_hall.specs.Conversation.{AnswersTo, ServesRequest, Worker}
 use Rattle.lrs_hall.specs.Draws.{Draws}
 use Rattle.lrs_hall.specs.Serving.{AreOnLinks, IsWholeTalk, all_receipts, clocks, worker_at}
@@ -54,32 +57,57 @@ abbrev pub entries_at : ℕ → List Receipt → ℕ
 entries_at place [] = 0
 entries_at place (receipt ∷ receipts) = (if is_at receipt.entry place then 1 else 0) + entries_at place receipts
 
--- If a worker's talks go from a records of the line to b, each entry that these made is that of just one receipt.
+-- The record of this number made the entry at this place.
+pub record Makes (line : List Record) (place k : ℕ) : Type 0 where
+  pub made : Record
+  pub stands : slice_get line k ≡ Some made
+  pub some : IsSome made.made
+  pub before : entries_in k line ≡ place
+
+-- An entry is that of as many receipts of a worker as its record stands among those that became the worker's own.
 abbrev pub EntriesOnce : Type 0
 EntriesOnce =
-    (limit : ℕ) (line : List Record) (talks : List Talk) (links : List Returned) (draws behind : Draws)
-    (a b start end place : ℕ)
-    → AreOnLinks (ActsIn limit line) talks links (worker_at draws a start) (worker_at behind b end)
-    → entries_in a line ≤ place → place < entries_in b line → entries_at place (all_receipts talks) ≡ 1
+    (limit : ℕ) (line : List Record) (place k : ℕ) (talks : List Talk) (links : List Returned) (old new : Worker Reach)
+    → Makes line place k → AreOnLinks (ActsIn limit line) talks links old new
+    → entries_at place (all_receipts talks) + times k old.reached.own ≡ times k new.reached.own
+
+-- ---- one worker
+
+-- If all further records that a worker has seen are its own, each of its acts was on just what it had seen.
+abbrev pub Alone : Type 0
+Alone =
+    (limit : ℕ) (line : List Record) (talks : List Talk) (links : List Returned) (old new : Worker Reach)
+    → AreOnLinks (ActsIn limit line) talks links old new
+    → ((n : ℕ) → old.reached.records ≤ n → n < new.reached.records → 0 < times n new.reached.own)
+    → ((n : ℕ) → old.reached.records ≤ n → times n old.reached.own ≡ 0)
+    → AreOnLinks (ActsNext limit line) talks links old new
 
 -- ---- in order
 
--- The second act was answered over no fewer entries than the first, and over the first one's own.
+-- The second act was answered over no fewer entries than the first, and over the first one's own. It found no lower
+-- count of the disk's faults than the first left, and ended at no earlier moment.
 abbrev pub IsAnsweredBefore : Receipt → Receipt → Type 0
 IsAnsweredBefore first second =
     first.acted ≡ true → second.acted ≡ true
     → (first.point ≤ second.point) × (IsSome first.entry → first.point < second.point)
+    × (first.is ≤ second.was) × (first.disk ≤ second.disk)
 
 -- each goes on from all before it
 abbrev pub AreInOrder : List Receipt → Type 0
 AreInOrder [] = Unit {0}
 AreInOrder (receipt ∷ receipts) = AllByRecursion (IsAnsweredBefore receipt) receipts × AreInOrder receipts
 
--- All acts of a worker go on, each from those before it.
+-- the act was answered over no fewer entries than these, and goes on from what was known of the disk
+abbrev pub IsFrom : ℕ → Mark → Receipt → Type 0
+IsFrom n known receipt = receipt.acted ≡ true → (n ≤ receipt.point) × IsSince known receipt
+
+-- All acts of a worker go on: from what it had seen, and each from those before it.
 abbrev pub InOrder : Type 0
 InOrder =
     (limit : ℕ) (line : List Record) (talks : List Talk) (links : List Returned) (old new : Worker Reach)
-    → AreOnLinks (ActsIn limit line) talks links old new → AreInOrder (all_receipts talks)
+    → AreOnLinks (ActsIn limit line) talks links old new
+    → AllByRecursion (IsFrom (entries_in old.reached.records line) old.reached.mark) (all_receipts talks)
+    × AreInOrder (all_receipts talks)
 
 -- ---- what was acknowledged is kept
 
@@ -100,10 +128,9 @@ IsKept limit since line receipt =
 -- Over a line that is kept, what all talks of a worker promise is kept.
 abbrev pub KeepsPromises : ℕ → (ℕ → List ℕ → Type 0) → Type 0
 KeepsPromises now since =
-    (limit : ℕ) (line : List Record) (talks : List Talk) (links : List Returned) (draws behind : Draws)
-    (a b start end : ℕ)
-    → KeepsLine limit now since line → 1 ≤ a
-    → AreOnLinks (ActsIn limit line) talks links (worker_at draws a start) (worker_at behind b end)
+    (limit : ℕ) (line : List Record) (talks : List Talk) (links : List Returned) (old new : Worker Reach)
+    → KeepsLine limit now since line → 1 ≤ old.reached.records
+    → AreOnLinks (ActsIn limit line) talks links old new
     → AllByRecursion (IsKept limit since line) (all_receipts talks)
 
 -- ---- one stream
@@ -131,13 +158,13 @@ pub record IsSmooth (talk : Talk) : Type 0 where
   pub link : talk.finish ≢ finish.LinkFault
 
 -- Two smooth talks over one stream, from one history, with one clock and one draw after the other, send the same bytes
--- and end alike.
+-- and end alike, if nobody else acts between.
 abbrev pub OneStream : Type 0
 OneStream =
-    (limit : ℕ) (line_a line_b : List Record) (records_a records_b start_a start_b : ℕ) (stream : List ℕ)
-    (draws : Draws) (readings : List ℕ) (a b : Talk) (out_a out_b : List ℕ) (end_a end_b : Worker Reach)
+    (limit : ℕ) (line_a line_b : List Record) (records_a records_b : ℕ) (own_a own_b : List ℕ) (mark_a mark_b : Mark)
+    (stream : List ℕ) (draws : Draws) (readings : List ℕ) (a b : Talk) (out_a out_b : List ℕ) (end_a end_b : Worker Reach)
     → entries (take records_a line_a) ≡ entries (take records_b line_b)
     → BeginsWith (clocks a.receipts) readings → BeginsWith (clocks b.receipts) readings
-    → IsWholeTalk (ActsIn limit line_a) (Some stream) a out_a (worker_at draws records_a start_a) end_a
-    → IsWholeTalk (ActsIn limit line_b) (Some stream) b out_b (worker_at draws records_b start_b) end_b
+    → IsWholeTalk (ActsNext limit line_a) (Some stream) a out_a (worker_at draws records_a own_a mark_a) end_a
+    → IsWholeTalk (ActsNext limit line_b) (Some stream) b out_b (worker_at draws records_b own_b mark_b) end_b
     → IsSmooth a → IsSmooth b → (out_a ≡ out_b) × (a.finish ≡ b.finish)

@@ -1,14 +1,16 @@
--- What `converse` and `serve_all` promise: whole conversations over one line, and how they end.
+-- What `converse` promises, and what a worker does at its door: whole conversations over one line, and how they end.
 use Rattle.std.specs.Prelude.{◌≡◌, ◌≢◌, ◌⊎◌, ◌≤◌, ◌<◌, ℕ, List, [], ◌∷◌, ◌++◌, length, Bool, true, false, Option, Some}
-use Rattle.std.specs.Prelude.{None, IfSome, option_map, if◌then◌else◌, MatchBool}
+use Rattle.std.specs.Prelude.{None, IfSome, option_map, if◌then◌else◌}
 use Rattle.std.specs.List.{AllByRecursion}
 use Rattle.lrs_disk.specs.Door.{DoorState, Returned}
 use Rattle.lrs_disk.specs.Faults.{Rises}
 use Rattle.lrs_http.specs.Stream.{most_requests}
-use Rattle.lrs_machine.specs.Line.{BeginsWith}
+use Rattle.lrs_machine.specs.Line.{BeginsWith, Record}
 use Rattle.lrs_machine.specs.Acts.{Receipt}
-use Rattle.lrs_machine.specs.Desk.{Desk}
-use Rattle.lrs_hall.specs.Acts.{ActsIn, Reach}
+pub use Rattle.lrs_machine.specs.Desk.{Mark, mark_of}
+use Rattle.lrs_turn.specs.Lists.{NoneFalls}
+use Rattle.lrs_turn.specs.Passes.{IsIdle, Pass, Turns}
+use Rattle.lrs_hall.specs.Acts.{ActsIn, Reach, limit_in, mark_in}
 use Rattle.lrs_hall.specs.Conversation.{ActOn, Worker, going, Converses}
 use Rattle.lrs_hall.specs.Draws.{Draws}
 use Rattle.lrs_hall.specs.Talks.{Talk}
@@ -30,23 +32,23 @@ AddsReadings before None readings = Unit {0}
 AddsReadings None (Some now) readings = ⊥
 AddsReadings (Some before) (Some now) readings = now ≡ before ++ readings
 
--- The disk's counts of faults as acts tell them go on from one to the next, and don't fall. One that rose is told by a
--- 503.
-abbrev pub Counts : ℕ → List Receipt → ℕ → Type 0
-Counts before [] now = now ≡ before
-Counts before (receipt ∷ receipts) now =
-    MatchBool receipt.acted
-    ((receipt.was ≡ before) × (before ≤ receipt.is) × (receipt.status ≢ 503 → receipt.is ≡ before)
-    × Counts receipt.is receipts now)
-    (Counts before receipts now)
+-- What an act tells of its disk's count of faults lies between these two. One that rose is told by a 503.
+pub record CountsWithin (before now : ℕ) (receipt : Receipt) : Type 0 where
+  pub was : before ≤ receipt.was
+  pub rise : receipt.was ≤ receipt.is
+  pub is : receipt.is ≤ now
+  pub told : receipt.status ≢ 503 → receipt.is ≡ receipt.was
 
--- the disk's count of faults, and its moment
-pub record Mark : Type 0 where
-  pub faults : ℕ
-  pub moment : ℕ
+-- the same of a response, if it took an act
+abbrev pub IsCounted : ℕ → ℕ → Receipt → Type 0
+IsCounted before now receipt = receipt.acted ≡ true → CountsWithin before now receipt
 
-abbrev pub mark_of : {D : Type 0} → (D → ℕ) → (D → ℕ) → D → Mark
-mark_of faults time disk = record { faults = faults disk; moment = time disk }
+abbrev pub AreCounted : ℕ → ℕ → List Receipt → Type 0
+AreCounted before now receipts = AllByRecursion (IsCounted before now) receipts
+
+-- no lower count of faults, and no earlier moment
+abbrev pub IsNotBelow : Mark → Mark → Type 0
+IsNotBelow before now = (before.faults ≤ now.faults) × (before.moment ≤ now.moment)
 
 -- What an act tells of its disk's count and moment lies between two marks.
 pub record IsWithin (before now : Mark) (receipt : Receipt) : Type 0 where
@@ -60,27 +62,38 @@ abbrev pub AreWithin : Mark → Mark → List Receipt → Type 0
 AreWithin before now receipts =
     AllByRecursion (λ (receipt : Receipt). receipt.acted ≡ true → IsWithin before now receipt) receipts
 
--- a worker over the one line: the place of its next draw, how many records it has seen, and until which moment
-abbrev pub worker_at : Draws → ℕ → ℕ → Worker Reach
-worker_at draws records moment = record { draws = draws; reached = record { records = records; moment = moment } }
+-- The pass is of the same turns, and at rest. What must not change of it hasn't, and what it knows of the disk's faults
+-- and moment hasn't fallen.
+pub record KeepsPass (turns : Turns) (old new : Pass Record) : Type 0 where
+  pub idle : IsIdle turns new
+  pub marks : new.marks ≡ old.marks
+  pub opening : new.opening ≡ old.opening
+  pub tide : NoneFalls old.tide new.tide
 
--- a worker that has seen all of a desk
-abbrev pub worker_of : {D : Type 0} → (D → ℕ) → Draws → Desk D → Worker Reach
-worker_of time draws desk = worker_at draws (length desk.line) (time desk.disk)
+-- a worker over the one line: the place of its next draw, how many records it has seen, which are its own, and how its
+-- last act left the disk
+abbrev pub worker_at : Draws → ℕ → List ℕ → Mark → Worker Reach
+worker_at draws records own mark =
+    record { draws = draws; reached = record { records = records; own = own; mark = mark } }
+
+-- a worker with this pass
+abbrev pub worker_of : Draws → Pass Record → Worker Reach
+worker_of draws pass = worker_at draws (length pass.front) pass.own (mark_in pass.tide)
 
 -- a whole conversation over the stream of a link
 abbrev pub IsWholeTalk : {X : Type 0} → ActOn X → Option (List ℕ) → Talk → List ℕ → Worker X → Worker X → Type 0
 IsWholeTalk acts stream talk out old new =
     Converses acts (going most_requests stream) talk.receipts out talk.finish old new
 
--- A talk over a desk: what went out, and its acts over the desk's line in the end, which begins with the line before.
-pub record IsConversation {D : Type 0} (time : D → ℕ) (old new : Desk D) (draws behind : Draws)
-    (stream before now : Option (List ℕ)) (talk : Talk) : Type 0 where
+-- A talk of a worker: what went out, and its acts over what the worker's pass has seen in the end, which begins with
+-- what it had seen before.
+pub record IsConversation (old new : Pass Record) (draws behind : Draws) (stream before now : Option (List ℕ))
+    (talk : Talk) : Type 0 where
   pub out : List ℕ
   pub sent : now ≡ option_map (λ taken. taken ++ out) before
-  pub begins : BeginsWith old.line new.line
-  pub talks : IsWholeTalk (ActsIn old.limit new.line) stream talk out (worker_of time draws old)
-      (worker_of time behind new)
+  pub begins : BeginsWith old.front new.front
+  pub talks : IsWholeTalk (ActsIn (limit_in old.marks) new.front) stream talk out (worker_of draws old)
+      (worker_of behind new)
 
 -- ---- the conversations of a door
 
@@ -138,11 +151,3 @@ EndsServing connections talks old new serve.Done =
 EndsServing connections talks old new serve.DoorFault = (talks < connections) × (old.faults ≤ new.faults)
     × Rises old.faults new.faults
 EndsServing connections talks old new serve.Memory = (talks ≤ connections) × (new.faults ≡ old.faults)
-
--- All talks of a worker, over the desk's line in the end, which begins with the line before.
-pub record AreConversations {D : Type 0} (time : D → ℕ) (old new : Desk D) (draws : Draws) (links : List Returned)
-    (talks : List Talk) : Type 0 where
-  pub begins : BeginsWith old.line new.line
-  pub behind : Draws
-  pub on_links : AreOnLinks (ActsIn old.limit new.line) talks links (worker_of time draws old)
-      (worker_of time behind new)

@@ -1,6 +1,7 @@
 -- What the private parts of a conversation say.
-use Rattle.std.specs.Prelude.{◌≡◌, ◌≢◌, ◌⊎◌, ◌≤◌, ◌-◌, ℕ, List, [], ◌∷◌, ◌++◌, length, Bool, true, false, Option, Some}
-use Rattle.std.specs.Prelude.{None, IsNone, option_map, Result, Ok, Err}
+use base.Stored.{Coded}
+use Rattle.std.specs.Prelude.{◌≡◌, ◌≢◌, ◌≤◌, ◌-◌, ◌+◌, ℕ, List, [], ◌∷◌, ◌++◌, length, Bool, true, false, Option, Some}
+use Rattle.std.specs.Prelude.{None, IsNone, option_map, Result, Ok, Err, if◌then◌else◌, ◌<◌, slice_index_or}
 use Rattle.lrs_disk.specs.Door.{DoorState, Returned}
 use Rattle.lrs_disk.specs.Faults.{Rises}
 use Rattle.lrs_command.specs.declared.command.Command.{Command}
@@ -9,17 +10,21 @@ use Rattle.lrs_http.specs.declared.request.Request.{Request}
 use Rattle.lrs_http.specs.declared.request.RequestRefused.{RequestRefused}
 use Rattle.lrs_http.specs.declared.request.RequestRefused.TheVariants as request
 use Rattle.lrs_http.specs.Response.{IsStatus}
-use Rattle.lrs_machine.specs.Desk.{Desk, lets_in}
-use Rattle.lrs_record.specs.declared.entry.Entry.{Entry}
-use Rattle.lrs_routes.specs.Asked.{IsCommandOf}
+use Rattle.lrs_machine.specs.Desk.{Desk, lets_in, marks_of, tide_of}
 use Rattle.lrs_routes.specs.declared.asked.Routed.{Routed}
-use Rattle.lrs_replies.specs.Replies.{error_body}
-use Rattle.lrs_machine.specs.Line.{BeginsWith}
-use Rattle.lrs_hall.specs.Acts.{DeskAndClock}
+use Rattle.lrs_replies.specs.Replies.{Says, error_body}
+use Rattle.lrs_replies.specs.declared.answered.Answered.{Answered}
+use Rattle.lrs_replies.specs.declared.reply.Reply.{Reply}
+use Rattle.lrs_replies.specs.declared.reply.Trouble.{Trouble}
+use Rattle.lrs_machine.specs.Line.{BeginsWith, Record, entries}
+use Rattle.lrs_turn.specs.Lists.{NoneFalls}
+use Rattle.lrs_turn.specs.Passes.{HasTurn, Pass, Turns, committed, pointed}
+use Rattle.lrs_hall.specs.Acts.{ActsOn, SeenAndClock, limit_in, seen_of}
 use Rattle.lrs_hall.specs.Conversation.{ActOn, Worker, going, ended_with, Responds, EndsOpen, SendsResponse}
-use Rattle.lrs_machine.specs.Acts.{Receipt}
-use Rattle.lrs_hall.specs.Draws.{Draws}
-use Rattle.lrs_hall.specs.Serving.{AreOnLinks, BringsOne, EndsServing, Passes}
+use Rattle.lrs_hall.specs.Conversation.{ServesRequest}
+use Rattle.lrs_machine.specs.Acts.{Receipt, changed}
+use Rattle.lrs_hall.specs.Draws.{Draws, draw_at, next_draws, start_of}
+use Rattle.lrs_hall.specs.Serving.{AreOnLinks, BringsOne, EndsServing, KeepsPass, Passes}
 use Rattle.lrs_hall.specs.Talks.{Talk}
 use Rattle.lrs_hall.specs.declared.serving.ServeEnd.{ServeEnd}
 use Rattle.lrs_hall.specs.declared.serving.ServeEnd.TheVariants as serve
@@ -27,12 +32,53 @@ use Rattle.lrs_hall.specs.Responses.{FixedResponse, IsFraming, framing_response}
 use Rattle.lrs_hall.specs.declared.answering.FixedResponse as code
 use Rattle.lrs_hall.specs.declared.exchange.Exchanged.{Exchanged}
 use Rattle.lrs_hall.specs.declared.exchange.Exchanged.TheVariants.{Next, Last, Silent}
+use Rattle.lrs_hall.specs.declared.acting.Looked.{Looked}
+use Rattle.lrs_hall.specs.declared.acting.Looked.TheVariants.{LetIn, Barred}
+use Rattle.lrs_hall.specs.declared.workers.Worker as held
 use Rattle.lrs_hall.specs.declared.talk.Finish.{Finish}
 use Rattle.lrs_hall.specs.declared.talk.Finish.TheVariants as finish
 
--- a worker whose acts are those of a desk
-abbrev pub worker : {D : Type 0} → Draws → Desk D → Option (List ℕ) → Worker (DeskAndClock D)
-worker draws desk readings = record { draws = draws; reached = record { desk = desk; readings = readings } }
+-- what acts of a worker change: its pass, and what its door tells of the clock
+abbrev pub seen_with : Pass Record → Option (List ℕ) → SeenAndClock
+seen_with pass readings = record { seen = seen_of pass; readings = readings }
+
+-- a worker by its draws, its pass, and what its door tells of the clock
+abbrev pub worker : Draws → Pass Record → Option (List ℕ) → Worker SeenAndClock
+worker draws pass readings = record { draws = draws; reached = seen_with pass readings }
+
+-- ---- acts under the turn
+
+-- The desk was taken with this pass, which has the turn.
+pub record IsTaken {D : Type 0} (code : Coded D) (faults time : D → ℕ) (turns : Turns) (desk : Desk D)
+    (pass : Pass Record) : Type 0 where
+  pub turn : HasTurn turns pass
+  pub line : desk.line ≡ pass.line
+  pub marks : marks_of code desk ≡ pass.marks
+  pub level : NoneFalls pass.level (tide_of faults time desk)
+  pub goes_on : BeginsWith pass.front desk.line
+  pub tide : NoneFalls pass.tide (tide_of faults time desk)
+
+-- the pass after an act: what it had seen is the desk's line, and a further record is its own
+abbrev pub pass_behind : List Record → Receipt → Pass Record → Pass Record
+pass_behind line receipt pass = if changed receipt then committed line pass else pointed pass
+
+-- something was said by the reply, so it can be written
+abbrev pub IsSaid : Reply → Type 0
+IsSaid reply = (said : Result Answered Trouble) × Says said reply
+
+-- over some line that goes on from these records, the caller of a request is let into its area
+abbrev pub IsLetIn : List Record → Routed → Type 0
+IsLetIn front routed =
+    (line : List Record) × BeginsWith front line × (lets_in (entries line) routed.caller routed.area ≡ true)
+
+-- The caller of a request was looked at. If it is let in, nothing else came of it; else it was answered in the same
+-- turn, as each command of the area would be.
+abbrev pub Looks : ℕ → Routed → Worker SeenAndClock → Worker SeenAndClock → Looked → Type 0
+Looks limit routed old new (LetIn same) = (same ≡ routed) × (new ≡ old) × IsLetIn old.reached.seen.front routed
+Looks limit routed old new (Barred reply receipt) =
+    ((command : Command) → command_area command ≡ routed.area
+    → ActsOn limit routed.caller command (draw_at old.draws) reply receipt old.reached new.reached)
+    × (new.draws ≡ next_draws old.draws) × IsSaid reply
 
 -- a response with a body may have this status, and allow these methods
 abbrev pub IsSayable : ℕ → List ℕ → Type 0
@@ -57,11 +103,11 @@ Wrote text (Ok value) before now = now ≡ option_map (λ taken. taken ++ text) 
 Wrote text (Err fault) before now =
     (front : List ℕ) × BeginsWith front text × (now ≡ option_map (λ taken. taken ++ front) before)
 
--- the request's command, or any of its route's area if the caller isn't let in there
-abbrev pub IsCommandFor : List Entry → Request → Routed → Command → Type 0
-IsCommandFor h request routed command =
-    IsCommandOf request routed command
-    ⊎ ((command_area command ≡ routed.area) × (lets_in h routed.caller routed.area ≡ false))
+-- a request was answered, and the response was written, whole or in part
+abbrev pub Serves : {T E : Type 0} → ℕ → Bool → Request → Worker SeenAndClock → Worker SeenAndClock → Receipt
+    → Result T E → Option (List ℕ) → Option (List ℕ) → Type 0
+Serves limit closes request old new receipt sent before now =
+    (text : List ℕ) × ServesRequest (ActsOn limit) closes (Ok request) receipt text old new × Wrote text sent before now
 
 -- how a conversation ends after a response to what is no request, or without one
 abbrev pub finish_after : RequestRefused → Finish
@@ -137,3 +183,50 @@ pub record EndsTurn (old new : DoorState) (end : ServeEnd) : Type 0 where
   pub streams : new.streams ≡ old.streams
   pub why : EndsServing 1 0 old new end
   pub not_memory : end ≢ serve.Memory
+
+-- What became of a worker that served its door.
+pub record Works {O : Type 0} (state : O → DoorState) (turns : Turns) (connections : ℕ)
+    (old new : held.Worker O) : Type 0 where
+  pub served : Served (ActsOn (limit_in old.pass.marks)) connections
+      (worker old.draws old.pass (state old.door).readings) (worker new.draws new.pass (state new.door).readings)
+      (state old.door) (state new.door) new.talks new.end
+  pub pass : KeepsPass turns old.pass new.pass
+
+-- ---- workers and their doors
+
+-- what a list gives that stands in the other order
+abbrev pub backwards : {A B : Type 0} → (A → B) → List A → List B
+backwards f [] = []
+backwards f (a ∷ xs) = backwards f xs ++ f a ∷ []
+
+-- what a worker holds
+module _ {O : Type 0} where
+  abbrev pub pass_held : held.Worker O → Pass Record
+  pass_held w = w.pass
+
+  abbrev pub door_held : held.Worker O → O
+  door_held w = w.door
+
+  abbrev pub talks_held : held.Worker O → List Talk
+  talks_held w = w.talks
+
+  abbrev pub end_held : held.Worker O → ServeEnd
+  end_held w = w.end
+
+  -- The workers stand in the other order. Their draws are those of the streams after this number.
+  abbrev pub AreNumbered : List ℕ → ℕ → List (held.Worker O) → Type 0
+  AreNumbered seed n [] = Unit {0}
+  AreNumbered seed n (w ∷ ws) = (w.draws ≡ start_of seed (n + length ws + 1)) × AreNumbered seed n ws
+
+  -- Each worker has served its door.
+  abbrev pub WorksEach : (O → DoorState) → Turns → ℕ → List (held.Worker O) → List (held.Worker O) → Type 0
+  WorksEach state turns connections olds news =
+      (i : ℕ) (d : held.Worker O) → i < length olds
+      → Works state turns connections (slice_index_or olds i d) (slice_index_or news i d)
+
+-- Workers have taken seats: one for each door with a pass of its own, the last door's first.
+pub record Seats {O : Type 0} (passes : List (Pass Record)) (doors : List O) (seed : List ℕ)
+    (workers : List (held.Worker O)) : Type 0 where
+  pub with_passes : backwards pass_held workers ≡ passes
+  pub at_doors : backwards door_held workers ≡ doors
+  pub numbered : AreNumbered seed 0 workers

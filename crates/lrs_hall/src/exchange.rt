@@ -1,25 +1,26 @@
 //! One request of a conversation, and its response.
-ghost use Rattle.std.specs.Prelude.{◌≡◌, List, ℕ, Ok, IfOk};
-ghost use Rattle.lrs_command.specs.Commands.{HasReadTrees};
+ghost use Rattle.std.specs.Prelude.{◌≡◌, List, ℕ, Ok};
 ghost use Rattle.lrs_http.specs.Links.{stream_left, HasWriteCause};
-ghost use Rattle.lrs_machine.specs.Desk.{history};
 ghost use Rattle.lrs_record.specs.Entries.{IsLawfulCaller};
 ghost use Rattle.lrs_routes.specs.Asked.{IsRoutedAs};
-ghost use Rattle.lrs_hall.specs.Acts.{ActsOn};
-ghost use Rattle.lrs_hall.specs.Conversation.{ServesRequest, closes_after};
+ghost use Rattle.lrs_turn.specs.Passes.{IsIdle};
+ghost use Rattle.lrs_hall.specs.Acts.{ActsOn, limit_in};
+ghost use Rattle.lrs_hall.specs.Conversation.{closes_after};
 ghost use Rattle.lrs_hall.specs.Responses.{IsFixed, route_response};
-ghost use Rattle.lrs_hall.specs.Steps.{worker, Wrote, Exchanges, HasExchangeCause, finish_after, exchanged_of, RefusesRequest, IsCommandFor, IsRefusalCause};
+ghost use Rattle.lrs_hall.specs.Serving.{KeepsPass};
+ghost use Rattle.lrs_hall.specs.Steps.{worker, Wrote, Exchanges, HasExchangeCause, Serves, finish_after, exchanged_of, RefusesRequest, IsRefusalCause};
 
+use crate::acting::{Looked, act, look};
 use crate::answering::{framing_response, route_response, write_fixed, write_reply};
 use crate::{Draws, Finish};
-use lrs_command::Command;
 use lrs_disk::{Disk, Door, Link};
 use lrs_http::{LinkFault, Request, RequestRefused, read_request};
 use lrs_json::Memory;
-use lrs_machine::{Desk, Receipt};
+use lrs_machine::{Desk, Receipt, Record};
 use lrs_routes::{RouteRefused, Routed, Routes};
-use lrs_rules::Rule;
+use lrs_turn::{Pass, Turns};
 use std::alloc::Global;
+use std::sync::Wait;
 
 /// What came of one turn of a conversation.
 #[derive(Drop)]
@@ -30,28 +31,6 @@ pub(crate) enum Exchanged {
     Last(Receipt, Finish),
     /// There are no more responses.
     Silent(Finish),
-}
-
-// The command of a request. If its caller isn't let in, each command is answered alike, so neither the parameters
-// nor the body need to be read.
-fn command_for<D: Disk>(
-    alloc: Global,
-    desk: &Desk<D>,
-    routed: &Routed,
-    request: &Request,
-) -> Result<Command, Memory>
-    ensures is { IfOk result (IsCommandFor (history desk.now) request.now routed.now) }
-    ensures trees { IfOk result HasReadTrees }
-{
-    if desk.lets_in(&routed.caller, routed.area) {
-        routed.command(alloc, request)
-    } else {
-        Ok(Command::Refused {
-            area: routed.area,
-            status: 400,
-            rule: Rule::B(1),
-        })
-    }
 }
 
 // Answers a request without an act.
@@ -72,10 +51,12 @@ fn answer_fixed<L: Link>(
     (Receipt::plain(response.status), sent)
 }
 
-// Answers a request that has a route.
-fn serve_routed<D: Disk, O: Door>(
+// Reads a request outside the turn, and takes the turn for its act. The act itself looks at the caller first.
+fn serve_read<R: Wait, D: Disk, O: Door>(
+    rt: &R,
     alloc: Global,
-    desk: &mut Desk<D>,
+    turns: &Turns<Desk<D>>,
+    pass: &mut Pass<Record>,
     door: &mut O,
     link: &mut O::Link,
     draws: &mut Draws,
@@ -83,23 +64,22 @@ fn serve_routed<D: Disk, O: Door>(
     request: &Request,
     closes: bool,
 ) -> (Receipt, Result<(), LinkFault>)
+    requires idle { IsIdle turns.now pass.old }
     requires routed { IsRoutedAs request.now routed }
     requires lawful { IsLawfulCaller routed.caller }
-    ensures served { (text : List ℕ) × ServesRequest (ActsOn D.told D.image D.time D.image_since D.fault_count) closes
-        (Ok request.now) result.0 text
-        (worker draws.old desk.old (O.state door.old).readings) (worker draws.new desk.new (O.state door.new).readings)
-        × Wrote text result.1 (O.Link.taken link.old) (O.Link.taken link.new) }
+    ensures served { Serves (limit_in pass.old.marks) closes request.now
+        (worker draws.old pass.old (O.state door.old).readings) (worker draws.new pass.new (O.state door.new).readings)
+        result.0 result.1 (O.Link.taken link.old) (O.Link.taken link.new) }
+    ensures pass { KeepsPass turns.now pass.old pass.new }
     ensures door { O.state door.new ≡ record (O.state door.old) { readings = (O.state door.new).readings } }
     ensures left_kept { O.Link.left link.new ≡ O.Link.left link.old }
     ensures stream_kept { O.Link.stream link.new ≡ O.Link.stream link.old }
     ensures name_kept { O.Link.name link.new ≡ O.Link.name link.old }
     ensures cause { HasWriteCause (O.Link.fault_count link.old) (O.Link.fault_count link.new) result.1 }
 {
-    match command_for(alloc, desk, &routed, request) {
+    match routed.command(alloc, request) {
         Ok(command) => {
-            let clock = door.now();
-            let draw = draws.next();
-            let (reply, receipt) = desk.act(routed.caller, command, clock, &draw);
+            let (reply, receipt) = act(rt, turns, pass, door, draws, routed.caller, command);
             let sent = write_reply(link, &reply, closes);
             drop(reply);
             (receipt, sent)
@@ -111,10 +91,55 @@ fn serve_routed<D: Disk, O: Door>(
     }
 }
 
-// Answers a request, and says whether the response went out whole.
-fn serve<D: Disk, O: Door>(
+// Answers a request that has a route. Where it has a body, the caller is looked at before that is read.
+fn serve_routed<R: Wait, D: Disk, O: Door>(
+    rt: &R,
     alloc: Global,
-    desk: &mut Desk<D>,
+    turns: &Turns<Desk<D>>,
+    pass: &mut Pass<Record>,
+    door: &mut O,
+    link: &mut O::Link,
+    draws: &mut Draws,
+    routed: Routed,
+    request: &Request,
+    closes: bool,
+) -> (Receipt, Result<(), LinkFault>)
+    requires idle { IsIdle turns.now pass.old }
+    requires routed { IsRoutedAs request.now routed }
+    requires lawful { IsLawfulCaller routed.caller }
+    ensures served { Serves (limit_in pass.old.marks) closes request.now
+        (worker draws.old pass.old (O.state door.old).readings) (worker draws.new pass.new (O.state door.new).readings)
+        result.0 result.1 (O.Link.taken link.old) (O.Link.taken link.new) }
+    ensures pass { KeepsPass turns.now pass.old pass.new }
+    ensures door { O.state door.new ≡ record (O.state door.old) { readings = (O.state door.new).readings } }
+    ensures left_kept { O.Link.left link.new ≡ O.Link.left link.old }
+    ensures stream_kept { O.Link.stream link.new ≡ O.Link.stream link.old }
+    ensures name_kept { O.Link.name link.new ≡ O.Link.name link.old }
+    ensures cause { HasWriteCause (O.Link.fault_count link.old) (O.Link.fault_count link.new) result.1 }
+{
+    if request.body.is_empty() {
+        return serve_read(
+            rt, alloc, turns, pass, door, link, draws, routed, request, closes,
+        );
+    }
+    match look(rt, turns, pass, door, draws, routed) {
+        Looked::LetIn(routed) => serve_read(
+            rt, alloc, turns, pass, door, link, draws, routed, request, closes,
+        ),
+        Looked::Barred(reply, receipt) => {
+            let sent = write_reply(link, &reply, closes);
+            drop(reply);
+            (receipt, sent)
+        }
+    }
+}
+
+// Answers a request, and says whether the response went out whole.
+fn serve<R: Wait, D: Disk, O: Door>(
+    rt: &R,
+    alloc: Global,
+    turns: &Turns<Desk<D>>,
+    pass: &mut Pass<Record>,
     door: &mut O,
     link: &mut O::Link,
     routes: &Routes,
@@ -122,10 +147,11 @@ fn serve<D: Disk, O: Door>(
     request: Request,
     closes: bool,
 ) -> (Receipt, Result<(), LinkFault>)
-    ensures served { (text : List ℕ) × ServesRequest (ActsOn D.told D.image D.time D.image_since D.fault_count) closes
-        (Ok request) result.0 text
-        (worker draws.old desk.old (O.state door.old).readings) (worker draws.new desk.new (O.state door.new).readings)
-        × Wrote text result.1 (O.Link.taken link.old) (O.Link.taken link.new) }
+    requires { IsIdle turns.now pass.old }
+    ensures served { Serves (limit_in pass.old.marks) closes request
+        (worker draws.old pass.old (O.state door.old).readings) (worker draws.new pass.new (O.state door.new).readings)
+        result.0 result.1 (O.Link.taken link.old) (O.Link.taken link.new) }
+    ensures pass { KeepsPass turns.now pass.old pass.new }
     ensures door { O.state door.new ≡ record (O.state door.old) { readings = (O.state door.new).readings } }
     ensures left_kept { O.Link.left link.new ≡ O.Link.left link.old }
     ensures stream_kept { O.Link.stream link.new ≡ O.Link.stream link.old }
@@ -134,7 +160,9 @@ fn serve<D: Disk, O: Door>(
 {
     match routes.routed(alloc, &request) {
         Ok(routed) => {
-            let served = serve_routed(alloc, desk, door, link, draws, routed, &request, closes);
+            let served = serve_routed(
+                rt, alloc, turns, pass, door, link, draws, routed, &request, closes,
+            );
             drop(request);
             served
         }
@@ -204,9 +232,11 @@ fn closes_after(most: u16, request: &Request) -> bool
 }
 
 /// Reads one request and answers it, or ends the conversation. At most `most` requests may still come.
-pub(crate) fn exchange<D: Disk, O: Door>(
+pub(crate) fn exchange<R: Wait, D: Disk, O: Door>(
+    rt: &R,
     alloc: Global,
-    desk: &mut Desk<D>,
+    turns: &Turns<Desk<D>>,
+    pass: &mut Pass<Record>,
     door: &mut O,
     link: &mut O::Link,
     kept: &mut Vec<u8>,
@@ -214,11 +244,13 @@ pub(crate) fn exchange<D: Disk, O: Door>(
     draws: &mut Draws,
     most: u16,
 ) -> Exchanged
-    ensures exchanged { Exchanges (ActsOn D.told D.image D.time D.image_since D.fault_count) most
+    requires { IsIdle turns.now pass.old }
+    ensures exchanged { Exchanges (ActsOn (limit_in pass.old.marks)) most
         (stream_left kept.old.items (O.Link.left link.old)) (stream_left kept.new.items (O.Link.left link.new))
         (O.Link.taken link.old) (O.Link.taken link.new)
-        (worker draws.old desk.old (O.state door.old).readings)
-        (worker draws.new desk.new (O.state door.new).readings) result }
+        (worker draws.old pass.old (O.state door.old).readings)
+        (worker draws.new pass.new (O.state door.new).readings) result }
+    ensures pass { KeepsPass turns.now pass.old pass.new }
     ensures door { O.state door.new ≡ record (O.state door.old) { readings = (O.state door.new).readings } }
     ensures stream_kept { O.Link.stream link.new ≡ O.Link.stream link.old }
     ensures name_kept { O.Link.name link.new ≡ O.Link.name link.old }
@@ -227,7 +259,9 @@ pub(crate) fn exchange<D: Disk, O: Door>(
     match read_request(alloc, link, kept) {
         Ok(request) => {
             let closes = closes_after(most, &request);
-            let (receipt, sent) = serve(alloc, desk, door, link, routes, draws, request, closes);
+            let (receipt, sent) = serve(
+                rt, alloc, turns, pass, door, link, routes, draws, request, closes,
+            );
             answered(receipt, sent, closes, Finish::Closed)
         }
         Err(refused) => refuse(link, refused),

@@ -1,4 +1,4 @@
-ghost use Rattle.lrs_hall.specs.Laws.{AnswersAsAsked, EntriesOnce, InOrder, KeepsPromises, OneStream, OwnEntries, Points};
+ghost use Rattle.lrs_hall.specs.Laws.{Alone, AnswersAsAsked, EntriesOnce, InOrder, KeepsPromises, OneStream, OwnEntries, Points};
 
 use lrs_disk::Disk;
 
@@ -13,13 +13,19 @@ pub fn law_of_own_entries()
     ensures { OwnEntries }
 {}
 
-/// Each entry that came while a worker served is that of exactly one receipt. It is a law of the definitions.
+/// Each entry is that of as many receipts of a worker as its record stands among the worker's own. So where each record
+/// is the own of just one worker, each entry is that of just one receipt. It is a law of the definitions.
 pub fn law_of_entries()
     ensures { EntriesOnce }
 {}
 
-/// The points of a worker's acts never fall, and each comes after the own entries of earlier acts. It is a law of the
-/// definitions.
+/// A worker to which all further records belong acts on just what it has seen. It is a law of the definitions.
+pub fn law_of_one_worker()
+    ensures { Alone }
+{}
+
+/// The points of a worker's acts never fall, from what it had seen on, and each comes after the own entries of earlier
+/// acts. Nor do the counts of the disk's faults and its moments that they tell. It is a law of the definitions.
 pub fn law_of_order()
     ensures { InOrder }
 {}
@@ -39,7 +45,7 @@ pub fn law_of_unread_requests()
 {}
 
 /// Two links with one stream, cut differently, get the same bytes: from one history, with the same readings of the
-/// clock and the same draws, if memory suffices and nothing fails. It is a law of the definitions.
+/// clock and the same draws, if memory suffices, nothing fails, and nobody else acts. It is a law of the definitions.
 pub fn law_of_one_stream()
     ensures { OneStream }
 {}

@@ -1,7 +1,9 @@
-//! Conversations: the desk answers the requests of a connection, one connection after the other. Begin with `exchange`,
-//! one request and its response; `conversation` and `serving` repeat it.
+//! Conversations: the desk answers the requests of a connection, one connection after the other, and workers take it in
+//! turns. Begin with `acting`, one act under the turn, and `exchange`, one request and its response; `conversation` and
+//! `serving` repeat it, and `workers` has one worker for each door.
 #![tactic(auto)]
 
+mod acting;
 mod answering;
 mod conversation;
 mod draws;
@@ -9,13 +11,15 @@ mod exchange;
 mod laws;
 mod serving;
 mod talk;
+mod workers;
 
 pub use conversation::converse;
 pub use draws::Draws;
 pub use laws::{
-    law_of_entries, law_of_one_stream, law_of_order, law_of_own_entries, law_of_points,
-    law_of_receipts, law_of_unread_requests,
+    law_of_entries, law_of_one_stream, law_of_one_worker, law_of_order, law_of_own_entries,
+    law_of_points, law_of_receipts, law_of_unread_requests,
 };
 pub use lrs_machine;
-pub use serving::{ServeEnd, serve_all};
+pub use serving::ServeEnd;
 pub use talk::{Finish, Talk};
+pub use workers::serve_all;

@@ -1,35 +1,19 @@
-ghost use Rattle.std.specs.Prelude.{◌≡◌, None, IfOk};
+ghost use Rattle.std.specs.Prelude.{◌≡◌, ◌<◌, None, All, IfOk, length};
 ghost use Rattle.lrs_in_memory.specs.MemDoor.{out_of};
+ghost use Rattle.lrs_turn.specs.Passes.{IsIdle};
 
+use crate::desks::founded;
 use lrs_disk::{Door, Next};
 use lrs_hall::{Draws, Finish, ServeEnd, Talk, converse, serve_all};
 use lrs_in_memory::{MemDisk, MemDoor, MemLink};
-use lrs_json::Text;
-use lrs_machine::{Desk, is_base, is_token};
+use lrs_json::Items;
+use lrs_machine::{Desk, Record};
 use lrs_routes::Routes;
+use lrs_turn::{Pass, Turns};
 use std::alloc::Global;
+use std::sync::Wait;
 use std::test::Fail;
-
-const NOW: u64 = 1_700_000_000_000;
-
-fn founded(alloc: Global) -> Result<Desk<MemDisk>, Fail> {
-    let admin = Text::of(alloc, "adminadmin")?;
-    let base = Text::of(alloc, "http://127.0.0.1:8080/")?;
-    if !is_token(&admin) {
-        return Err(Fail::from("no token"));
-    }
-    if !is_base(alloc, &base)? {
-        return Err(Fail::from("no base"));
-    }
-    let disk = MemDisk::new(alloc, Vec::new(alloc), Vec::new(alloc), 99, 9_999)?;
-    match Desk::found(alloc, disk, 65_536, &admin, &base, NOW) {
-        Ok(desk) => Ok(desk),
-        Err(refused) => {
-            drop(refused);
-            Err(Fail::from("not founded"))
-        }
-    }
-}
+use std::thread::Threads;
 
 // A door that gives one connection, which brings so many requests and takes so many bytes.
 fn door_of(alloc: Global, requests: usize, room: usize) -> Result<MemDoor, Fail>
@@ -58,20 +42,24 @@ fn held_text(alloc: Global, talk: &Talk, link: &MemLink) -> Result<String, Fail>
     Ok(format!(in alloc; "{finish} {responses} {taken}")?)
 }
 
-// What came of the one connection of a door, held over a desk.
-fn conversed_over(
+// What came of the one connection of a door, held by the worker that has this pass.
+fn conversed_over<R: Wait>(
+    rt: &R,
     alloc: Global,
-    desk: &mut Desk<MemDisk>,
+    turns: &Turns<Desk<MemDisk>>,
+    pass: &mut Pass<Record>,
     door: &mut MemDoor,
     routes: &Routes,
 ) -> Result<String, Fail>
-    requires { out_of door.old ≡ None }
+    requires out { out_of door.old ≡ None }
+    requires idle { IsIdle turns.now pass.old }
+    ensures { IsIdle turns.now pass.new }
 {
     match door.next() {
         Next::Joined(link) => {
             let mut link = link;
             let mut draws = Draws::new([0; 32], 1);
-            let talk = converse(alloc, desk, door, &mut link, routes, &mut draws);
+            let talk = converse(rt, alloc, turns, pass, door, &mut link, routes, &mut draws);
             let held = held_text(alloc, &talk, &link);
             drop(talk);
             drop(draws);
@@ -82,16 +70,21 @@ fn conversed_over(
     }
 }
 
-fn conversed_of(
+fn conversed_of<R: Wait>(
+    rt: &R,
     alloc: Global,
-    desk: &mut Desk<MemDisk>,
+    turns: &Turns<Desk<MemDisk>>,
+    pass: &mut Pass<Record>,
     requests: usize,
     room: usize,
-) -> Result<String, Fail> {
+) -> Result<String, Fail>
+    requires { IsIdle turns.now pass.old }
+    ensures { IsIdle turns.now pass.new }
+{
     let routes = Routes::new(alloc)?;
     match door_of(alloc, requests, room) {
         Ok(mut door) => {
-            let held = conversed_over(alloc, desk, &mut door, &routes);
+            let held = conversed_over(rt, alloc, turns, pass, &mut door, &routes);
             drop(door);
             drop(routes);
             held
@@ -103,11 +96,36 @@ fn conversed_of(
     }
 }
 
-fn conversed(alloc: Global, requests: usize, room: usize) -> Result<String, Fail> {
-    let mut desk = founded(alloc)?;
-    let held = conversed_of(alloc, &mut desk, requests, room);
-    drop(desk);
-    held
+// The same with the first of these passes.
+fn conversed_by_first<R: Wait>(
+    rt: &R,
+    alloc: Global,
+    turns: &Turns<Desk<MemDisk>>,
+    passes: &mut [Pass<Record>],
+    requests: usize,
+    room: usize,
+) -> Result<String, Fail>
+    requires some { 0 < length passes.old }
+    requires idle { All (λ pass. IsIdle turns.now pass) passes.old }
+    ensures idle { All (λ pass. IsIdle turns.now pass) passes.new }
+    ensures len { length passes.new ≡ length passes.old }
+{
+    conversed_of(rt, alloc, turns, &mut passes[0], requests, room)
+}
+
+// What came of a connection over a new desk.
+fn conversed<R: Wait>(rt: &R, alloc: Global, requests: usize, room: usize) -> Result<String, Fail> {
+    match Turns::new(alloc, founded(alloc)?, 1) {
+        Ok((turns, mut passes)) => {
+            let held = conversed_by_first(rt, alloc, &turns, passes.as_mut_slice(), requests, room);
+            drop(turns.close(passes));
+            held
+        }
+        Err(refused) => {
+            drop(refused);
+            Err(Fail::from("no turns"))
+        }
+    }
 }
 
 // Fails with what was found, if it isn't this.
@@ -131,7 +149,7 @@ fn check_front(found: String, expected: &str) -> Result<(), Fail> {
 // There is room for half of the response.
 #[test]
 fn a_link_that_fails_ends_its_conversation(rt: HostRuntime) -> Result<(), Fail> {
-    check(conversed(rt.alloc(), 1, 12)?, "fault 1 HTTP/1.1 404")
+    check(conversed(&rt, rt.alloc(), 1, 12)?, "fault 1 HTTP/1.1 404")
 }
 
 // A response to `GET /none`, in parts: between them stands what says that the connection ends.
@@ -158,9 +176,9 @@ const THOUSANDS: [(usize, &str, usize, &str); 3] = [
     (1_001, "closed", 1_000, CLOSE),
 ];
 
-fn first_wrong_thousand(alloc: Global) -> Result<Option<usize>, Fail> {
+fn first_wrong_thousand<R: Wait>(rt: &R, alloc: Global) -> Result<Option<usize>, Fail> {
     for (requests, front, responses, field) in THOUSANDS.iter() {
-        let held = conversed(alloc, *requests, 999_999)?;
+        let held = conversed(rt, alloc, *requests, 999_999)?;
         if held.as_str() != held_of(alloc, front, *responses, field)?.as_str() {
             return Ok(Some(*requests));
         }
@@ -170,37 +188,63 @@ fn first_wrong_thousand(alloc: Global) -> Result<Option<usize>, Fail> {
 
 #[test]
 fn a_conversation_has_a_thousand_requests(rt: HostRuntime) -> Result<(), Fail> {
-    assert_eq!(rt; first_wrong_thousand(rt.alloc())?, None);
+    assert_eq!(rt; first_wrong_thousand(&rt, rt.alloc())?, None);
     Ok(())
 }
 
-// What came of the first connection of a door, if serving ended well.
-fn first_of(alloc: Global, door: &MemDoor, talks: &[Talk], end: ServeEnd) -> Result<String, Fail> {
+// What came of the first connection of the first door, if serving ended well.
+fn first_of(
+    alloc: Global,
+    doors: &[MemDoor],
+    talks: &[Items<Talk>],
+    end: ServeEnd,
+) -> Result<String, Fail> {
     if end != ServeEnd::Done {
         return Err(Fail::from("not done"));
     }
-    let talk = talks.first().ok_or("no talk")?;
-    let link = door.returned().first().ok_or("no link")?;
+    let talk = talks
+        .first()
+        .and_then(|talks| talks.as_slice().first())
+        .ok_or("no talk")?;
+    let link = doors
+        .first()
+        .and_then(|door| door.returned().first())
+        .ok_or("no link")?;
     held_text(alloc, talk, link)
 }
 
-fn served_over(alloc: Global, desk: Desk<MemDisk>, door: MemDoor) -> Result<String, Fail>
-    requires { out_of door ≡ None }
+fn served_over<R: Threads + Wait + Sync>(
+    rt: &R,
+    alloc: Global,
+    desk: Desk<MemDisk>,
+    doors: Vec<MemDoor>,
+) -> Result<String, Fail>
+    requires count { length doors.items ≡ 1 }
+    requires out { All (λ door. out_of door ≡ None) doors.items }
 {
-    let (desk, door, talks, end) = serve_all(alloc, desk, door, 1, [0; 32]);
-    let held = first_of(alloc, &door, talks.as_slice(), end);
+    let (desk, doors, talks, end) = serve_all(rt, alloc, desk, doors, 1, [0; 32]);
+    let held = first_of(alloc, doors.as_slice(), talks.as_slice(), end);
     drop(talks);
-    drop(door);
+    drop(doors);
     drop(desk);
     held
 }
 
-fn served(alloc: Global) -> Result<String, Fail> {
+// A list of one door.
+fn one_door(alloc: Global) -> Result<Vec<MemDoor>, Fail>
+    ensures count { IfOk result (λ doors. length doors.items ≡ 1) }
+    ensures out { IfOk result (λ doors. All (λ door. out_of door ≡ None) doors.items) }
+{
     let door = door_of(alloc, 1, 999)?;
+    Ok(vec![in alloc; door]?)
+}
+
+fn served<R: Threads + Wait + Sync>(rt: &R, alloc: Global) -> Result<String, Fail> {
+    let doors = one_door(alloc)?;
     match founded(alloc) {
-        Ok(desk) => served_over(alloc, desk, door),
+        Ok(desk) => served_over(rt, alloc, desk, doors),
         Err(fail) => {
-            drop(door);
+            drop(doors);
             Err(fail)
         }
     }
@@ -208,7 +252,10 @@ fn served(alloc: Global) -> Result<String, Fail> {
 
 #[test]
 fn a_connection_is_served(rt: HostRuntime) -> Result<(), Fail> {
-    check_front(served(rt.alloc())?, "ended 1 HTTP/1.1 404 Not Found\r\n")
+    check_front(
+        served(&rt, rt.alloc())?,
+        "ended 1 HTTP/1.1 404 Not Found\r\n",
+    )
 }
 
 // The first two are of stream 0, the last is the first one of another. The first block is that of the published vector of

@@ -1,3 +1,4 @@
 mod CallLists
+mod Gated
 mod Shelves
 mod StepLists

@@ -1,6 +1,8 @@
 pub mod Allowance
 pub mod Calls
 pub mod Clock
+pub mod GateDoor
+pub mod GateLink
 pub mod Images
 pub mod Input
 pub mod Kept

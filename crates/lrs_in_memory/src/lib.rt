@@ -1,4 +1,5 @@
-//! The outside in memory: each object tells all that it holds, and fails on the calls that a test names.
+//! The outside in memory: each object tells all that it holds, and fails on the calls that a test names. By gates, links
+//! in different threads wait for one another.
 #![tactic(auto)]
 
 mod bytes;
@@ -6,6 +7,9 @@ mod call;
 mod clock;
 mod disk;
 mod door;
+mod gate;
+mod gate_door;
+mod gate_link;
 mod history;
 mod input;
 mod ledger;
@@ -21,6 +25,9 @@ mod source;
 pub use call::Pending;
 pub use disk::MemDisk;
 pub use door::MemDoor;
+pub use gate::{Gate, Sign, Until};
+pub use gate_door::GateDoor;
+pub use gate_link::GateLink;
 pub use link::MemLink;
 pub use lobby::MemLobby;
 pub use memory::Memory;

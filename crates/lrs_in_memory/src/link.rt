@@ -12,9 +12,9 @@ use std::alloc::Global;
 /// A connection in memory. A read ends at each of some places, and a write where the room does.
 #[derive(Drop)]
 pub struct MemLink {
-    input: Input,
+    pub(crate) input: Input,
     output: Output,
-    plan: Plan,
+    pub(crate) plan: Plan,
     pub(crate) name: u64,
 }
 

@@ -1,5 +1,6 @@
 -- What the desk's methods owe, over plain data.
-use Rattle.std.proofs.Common.{◌≡◌, ◌+◌, ◌-◌, ◌<◌, ℕ, List, [], ◌∷◌, ◌++◌, length, refl, sym, ◌∙◌, ap, subst, inl, inr, arith, length-append, Option, Some, None, Bool, true, false, not, ◌&&◌, nat_lt, Result, Ok, Err, IfOk}
+use base.Stored.{Coded}
+use Rattle.std.proofs.Common.{◌≡◌, ◌+◌, ◌-◌, ◌<◌, ◌≤◌, ℕ, List, [], ◌∷◌, ◌++◌, length, refl, sym, ◌∙◌, ap, subst, inl, inr, arith, length-append, Option, Some, None, Bool, true, false, not, ◌&&◌, nat_lt, Result, Ok, Err, IfOk}
 use Rattle.std.specs.Prelude.{◌||◌, ◌==◌, is_some, is_ok, IsSome, if◌then◌else◌}
 use Rattle.std.proofs.lemmas.Grind.{common_steps}
 use Rattle.lrs_command.specs.declared.command.Command.{Command}
@@ -8,9 +9,10 @@ use Rattle.lrs_fold.proofs.Again.{acceptance_no_refusal}
 use Rattle.lrs_fold.proofs.Puts.{put_says}
 use Rattle.lrs_fold.specs.LrsHistoryHistory.{Outcome, Said, Accepted, Answer, answer, answer_of, need, end_place, state, outcome}
 use Rattle.lrs_fold.specs.LrsHistoryRoomProofs.{no_room, kept_answer}
-use Rattle.lrs_machine.specs.Acts.{Acts, HasDiskCause, Receipt, Tells, landed_among, line_behind, made_by, place_where}
-use Rattle.lrs_machine.specs.Desk.{Desk, added_place, history, landed_place, receipt_of}
+use Rattle.lrs_machine.specs.Acts.{Acts, GoesOn, HasDiskCause, Receipt, Tells, changed, landed_among, line_behind, made_by, place_where, record_of}
+use Rattle.lrs_machine.specs.Desk.{Desk, added_place, history, landed_place, marks_of, receipt_of}
 use Rattle.lrs_machine.specs.Line.{Record, entries, in_doubt}
+use Rattle.lrs_machine.specs.Numbers.{numbers_of}
 use Rattle.lrs_machine.specs.Steps.{Happens, CarriesOut, line_after, one_of}
 use Rattle.lrs_machine.proofs.Lines.{Goes, entries_goes, goes, none_some}
 use Rattle.lrs_machine.proofs.Tied.{entry_of_says}
@@ -25,6 +27,7 @@ use Rattle.lrs_replies.specs.declared.answered.Refusal.TheVariants as refusal
 use Rattle.lrs_replies.specs.declared.reply.Reply.{Reply}
 use Rattle.lrs_replies.specs.declared.reply.Trouble.{Trouble}
 use Rattle.lrs_replies.specs.declared.reply.Trouble.TheVariants as trouble
+use Rattle.lrs_turn.specs.Passes.{IsOneMore}
 
 abbrev said_in : Answer → Answered
 said_in a = a.said
@@ -145,6 +148,32 @@ acts_of a said landed old new receipt h acted status point entry lands cause = r
         ap (λ (b : Bool). built b (not (receipt.status == 503)) (made_by a receipt) receipt.landed) some ∙ ap (λ (ok : Bool). built (is_some h.made) ok (made_by a receipt) receipt.landed) acknowledged
         ∙ ap (λ (m : Option Entry). built (is_some h.made) (is_ok said) m receipt.landed) made ∙ ap (λ (l : Option ℕ). built (is_some h.made) (is_ok said) h.made l) lands
 
+-- ---- what the turn asks of an act
+
+true_false : true ≡ false → ⊥
+true_false e = cc
+
+pub goes_on : (a : Answer) (said : Result Answered Trouble) (receipt : Receipt) (old new : List Record) → Acts a said receipt old new → GoesOn receipt old new
+goes_on a said receipt old new acts = by_change (changed receipt) acts.line
+  where
+    more : Record
+    more = record_of (made_by a receipt) receipt
+
+    by_change : (b : Bool) → new ≡ (if b then old ++ more ∷ [] else old) → (b ≡ true → IsOneMore new old) × (b ≡ false → new ≡ old)
+    by_change true is = ((λ _. (more, is)), (λ wrong. absurd (true_false wrong)))
+    by_change false is = ((λ wrong. absurd (true_false (sym wrong))), (λ _. is))
+
+pub marks_stay : {D : Type 0} (code : Coded D) (old new : Desk D) → (new.limit ≡ old.limit) × (new.opened ≡ old.opened) × (new.opened_at ≡ old.opened_at) → new.origin ≡ old.origin → marks_of code new ≡ marks_of code old
+marks_stay code old new same origin =
+    ap (λ (n : ℕ). n ∷ new.opened_at ∷ new.opened ∷ numbers_of code new.origin) same.0 ∙ ap (λ (n : ℕ). old.limit ∷ n ∷ new.opened ∷ numbers_of code new.origin) same.2
+    ∙ ap (λ (n : ℕ). old.limit ∷ old.opened_at ∷ n ∷ numbers_of code new.origin) same.1 ∙ ap (λ d. old.limit ∷ old.opened_at ∷ old.opened ∷ numbers_of code d) origin
+
+-- the count of faults doesn't fall
+pub cause_rises : (before now : ℕ) (said : Result Answered Trouble) → HasDiskCause before now said → before ≤ now
+cause_rises before now (Ok s) cause = (let e : now ≡ before = cause in omega (arith, e))
+cause_rises before now (Err trouble.Memory) cause = (let e : now ≡ before = cause in omega (arith, e))
+cause_rises before now (Err trouble.Disk) cause = cause.0
+
 -- ---- replies
 
 unkept_entry : (v : Outcome) (limit place : ℕ) (s : Answered) → ((e : Entry) (t : Answered) → v ≡ Accepted e t → IsRefusal (Ok t) → ⊥) → s ≡ (answer_of limit place v).said → IsRefusal (Ok s) → (answer_of limit place v).entry ≡ None
@@ -205,3 +234,7 @@ module _ {D : Type 0} (time faults : D → ℕ) (old new : Desk D) (caller : Cal
       → IsReplyTo said reply → (told : Result Answered Trouble) × Says told reply × Acts a told receipt old.line new.line
   act_told reply receipt is h cause replied = subst (λ (r : Receipt). (told : Result Answered Trouble) × Says told reply × Acts a told r old.line new.line) (sym is)
       (act_acts old.limit caller c clock draw said reply landed old.line new.line (receipt_of time faults old new reply.status clock) h replied refl refl refl refl (sym (landed_is a said landed (time new.disk) old new h)) cause)
+
+  pub act_goes_on : (reply : Reply) (receipt : Receipt) → receipt ≡ receipt_of time faults old new reply.status clock → Happens a said landed (time new.disk) old.line new.line → HasDiskCause (faults old.disk) (faults new.disk) said
+      → IsReplyTo said reply → GoesOn receipt old.line new.line
+  act_goes_on reply receipt is h cause replied = let told = act_told reply receipt is h cause replied in goes_on a told.0 receipt old.line new.line told.2

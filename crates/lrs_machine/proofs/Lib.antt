@@ -8,5 +8,7 @@ pub mod Counts
 pub mod Following
 pub mod ReplayLemmas
 pub mod OpenLemmas
+pub mod Origins
 pub mod DeskLemmas
 pub mod Spares
+pub mod Sent

@@ -301,10 +301,10 @@ module _ {D : Type 0} (told : D → Option (List ℕ)) (image : D → List ℕ �
 
   -- ---- what is true of every desk
 
-  pub on_disk : ((d : D) (c : List ℕ) → image d c → IsSome (told d)) → (journal : Journal D) (st : State) (parts : Parts) (t n : ℕ) (opening : List Entry) (acts : List Record) → IsTied told image time since journal st (line_of t opening acts)
+  pub on_disk : ((d : D) (c : List ℕ) → image d c → IsSome (told d)) → (journal : Journal D) (st : State) (parts : Parts) (t n : ℕ) (origin : D) (opening : List Entry) (acts : List Record) → IsTied told image time since journal st (line_of t opening acts)
       → n ≡ length opening → 0 < n
-      → IsOnDisk told image time since (record { disk = journal.disk; limit = journal.limit; opened_at = t; opened = n; line = line_of t opening acts; parts = parts })
-  on_disk tells journal st parts t n opening acts tied is some = record {
+      → IsOnDisk told image time since (record { disk = journal.disk; limit = journal.limit; opened_at = t; opened = n; origin = origin; line = line_of t opening acts; parts = parts })
+  on_disk tells journal st parts t n origin opening acts tied is some = record {
     legal = tied.legal;
     opening = (some, opened_within t n opening acts is, begins_opened t n opening acts is);
     moments = tied.moments;

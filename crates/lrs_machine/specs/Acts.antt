@@ -7,6 +7,7 @@ use Rattle.lrs_record.specs.declared.entry.Entry.{Entry}
 use Rattle.lrs_replies.specs.declared.answered.Answered.{Answered}
 use Rattle.lrs_replies.specs.declared.reply.Trouble.{Trouble}
 use Rattle.lrs_replies.specs.declared.reply.Trouble.TheVariants.{Memory, Disk}
+use Rattle.lrs_turn.specs.Passes.{IsOneMore}
 use Rattle.lrs_machine.specs.Line.{Record, entries, in_doubt, AreBefore}
 
 -- ---- receipts
@@ -77,6 +78,10 @@ line_with line made receipt = if changed receipt then line ++ record_of made rec
 
 abbrev pub line_behind : List Record → Answer → Receipt → List Record
 line_behind line a receipt = line_with line (made_by a receipt) receipt
+
+-- The line has one record more if the act changed the journal, and else it stays.
+abbrev pub GoesOn : Receipt → List Record → List Record → Type 0
+GoesOn receipt old new = (changed receipt ≡ true → IsOneMore new old) × (changed receipt ≡ false → new ≡ old)
 
 -- ---- acts
 

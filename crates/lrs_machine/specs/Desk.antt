@@ -1,4 +1,5 @@
 -- What the desk's calls promise.
+use base.Stored.{Coded}
 use Rattle.std.specs.Prelude.{◌≡◌, ◌⊎◌, ◌<◌, ◌≤◌, ◌+◌, ℕ, List, [], ◌∷◌, ◌++◌, length, map, take, slice_get, Option}
 use Rattle.std.specs.Prelude.{Some, Bool, true, false, is_some, is_none, nat_lt}
 use Rattle.std.specs.Option.{ForSome}
@@ -17,6 +18,7 @@ use Rattle.lrs_record.specs.declared.entry.Caller.{Caller}
 use Rattle.lrs_parts.specs.Parts.{AddsNoPlaces, SeenParts as Parts}
 use Rattle.lrs_machine.specs.Line.{Record, entries, in_doubt, sure, opened_line, AreBefore, BeginsWith}
 use Rattle.lrs_machine.specs.Acts.{Receipt, landed_among, place_where}
+use Rattle.lrs_machine.specs.Numbers.{numbers_of}
 use Rattle.lrs_machine.specs.declared.opening.DeskRefused.{DeskRefused}
 use Rattle.lrs_machine.specs.declared.opening.DeskRefused.TheVariants as desk
 use Rattle.lrs_machine.specs.declared.opening.FoundRefused.{FoundRefused}
@@ -30,6 +32,8 @@ pub record Desk (D : Type 0) : Type 0 where
   -- the disk's moment at the end of the opening, and how many entries stood then
   pub opened_at : ℕ
   pub opened : ℕ
+  -- the disk as it was then
+  pub origin : D
   -- the records of these entries, and one for each act since then that changed the journal
   pub line : List Record
   -- what is held in memory, with the places that were made ahead
@@ -38,6 +42,22 @@ pub record Desk (D : Type 0) : Type 0 where
 -- the one history of a desk, with an entry that is in doubt
 abbrev pub history : {D : Type 0} → Desk D → List Entry
 history desk = entries desk.line
+
+-- The numbers that no act changes: the limit, and of the opening the moment, the number of entries, and the disk.
+abbrev pub marks_of : {D : Type 0} → Coded D → Desk D → List ℕ
+marks_of code desk = desk.limit ∷ desk.opened_at ∷ desk.opened ∷ numbers_of code desk.origin
+
+-- How far a disk has come: its count of faults, and its moment. Neither falls.
+pub record Mark : Type 0 where
+  pub faults : ℕ
+  pub moment : ℕ
+
+abbrev pub mark_of : {D : Type 0} → (D → ℕ) → (D → ℕ) → D → Mark
+mark_of faults time disk = record { faults = faults disk; moment = time disk }
+
+-- the mark of a desk's disk, as numbers of which no act lets one fall
+abbrev pub tide_of : {D : Type 0} → (D → ℕ) → (D → ℕ) → Desk D → List ℕ
+tide_of faults time desk = faults desk.disk ∷ time desk.disk ∷ []
 
 -- ---- what the disk holds
 

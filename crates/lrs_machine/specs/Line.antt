@@ -2,6 +2,7 @@
 use Rattle.std.specs.Prelude.{◌≡◌, ◌≤◌, ◌-◌, ◌&&◌, not, ℕ, List, [], ◌∷◌, ◌++◌, length, map, slice_get, Bool, true}
 use Rattle.std.specs.Prelude.{false, if◌then◌else◌, Option, Some, None, is_some}
 use Rattle.lrs_record.specs.declared.entry.Entry.{Entry}
+pub use Rattle.lrs_turn.specs.Lists.{BeginsWith}
 
 -- What became of an act that changed the journal, or of an entry that stood at the opening.
 pub record Record : Type 0 where
@@ -56,7 +57,3 @@ line_of moment opening acts = opened_line moment opening ++ acts
 -- no record is of a later moment
 abbrev pub AreBefore : ℕ → List Record → Type 0
 AreBefore moment line = (k : ℕ) (r : Record) → slice_get line k ≡ Some r → r.moment ≤ moment
-
--- the whole goes on from what was before
-abbrev pub BeginsWith : {A : Type 0} → List A → List A → Type 0
-BeginsWith {A} before whole = (rest : List A) × (before ++ rest ≡ whole)

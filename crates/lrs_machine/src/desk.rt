@@ -17,8 +17,9 @@ ghost use Rattle.lrs_fold.specs.Own.{put_of, IsOfPut, IsPut};
 ghost use Rattle.lrs_fold.specs.Posted.{post_of};
 ghost use Rattle.lrs_fold.specs.XapiPagesListings.{listed_of_all};
 ghost use Rattle.lrs_machine.specs.Line.{in_doubt, sure};
-ghost use Rattle.lrs_machine.specs.Acts.{Acts, HasDiskCause};
-ghost use Rattle.lrs_machine.specs.Desk.{history, HoldsPrefix, IsOnDisk, KeepsLine, LeavesNoPlace, LeavesStore, StopsWithin, lets_in, receipt_of};
+ghost use Rattle.lrs_machine.specs.Acts.{Acts, GoesOn, HasDiskCause};
+ghost use Rattle.lrs_machine.specs.Desk.{history, HoldsPrefix, IsOnDisk, KeepsLine, LeavesNoPlace, LeavesStore, StopsWithin, lets_in, marks_of, receipt_of};
+ghost use Rattle.lrs_machine.specs.Origin.{IsOfOrigin};
 ghost use Rattle.lrs_machine.specs.Steps.{Happens, line_after};
 
 use crate::acting::{Done, act};
@@ -34,6 +35,7 @@ use lrs_names::{Draw, Id};
 use lrs_noted::Noted;
 use lrs_record::{Caller, Entry};
 use lrs_replies::{Answered, Reply, Trouble, reply_to, status_in};
+use lrs_turn::Journaled;
 use std::alloc::Global;
 use std::marker::Model;
 use std::snapshot::Snapshot;
@@ -47,6 +49,8 @@ pub struct Desk<D: Disk> {
     /// The disk's moment at the end of the opening, and how many entries stood then.
     pub(crate) opened_at: u64,
     pub(crate) opened: u64,
+    /// The journal as it was then, for clauses alone.
+    pub(crate) origin: Snapshot<Journal<D>>,
     /// How many records the line has.
     pub(crate) records: u64,
     pub(crate) opening: Noted<Entry>,
@@ -58,7 +62,8 @@ impl<D: Disk> Model for Desk<D> {
     ghost use Rattle.lrs_json.specs.contracts.tree.Tree as tree;
     ghost use Rattle.lrs_machine.specs.Desk.{Desk as SpecDesk};
     ghost use Rattle.lrs_machine.specs.Fold.{state_of};
-    ghost use Rattle.lrs_machine.specs.Line.{line_of};
+    ghost use Rattle.lrs_machine.specs.Line.{entries, line_of};
+    ghost use Rattle.lrs_machine.specs.Origin.{ComesFrom};
     ghost use Rattle.lrs_machine.specs.Steps.{IsBegun, IsCounted, IsTied};
 
     ghost Value = { SpecDesk D };
@@ -70,13 +75,16 @@ impl<D: Disk> Model for Desk<D> {
       limit = d.journal.limit;
       opened_at = d.opened_at;
       opened = d.opened;
+      origin = d.origin.value.disk;
       line = line_of d.opened_at d.opening.items d.acts.items;
       parts = d.fold.parts;
     } };
 
     ghost invariant = { λ d. IsTied D.told D.image D.time D.image_since d.journal (state_of d.fold)
         (line_of d.opened_at d.opening.items d.acts.items) × IsBegun d.opened d.opening.items
-        × IsCounted d.records (line_of d.opened_at d.opening.items d.acts.items) };
+        × IsCounted d.records (line_of d.opened_at d.opening.items d.acts.items)
+        × ComesFrom D.told D.time D.image_since d.journal.limit d.opened
+        (entries (line_of d.opened_at d.opening.items d.acts.items)) d.origin.value.disk d.journal.disk };
 }
 
 // Adds the record of an act that changed the journal. At run time it is only counted.
@@ -116,7 +124,10 @@ impl<D: Disk> Desk<D> {
     /// The number of records of its line: the entries that stood at its opening, and the acts since then that changed
     /// the journal.
     pub fn records(&self) -> u64
-        ensures { result ≡ length self.now.line }
+        ensures number { result ≡ length self.now.line }
+        // What is true of every desk, whoever acted on it before.
+        ensures durable { IsOnDisk D.told D.image D.time D.image_since self.now }
+        ensures origin { IsOfOrigin D.told D.time D.image_since self.now }
     {
         self.records
     }
@@ -157,6 +168,7 @@ impl<D: Disk> Desk<D> {
         ensures known { IsPut caller command → IfOk result.0 IsOfPut }
         ensures same { (self.new.limit ≡ self.old.limit) × (self.new.opened ≡ self.old.opened)
             × (self.new.opened_at ≡ self.old.opened_at) }
+        ensures origin { self.new.origin ≡ self.old.origin }
         ensures tells { TellsAlike (D.told self.old.disk) (D.told self.new.disk) }
         ensures later { D.time self.old.disk ≤ D.time self.new.disk }
         ensures stops { StopsWithin D.told D.time D.image_since self.old self.new }
@@ -290,6 +302,10 @@ impl<D: Disk> Desk<D> {
         ensures acts { (said : Result Answered Trouble) × Says said result.0
             × Acts (answer self.old.limit (history self.old) caller command clock draw.now) said result.1
             self.old.line self.new.line }
+        // The receipt tells a worker whether there is a record to commit.
+        ensures line { GoesOn result.1 self.old.line self.new.line }
+        ensures marks { marks_of D.row.coded self.new ≡ marks_of D.row.coded self.old }
+        ensures tide { D.fault_count self.old.disk ≤ D.fault_count self.new.disk }
         ensures same { (self.new.limit ≡ self.old.limit) × (self.new.opened ≡ self.old.opened)
             × (self.new.opened_at ≡ self.old.opened_at) }
         ensures tells { TellsAlike (D.told self.old.disk) (D.told self.new.disk) }
@@ -338,6 +354,7 @@ impl<D: Disk> Desk<D> {
             alloc: _,
             opened_at: _,
             opened: _,
+            origin: _,
             records: _,
             opening: _,
             acts: _,
@@ -348,4 +365,31 @@ impl<D: Disk> Desk<D> {
             Err(failed) => Err((failed, journal.into_disk())),
         }
     }
+}
+
+// Workers may take a desk in turns. Its tide is the disk's count of faults and its moment.
+impl<D: Disk> Journaled for Desk<D> {
+    ghost use Rattle.std.specs.Prelude.{◌≡◌, length};
+    ghost use Rattle.lrs_machine.specs.Desk.{marks_of, tide_of};
+
+    type Record = Record;
+
+    ghost line = { λ d. d.line };
+
+    ghost marks = { λ d. marks_of D.row.coded d };
+
+    ghost tide = { λ d. tide_of D.fault_count D.time d };
+
+    fn length(&self) -> u64
+        ensures { result ≡ length self.now.line }
+    {
+        self.records()
+    }
+}
+
+fn moves<T: Send>(_value: &T) {}
+
+// A desk may go to another thread if its disk may.
+fn may_cross<D: Disk + Send>(desk: &Desk<D>) {
+    moves(desk);
 }

@@ -1,4 +1,5 @@
-//! The desk: it keeps a history of accepted writes in a journal, and answers each command over it. Begin with `desk`;
+//! The desk: it keeps a history of accepted writes in a journal, and answers each command over it. One worker may have
+//! it, or several that take it in turns. Begin with `desk`;
 //! `acting` and `keeping` are the steps of an act, `opening` and `replaying` those of a recovery. A `record` says what
 //! became of an act that changed the journal, and a `receipt` what is kept of a response, to compare it with the
 //! history.

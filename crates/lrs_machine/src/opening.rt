@@ -29,6 +29,7 @@ use lrs_json::{Memory, Text};
 use lrs_noted::Noted;
 use lrs_record::Entry;
 use std::alloc::Global;
+use std::snapshot::Snapshot;
 
 /// Why a disk isn't opened as a store.
 #[derive(Clone, Copy, Debug, PartialEq, Eq)]
@@ -79,6 +80,7 @@ impl<D: Disk> Desk<D> {
         ensures fields { IfOk result (λ desk. (desk.limit ≡ limit) × (in_doubt desk.line ≡ false)
             × (desk.opened ≡ 1)) }
         ensures moment { IfOk result (λ desk. desk.opened_at ≡ D.time desk.disk) }
+        ensures origin { IfOk result (λ desk. desk.origin ≡ desk.disk) }
         ensures free { IfOk result (λ _. ForSome (D.told disk) IsOpenTo) }
         ensures room { IfOk result (λ _. need_of_first (written_entry (founding_entry admin.now base.now clock))
             ≤ limit) }
@@ -114,9 +116,13 @@ impl<D: Disk> Desk<D> {
         ensures faults { IfErr result (λ e. D.fault_count disk ≤ D.fault_count e.1) }
         ensures cause { IfErr result (λ e. e.0 ≡ FoundRefused.Failed → Rises (D.fault_count disk) (D.fault_count e.1)) }
     {
-        let (frame, fold, opening) = match begun(alloc, admin, base, clock) {
+        let mut fold = Fold::new(alloc);
+        let (frame, opening) = match begun(alloc, &mut fold, admin, base, clock) {
             Ok(begun) => begun,
-            Err(_) => return Err((FoundRefused::Memory, disk)),
+            Err(_) => {
+                drop(fold);
+                return Err((FoundRefused::Memory, disk));
+            }
         };
         match Journal::create(disk, limit, &frame) {
             Ok(journal) => Ok(opened(alloc, journal, fold, opening)),
@@ -134,6 +140,7 @@ impl<D: Disk> Desk<D> {
             × (desk.opened ≡ length h) × IsLegal desk.limit h
             × ForSome (D.told disk) (λ bytes. IsStoreOf bytes desk.limit h)) }
         ensures moment { IfOk result (λ desk. desk.opened_at ≡ D.time desk.disk) }
+        ensures origin { IfOk result (λ desk. desk.origin ≡ desk.disk) }
         ensures tells { IfOk result (λ desk. TellsAlike (D.told disk) (D.told desk.disk)) }
         ensures durable { IfOk result (IsOnDisk D.told D.image D.time D.image_since) }
         ensures settled { IfOk result (λ desk. in_doubt desk.line ≡ false) }
@@ -182,6 +189,7 @@ fn finish<D: Disk>(
     ensures fields { IfOk result (λ desk. (desk.limit ≡ replay.limit) × (in_doubt desk.line ≡ false)
         × (desk.opened ≡ length opening.items)) }
     ensures moment { IfOk result (λ desk. desk.opened_at ≡ D.time desk.disk) }
+    ensures origin { IfOk result (λ desk. desk.origin ≡ desk.disk) }
     ensures later { IfOk result (λ desk. D.time replay.disk ≤ D.time desk.disk) }
     ensures later_err { IfErr result (λ e. D.time replay.disk ≤ D.time e.1) }
     ensures tells { IfOk result (λ desk. TellsAlike (D.told replay.disk) (D.told desk.disk)) }
@@ -217,16 +225,19 @@ fn opened<D: Disk>(alloc: Global, journal: Journal<D>, fold: Fold, opening: Note
         × (result.opened ≡ length opening.items) }
     ensures disk { result.disk ≡ journal.disk }
     ensures moment { result.opened_at ≡ D.time result.disk }
+    ensures origin { result.origin ≡ result.disk }
     ensures durable { IsOnDisk D.told D.image D.time D.image_since result }
 {
     let opened_at = journal.moment();
     let opened = journal.length();
+    let origin = Snapshot::of(&journal);
     Desk {
         journal,
         fold,
         alloc,
         opened_at,
         opened,
+        origin,
         records: opened,
         opening,
         acts: Noted::new(),
@@ -253,25 +264,27 @@ fn founding_refusal(refused: CreateRefused) -> FoundRefused
     }
 }
 
-// What a new store begins with: the founding entry's text, what the entry gives, and the list of it alone.
+// What a new store begins with: the founding entry's text, and the list of the entry alone. The fold takes it in.
 fn begun(
     alloc: Global,
+    fold: &mut Fold,
     admin: &Text,
     base: &Text,
     clock: u64,
-) -> Result<(Vec<u8>, Fold, Noted<Entry>), Memory>
+) -> Result<(Vec<u8>, Noted<Entry>), Memory>
     requires admin { IsToken admin.now }
     requires base { IsBase base.now }
+    requires empty { state_of fold.old ≡ nothing }
     ensures frame { IfOk result (λ begun. begun.0.items ≡ written_entry (founding_entry admin.now base.now clock)) }
     ensures short { IfOk result (λ begun. length begun.0.items ≤ MOST_BYTES) }
     ensures lawful { IfOk result (λ begun. IsLawful (founding_entry admin.now base.now clock)) }
-    ensures folded { IfOk result (λ begun. state_of begun.1 ≡ state (founding_entry admin.now base.now clock ∷ [])) }
-    ensures opening { IfOk result (λ begun. begun.2.items ≡ founding_entry admin.now base.now clock ∷ []) }
+    ensures folded { OnOk result (state_of fold.new ≡ state (founding_entry admin.now base.now clock ∷ [])) }
+    ensures opening { IfOk result (λ begun. begun.1.items ≡ founding_entry admin.now base.now clock ∷ []) }
 {
     let (entry, frame) = founding(alloc, admin, base, clock)?;
     let opening = Noted::new().and(&entry);
-    match founded(alloc, entry) {
-        Ok(fold) => Ok((frame, fold, opening)),
+    match begin(alloc, fold, entry) {
+        Ok(()) => Ok((frame, opening)),
         Err(refused) => Err(refused),
     }
 }
@@ -311,21 +324,6 @@ fn founding_text(alloc: Global, entry: &Entry) -> Result<Vec<u8>, Memory>
         return Err(Memory);
     }
     Ok(text)
-}
-
-// What a store's first entry gives.
-fn founded(alloc: Global, entry: Entry) -> Result<Fold, Memory>
-    requires { IsFounding entry }
-    ensures { IfOk result (λ fold. state_of fold ≡ state (entry ∷ [])) }
-{
-    let mut fold = Fold::new(alloc);
-    match begin(alloc, &mut fold, entry) {
-        Ok(()) => Ok(fold),
-        Err(refused) => {
-            drop(fold);
-            Err(refused)
-        }
-    }
 }
 
 // Takes the founding entry in.

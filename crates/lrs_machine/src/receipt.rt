@@ -1,5 +1,5 @@
 ghost use Rattle.std.specs.Prelude.{◌≡◌};
-ghost use Rattle.lrs_machine.specs.Acts.{plain_receipt};
+ghost use Rattle.lrs_machine.specs.Acts.{changed, plain_receipt};
 
 use std::marker::Model;
 
@@ -87,6 +87,13 @@ impl Receipt {
         ensures { result ≡ self.now.landed }
     {
         self.landed
+    }
+
+    /// Whether the act changed the journal: the desk's line then has one record more.
+    pub fn changed(&self) -> bool
+        ensures { result ≡ changed self.now }
+    {
+        self.entry.is_some() || self.landed.is_some()
     }
 
     /// The reading of the clock that the act was given, in milliseconds since 1970.

@@ -67,6 +67,10 @@ admin put Z3 {"actor":{"mbox":"mailto:a@b"},"verb":{"id":"http://v/1"},"object":
 admin put Z4 {"actor":{"mbox":"mailto:a@b"},"verb":{"id":"http://v/1"},"object":{"objectType":"SubStatement","actor":{"mbox":"mailto:w@x"},"verb":{"id":"http://v/1"},"object":{"objectType":"Group","mbox":"mailto:o@p","member":[{"mbox":"mailto:q@r"}]},"context":{"instructor":{"objectType":"Group","mbox":"mailto:i@j","member":[{"mbox":"mailto:k@l"}]},"team":{"objectType":"Group","mbox":"mailto:s@t","member":[{"mbox":"mailto:u@v"}]}}}} => 204 kept
 admin put Z5 {"actor":{"mbox":"mailto:a@b"},"verb":{"id":"http://v/1"},"object":{"id":"http://a/1"},"context":{"contextActivities":{"parent":{"id":"http://c/p"},"grouping":{"id":"http://c/g"},"category":{"id":"http://c/c"},"other":{"id":"http://c/o"}}}} => 204 kept
 admin put Z6 {"actor":{"mbox":"mailto:a@b"},"verb":{"id":"http://v/1"},"object":{"objectType":"SubStatement","actor":{"mbox":"mailto:a@b"},"verb":{"id":"http://v/1"},"object":{"id":"http://a/2"},"context":{"contextActivities":{"parent":{"id":"http://c/p"},"grouping":{"id":"http://c/g"},"category":{"id":"http://c/c"},"other":{"id":"http://c/o"}}}}} => 204 kept
+// the authority that is sent isn't the one that the store gives
+admin put Z7 {"actor":{"mbox":"mailto:a@b"},"verb":{"id":"http://v/1"},"object":{"id":"http://a/1"},"authority":{"mbox":"mailto:y@z"}} => 204 kept
+admin get ?agent={"mbox":"mailto:y@z"}&related_agents=true => 200 []
+admin get ?agent={"account":{"homePage":"https://lrs.invalid/callers","name":"admin"}}&related_agents=true => 200 [7654321]
 admin get ?agent={"mbox":"mailto:g@h"} => 200 [1]
 admin get ?agent={"mbox":"mailto:g@h"}&related_agents=true => 200 [21]
 admin get ?agent={"mbox":"mailto:o@p"} => 200 [3]
@@ -107,6 +111,7 @@ admin put Z2 {"actor":{"mbox":"mailto:c@d"},"verb":{"id":"http://v/1"},"object":
 admin put Z3 {"actor":{"mbox":"mailto:a@b"},"verb":{"id":"http://v/2"},"object":{"id":"http://a/2"},"context":{"registration":"Z9"}} => 204 kept
 admin get ?agent={"mbox":"mailto:a@b"} => 200 [31]
 admin get ?verb=http://v/1 => 200 [21]
+admin get ?verb=http://v/ => 200 []
 admin get ?activity=http://a/2 => 200 [32]
 admin get ?registration=Z9 => 200 [32]
 admin get ?agent={"mbox":"mailto:a@b"}&verb=http://v/1 => 200 [1]

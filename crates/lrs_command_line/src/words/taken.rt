@@ -86,8 +86,7 @@ fn load_command<'a>(alloc: Global) -> Result<Command<'a>, Memory>
     with_argument(command, required(alloc, "count"))
 }
 
-// The program with one command more.
-fn with_command<'a>(
+fn add_command<'a>(
     program: Command<'a>,
     made: Result<Command<'a>, Memory>,
 ) -> Result<Command<'a>, Memory>
@@ -103,12 +102,29 @@ fn with_command<'a>(
     }
 }
 
+// The program with one command more.
+fn with_command<'a>(
+    program: Result<Command<'a>, Memory>,
+    made: Result<Command<'a>, Memory>,
+) -> Result<Command<'a>, Memory>
+    ensures { (p a : App) → IfOk program.entry (λ c. app_of c ≡ p) → IfOk made.entry (IsOf a)
+        → IfOk result (λ c. app_of c ≡ with_subcommand p a.top) }
+{
+    match program {
+        Ok(program) => add_command(program, made),
+        Err(refused) => {
+            drop(made);
+            Err(refused)
+        }
+    }
+}
+
 // The program with the first two of its commands.
 fn program_begun<'a>(alloc: Global) -> Result<Command<'a>, Memory>
     ensures { IfOk result (λ c. app_of c ≡ program_begun) }
 {
-    let program = Command::new(alloc, "kilnlime");
-    let program = with_command(program, init_command(alloc))?;
+    let program = Ok(Command::new(alloc, "kilnlime"));
+    let program = with_command(program, init_command(alloc));
     with_command(program, intake_command(alloc))
 }
 
@@ -116,8 +132,7 @@ fn program_begun<'a>(alloc: Global) -> Result<Command<'a>, Memory>
 fn program<'a>(alloc: Global) -> Result<Command<'a>, Memory>
     ensures { IfOk result (λ c. app_of c ≡ program) }
 {
-    let program = program_begun(alloc)?;
-    let program = with_command(program, serve_command(alloc))?;
+    let program = with_command(program_begun(alloc), serve_command(alloc));
     with_command(program, load_command(alloc))
 }
 

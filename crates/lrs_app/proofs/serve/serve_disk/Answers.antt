@@ -1,7 +1,8 @@
-use Rattle.std.proofs.Common.{ℕ, subst}
+use Rattle.std.proofs.Common.{ℕ, length, ap, subst, sym, ◌∙◌}
 use Rattle.lrs_app.specs.Service.{CountsOn}
-use Rattle.lrs_app.proofs.Openings.{opened_of}
-use Rattle.lrs_app.proofs.Serving.{counts_none, opened_serves, unopened_serves}
+use Rattle.lrs_app.proofs.Openings.{opened_history, opened_of}
+use Rattle.lrs_app.proofs.Served.{opened_serves}
+use Rattle.lrs_app.proofs.Serving.{counts_none, unopened_serves}
 use Rattle.lrs_app.proofs.Taking.{leaves_unopened, store_of}
 use Rattle.lrs_app.proofs.serve.serve_disk.Goals as goal
 
@@ -9,16 +10,22 @@ pub serve_opened-requires-clause-opened : goal.serve_opened-requires-clause-open
 serve_opened-requires-clause-opened g c κs within =
     opened_of g.D.Disk c.in-Ok.desk c.in-Ok.ensures.opening.0 c.in-Ok.ensures.opening.1 c.in-Ok.ensures.moment c.in-Ok.ensures.opening.3 c.in-Ok.ensures.durable
 
+pub serve_opened-requires-clause-origin : goal.serve_opened-requires-clause-origin
+serve_opened-requires-clause-origin g c κs within =
+    let opening = c.in-Ok.ensures.opening in
+    (opening.2 ∙ ap length (sym (opened_history c.in-Ok.desk opening.0 opening.1)), c.in-Ok.ensures.origin)
+
 pub returns-in-Ok-clause-served : goal.returns-in-Ok-clause-served
 returns-in-Ok-clause-served g c =
-    opened_serves g.D.Disk g.met.D.Disk.counts_now g.met.D.Disk.only_now c.args.disk c.in-Ok.desk c.serve_opened.result.disk c.args.address.now c.args.connections c.args.seed _ _
+    let laws = g.met.D.Disk g.world.𝓛 g.world.𝓜 g.world.𝓡 ((λ s x. x), (λ x. x), (λ x. x), λ x. x) in
+    opened_serves g.D.Disk laws.counts_now laws.only_now c.args.disk c.in-Ok.desk c.serve_opened.result.disk c.args.address.now c.args.workers c.args.connections c.args.seed _ _
     c.serve_opened.result.talks c.serve_opened.result.length c.serve_opened.result.ending
     (store_of c.in-Ok.desk (g.D.Disk.told c.args.disk) c.in-Ok.ensures.opening.0 c.in-Ok.ensures.opening.1 c.in-Ok.ensures.opening.4) c.requires.settled
     c.in-Ok.ensures.stops c.in-Ok.ensures.tells c.in-Ok.ensures.kept c.in-Ok.ensures.later c.serve_opened.ensures.served
 
 pub returns-in-Err-clause-served : goal.returns-in-Err-clause-served
 returns-in-Err-clause-served g c =
-    unopened_serves g.D.Disk _ c.in-Err.disk c.args.address.now c.args.connections c.args.seed _ c.new.result c.in-Err.refused c.unopened.result c.unopened.ensures c.new.ensures
+    unopened_serves g.D.Disk _ c.in-Err.disk c.args.address.now c.args.workers c.args.connections c.args.seed _ c.new.result c.in-Err.refused c.unopened.result c.unopened.ensures c.new.ensures
     (leaves_unopened g.D.Disk c.args.disk c.in-Err.disk c.in-Err.refused c.unopened.result c.unopened.ensures c.in-Err.ensures.refused c.in-Err.ensures.same c.in-Err.ensures.left
     c.requires.settled c.in-Err.ensures.stops_err c.in-Err.ensures.untouched c.in-Err.ensures.later_err)
 

@@ -1,5 +1,5 @@
 use Rattle.std.proofs.Common.{◌≡◌, subst, OnOk}
-use Rattle.lrs_parts.specs.declared.effect.Effect.{Effect}
+use Rattle.lrs_state.specs.declared.effect.Effect.{Effect}
 use Rattle.lrs_parts.specs.State.{State, apply, nothing}
 use Rattle.lrs_fold.specs.LrsHistoryEffects.{effect}
 use Rattle.lrs_machine.specs.Fold.{state_of}

@@ -1,9 +1,11 @@
 use Rattle.std.proofs.Common.{◌≡◌, ◌<◌, ◌++◌, List, length, refl, sym, subst, ap, ◌∙◌, arith}
 use Rattle.std.proofs.lemmas.List.{append-nil}
 use Rattle.lrs_machine.specs.Fold.{state_of}
-use Rattle.lrs_machine.specs.Line.{in_doubt, opened_line, line_of}
+use Rattle.lrs_machine.specs.Line.{entries, in_doubt, opened_line, line_of}
+use Rattle.lrs_machine.specs.Origin.{ComesFrom}
 use Rattle.lrs_machine.proofs.Counts.{counted_opened}
 use Rattle.lrs_machine.proofs.Lines.{doubt_opened}
+use Rattle.lrs_machine.proofs.Origins.{comes_here, disk_in}
 use Rattle.lrs_machine.proofs.Tied.{on_disk, opened_tied}
 use Rattle.lrs_machine.proofs.opening.opened.Goals as goal
 
@@ -13,6 +15,16 @@ invariant_of-result g c = (
       c.requires.opened c.moment-opened_at.ensures c.new.ensures,
   (c.length-opened.ensures.number ∙ c.requires.opened.counts, omega (arith, c.length-opened.ensures.number, c.requires.opened.counts, c.requires.opened.legal.0)),
   counted_opened c.length-opened.result c.moment-opened_at.result c.args.opening.items c.new.result.items c.new.ensures (c.length-opened.ensures.number ∙ c.requires.opened.counts),
+  subst (λ j. ComesFrom g.D.Disk.told g.D.Disk.time g.D.Disk.image_since c.args.journal.limit c.length-opened.result (entries (line_of c.moment-opened_at.result c.args.opening.items c.new.result.items)) (disk_in j) c.args.journal.disk) (sym c.of-origin.ensures)
+      (let o = on_disk g.D.Disk.told g.D.Disk.image g.D.Disk.time g.D.Disk.image_since g.met.D.Disk.only_now g.met.D.Disk.tells c.args.journal (state_of c.args.fold) c.args.fold.parts c.moment-opened_at.result c.length-opened.result c.args.journal.disk c.args.opening.items c.new.result.items
+      (opened_tied g.D.Disk.told g.D.Disk.image g.D.Disk.time g.D.Disk.image_since g.met.D.Disk.only_now c.args.journal (state_of c.args.fold) c.moment-opened_at.result c.args.opening.items c.new.result.items
+      c.requires.opened c.moment-opened_at.ensures c.new.ensures)
+      (c.length-opened.ensures.number ∙ c.requires.opened.counts) (omega (arith, c.length-opened.ensures.number, c.requires.opened.counts, c.requires.opened.legal.0)) in
+      comes_here g.D.Disk.told g.D.Disk.image g.D.Disk.time g.D.Disk.image_since g.met.D.Disk.only_now c.args.journal.disk c.args.journal.limit c.length-opened.result (line_of c.moment-opened_at.result c.args.opening.items c.new.result.items)
+      o.opening.1 o.legal
+      (ap in_doubt (ap (λ acts. opened_line c.moment-opened_at.result c.args.opening.items ++ acts) c.new.ensures ∙ append-nil (opened_line c.moment-opened_at.result c.args.opening.items))
+      ∙ doubt_opened c.moment-opened_at.result c.args.opening.items)
+      o.each),
 )
 
 pub returns-clause-line : goal.returns-clause-line
@@ -20,7 +32,7 @@ returns-clause-line g c = ap (λ acts. opened_line c.moment-opened_at.result c.a
 
 pub returns-clause-durable : goal.returns-clause-durable
 returns-clause-durable g c =
-    on_disk g.D.Disk.told g.D.Disk.image g.D.Disk.time g.D.Disk.image_since g.met.D.Disk.only_now g.met.D.Disk.tells c.args.journal (state_of c.args.fold) c.args.fold.parts c.moment-opened_at.result c.length-opened.result c.args.opening.items c.new.result.items
+    on_disk g.D.Disk.told g.D.Disk.image g.D.Disk.time g.D.Disk.image_since g.met.D.Disk.only_now g.met.D.Disk.tells c.args.journal (state_of c.args.fold) c.args.fold.parts c.moment-opened_at.result c.length-opened.result _ c.args.opening.items c.new.result.items
     (opened_tied g.D.Disk.told g.D.Disk.image g.D.Disk.time g.D.Disk.image_since g.met.D.Disk.only_now c.args.journal (state_of c.args.fold) c.moment-opened_at.result c.args.opening.items c.new.result.items
     c.requires.opened c.moment-opened_at.ensures c.new.ensures)
     (c.length-opened.ensures.number ∙ c.requires.opened.counts) (omega (arith, c.length-opened.ensures.number, c.requires.opened.counts, c.requires.opened.legal.0))
@@ -32,3 +44,6 @@ returns-clause-fields g c = (
       ∙ doubt_opened c.moment-opened_at.result c.args.opening.items,
   c.length-opened.ensures.number ∙ c.requires.opened.counts,
 )
+
+pub returns-clause-origin : goal.returns-clause-origin
+returns-clause-origin g c = ap disk_in c.of-origin.ensures

@@ -1,10 +1,10 @@
-use Rattle.std.proofs.Common.{◌∙◌, ap}
-use Rattle.clap.specs.Words.{App, with_subcommand}
+use Rattle.std.specs.Prelude.{codes}
+use Rattle.clap.specs.Words.{App, new_app, with_subcommand}
 use Rattle.lrs_command_line.specs.CommandLine.{init_app, intake_app}
-use Rattle.lrs_command_line.proofs.Taken.{as_same}
 use Rattle.lrs_command_line.proofs.words.taken.program_begun.Goals as goal
 
 pub returns : goal.returns
 returns c =
-    as_same _ (ap (λ (a : App). with_subcommand a intake_app.top) (c.in_ok-program.ensures init_app c.init_command.ensures
-    ∙ ap (λ (a : App). with_subcommand a init_app.top) c.new-program.ensures.app)) (c.with_command-2.ensures intake_app c.intake_command.ensures)
+    let named : App = new_app (codes "kilnlime") in
+    let with_init : App = with_subcommand named init_app.top in
+    c.with_command.ensures with_init intake_app (c.with_command-program.ensures named init_app c.new.ensures.app c.init_command.ensures) c.intake_command.ensures

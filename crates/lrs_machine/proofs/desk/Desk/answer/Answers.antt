@@ -3,11 +3,12 @@ use Rattle.std.specs.Prelude.{option_map, is_ok}
 use Rattle.lrs_fold.specs.LrsHistoryHistory.{answer, outcome}
 use Rattle.lrs_machine.specs.Desk.{Desk}
 use Rattle.lrs_machine.specs.Fold.{state_of}
-use Rattle.lrs_machine.specs.Line.{entries, line_of}
+use Rattle.lrs_machine.specs.Line.{entries, line_of, sure}
 use Rattle.lrs_machine.specs.Steps.{line_after}
 use Rattle.lrs_machine.proofs.Counts.{counted_next, counts_on, moved_acts}
 use Rattle.lrs_machine.proofs.DeskLemmas.{act_put}
 use Rattle.lrs_machine.proofs.Lines.{noted, not_longer}
+use Rattle.lrs_machine.proofs.Origins.{comes_on, happens_begins, opened_sure}
 use Rattle.lrs_machine.proofs.Tied.{acted, limit_stays, on_disk, tells_alike}
 use Rattle.lrs_machine.proofs.desk.Desk.answer.Goals as goal
 
@@ -25,6 +26,17 @@ invariant_of-self g c =
           (acted g.D.Disk.told g.D.Disk.image g.D.Disk.time g.D.Disk.image_since g.met.D.Disk.only_now i.journal a.new.journal c.args.caller c.args.command c.args.clock c.args.draw.now (state_of i.fold) (state_of a.new.fold) a.result.said made
           (line_of i.opened_at i.opening.items i.acts.items) (line_of i.opened_at i.opening.items c.note.new.acts.items) a.result.landed c.self.invariant.0 a.ensures.sound a.ensures.does a.ensures.landed is).1
           (moved_acts i.opened_at i.opening.items i.acts.items c.note.new.acts.items i.records c.note.new.records c.note.ensures.counted) c.self.invariant.2,
+      comes_on g.D.Disk.told g.D.Disk.image g.D.Disk.time g.D.Disk.image_since i.origin.value.disk i.journal.disk a.new.journal.disk i.journal.limit a.new.journal.limit i.opened (sure (line_of i.opened_at i.opening.items i.acts.items))
+          (entries (line_of i.opened_at i.opening.items i.acts.items)) (entries (line_of i.opened_at i.opening.items c.note.new.acts.items)) c.self.invariant.3
+          (tells_alike g.D.Disk.told made i.journal a.new.journal a.ensures.does.grew)
+          (happens_begins (answer i.journal.limit (entries (line_of i.opened_at i.opening.items i.acts.items)) c.args.caller c.args.command c.args.clock c.args.draw.now) a.result.said a.result.landed (g.D.Disk.time a.new.journal.disk)
+          (line_of i.opened_at i.opening.items i.acts.items) (line_of i.opened_at i.opening.items c.note.new.acts.items)
+          (acted g.D.Disk.told g.D.Disk.image g.D.Disk.time g.D.Disk.image_since g.met.D.Disk.only_now i.journal a.new.journal c.args.caller c.args.command c.args.clock c.args.draw.now (state_of i.fold) (state_of a.new.fold) a.result.said made
+          (line_of i.opened_at i.opening.items i.acts.items) (line_of i.opened_at i.opening.items c.note.new.acts.items) a.result.landed c.self.invariant.0 a.ensures.sound a.ensures.does a.ensures.landed is).1)
+          (opened_sure i.opened_at i.opened i.opening.items i.acts.items c.self.invariant.1.0)
+          (acted g.D.Disk.told g.D.Disk.image g.D.Disk.time g.D.Disk.image_since g.met.D.Disk.only_now i.journal a.new.journal c.args.caller c.args.command c.args.clock c.args.draw.now (state_of i.fold) (state_of a.new.fold) a.result.said made
+          (line_of i.opened_at i.opening.items i.acts.items) (line_of i.opened_at i.opening.items c.note.new.acts.items) a.result.landed c.self.invariant.0 a.ensures.sound a.ensures.does a.ensures.landed is).2
+          (limit_stays g.D.Disk.told made i.journal a.new.journal a.ensures.does.grew),
     )
 
 pub note-requires : goal.note-requires
@@ -58,7 +70,7 @@ returns-clause-durable g c =
     let a = c.act-said in
     let made = option_map (λ s. s.value) a.result.made in
     let is = noted i.opened_at i.opening.items i.acts.items c.note.new.acts.items made c.is_ok.result (is_ok a.result.said) a.result.landed c.moment.result (g.D.Disk.time a.new.journal.disk) c.note.ensures.noted c.is_ok.ensures.value c.moment.ensures in
-    on_disk g.D.Disk.told g.D.Disk.image g.D.Disk.time g.D.Disk.image_since g.met.D.Disk.only_now g.met.D.Disk.tells a.new.journal (state_of a.new.fold) a.new.fold.parts i.opened_at i.opened i.opening.items c.note.new.acts.items
+    on_disk g.D.Disk.told g.D.Disk.image g.D.Disk.time g.D.Disk.image_since g.met.D.Disk.only_now g.met.D.Disk.tells a.new.journal (state_of a.new.fold) a.new.fold.parts i.opened_at i.opened _ i.opening.items c.note.new.acts.items
     (acted g.D.Disk.told g.D.Disk.image g.D.Disk.time g.D.Disk.image_since g.met.D.Disk.only_now i.journal a.new.journal c.args.caller c.args.command c.args.clock c.args.draw.now (state_of i.fold) (state_of a.new.fold) a.result.said made
     (line_of i.opened_at i.opening.items i.acts.items) (line_of i.opened_at i.opening.items c.note.new.acts.items) a.result.landed c.self.invariant.0 a.ensures.sound a.ensures.does a.ensures.landed is).0
     c.self.invariant.1.0 c.self.invariant.1.1
@@ -84,3 +96,6 @@ returns-clause-same g c =
 pub returns-clause-tells : goal.returns-clause-tells
 returns-clause-tells g c =
     rw (sym c.self.view_is) (tells_alike g.D.Disk.told (option_map (λ s. s.value) c.act-said.result.made) c.self.inside.journal c.act-said.new.journal c.act-said.ensures.does.grew)
+
+pub returns-clause-origin : goal.returns-clause-origin
+returns-clause-origin g c = rw (sym c.self.view_is) refl

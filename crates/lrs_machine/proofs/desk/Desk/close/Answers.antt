@@ -31,8 +31,8 @@ returns-in-Ok-clause-stops g c =
     (stops_act g.D.Disk.told g.D.Disk.image g.D.Disk.time g.D.Disk.image_since g.met.D.Disk.only_now i.journal c.settle.new.self (state_of i.fold) (state_of i.fold) None line line c.self.invariant.0
     (settle_moves g.D.Disk.told g.D.Disk.image g.D.Disk.time g.D.Disk.image_since i.journal c.settle.new.self (state_of i.fold) line c.self.invariant.0 s.frames s.later s.any_moment)))
 
-pub returns-in-Err-clause-stops_err : goal.returns-in-Err-clause-stops_err
-returns-in-Err-clause-stops_err g c =
+pub returns-clause-stops_err : goal.returns-clause-stops_err
+returns-clause-stops_err g c =
     let i = c.self.inside in
     let s = c.settle.ensures in
     let line = line_of i.opened_at i.opening.items i.acts.items in
@@ -49,8 +49,8 @@ returns-in-Ok-clause-kept_line g c =
     (λ b there. kept_still g.D.Disk.told g.D.Disk.image g.D.Disk.time g.D.Disk.image_since g.met.D.Disk.only_now i.journal c.settle.new.self (state_of i.fold) (state_of i.fold) None line line refl c.self.invariant.0
     (settle_moves g.D.Disk.told g.D.Disk.image g.D.Disk.time g.D.Disk.image_since i.journal c.settle.new.self (state_of i.fold) line c.self.invariant.0 s.frames s.later s.any_moment) b there))
 
-pub returns-in-Err-clause-kept_line_err : goal.returns-in-Err-clause-kept_line_err
-returns-in-Err-clause-kept_line_err g c =
+pub returns-clause-kept_line_err : goal.returns-clause-kept_line_err
+returns-clause-kept_line_err g c =
     let i = c.self.inside in
     let s = c.settle.ensures in
     let line = line_of i.opened_at i.opening.items i.acts.items in
@@ -58,8 +58,8 @@ returns-in-Err-clause-kept_line_err g c =
     (λ b there. kept_still g.D.Disk.told g.D.Disk.image g.D.Disk.time g.D.Disk.image_since g.met.D.Disk.only_now i.journal c.settle.new.self (state_of i.fold) (state_of i.fold) None line line refl c.self.invariant.0
     (settle_moves g.D.Disk.told g.D.Disk.image g.D.Disk.time g.D.Disk.image_since i.journal c.settle.new.self (state_of i.fold) line c.self.invariant.0 s.frames s.later s.any_moment) b there))
 
-pub returns-in-Err-clause-failed : goal.returns-in-Err-clause-failed
-returns-in-Err-clause-failed g c =
+pub returns-clause-failed : goal.returns-clause-failed
+returns-clause-failed g c =
     let i = c.self.inside in
     let s = c.settle.ensures in
     rw (c.into_disk-in-Err.ensures.disk) (rw (sym c.self.view_is) (
@@ -71,18 +71,18 @@ returns-in-Err-clause-failed g c =
 pub returns-in-Ok-clause-legal : goal.returns-in-Ok-clause-legal
 returns-in-Ok-clause-legal g c = rw (sym c.self.view_is) c.self.invariant.0.legal
 
-pub returns-in-Err-clause-legal : goal.returns-in-Err-clause-legal
-returns-in-Err-clause-legal g c = rw (sym c.self.view_is) c.self.invariant.0.legal
+pub returns-clause-legal : goal.returns-clause-legal
+returns-clause-legal g c = rw (sym c.self.view_is) c.self.invariant.0.legal
 
 pub returns-in-Ok-clause-later : goal.returns-in-Ok-clause-later
 returns-in-Ok-clause-later g c = rw (c.into_disk.ensures.disk) (rw (sym c.self.view_is) c.settle.ensures.later)
 
-pub returns-in-Err-clause-later_err : goal.returns-in-Err-clause-later_err
-returns-in-Err-clause-later_err g c = rw (c.into_disk-in-Err.ensures.disk) (rw (sym c.self.view_is) c.settle.ensures.later)
+pub returns-clause-later_err : goal.returns-clause-later_err
+returns-clause-later_err g c = rw (c.into_disk-in-Err.ensures.disk) (rw (sym c.self.view_is) c.settle.ensures.later)
 
 pub returns-in-Ok-clause-kept : goal.returns-in-Ok-clause-kept
 returns-in-Ok-clause-kept g c = rw (c.into_disk.ensures.disk) (rw (sym c.self.view_is) (c.in-Ok.ensures.cause.kept refl))
 
-pub returns-in-Err-clause-cause : goal.returns-in-Err-clause-cause
-returns-in-Err-clause-cause g c =
+pub returns-clause-cause : goal.returns-clause-cause
+returns-clause-cause g c =
     rw (c.into_disk-in-Err.ensures.disk) (rw (sym c.self.view_is) (c.in-Err.ensures.cause.later, c.in-Err.ensures.cause.failed refl))

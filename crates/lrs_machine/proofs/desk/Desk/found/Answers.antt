@@ -58,7 +58,7 @@ returns-in-Err-clause-cause g c = λ is. absurd (cc is)
 
 pub opened-requires : goal.opened-requires
 opened-requires g c = record {
-  opened = create_opened g.D.Disk.told g.D.Disk.image (g.D.Disk.told c.args.disk) c.in-Ok-create.journal (state_of c.in-Ok.begun.1) c.args.limit c.deref.result.now (founding_entry c.args.admin.now c.args.base.now c.args.clock) c.in-Ok.begun.2.items
+  opened = create_opened g.D.Disk.told g.D.Disk.image (g.D.Disk.told c.args.disk) c.in-Ok-create.journal (state_of c.begun.new.fold) c.args.limit c.deref.result.now (founding_entry c.args.admin.now c.args.base.now c.args.clock) c.in-Ok.begun.1.items
       c.in-Ok.ensures.opening (c.deref.ensures.value ∙ c.in-Ok.ensures.frame) c.in-Ok-create.ensures.made c.in-Ok-create.ensures.sound c.in-Ok.ensures.lawful
       (founding_of c.args.admin.now c.args.base.now c.args.clock c.requires.admin c.requires.base) c.in-Ok.ensures.folded c.in-Ok-create.ensures.fields;
 }
@@ -71,6 +71,9 @@ returns-in-Ok-create-clause-fields g c = (c.opened.ensures.fields.0 ∙ c.in-Ok-
 
 pub returns-in-Ok-create-clause-moment : goal.returns-in-Ok-create-clause-moment
 returns-in-Ok-create-clause-moment g c = c.opened.ensures.moment
+
+pub returns-in-Ok-create-clause-origin : goal.returns-in-Ok-create-clause-origin
+returns-in-Ok-create-clause-origin g c = c.opened.ensures.origin
 
 pub returns-in-Ok-create-clause-free : goal.returns-in-Ok-create-clause-free
 returns-in-Ok-create-clause-free g c = (c.in-Ok-create.ensures.free refl).1

@@ -1,0 +1,7 @@
+use Rattle.std.proofs.Common.{All}
+use Rattle.lrs_in_memory.specs.MemDoor.{IsUntouched}
+use Rattle.lrs_app_runs.proofs.outside.doors.Given as goal
+
+-- nothing was asked of a door so far
+abbrev pub invariant-loop-stream : goal.invariant-loop-stream
+invariant-loop-stream l = All IsUntouched l.doors.items
