@@ -3,14 +3,15 @@
 // against. Of batches it prints how many statements are answered a second.
 //
 //   cc -O2 -o requests requests.c
-//   ./requests PORT put FIRST N TOKEN AHEAD    statements FIRST .. FIRST + N - 1, wants 204
-//   ./requests PORT post FIRST N TOKEN AHEAD   N batches, statements FIRST .. FIRST + 100 * N - 1, wants 200
-//   ./requests PORT get HELD N TOKEN AHEAD     N statements, their numbers below HELD by turns, wants 200
-//   ./requests PORT path PATH N TOKEN AHEAD    GETs of that path from the store, wants 200
-//   ./requests PORT file PATH N TOKEN AHEAD    the same from another server, wants 200
+//   ./requests PORT put FIRST N TOKEN AHEAD [CLIENTS]    statements FIRST .. FIRST + N - 1, wants 204
+//   ./requests PORT post FIRST N TOKEN AHEAD [CLIENTS]   N batches, statements FIRST .. FIRST + 100 * N - 1, wants 200
+//   ./requests PORT get HELD N TOKEN AHEAD [CLIENTS]     N statements, their numbers below HELD by turns, wants 200
+//   ./requests PORT path PATH N TOKEN AHEAD [CLIENTS]    GETs of that path from the store, wants 200
+//   ./requests PORT file PATH N TOKEN AHEAD [CLIENTS]    the same from another server, wants 200
 //
 // AHEAD requests are on their way at a time: with 1 each waits for the answer to the one before. All are written before the
-// clock starts. A connection is closed behind 1,000 requests, as the store does.
+// clock starts. A connection is closed behind 1,000 requests, as the store does. CLIENTS processes, 1 if it isn't said, do
+// this at once, each with N requests and with connections of its own; what they put or post goes on from one to the next.
 #include <arpa/inet.h>
 #include <netinet/in.h>
 #include <netinet/tcp.h>
@@ -18,6 +19,7 @@
 #include <stdlib.h>
 #include <string.h>
 #include <sys/socket.h>
+#include <sys/wait.h>
 #include <time.h>
 #include <unistd.h>
 
@@ -142,26 +144,65 @@ static void all_sent(int port, const struct request *requests, long number, long
   close(link);
 }
 
-int main(int argc, char **argv) {
-  if (argc != 7) return 2;
-  int port = atoi(argv[1]);
-  const char *mode = argv[2];
-  long first = atol(argv[3]), number = atol(argv[4]), ahead = atol(argv[6]);
-  int wanted = strcmp(mode, "put") == 0 ? 204 : 200;
-  long each = strcmp(mode, "post") == 0 ? BATCH : 1;
-  struct request *requests = calloc((size_t)number, sizeof *requests);
+// What is asked for: the words behind the port.
+struct task {
+  const char *mode, *path, *token;
+  long first, number, ahead;
+};
+
+static struct request *prepared(const struct task *task, long client) {
+  long each = strcmp(task->mode, "post") == 0 ? BATCH : 1;
+  struct request *requests = calloc((size_t)task->number, sizeof *requests);
   static char text[ROOM];
   must(requests != NULL, "calloc");
-  for (long i = 0; i < number; i++) {
-    long statement = strcmp(mode, "get") == 0 ? (i * 7919) % first : first + i * each;
-    requests[i].length = request_of(text, mode, argv[3], statement, argv[5]);
+  for (long i = 0; i < task->number; i++) {
+    long at = client * task->number + i;
+    long statement = strcmp(task->mode, "get") == 0 ? (at * 7919) % task->first : task->first + at * each;
+    requests[i].length = request_of(text, task->mode, task->path, statement, task->token);
     requests[i].text = memcpy(malloc((size_t)requests[i].length), text, (size_t)requests[i].length);
   }
+  return requests;
+}
+
+// One client: says that it is ready, waits for the start, and sends all.
+static void run(int port, const struct task *task, long client, int ready, int start) {
+  struct request *requests = prepared(task, client);
+  int wanted = strcmp(task->mode, "put") == 0 ? 204 : 200;
+  char mark = 0;
+  must(write(ready, &mark, 1) == 1, "ready");
+  must(read(start, &mark, 1) == 0, "start");
+  for (long i = 0; i < task->number; i += PER_CONNECTION) {
+    long left = task->number - i;
+    all_sent(port, requests + i, left < PER_CONNECTION ? left : PER_CONNECTION, task->ahead, wanted);
+  }
+}
+
+int main(int argc, char **argv) {
+  if (argc != 7 && argc != 8) return 2;
+  struct task task = {argv[2], argv[3], argv[5], atol(argv[3]), atol(argv[4]), atol(argv[6])};
+  long clients = argc == 8 ? atol(argv[7]) : 1;
+  int ready[2], start[2];
+  must(pipe(ready) == 0 && pipe(start) == 0, "pipe");
+  for (long client = 0; client < clients; client++) {
+    pid_t child = fork();
+    must(child >= 0, "fork");
+    if (child == 0) {
+      close(start[1]);
+      run(atoi(argv[1]), &task, client, ready[1], start[0]);
+      _exit(0);
+    }
+  }
+  close(ready[1]);
+  char mark;
+  for (long client = 0; client < clients; client++) must(read(ready[0], &mark, 1) == 1, "ready");
   struct timespec began, ended;
   clock_gettime(CLOCK_MONOTONIC, &began);
-  for (long i = 0; i < number; i += PER_CONNECTION)
-    all_sent(port, requests + i, number - i < PER_CONNECTION ? number - i : PER_CONNECTION, ahead, wanted);
+  close(start[1]);
+  int status, failed = 0;
+  while (wait(&status) > 0) failed |= status != 0;
   clock_gettime(CLOCK_MONOTONIC, &ended);
-  printf("%.0f\n", (double)(number * each) / ((double)(ended.tv_sec - began.tv_sec) + (double)(ended.tv_nsec - began.tv_nsec) / 1e9));
+  if (failed) return 1;
+  double seconds = (double)(ended.tv_sec - began.tv_sec) + (double)(ended.tv_nsec - began.tv_nsec) / 1e9;
+  printf("%.0f\n", (double)(clients * task.number * (strcmp(task.mode, "post") == 0 ? BATCH : 1)) / seconds);
   return 0;
 }
