@@ -65,6 +65,12 @@ account_pieces n a b x y s m1 m2 m3 e1 e2 e3 =
     let rest : List ℕ = member_text false a x ++ (member_text true b y ++ 125 ∷ 125 ∷ []) in
     behind s m1 m3 (name_text true n) (123 ∷ rest) e1 (behind m1 m2 m3 (123 ∷ []) rest e2 e3) ∙ ap (λ t. s ++ t) (sym (object_last n a b x y))
 
+-- the brace, a member, and a second with the closing brace
+pub pair_pieces : (a b : List ℕ) (x y : Json) (s m1 m2 m3 : List ℕ) → m1 ≡ s ++ (123 ∷ []) → m2 ≡ m1 ++ member_text false a x → m3 ≡ m2 ++ members_text true (members_of ((b, y) ∷ []))
+    → m3 ≡ s ++ written (object (members_of ((a, x) ∷ (b, y) ∷ [])))
+pair_pieces a b x y s m1 m2 m3 e1 e2 e3 =
+    behind s m1 m3 (123 ∷ []) (members_text false (members_of ((a, x) ∷ (b, y) ∷ []))) e1 (member_behind false a x (members_of ((b, y) ∷ [])) m1 m2 m3 e2 e3)
+
 -- three pieces
 pub three_pieces : (a b c s m1 m2 m3 : List ℕ) → m1 ≡ s ++ a → m2 ≡ m1 ++ b → m3 ≡ m2 ++ c → m3 ≡ s ++ (a ++ (b ++ c))
 three_pieces a b c s m1 m2 m3 e1 e2 e3 = behind s m1 m3 a (b ++ c) e1 (behind m1 m2 m3 b c e2 e3)

@@ -38,3 +38,8 @@ authority_agent name account =
 
 abbrev pub authority_json : Authority → Json
 authority_json authority = authority_agent (authority_name authority) (account_name authority)
+
+-- the Agent by its account alone: {"objectType":"Agent","account":{..}}
+abbrev pub account_agent : List ℕ → Json
+account_agent account =
+    object (members_of ((codes "objectType", string (codes "Agent")) ∷ (codes "account", account_json account) ∷ []))

@@ -12,4 +12,4 @@ pub use authority::Authority;
 pub use building::{completed, into_completed};
 pub use format::Format;
 pub use lrs_json::Memory;
-pub use showing::{is_added, put_agent};
+pub use showing::{is_added, put_account_agent, put_agent};

@@ -5,7 +5,7 @@ ghost use Rattle.lrs_json.specs.Texts.{member_text};
 ghost use Rattle.lrs_json.specs.View.{members_of};
 ghost use Rattle.lrs_json.specs.Written.{Extends, members_text, written};
 ghost use Rattle.std.specs.Fmt.{decimal};
-ghost use Rattle.xapi_format.specs.Authorities.{account_json, account_name, authority_json, authority_name, home_page};
+ghost use Rattle.xapi_format.specs.Authorities.{account_agent, account_json, account_name, authority_json, authority_name, home_page};
 ghost use Rattle.xapi_format.specs.Completed.{added_names};
 ghost use Rattle.lrs_names.specs.Ids.{id_text};
 ghost use Rattle.lrs_names.specs.Members.{is_one_of};
@@ -33,6 +33,17 @@ pub fn put_agent(authority: &Authority, into: &mut Vec<u8>) -> Result<(), Memory
 {
     put(b"{", into)?;
     put_agent_names(authority, into)?;
+    put_account(authority, into)
+}
+
+/// Appends the same Agent by its account alone.
+#[tactic(auto, using(lrs_json::proofs::Extending::extends_trans))]
+pub fn put_account_agent(authority: &Authority, into: &mut Vec<u8>) -> Result<(), Memory>
+    ensures ok { OnOk result (into.new.items ≡ into.old.items ++ written (account_agent (account_name authority.now))) }
+    ensures kept { Extends into.old.items into.new.items }
+{
+    put(b"{", into)?;
+    put_text(false, "objectType", "Agent", into)?;
     put_account(authority, into)
 }
 

@@ -1,7 +1,10 @@
 //! The form of a completed statement with ids alone (xAPI 1.0.3, part three, section 2.1.3).
 #![tactic(auto)]
 
+mod adding;
+mod direct;
 mod reducing;
 
+pub use direct::put_reduced;
 pub use lrs_json::Memory;
 pub use reducing::reduced;
