@@ -1,5 +1,6 @@
 // A store, as it is written from one statement to the next.
-ghost use Rattle.std.specs.Prelude.{OnOk};
+ghost use Rattle.std.specs.Prelude.{◌≡◌, [], OnOk};
+ghost use Rattle.std.specs.Vec.Iter.{into_iter_items};
 ghost use Rattle.cmi5_running_sessions.specs.Room.{HasPlacesFor};
 ghost use Rattle.cmi5_running_verdicts.specs.Holding.{StandBehindHolders};
 
@@ -15,8 +16,9 @@ use lrs_names::Id;
 use std::alloc::Global;
 use std::slice::from_ref;
 use std::test::Fail;
+use std::vec::IntoIter;
 use xapi_index::Index;
-use xapi_statement::{HeldStatement, StoredStatement};
+use xapi_statement::{HeldStatement, ReceivedText, StoredStatement};
 
 /// What a word tells happens: `enrolment`, or a statement comes.
 pub(crate) fn happen(
@@ -54,7 +56,7 @@ fn enrol(statements: &Index, enrolment: &Enrolment<'_>, running: &mut Running) -
 fn say(alloc: Global, setting: &Setting, store: &mut Store, word: &str) -> Result<(), Fail> {
     let coming = alone(alloc, store, word)?;
     take_each(alloc, setting, store, coming.as_slice())?;
-    hold(&mut store.statements, coming.as_slice())
+    hold(alloc, &mut store.statements, coming.as_slice())
 }
 
 // The statement of a word, under the next number.
@@ -65,10 +67,19 @@ fn alone(alloc: Global, store: &Store, word: &str) -> Result<Vec<StoredStatement
     Ok(one)
 }
 
-fn hold(statements: &mut Index, coming: &[StoredStatement]) -> Result<(), Fail> {
-    statements.ready(coming)?;
+#[tactic(auto, using(xapi_index::proofs::Texts::texts_none))]
+fn hold(alloc: Global, statements: &mut Index, coming: &[StoredStatement]) -> Result<(), Fail> {
+    let mut texts = no_texts(alloc);
+    statements.ready(&mut texts, coming)?;
     statements.install(coming);
     Ok(())
+}
+
+// No text of a statement was written before.
+fn no_texts(alloc: Global) -> IntoIter<ReceivedText>
+    ensures { into_iter_items result ≡ [] }
+{
+    Vec::new(alloc).into_iter()
 }
 
 fn take_each(

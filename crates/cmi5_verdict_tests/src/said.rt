@@ -6,13 +6,17 @@
 //   undefined    cmi5 doesn't define it
 //
 // `nothing` is no statement.
+ghost use Rattle.std.specs.Prelude.{◌≡◌, []};
+ghost use Rattle.std.specs.Vec.Iter.{into_iter_items};
+
 use lrs_json_reader::read;
 use lrs_names::Id;
 use lrs_time::Moment;
 use std::alloc::Global;
 use std::test::Fail;
+use std::vec::IntoIter;
 use xapi_index::Index;
-use xapi_statement::{Authority, Statement, StoredStatement};
+use xapi_statement::{Authority, ReceivedText, Statement, StoredStatement};
 
 /// The registration that is asked about.
 pub(crate) const OWN: &str = "00000000-0000-4000-8000-000000000010";
@@ -50,11 +54,20 @@ pub(crate) fn both_of(alloc: Global, words: &str) -> Result<Both, Fail> {
 }
 
 /// These statements, as they are held.
+#[tactic(auto, using(xapi_index::proofs::Texts::texts_none))]
 pub(crate) fn index_of(alloc: Global, statements: Vec<StoredStatement>) -> Result<Index, Fail> {
     let mut index = Index::new(alloc);
-    index.ready(statements.as_slice())?;
+    let mut texts = no_texts(alloc);
+    index.ready(&mut texts, statements.as_slice())?;
     index.install(statements.as_slice());
     Ok(index)
+}
+
+// No text of a statement was written before.
+fn no_texts(alloc: Global) -> IntoIter<ReceivedText>
+    ensures { into_iter_items result ≡ [] }
+{
+    Vec::new(alloc).into_iter()
 }
 
 // The statements of these words, under the ids of the numbers behind that one.

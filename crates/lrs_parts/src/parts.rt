@@ -1,5 +1,7 @@
 // All parts together.
 ghost use Rattle.std.specs.Prelude.{◌≡◌, ◌<◌, ◌^◌, OnOk};
+ghost use Rattle.std.specs.Vec.Iter.{into_iter_items};
+ghost use Rattle.xapi_index.specs.Ahead.{AreTextsOf};
 ghost use Rattle.lrs_state.specs.Founding.{founding_after};
 ghost use Rattle.lrs_parts.specs.Parts.{state_of, used_with, AddsNoPlaces, HoldsNothingMore, IsReadyFor};
 ghost use Rattle.lrs_parts.specs.Parts.{MakesPlacesFor, SeenParts};
@@ -15,8 +17,10 @@ use lrs_state::{Effect, Founding, Learning, Providers};
 use lrs_time::Moment;
 use std::alloc::Global;
 use std::marker::Model;
+use std::vec::IntoIter;
 use xapi_docs::Docs;
 use xapi_index::Index;
+use xapi_statement::ReceivedText;
 
 /// All that a store holds. What is kept of progress follows the other parts.
 #[derive(Drop)]
@@ -83,7 +87,13 @@ impl Parts {
 
     /// Makes room for an effect in each part. There is none if the entries can't be counted any more, and none for one
     /// that no command has: that replaces a course or a registration, or brings a registration without its course.
-    pub fn ready(&mut self, effect: &Effect) -> Result<(), Memory>
+    /// The texts of its first statements may have been written before: they are taken over.
+    pub fn ready(
+        &mut self,
+        texts: &mut IntoIter<ReceivedText>,
+        effect: &Effect,
+    ) -> Result<(), Memory>
+        requires { AreTextsOf (into_iter_items texts.old) effect.now.statements }
         ensures same { state_of self.new ≡ state_of self.old }
         ensures ready { OnOk result (IsReadyFor self.new effect.now) }
         ensures made { MakesPlacesFor self.old self.new effect.now }
@@ -96,6 +106,7 @@ impl Parts {
             &mut self.documents,
             &mut self.learning,
             self.length,
+            texts,
             effect,
         )
     }

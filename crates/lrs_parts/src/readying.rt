@@ -12,6 +12,8 @@ ghost use Rattle.lrs_state.specs.Providers.{token_of};
 ghost use Rattle.lrs_state.specs.declared.registrations.HeldRegistration.{HeldRegistration as SpecRegistration};
 ghost use Rattle.xapi_docs.specs.Docs as docs;
 ghost use Rattle.xapi_docs.specs.Docs.{HasRoomForDocuments, documents_in, is_written};
+ghost use Rattle.std.specs.Vec.Iter.{into_iter_items};
+ghost use Rattle.xapi_index.specs.Ahead.{AreTextsOf};
 ghost use Rattle.xapi_index.specs.Index.{IsIndexReadyFor};
 
 use crate::Progress;
@@ -21,8 +23,10 @@ use lrs_json::Memory;
 use lrs_state::{
     Courses, Effect, Founding, HeldRegistration, Learning, Providers, RegistrationsChange,
 };
+use std::vec::IntoIter;
 use xapi_docs::Docs;
 use xapi_index::Index;
+use xapi_statement::ReceivedText;
 
 // ---- what is kept of progress
 
@@ -120,8 +124,10 @@ pub(crate) fn ready_each(
     documents: &mut Docs,
     learning: &mut Learning,
     entries: u64,
+    texts: &mut IntoIter<ReceivedText>,
     effect: &Effect,
 ) -> Result<(), Memory>
+    requires { AreTextsOf (into_iter_items texts.old) effect.now.statements }
     ensures same_running { progress.new.running.held ≡ progress.old.running.held }
     ensures same_providers { providers.new.held ≡ providers.old.held }
     ensures same_statements { statements.new.held ≡ statements.old.held }
@@ -146,7 +152,7 @@ pub(crate) fn ready_each(
         return Err(Memory);
     }
     providers.ready(&effect.providers)?;
-    statements.ready(effect.statements.as_slice())?;
+    statements.ready(texts, effect.statements.as_slice())?;
     documents.ready_change(&effect.documents)?;
     learning.ready(effect)
 }

@@ -8,3 +8,4 @@ pub mod Standing
 pub mod Coming
 pub mod Rising
 pub mod Succeeding
+pub mod Texts

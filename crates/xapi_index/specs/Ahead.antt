@@ -1,5 +1,6 @@
 -- How positions are written ahead for statements that are to come, and taken back.
-use Rattle.std.specs.Prelude.{◌≡◌, ◌⊎◌, ◌++◌, ℕ, Bool, true, false, List, length, if◌then◌else◌}
+use Rattle.std.specs.Prelude.{◌≡◌, ◌⊎◌, ◌++◌, ℕ, Bool, true, false, List, [], ◌∷◌, length, if◌then◌else◌}
+use Rattle.lrs_json.specs.declared.tree.Tree.{Tree}
 use Rattle.xapi_index.specs.Index.{ArePosted, is_coming}
 use Rattle.xapi_postings.specs.Ascending.{positions_with}
 use Rattle.xapi_postings.specs.Postings.{posting_of}
@@ -28,3 +29,20 @@ pub record StandAhead (held ahead : List StoredStatement) (postings : List (Key 
   pub long : length ahead ≡ length coming
   pub others : (key : Key) → is_coming key coming ≡ false
       → positions_with (has_key key) (held ++ ahead) ≡ positions_with (has_key key) held
+
+-- ---- texts that were written before
+
+-- These are the texts of the first ones of these statements.
+abbrev pub AreTextsOf : List Tree → List StoredStatement → Type 0
+AreTextsOf [] ss = Unit {0}
+AreTextsOf (t ∷ ts) [] = ⊥
+AreTextsOf (t ∷ ts) (s ∷ ss) = (t ≡ s.received) × AreTextsOf ts ss
+
+-- the first of these, if there is one, is that of the statement
+abbrev pub IsNextTextOf : List Tree → StoredStatement → Type 0
+IsNextTextOf [] s = Unit {0}
+IsNextTextOf (t ∷ ts) s = t ≡ s.received
+
+abbrev pub texts_behind : List Tree → List Tree
+texts_behind [] = []
+texts_behind (t ∷ ts) = ts

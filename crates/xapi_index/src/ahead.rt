@@ -2,19 +2,24 @@
 // The positions are taken back here where the statements don't come.
 ghost use Rattle.std.specs.Prelude.{◌≡◌, ◌<◌, ◌≤◌, ◌+◌, ◌-◌, [], ◌∷◌, ◌++◌, false, length, List, IfOk, OnOk};
 ghost use Rattle.std.specs.Prelude.{vec_len, vec_capacity};
-ghost use Rattle.xapi_index.specs.Ahead.{ChangesEach, ChangesSome, StandAhead};
+ghost use Rattle.std.specs.Vec.Iter.{into_iter_items};
+ghost use Rattle.xapi_index.specs.Ahead.{texts_behind, AreTextsOf, ChangesEach, ChangesSome, IsNextTextOf, StandAhead};
 ghost use Rattle.xapi_index.specs.Index.{ArePosted, IsIndex, is_coming, lists_of};
 ghost use Rattle.xapi_index.specs.Statements.{add, add_each};
 ghost use Rattle.xapi_postings.specs.Ascending.{below};
 ghost use Rattle.xapi_postings.specs.Postings.{posted};
+ghost use Rattle.xapi_postings.specs.XapiStatementHeld.{IsTextOf};
 ghost use Rattle.xapi_postings.specs.XapiStatementStored.{StoredStatement as SpecStatement};
 ghost use Rattle.xapi_postings.specs.XapiStatementKeysKeys.{is_among};
 
 use crate::authorities::Authorities;
 use crate::positions::first_under;
 use lrs_json::Memory;
+use std::vec::IntoIter;
 use xapi_postings::Postings;
-use xapi_postings::xapi_statement::{HeldStatement, StoredStatement};
+use xapi_postings::xapi_statement::{
+    HeldStatement, ReceivedText, SharedAuthority, StoredStatement,
+};
 use xapi_postings::xapi_statement_keys::{Key, Keys};
 
 // ---- written ahead
@@ -27,8 +32,10 @@ pub(crate) fn ready_each(
     coming: &mut Vec<Keys>,
     ahead: &mut Vec<HeldStatement>,
     authorities: &mut Authorities,
+    texts: &mut IntoIter<ReceivedText>,
     statements: &[StoredStatement],
 ) -> Result<(), Memory>
+    requires texts { AreTextsOf (into_iter_items texts.old) statements.now }
     requires posted { ArePosted held.old.items postings.old }
     requires nothing { lists_of coming.old.items ≡ [] }
     requires none_ahead { ahead.old.items ≡ [] }
@@ -45,6 +52,7 @@ pub(crate) fn ready_each(
         coming,
         ahead,
         authorities,
+        texts,
         statements,
     )
 }
@@ -73,8 +81,10 @@ fn write_each(
     coming: &mut Vec<Keys>,
     ahead: &mut Vec<HeldStatement>,
     authorities: &mut Authorities,
+    texts: &mut IntoIter<ReceivedText>,
     statements: &[StoredStatement],
 ) -> Result<(), Memory>
+    requires texts { AreTextsOf (into_iter_items texts.old) statements.now }
     requires posted { ArePosted held.now postings.old }
     requires nothing { lists_of coming.old.items ≡ [] }
     requires none_ahead { ahead.old.items ≡ [] }
@@ -84,9 +94,25 @@ fn write_each(
     ensures ahead { OnOk result (add_each held.now statements.now ≡ held.now ++ ahead.new.items) }
 {
     for statement in statements {
-        write_one(held, postings, coming, ahead, authorities, statement)?;
+        let text = next_text(texts, statement);
+        write_one(held, postings, coming, ahead, authorities, text, statement)?;
     }
     Ok(())
+}
+
+// The text of the next statement, if it was written before.
+fn next_text(
+    texts: &mut IntoIter<ReceivedText>,
+    statement: &StoredStatement,
+) -> Option<ReceivedText>
+    requires { IsNextTextOf (into_iter_items texts.old) statement.now }
+    ensures text { IsTextOf result statement.now.received }
+    ensures rest { into_iter_items texts.new ≡ texts_behind (into_iter_items texts.old) }
+{
+    match texts.next() {
+        Some(text) => Some(text),
+        None => None,
+    }
 }
 
 // Does nothing with a statement if one stands under its id, held or to come.
@@ -96,9 +122,11 @@ fn write_one(
     coming: &mut Vec<Keys>,
     ahead: &mut Vec<HeldStatement>,
     authorities: &mut Authorities,
+    text: Option<ReceivedText>,
     statement: &StoredStatement,
 ) -> Result<(), Memory>
     requires room { vec_len coming.old < vec_capacity coming.old }
+    requires text { IsTextOf text statement.now.received }
     requires stands { StandAhead held.now ahead.old.items postings.old (lists_of coming.old.items) }
     ensures stands { OnOk result (StandAhead held.now ahead.new.items postings.new (lists_of coming.new.items)) }
     ensures added { OnOk result (held.now ++ ahead.new.items ≡ add (held.now ++ ahead.old.items) statement.now) }
@@ -107,8 +135,11 @@ fn write_one(
     ensures longer { vec_len coming.new ≤ vec_len coming.old + 1 }
 {
     match first_under(postings, statement.id()) {
-        Some(_) => Ok(()),
-        None => keep_new(held, postings, coming, ahead, authorities, statement),
+        Some(_) => {
+            drop(text);
+            Ok(())
+        }
+        None => keep_new(held, postings, coming, ahead, authorities, text, statement),
     }
 }
 
@@ -119,9 +150,11 @@ fn keep_new(
     coming: &mut Vec<Keys>,
     ahead: &mut Vec<HeldStatement>,
     authorities: &mut Authorities,
+    text: Option<ReceivedText>,
     statement: &StoredStatement,
 ) -> Result<(), Memory>
     requires room { vec_len coming.old < vec_capacity coming.old }
+    requires text { IsTextOf text statement.now.received }
     requires stands { StandAhead held.now ahead.old.items postings.old (lists_of coming.old.items) }
     ensures stands { OnOk result (StandAhead held.now ahead.new.items postings.new (lists_of coming.new.items)) }
     ensures ahead { OnOk result (ahead.new.items ≡ ahead.old.items ++ statement.now ∷ []) }
@@ -129,19 +162,39 @@ fn keep_new(
     ensures capacity { vec_capacity coming.new ≡ vec_capacity coming.old }
     ensures longer { vec_len coming.new ≤ vec_len coming.old + 1 }
 {
-    push_ahead(ahead, authorities, statement)?;
+    push_ahead(ahead, authorities, text, statement)?;
     write_new(held, postings, coming, statement)
 }
 
 fn push_ahead(
     ahead: &mut Vec<HeldStatement>,
     authorities: &mut Authorities,
+    text: Option<ReceivedText>,
     statement: &StoredStatement,
 ) -> Result<(), Memory>
+    requires { IsTextOf text statement.now.received }
     ensures { OnOk result (ahead.new.items ≡ ahead.old.items ++ statement.now ∷ []) }
 {
-    let authority = authorities.shared(statement.authority())?;
-    let held = HeldStatement::under(*ahead.allocator(), authority, statement)?;
+    match authorities.shared(statement.authority()) {
+        Ok(authority) => push_under(ahead, authority, text, statement),
+        Err(refused) => {
+            drop(text);
+            Err(refused)
+        }
+    }
+}
+
+fn push_under(
+    ahead: &mut Vec<HeldStatement>,
+    authority: SharedAuthority,
+    text: Option<ReceivedText>,
+    statement: &StoredStatement,
+) -> Result<(), Memory>
+    requires authority { authority ≡ statement.now.authority }
+    requires text { IsTextOf text statement.now.received }
+    ensures { OnOk result (ahead.new.items ≡ ahead.old.items ++ statement.now ∷ []) }
+{
+    let held = HeldStatement::under(*ahead.allocator(), authority, text, statement)?;
     ahead.push(held)?;
     Ok(())
 }

@@ -2,6 +2,8 @@
 ghost use Rattle.std.specs.Prelude.{◌≡◌, OnOk, [], ◌≤◌, ◌<◌, Some, false, position, length, slice_get, take, IfSome};
 ghost use Rattle.std.specs.Option.{option_copied, option_map_or};
 ghost use Rattle.std.specs.Str.{bytes_eq};
+ghost use Rattle.std.specs.Vec.Iter.{into_iter_items};
+ghost use Rattle.xapi_index.specs.Ahead.{AreTextsOf};
 ghost use Rattle.xapi_index.specs.Index.{HoldsNothingAhead, IsIndexReadyFor, IsPosting};
 ghost use Rattle.xapi_index.specs.Statements.{add_each, held_under, is_held, is_target, is_voided, voids};
 ghost use Rattle.xapi_index.specs.Statements.{position_referred, referred_at};
@@ -20,8 +22,9 @@ use lrs_names::Id;
 use lrs_time::Instant;
 use std::alloc::Global;
 use std::marker::Model;
+use std::vec::IntoIter;
 use xapi_postings::Postings;
-use xapi_postings::xapi_statement::{HeldStatement, StoredStatement};
+use xapi_postings::xapi_statement::{HeldStatement, ReceivedText, StoredStatement};
 use xapi_postings::xapi_statement_keys::{Key, Keys};
 
 /// The statements in their order, and the positions under each of their keys.
@@ -253,8 +256,14 @@ impl Index {
     // ---- what is to come
 
     /// Makes room for these statements, makes the held forms of those that are new, and writes their positions ahead.
-    /// What was made before is taken back.
-    pub fn ready(&mut self, statements: &[StoredStatement]) -> Result<(), Memory>
+    /// What was made before is taken back. The texts of the first statements may have been written before: they are
+    /// taken over.
+    pub fn ready(
+        &mut self,
+        texts: &mut IntoIter<ReceivedText>,
+        statements: &[StoredStatement],
+    ) -> Result<(), Memory>
+        requires { AreTextsOf (into_iter_items texts.old) statements.now }
         ensures held { self.new.held ≡ self.old.held }
         ensures ready { OnOk result (IsIndexReadyFor self.new statements.now) }
     {
@@ -265,6 +274,7 @@ impl Index {
             &mut self.coming,
             &mut self.ahead,
             &mut self.authorities,
+            texts,
             statements,
         )
     }

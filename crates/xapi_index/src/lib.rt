@@ -11,4 +11,4 @@ mod positions;
 mod times;
 
 pub use index::Index;
-pub use naming::{batch_ids, given_ids, have_distinct_ids, take_ids};
+pub use naming::{given_ids, have_distinct_ids, take_ids};

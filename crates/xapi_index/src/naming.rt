@@ -2,13 +2,13 @@
 ghost use Rattle.std.specs.Prelude.{◌≡◌, ◌++◌, [], IfOk, OnOk};
 ghost use Rattle.lrs_json.specs.View.{view};
 ghost use Rattle.xapi_postings.specs.XapiStatementStatement.{own_id};
-ghost use Rattle.lrs_ids.specs.Ids.{are_distinct, supply_of};
+ghost use Rattle.lrs_ids.specs.Ids.{are_distinct};
 ghost use Rattle.lrs_ids.specs.IdSupply.{GiveSame, left_of};
 ghost use Rattle.xapi_index.specs.Batches.{given_ids, id_for, with_ids, ids_under, supply_after, supply_behind, with_given};
 
 use lrs_ids::{IdSupply, UsedIds, are_distinct};
 use lrs_json::{Memory, Tree};
-use lrs_names::{Draw, Id};
+use lrs_names::Id;
 use std::alloc::Global;
 use xapi_postings::xapi_statement::own_id;
 
@@ -38,22 +38,6 @@ fn push_own(ids: &mut Vec<Id>, statement: &Tree) -> Result<(), Memory>
         Some(id) => Ok(ids.push(id)?),
         None => Ok(()),
     }
-}
-
-/// The id under which each goes: its own, or one that is made from the draw's name on.
-pub fn batch_ids<U: UsedIds>(
-    alloc: Global,
-    used: &U,
-    statements: &[Tree],
-    draw: &Draw,
-) -> Result<Vec<Id>, Memory>
-    ensures { IfOk result (λ ids.
-        let supply = supply_of (U.used used.now) (given_ids statements.now) draw.now.name in
-        ids.items ≡ ids_under (with_ids supply statements.now)) }
-{
-    let given = given_ids(alloc, statements)?;
-    let mut supply = IdSupply::new(alloc, used, given.as_slice(), draw.name)?;
-    take_ids(alloc, used, &mut supply, statements)
 }
 
 /// The id under which each goes: its own, or the next of a supply, of which the rest is left.

@@ -1,6 +1,7 @@
 pub use Rattle.xapi_statement.specs.Parties as XapiStatementParties
 pub use Rattle.xapi_statement.specs.Shown as XapiStatementShown
 pub use Rattle.xapi_statement.specs.Statement as XapiStatementStatement
+pub use Rattle.xapi_statement.specs.Held as XapiStatementHeld
 pub use Rattle.xapi_statement.specs.Stored as XapiStatementStored
 pub use Rattle.xapi_statement.specs.XapiFormatAuthorities as XapiFormatAuthorities
 pub use Rattle.xapi_statement.specs.XapiFormatAuthoritiesProofs as XapiFormatAuthoritiesProofs

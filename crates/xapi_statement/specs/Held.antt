@@ -1,5 +1,5 @@
 -- What stands beside the text of a statement that is held.
-use Rattle.std.specs.Prelude.{◌≡◌, ℕ, Bool, List, Option, IsTrue}
+use Rattle.std.specs.Prelude.{◌≡◌, ℕ, Bool, List, Option, Some, None, IsTrue}
 use Rattle.lrs_json.specs.View.{view}
 use Rattle.lrs_json.specs.declared.tree.Tree.{Tree}
 use Rattle.xapi_rules.specs.Rules.{is_voiding}
@@ -11,3 +11,8 @@ pub record StandsBeside (received : Tree) (referred named : Option (List ℕ)) (
   pub registration : named ≡ registration_of (view received)
   pub voiding : voids ≡ is_voiding (view received)
   pub unbroken : IsTrue (is_statement (view received))
+
+-- the text that was written of a tree, if one was
+abbrev pub IsTextOf : Option Tree → Tree → Type 0
+IsTextOf None received = Unit {0}
+IsTextOf (Some text) received = text ≡ received

@@ -3,18 +3,18 @@ ghost use Rattle.std.specs.Prelude.{◌≡◌, ◌↔◌, ◌++◌, IsTrue, IfOk
 ghost use Rattle.lrs_json.specs.View.{view};
 ghost use Rattle.lrs_json.specs.Written.{Extends};
 ghost use Rattle.xapi_rules.specs.Rules.{is_voiding};
-ghost use Rattle.xapi_statement.specs.Shown.{shown_form, shown_text};
+ghost use Rattle.xapi_statement.specs.Held.{IsTextOf};
+ghost use Rattle.xapi_statement.specs.Shown.{shown_text};
 ghost use Rattle.xapi_statement.specs.Statement.{is_statement, registration_of, target_of};
 
 use crate::{Authority, Format, SharedAuthority, Statement, StoredStatement};
-use lrs_json::{Memory, Tree, write};
+use lrs_json::{Memory, Tree};
 use lrs_names::Id;
 use lrs_time::Moment;
 use std::alloc::Global;
 use std::marker::Model;
-use xapi_format::into_completed;
 use xapi_received::ReceivedText;
-use xapi_reduced::reduced;
+use xapi_reduced::put_reduced;
 
 /// A statement as the store holds it in memory, seen as the `StoredStatement` that it was made of. Of what was received
 /// it keeps the written text, since a tree takes several times as much room, and most of what is held is only shown.
@@ -46,6 +46,21 @@ impl Model for HeldStatement {
     ghost invariant = { λ h. StandsBeside h.received h.target h.registration h.is_voiding };
 }
 
+// The text of a tree. It isn't written again.
+fn text_of(
+    alloc: Global,
+    text: Option<ReceivedText>,
+    received: &Tree,
+) -> Result<ReceivedText, Memory>
+    requires { IsTextOf text received.now }
+    ensures { IfOk result (λ text. text ≡ received.now) }
+{
+    match text {
+        Some(text) => Ok(text),
+        None => ReceivedText::of(alloc, received),
+    }
+}
+
 impl HeldStatement {
     /// Writes the text of a statement, and puts beside it what is asked of many. The statement stays with the caller.
     pub fn of(alloc: Global, statement: &StoredStatement) -> Result<HeldStatement, Memory>
@@ -53,20 +68,22 @@ impl HeldStatement {
     {
         let authority = statement.authority().copy()?;
         let shared = SharedAuthority::of(alloc, authority)?;
-        HeldStatement::under(alloc, shared, statement)
+        HeldStatement::under(alloc, shared, None, statement)
     }
 
-    /// The same. Its authority is given, since others may share it.
+    /// The same. Its authority is given, since others may share it, and its text if that was written before.
     pub fn under(
         alloc: Global,
         authority: SharedAuthority,
+        text: Option<ReceivedText>,
         statement: &StoredStatement,
     ) -> Result<HeldStatement, Memory>
-        requires { authority ≡ statement.now.authority }
+        requires authority { authority ≡ statement.now.authority }
+        requires text { IsTextOf text statement.now.received }
         ensures { IfOk result (λ h. h ≡ statement.now) }
     {
         let whole = statement.statement();
-        let received = ReceivedText::of(alloc, whole.received())?;
+        let received = text_of(alloc, text, whole.received())?;
         Ok(HeldStatement::with_text(received, authority, statement))
     }
 
@@ -162,8 +179,8 @@ impl HeldStatement {
         Ok(Statement::of(tree).complete(self.id, self.stored, authority))
     }
 
-    /// Appends the written form of its tree in that form, or nothing if memory runs out. Of the exact form no tree
-    /// is made.
+    /// Appends the written form of its tree in that form, or nothing if memory runs out. Of the form by ids
+    /// the received tree is read back; no other tree is made.
     pub fn write(&self, format: Format, into: &mut Vec<u8>) -> Result<(), Memory>
         ensures ok { OnOk result (into.new.items ≡ into.old.items ++ shown_text format self.now) }
         ensures err { OnErr result (into.new.items ≡ into.old.items) }
@@ -200,17 +217,10 @@ impl HeldStatement {
         ensures ok { OnOk result (into.new.items ≡ into.old.items ++ shown_text Format.Ids self.now) }
         ensures kept { Extends into.old.items into.new.items }
     {
-        let tree = self.reduced(*into.allocator())?;
-        write(&tree, into)
-    }
-
-    // The tree of its form by ids.
-    fn reduced(&self, alloc: Global) -> Result<Tree, Memory>
-        ensures { IfOk result (λ tree. view tree ≡ shown_form Format.Ids self.now) }
-    {
-        let received = self.received.tree(alloc)?;
+        let received = self.received.tree(*into.allocator())?;
         let authority = self.authority.get();
-        let whole = into_completed(alloc, received, &self.id, self.stored, authority)?;
-        reduced(whole)
+        let written = put_reduced(&received, &self.id, self.stored, authority, into);
+        drop(received);
+        written
     }
 }

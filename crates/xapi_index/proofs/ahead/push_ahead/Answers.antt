@@ -1,9 +1,5 @@
-use Rattle.std.proofs.Common.{◌∙◌, [], ◌∷◌, ◌++◌, ap}
-use Rattle.xapi_postings.specs.XapiStatementStored.{StoredStatement}
+use Rattle.std.proofs.Common.{◌∙◌}
 use Rattle.xapi_index.proofs.ahead.push_ahead.Goals as goal
 
-pub returns : goal.returns
-returns c = c.in_ok-push.ensures.items ∙ ap (λ (s : StoredStatement). c.args.ahead.now.items ++ s ∷ []) c.in_ok-held.ensures
-
-pub under-requires : goal.under-requires
-under-requires c = c.in_ok-authority.ensures ∙ c.authority.ensures
+pub push_under-requires-clause-authority : goal.push_under-requires-clause-authority
+push_under-requires-clause-authority c = c.in-Ok.ensures ∙ c.authority.ensures

@@ -1,5 +1,10 @@
-use Rattle.std.proofs.Common.{◌≡◌, ◌∙◌, ◌++◌, List, ap, append-nil, arith, subst, sym}
+use Rattle.std.proofs.Common.{◌≡◌, ◌∙◌, ◌+◌, ◌++◌, List, ap, append-nil, arith, drop, subst, sym}
 use Rattle.std.proofs.lemmas.List.{take_all}
+use Rattle.std.specs.Vec.Iter.{into_iter_items}
+use Rattle.lrs_ids.proofs.Turns.{turn}
+use Rattle.lrs_json.specs.declared.tree.Tree.{Tree}
+use Rattle.xapi_index.specs.Ahead.{AreTextsOf}
+use Rattle.xapi_index.proofs.Texts.{text_next, texts_more}
 use Rattle.xapi_index.specs.Index.{ArePosted, lists_of}
 use Rattle.xapi_index.specs.Statements.{add, add_each}
 use Rattle.xapi_index.proofs.Adding.{add_each-more}
@@ -14,8 +19,20 @@ loop-statement-init c =
     record {
       stand = stand_start held c.args.ahead.now.items c.args.postings.now (lists_of c.args.coming.now.items) c.requires.posted c.requires.none_ahead c.requires.nothing;
       added = ap (λ (xs : List StoredStatement). held ++ xs) c.requires.none_ahead ∙ append-nil held;
+      texts = c.requires.texts;
       room = omega arith;
     }
+
+pub next_text-text-requires : goal.next_text-text-requires
+next_text-text-requires c =
+    let at = c.loop-statement in
+    let xs = c.args.statements.now in
+    let s = c.statement-item.result in
+    text_next (into_iter_items at.texts) s (drop (at.statement-index + 1) xs)
+    (subst (λ (ss : List StoredStatement). AreTextsOf (into_iter_items at.texts) ss) (turn xs at.statement-index s c.loop-statement-test.true c.statement-item.is) at.invariant.texts)
+
+pub write_one-requires-clause-text : goal.write_one-requires-clause-text
+write_one-requires-clause-text c = c.next_text-text.ensures.text
 
 pub write_one-requires-clause-room : goal.write_one-requires-clause-room
 write_one-requires-clause-room c =
@@ -40,6 +57,9 @@ loop-statement-preserved c =
       stand = c.in_ok-write_one.ensures.stands;
       added = c.in_ok-write_one.ensures.added
           ∙ (ap (λ (all : List StoredStatement). add all s) at.invariant.added ∙ sym (add_each-more held xs at.statement-index s inside c.statement-item.is));
+      texts = subst (λ (ts : List Tree). AreTextsOf ts (drop (at.statement-index + 1) xs)) (sym c.next_text-text.ensures.rest)
+          (texts_more (into_iter_items at.texts) s (drop (at.statement-index + 1) xs)
+          (subst (λ (ss : List StoredStatement). AreTextsOf (into_iter_items at.texts) ss) (turn xs at.statement-index s inside c.statement-item.is) at.invariant.texts));
       room = omega arith;
     }
 
