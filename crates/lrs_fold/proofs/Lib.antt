@@ -6,3 +6,5 @@ pub mod Founded
 pub mod Again
 pub mod Written
 pub mod Owed
+pub mod Malformed
+pub mod Texts

@@ -1,8 +1,10 @@
 -- What becomes of an entry, by why it is refused and by what it changes.
-use Rattle.std.proofs.Common.{◌≡◌, Bool, true, false, Option, Some, None, refl, sym, ap, subst, ◌∙◌}
+use Rattle.std.proofs.Common.{◌≡◌, List, Bool, true, false, Option, Some, None, refl, sym, ap, subst, ◌∙◌}
 use Rattle.std.specs.Prelude.{if◌then◌else◌, option_map}
 use Rattle.std.specs.Option.{option_or}
 use Rattle.lrs_fold.specs.Outcomes.{IsOutcome, made_of}
+use Rattle.lrs_json.specs.declared.tree.Tree.{Tree}
+use Rattle.xapi_index.specs.Ahead.{AreTextsOf}
 use Rattle.lrs_fold.specs.declared.outcome.Accepted.{Accepted as Made}
 use Rattle.lrs_fold.specs.declared.outcome.Outcome.TheVariants as made
 use Rattle.lrs_reads.specs.LrsHistoryAnswers.{write_said}
@@ -35,16 +37,17 @@ told_now : (st : State) (e : Entry) (x : Effect) (s : Answered) → refusal st e
 told_now st e x s is of same told =
     subst (λ v. IsOutcome st v (made.Said s)) (sym (both_are st e None true is (ap (λ y. changes_nothing y) (sym of) ∙ same))) (said_is st e x s of told)
 
-kept_then : (st : State) (e : Entry) (x : Effect) (a : Made) → refusal st e ≡ None → x ≡ effect st e → changes_nothing x ≡ false → IsLawful e → a.entry.value ≡ e
-    → a.text ≡ written_entry e → a.effect ≡ x → a.said ≡ write_said x → IsOutcome st (write_outcome st e) (made.Accepted a)
-kept_then st e x a is of other lawful entry text same told =
-    subst (λ v. IsOutcome st v (made.Accepted a)) (sym (both_are st e None false is (ap (λ y. changes_nothing y) (sym of) ∙ other)))
-    (record { entry = entry; lawful = lawful; text = text; effect = same ∙ of; said = said_is st e x a.said of told })
+kept_then : (st : State) (e : Entry) (x : Effect) (a : Made) (texts : List Tree) → refusal st e ≡ None → x ≡ effect st e → changes_nothing x ≡ false → IsLawful e → a.entry.value ≡ e
+    → a.text ≡ written_entry e → a.effect ≡ x → a.said ≡ write_said x → AreTextsOf texts a.effect.statements
+    → IsOutcome st (write_outcome st e) (made.Accepted a texts)
+kept_then st e x a texts is of other lawful entry text same told are =
+    subst (λ v. IsOutcome st v (made.Accepted a texts)) (sym (both_are st e None false is (ap (λ y. changes_nothing y) (sym of) ∙ other)))
+    (record { entry = entry; lawful = lawful; text = text; effect = same ∙ of; said = said_is st e x a.said of told }, are)
 
-pub outcome_now : (st : State) (e : Entry) (a : Made) → refusal st e ≡ None → a.effect ≡ effect st e → IsLawful e → a.entry.value ≡ e → a.text ≡ written_entry e → a.said ≡ write_said a.effect
-    → IsOutcome st (write_outcome st e) (made_of a)
-outcome_now st e a is of lawful entry text told = by_change (changes_nothing a.effect) refl
+pub outcome_now : (st : State) (e : Entry) (a : Made) (texts : List Tree) → refusal st e ≡ None → a.effect ≡ effect st e → IsLawful e → a.entry.value ≡ e → a.text ≡ written_entry e → a.said ≡ write_said a.effect
+    → AreTextsOf texts a.effect.statements → IsOutcome st (write_outcome st e) (made_of a texts)
+outcome_now st e a texts is of lawful entry text told are = by_change (changes_nothing a.effect) refl
   where
-    by_change : (b : Bool) → changes_nothing a.effect ≡ b → IsOutcome st (write_outcome st e) (if b then made.Said a.said else made.Accepted a)
+    by_change : (b : Bool) → changes_nothing a.effect ≡ b → IsOutcome st (write_outcome st e) (if b then made.Said a.said else made.Accepted a texts)
     by_change true same = told_now st e a.effect a.said is of same told
-    by_change false other = kept_then st e a.effect a is of other lawful entry text refl told
+    by_change false other = kept_then st e a.effect a texts is of other lawful entry text refl told are

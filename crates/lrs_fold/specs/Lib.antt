@@ -11,4 +11,5 @@ pub mod Next
 pub mod Outcomes
 pub mod Own
 pub mod Posted
+pub mod Texts
 pub mod Written

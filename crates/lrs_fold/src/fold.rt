@@ -1,11 +1,15 @@
 ghost use Rattle.std.specs.Prelude.{◌≡◌, OnOk};
 ghost use Rattle.lrs_learning.specs.LrsPartsParts.{state_of, AddsNoPlaces, IsReadyFor, MakesPlacesFor};
 ghost use Rattle.lrs_learning.specs.LrsPartsParts.{SeenParts as SpecParts};
+ghost use Rattle.std.specs.Vec.Iter.{into_iter_items};
+ghost use Rattle.xapi_index.specs.Ahead.{AreTextsOf};
 ghost use Rattle.lrs_learning.specs.LrsStateState.{apply, nothing};
 
 use lrs_json::Memory;
 use lrs_learning::lrs_parts::{Effect, Parts};
 use std::alloc::Global;
+use std::vec::IntoIter;
+use xapi_statement::ReceivedText;
 
 /// What the entries so far give.
 #[derive(Drop)]
@@ -23,13 +27,19 @@ impl Fold {
         }
     }
 
-    /// Makes room for an effect. A store whose entries can't be counted any more has none.
-    pub fn ready(&mut self, effect: &Effect) -> Result<(), Memory>
+    /// Makes room for an effect. A store whose entries can't be counted any more has none. The texts of its first
+    /// statements may have been written before: they are taken over.
+    pub fn ready(
+        &mut self,
+        texts: &mut IntoIter<ReceivedText>,
+        effect: &Effect,
+    ) -> Result<(), Memory>
+        requires { AreTextsOf (into_iter_items texts.old) effect.now.statements }
         ensures same { state_of self.new.parts ≡ state_of self.old.parts }
         ensures ready { OnOk result (IsReadyFor self.new.parts effect.now) }
         ensures made { MakesPlacesFor self.old.parts self.new.parts effect.now }
     {
-        self.parts.ready(effect)
+        self.parts.ready(texts, effect)
     }
 
     /// Takes back the places that were made for an effect which doesn't come: then there are none but those before.

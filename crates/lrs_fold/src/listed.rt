@@ -7,14 +7,15 @@ ghost use Rattle.lrs_reads.specs.XapiPagesListings.{listed_of_all};
 use crate::Fold;
 use lrs_command::Command;
 use lrs_json::{Items, Tree};
+use lrs_reads::lrs_refusals::Submission;
 use lrs_reads::xapi_pages::count_listed;
 use lrs_record::Write;
 
-/// The post of statements.
-pub fn post_of(statements: Items<Tree>) -> Command
+/// The post of statements. Their form is judged when it is answered.
+pub fn post_of(statements: Items<Tree>) -> Submission
     ensures { result ≡ post_of statements }
 {
-    Command::Write(Write::Post { statements })
+    Submission::unjudged(Command::Write(Write::Post { statements }))
 }
 
 impl Fold {

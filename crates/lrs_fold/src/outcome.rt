@@ -3,12 +3,15 @@ ghost use Rattle.std.specs.Prelude.{◌≡◌, max, IfOk, Ok, None};
 ghost use Rattle.lrs_command.specs.Commands.{HasReadTrees};
 ghost use Rattle.lrs_reads.specs.LrsRefusalsJudged.{IsJudged};
 ghost use Rattle.lrs_reads.specs.LrsRefusalsKnown.{IsKnown};
+ghost use Rattle.lrs_reads.specs.LrsRefusalsSubmissions.{IsJudgedIf};
+ghost use Rattle.lrs_fold.specs.Texts.{texts_for};
+ghost use Rattle.lrs_reads.specs.LrsHistoryAnswers.{write_said};
 ghost use Rattle.lrs_fold.specs.Outcomes.{IsOutcome, made_of};
-ghost use Rattle.lrs_reads.specs.LrsHistoryHistory.{refused, refused_or, outcome, write_outcome};
-ghost use Rattle.lrs_reads.specs.LrsHistoryRefusals.{barred, refusal, refused_with};
+ghost use Rattle.lrs_reads.specs.LrsHistoryHistory.{next_entry, refused, refused_or, outcome, write_outcome};
+ghost use Rattle.lrs_reads.specs.LrsHistoryRefusals.{barred, refusal};
 ghost use Rattle.lrs_reads.specs.LrsHistoryWhose.{who_is};
 ghost use Rattle.lrs_learning.specs.LrsPartsParts.{state_of};
-ghost use Rattle.lrs_record.specs.Entries.{IsLawful, IsLawfulCaller, IsLawfulWrite, written_entry};
+ghost use Rattle.lrs_record.specs.Entries.{HoldsWrite, IsLawful, IsLawfulCaller, IsLawfulWrite, closing_text, written_entry};
 ghost use Rattle.lrs_time.specs.Moments.{clamped};
 
 use crate::Fold;
@@ -18,21 +21,21 @@ use lrs_json::{Items, Memory};
 use lrs_learning::lrs_parts::Effect;
 use lrs_names::Draw;
 use lrs_reads::lrs_history::{barred, refused_with};
-use lrs_reads::lrs_refusals::{Known, refusal, who_is};
+use lrs_reads::lrs_refusals::{Form, Known, Submission, Written, refusal, who_is};
 use lrs_reads::read_answered;
-use lrs_record::{Caller, Entry, Moment, write_entry};
-use lrs_replies::Answered;
-use lrs_rules::Rule;
+use lrs_record::{Caller, Entry, Moment, Write, write_entry, write_headed};
+use lrs_replies::{Answered, Refusal};
 use std::alloc::Global;
 use std::snapshot::Snapshot;
+use xapi_statement::ReceivedText;
 
 /// What becomes of a command.
 #[derive(Drop)]
 pub enum Outcome {
     /// This is said at once, and nothing is kept.
     Said(Answered),
-    /// It is to have an entry.
-    Accepted(Accepted),
+    /// It is to have an entry. The texts of its first statements come with it, as far as they were written before.
+    Accepted(Accepted, Items<ReceivedText>),
 }
 
 /// An entry that is to be kept if there is room for it.
@@ -50,9 +53,40 @@ pub struct Accepted {
 // What most entries have room in, so that few texts grow while they are written.
 const ENTRY_ROOM: usize = 1_024;
 
+// What most headings have room in.
+const HEADING_ROOM: usize = 256;
+
 impl Fold {
     /// What becomes of a command. All that it takes to keep its entry is made here, but for the room in the parts.
     pub fn outcome(
+        &self,
+        alloc: Global,
+        caller: Caller,
+        command: Submission,
+        clock: u64,
+        draw: &Draw,
+    ) -> Result<Outcome, Memory>
+        requires caller { IsLawfulCaller caller }
+        requires command { HasReadTrees command }
+        ensures { IfOk result
+            (IsOutcome (state_of self.now.parts) (outcome (state_of self.now.parts) caller command clock draw.now)) }
+    {
+        match command.into_form() {
+            Form::Unjudged(command) => self.unjudged(alloc, caller, command, clock, draw),
+            Form::Judged { write, written } => {
+                let entry = self.next_entry(caller, write, clock, draw);
+                self.write_outcome(alloc, Some(written), entry)
+            }
+            Form::Refused { area, refusal } => {
+                let said = self.refused(&caller, area, refusal);
+                drop(caller);
+                Ok(Outcome::Said(said))
+            }
+        }
+    }
+
+    // Of a command whose form wasn't judged.
+    fn unjudged(
         &self,
         alloc: Global,
         caller: Caller,
@@ -66,15 +100,10 @@ impl Fold {
             (IsOutcome (state_of self.now.parts) (outcome (state_of self.now.parts) caller command clock draw.now)) }
     {
         match command {
-            Command::Write(write) => self.write_outcome(
-                alloc,
-                Entry {
-                    caller,
-                    write,
-                    moment: next_moment(clock, self.last_moment()),
-                    draw: *draw,
-                },
-            ),
+            Command::Write(write) => {
+                let entry = self.next_entry(caller, write, clock, draw);
+                self.write_outcome(alloc, None, entry)
+            }
             Command::Read(read) => {
                 let said = read_answered(alloc, &self.parts, &caller, &read);
                 drop(caller);
@@ -82,10 +111,22 @@ impl Fold {
                 Ok(Outcome::Said(said?))
             }
             Command::Refused { area, status, rule } => {
-                let said = self.refused(&caller, area, status, rule);
+                let said = self.refused(&caller, area, refused_with(status, rule));
                 drop(caller);
                 Ok(Outcome::Said(said))
             }
+        }
+    }
+
+    // The entry that a write would have.
+    fn next_entry(&self, caller: Caller, write: Write, clock: u64, draw: &Draw) -> Entry
+        ensures { result ≡ next_entry (state_of self.now.parts) caller write clock draw.now }
+    {
+        Entry {
+            caller,
+            write,
+            moment: next_moment(clock, self.last_moment()),
+            draw: *draw,
         }
     }
 
@@ -97,34 +138,45 @@ impl Fold {
     }
 
     // What is said to a caller whose command's form is refused.
-    fn refused(&self, caller: &Caller, area: Area, status: u16, rule: Rule) -> Answered
+    fn refused(&self, caller: &Caller, area: Area, refusal: Refusal) -> Answered
         ensures { result
-            ≡ refused_or (barred area (who_is (state_of self.now.parts) caller.now))
-            (refused (refused_with status rule)) }
+            ≡ refused_or (barred area (who_is (state_of self.now.parts) caller.now)) (refused refusal) }
     {
         match barred(area, who_is(&self.parts, caller)) {
-            Some(refusal) => Answered::Refused(refusal),
-            None => Answered::Refused(refused_with(status, rule)),
+            Some(first) => {
+                drop(refusal);
+                Answered::Refused(first)
+            }
+            None => Answered::Refused(refusal),
         }
     }
 
     #[tactic(auto, using(crate::proofs::Outcomes::refused_now))]
-    fn write_outcome(&self, alloc: Global, entry: Entry) -> Result<Outcome, Memory>
+    fn write_outcome(
+        &self,
+        alloc: Global,
+        written: Option<Written>,
+        entry: Entry,
+    ) -> Result<Outcome, Memory>
         requires caller { IsLawfulCaller entry.caller }
         requires write { IsLawfulWrite entry.write }
+        requires judged { IsJudgedIf entry.write written }
         ensures { IfOk result (IsOutcome (state_of self.now.parts) (write_outcome (state_of self.now.parts) entry)) }
     {
         let who = who_is(&self.parts, &entry.caller);
         let mut known = Known::Nothing;
-        match refusal(alloc, &self.parts, who, &entry, &mut known) {
-            Ok(None) => self.accepted(alloc, who, known, entry),
+        let is_judged = written.is_some();
+        match refusal(alloc, &self.parts, who, is_judged, &entry, &mut known) {
+            Ok(None) => self.accepted(alloc, who, known, written, entry),
             Ok(Some(refusal)) => {
                 drop(known);
+                drop(written);
                 drop(entry);
                 Ok(Outcome::Said(Answered::Refused(refusal)))
             }
             Err(refused) => {
                 drop(known);
+                drop(written);
                 drop(entry);
                 Err(refused)
             }
@@ -137,20 +189,23 @@ impl Fold {
         alloc: Global,
         who: Who,
         known: Known,
+        written: Option<Written>,
         entry: Entry,
     ) -> Result<Outcome, Memory>
         requires caller { IsLawfulCaller entry.caller }
         requires write { IsLawfulWrite entry.write }
+        requires written { IsJudgedIf entry.write written }
         requires who { who ≡ who_is (state_of self.now.parts) entry.caller }
         requires known { IsKnown (state_of self.now.parts) entry.draw entry.write known }
         requires judged { IsJudged entry.write }
         requires unrefused { refusal (state_of self.now.parts) entry ≡ None }
         ensures { IfOk result (IsOutcome (state_of self.now.parts) (write_outcome (state_of self.now.parts) entry)) }
     {
-        match entry_text(alloc, &entry) {
-            Ok(text) => self.outcome_with(alloc, who, known, text, entry),
+        match text_of(alloc, &written, &entry) {
+            Ok(text) => self.outcome_with(alloc, who, known, written, text, entry),
             Err(refused) => {
                 drop(known);
+                drop(written);
                 drop(entry);
                 Err(refused)
             }
@@ -163,9 +218,11 @@ impl Fold {
         alloc: Global,
         who: Who,
         known: Known,
+        written: Option<Written>,
         text: Vec<u8>,
         entry: Entry,
     ) -> Result<Outcome, Memory>
+        requires written { IsJudgedIf entry.write written }
         requires who { who ≡ who_is (state_of self.now.parts) entry.caller }
         requires known { IsKnown (state_of self.now.parts) entry.draw entry.write known }
         requires judged { IsJudged entry.write }
@@ -175,29 +232,82 @@ impl Fold {
         ensures { IfOk result (IsOutcome (state_of self.now.parts) (write_outcome (state_of self.now.parts) entry)) }
     {
         let made = Snapshot::of(&entry);
-        let effect = self.prepare_known(alloc, who, known, entry)?;
-        match write_said(alloc, &effect) {
-            Ok(said) => Ok(outcome_of(Accepted {
-                entry: made,
-                text: Items::from_vec(text),
-                effect,
-                said,
-            })),
+        let count = known.first_new(&entry.write);
+        match self.prepare_known(alloc, who, known, entry) {
+            Ok(effect) => said_with(alloc, made, written, count, text, effect),
             Err(refused) => {
-                drop(effect);
+                drop(written);
                 Err(refused)
             }
         }
     }
 }
 
+// Of an entry with its text and its effect. Of what was written before it, so many of the first texts are those of its
+// statements.
+fn said_with(
+    alloc: Global,
+    entry: Snapshot<Entry>,
+    written: Option<Written>,
+    count: usize,
+    text: Vec<u8>,
+    effect: Effect,
+) -> Result<Outcome, Memory>
+    ensures { IfOk result (λ outcome. outcome ≡ made_of
+        (record { entry = entry; text = text.items; effect = effect; said = write_said effect })
+        (texts_for written count effect.statements)) }
+{
+    match write_said(alloc, &effect) {
+        Ok(said) => {
+            let texts = texts_for(alloc, written, count, &effect);
+            Ok(outcome_of(
+                Accepted {
+                    entry,
+                    text: Items::from_vec(text),
+                    effect,
+                    said,
+                },
+                texts,
+            ))
+        }
+        Err(refused) => {
+            drop(effect);
+            drop(written);
+            Err(refused)
+        }
+    }
+}
+
+// So many of the texts that were written before, if it is of an entry that brings statements.
+fn texts_for(
+    alloc: Global,
+    written: Option<Written>,
+    count: usize,
+    effect: &Effect,
+) -> Items<ReceivedText>
+    ensures { result ≡ texts_for written count effect.now.statements }
+{
+    let Some(Written { closing, texts }) = written else {
+        return Items::new(alloc);
+    };
+    drop(closing);
+    if effect.statements.is_empty() {
+        drop(texts);
+        return Items::new(alloc);
+    }
+    let mut texts = texts.into_vec();
+    texts.truncate(count);
+    Items::from_vec(texts)
+}
+
 // What changes nothing is answered at once, all else is to be kept.
-fn outcome_of(accepted: Accepted) -> Outcome
-    ensures { result ≡ made_of accepted }
+fn outcome_of(accepted: Accepted, texts: Items<ReceivedText>) -> Outcome
+    ensures { result ≡ made_of accepted texts }
 {
     if !accepted.effect.changes_nothing() {
-        return Outcome::Accepted(accepted);
+        return Outcome::Accepted(accepted, texts);
     }
+    drop(texts);
     let Accepted {
         entry: _,
         text: _,
@@ -206,6 +316,34 @@ fn outcome_of(accepted: Accepted) -> Outcome
     } = accepted;
     drop(effect);
     Outcome::Said(said)
+}
+
+// An entry's text. What closes it may have been written before.
+fn text_of(alloc: Global, written: &Option<Written>, entry: &Entry) -> Result<Vec<u8>, Memory>
+    requires caller { IsLawfulCaller entry.now.caller }
+    requires write { IsLawfulWrite entry.now.write }
+    requires written { IsJudgedIf entry.now.write written.now }
+    ensures text { IfOk result (λ text. text.items ≡ written_entry entry.now) }
+    ensures lawful { IfOk result (λ _. IsLawful entry.now) }
+{
+    match written {
+        Some(written) => closed_text(alloc, written.closing.as_slice(), entry),
+        None => entry_text(alloc, entry),
+    }
+}
+
+// The text of an entry that is closed so.
+fn closed_text(alloc: Global, closing: &[u8], entry: &Entry) -> Result<Vec<u8>, Memory>
+    requires caller { IsLawfulCaller entry.now.caller }
+    requires write { IsLawfulWrite entry.now.write }
+    requires closing { closing.now ≡ closing_text entry.now.write }
+    requires holds { HoldsWrite entry.now.write }
+    ensures text { IfOk result (λ text. text.items ≡ written_entry entry.now) }
+    ensures lawful { IfOk result (λ _. IsLawful entry.now) }
+{
+    let mut text = Vec::with_capacity(alloc, closing.len().saturating_add(HEADING_ROOM))?;
+    write_headed(entry, closing, &mut text)?;
+    Ok(text)
 }
 
 /// An entry's text.

@@ -6,13 +6,14 @@ ghost use Rattle.lrs_record.specs.Entries.{IsLawfulCaller, IsLawfulWrite};
 use lrs_command::Command;
 use lrs_json::{Memory, Text, Tree};
 use lrs_names::{Draw, Id};
+use lrs_reads::lrs_refusals::Submission;
 use lrs_record::{Caller, Entry, Moment, Write};
 
-/// The put of a statement under an id.
-pub fn put_of(id: Id, statement: Tree) -> Command
+/// The put of a statement under an id. Its form is judged when it is answered.
+pub fn put_of(id: Id, statement: Tree) -> Submission
     ensures { result ≡ put_of id statement }
 {
-    Command::Write(Write::Put { id, statement })
+    Submission::unjudged(Command::Write(Write::Put { id, statement }))
 }
 
 /// The entry that a store is founded with: the operator's, with draw 0.

@@ -18,6 +18,11 @@ pub use Rattle.lrs_refusals.specs.LrsMadeEnrolmentsLentEnrolled as LrsMadeEnrolm
 pub use Rattle.lrs_refusals.specs.LrsMadeLent as LrsMadeLent
 pub use Rattle.lrs_refusals.specs.Meeting as LrsRefusalsMeeting
 pub use Rattle.lrs_refusals.specs.Naming as LrsRefusalsNaming
+pub use Rattle.lrs_refusals.specs.Submissions as LrsRefusalsSubmissions
 pub use Rattle.lrs_refusals.specs.XapiPagesListings as XapiPagesListings
 pub use Rattle.lrs_refusals.specs.declared.known.Batch as LrsRefusalsKnownBatch
 pub use Rattle.lrs_refusals.specs.declared.known.Known as LrsRefusalsKnownKnown
+pub use Rattle.lrs_refusals.specs.declared.known.Known.TheVariants as LrsRefusalsKnownKnownTheVariants
+pub use Rattle.lrs_refusals.specs.declared.submission.Form as LrsRefusalsSubmissionForm
+pub use Rattle.lrs_refusals.specs.declared.written.Written as LrsRefusalsWrittenWritten
+pub use Rattle.lrs_refusals.specs.declared.submission.Form.TheVariants as LrsRefusalsSubmissionFormTheVariants

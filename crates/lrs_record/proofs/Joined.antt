@@ -9,6 +9,10 @@ opened o s t u z n k one two three four = rw (four, three, two, one) (simp appen
 pub headed : (o s t u v z a b c d : List ℕ) → s ≡ o ++ 123 ∷ [] → t ≡ s ++ a → u ≡ t ++ b → v ≡ u ++ c → z ≡ v ++ d → z ≡ o ++ (123 ∷ (a ++ (b ++ (c ++ d))))
 headed o s t u v z a b c d one two three four five = rw (five, four, three, two, one) (simp append_assoc refl)
 
+-- one part behind the other
+pub behind : (o s t m k : List ℕ) → s ≡ o ++ m → t ≡ s ++ k → t ≡ o ++ (m ++ k)
+behind o s t m k one two = rw (two, one) (simp append_assoc refl)
+
 pub closed : (o s t z h m : List ℕ) → s ≡ o ++ h → t ≡ s ++ m → z ≡ t ++ 125 ∷ 125 ∷ [] → z ≡ o ++ (h ++ (m ++ 125 ∷ 125 ∷ []))
 closed o s t z h m one two three = rw (three, two, one) (simp append_assoc refl)
 

@@ -17,4 +17,4 @@ pub use lrs_fields::put_word;
 pub use lrs_time::Moment;
 pub use reading::read_entry;
 pub use refused::EntryRefused;
-pub use writing::write_entry;
+pub use writing::{write_closing, write_entry, write_headed};

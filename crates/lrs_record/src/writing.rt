@@ -3,11 +3,11 @@ ghost use Rattle.std.specs.Fmt.{decimal};
 ghost use Rattle.lrs_json.specs.Json.{number};
 ghost use Rattle.lrs_json.specs.Texts.{member_text};
 ghost use Rattle.lrs_json.specs.Written.{Extends};
-ghost use Rattle.lrs_record.specs.Entries.{HasValues, HoldsHeading, IsLawful, IsLawfulCaller, IsLawfulWrite, heading_text, opening_text, written_entry};
+ghost use Rattle.lrs_record.specs.Entries.{HasValues, HoldsHeading, HoldsWrite, IsLawful, IsLawfulCaller, IsLawfulWrite, closing_text, heading_text, opening_text, written_entry};
 ghost use Rattle.lrs_time.specs.declared.moments.TheConstants.{LATEST};
 ghost use Rattle.lrs_record.specs.declared.entry.Entry.{Entry as SpecEntry};
 
-use crate::{Entry, Moment};
+use crate::{Entry, Moment, Write};
 use itoa::Buffer;
 use lrs_fields::draw_digits;
 use lrs_json::appending::{put, put_name, put_text};
@@ -33,6 +33,29 @@ pub fn write_entry(entry: &Entry, into: &mut Vec<u8>) -> Result<(), Memory>
             Err(error)
         }
     }
+}
+
+/// Appends what stands in the text of an entry from the fields of its write on. If memory runs out, a part of it may
+/// stand there.
+pub fn write_closing(write: &Write, into: &mut Vec<u8>) -> Result<(), Memory>
+    ensures ok { OnOk result (into.new.items ≡ into.old.items ++ closing_text write.now) }
+    ensures holds { OnOk result (HoldsWrite write.now) }
+{
+    write.put_fields(into)?;
+    put(b"}}", into)
+}
+
+/// Appends the text of the entry, whose closing was written before. If memory runs out, a part of it may stand there.
+pub fn write_headed(entry: &Entry, closing: &[u8], into: &mut Vec<u8>) -> Result<(), Memory>
+    requires caller { IsLawfulCaller entry.now.caller }
+    requires write { IsLawfulWrite entry.now.write }
+    requires closing { closing.now ≡ closing_text entry.now.write }
+    requires holds { HoldsWrite entry.now.write }
+    ensures ok { OnOk result (into.new.items ≡ into.old.items ++ written_entry entry.now) }
+    ensures lawful { OnOk result (IsLawful entry.now) }
+{
+    put_heading(entry, into)?;
+    put(closing, into)
 }
 
 // Each of the following appends its part of the text. If memory runs out in the middle, what stood before stays.

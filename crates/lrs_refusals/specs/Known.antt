@@ -1,6 +1,6 @@
 -- What is known of the statements of a write: under which of their ids one is held, and the ids under which those go
 -- that come together.
-use Rattle.std.specs.Prelude.{◌≡◌, ℕ, Bool, false, List, [], ◌∷◌, map, Option, Some, None}
+use Rattle.std.specs.Prelude.{◌≡◌, ℕ, suc, Bool, true, false, List, [], ◌∷◌, map, Option, Some, None}
 use Rattle.std.specs.List.{AllByRecursion}
 use Rattle.lrs_made.specs.LrsHistoryOccasions.{supply_in}
 use Rattle.lrs_ids.specs.IdSupply.{GiveSame, left_of}
@@ -65,6 +65,18 @@ pub record IsBatch (st : State) (draw : Draw) (ts : List Tree) (b : Batch) : Typ
   pub held : TellHeld st b.held b.ids
 
 -- ---- a write
+
+-- what is told of its statements, from the first one on
+abbrev pub flags_of : Write → Known → List Bool
+flags_of (Put id statement) (known.Put held) = held ∷ []
+flags_of (Post statements) (known.Batch b) = b.held
+flags_of other k = []
+
+-- how many of the first ones aren't held
+abbrev pub first_new : List Bool → ℕ
+first_new [] = 0
+first_new (true ∷ more) = 0
+first_new (false ∷ more) = suc (first_new more)
 
 abbrev pub batch_in : Known → Option Batch
 batch_in (known.Batch b) = Some b

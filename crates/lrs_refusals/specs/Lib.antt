@@ -18,3 +18,4 @@ pub mod Judged
 pub mod Naming
 pub mod Known
 pub mod Meeting
+pub mod Submissions

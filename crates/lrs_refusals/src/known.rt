@@ -1,10 +1,11 @@
 // What is known of the statements of a write.
 ghost use Rattle.std.specs.Prelude.{◌≡◌};
-ghost use Rattle.lrs_refusals.specs.Known.{batch_in};
+ghost use Rattle.lrs_refusals.specs.Known.{batch_in, first_new, flags_of};
 
 use lrs_ids::IdSupply;
 use lrs_json::Items;
 use lrs_names::Id;
+use lrs_record::Write;
 use std::mem;
 
 /// What was found out about the statements of a write, so that it isn't looked up again.
@@ -29,7 +30,32 @@ pub struct Batch {
     pub supply: IdSupply,
 }
 
+// How many of the first of these tell of none that is held.
+fn first_new(held: &[bool]) -> usize
+    ensures { result ≡ first_new held.now }
+{
+    let mut count = 0;
+    for is_held in held {
+        if *is_held {
+            return count;
+        }
+        count += 1;
+    }
+    count
+}
+
 impl Known {
+    /// How many of the first statements of the write are known not to be held.
+    pub fn first_new(&self, write: &Write) -> usize
+        ensures { result ≡ first_new (flags_of write.now self.now) }
+    {
+        match (write, self) {
+            (Write::Put { .. }, Known::Put { is_held }) => { if *is_held { 0 } else { 1 } }
+            (Write::Post { .. }, Known::Batch(batch)) => first_new(batch.held.as_slice()),
+            _ => 0,
+        }
+    }
+
     /// Gives away what is known of statements that come together.
     pub fn take_batch(&mut self) -> Option<Batch>
         ensures { result ≡ batch_in self.old }

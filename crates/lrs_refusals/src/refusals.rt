@@ -1,5 +1,5 @@
 // Why a write is refused.
-ghost use Rattle.std.specs.Prelude.{◌≡◌, ℕ, List, IfOk, Ok, None};
+ghost use Rattle.std.specs.Prelude.{◌≡◌, ℕ, List, true, IfOk, Ok, None};
 ghost use Rattle.std.specs.Option.{option_copied};
 ghost use Rattle.lrs_made.specs.LrsHistoryRefusals.{bad_form, conflict, refusal, refusal_at, unmergeable, unmergeable_with};
 ghost use Rattle.lrs_made.specs.LrsHistoryWhose.{who_is};
@@ -30,22 +30,33 @@ use std::alloc::Global;
 use xapi_docs::{Document, MergeRefused, merge};
 
 /// Why an entry's write is refused whatever room there is. What isn't refused breaks no rule on statements and courses.
-/// Who its caller is was found before; what is found out about its statements is handed on.
+/// Who its caller is was found before; what is found out about its statements is handed on. Its form isn't judged again
+/// if that was done before, and it is unbroken.
 pub fn refusal(
     alloc: Global,
     parts: &Parts,
     who: Who,
+    is_judged: bool,
     entry: &Entry,
     known: &mut Known,
 ) -> Result<Option<Refusal>, Memory>
     requires lawful { IsLawfulWrite entry.now.write }
     requires who { who ≡ who_is (state_of parts.now) entry.now.caller }
+    requires formed { is_judged ≡ true → bad_form entry.now.write ≡ None }
     requires known { IsKnown (state_of parts.now) entry.now.draw entry.now.write known.old }
     ensures refused { IfOk result (λ refused. refused ≡ refusal (state_of parts.now) entry.now) }
     ensures judged { result ≡ Ok None → IsJudged entry.now.write }
     ensures known { IsKnown (state_of parts.now) entry.now.draw entry.now.write known.new }
 {
-    refusal_of(alloc, parts, who, &entry.draw, &entry.write, known)
+    refusal_of(
+        alloc,
+        parts,
+        who,
+        is_judged,
+        &entry.draw,
+        &entry.write,
+        known,
+    )
 }
 
 #[tactic(auto, using(crate::proofs::Judged::judged_form))]
@@ -53,11 +64,13 @@ fn refusal_of(
     alloc: Global,
     parts: &Parts,
     who: Who,
+    is_judged: bool,
     draw: &Draw,
     write: &Write,
     known: &mut Known,
 ) -> Result<Option<Refusal>, Memory>
     requires lawful { IsLawfulWrite write.now }
+    requires formed { is_judged ≡ true → bad_form write.now ≡ None }
     requires known { IsKnown (state_of parts.now) draw.now write.now known.old }
     ensures refused { IfOk result (λ refused. (moment : ℕ) (token : List ℕ) → refused
         ≡ refusal_at (state_of parts.now)
@@ -68,7 +81,7 @@ fn refusal_of(
     if let Some(refusal) = barred(write.area(), who) {
         return Ok(Some(refusal));
     }
-    if let Some(refusal) = bad_form(alloc, write)? {
+    if let Some(refusal) = unjudged_form(alloc, is_judged, write)? {
         return Ok(Some(refusal));
     }
     if let Some(refusal) = bad_role(parts, who, write) {
@@ -83,8 +96,19 @@ fn refusal_of(
     conflict(alloc, parts, who, draw, write, known)
 }
 
-// Why a write isn't looked at, whatever the store holds.
-fn bad_form(alloc: Global, write: &Write) -> Result<Option<Refusal>, Memory>
+// Why a write isn't looked at, whatever the store holds. Of one that was judged before nothing is left to be told.
+fn unjudged_form(alloc: Global, is_judged: bool, write: &Write) -> Result<Option<Refusal>, Memory>
+    requires { is_judged ≡ true → bad_form write.now ≡ None }
+    ensures { IfOk result (λ refused. refused ≡ bad_form write.now) }
+{
+    if is_judged {
+        return Ok(None);
+    }
+    bad_form(alloc, write)
+}
+
+/// Why a write isn't looked at, whatever the store holds.
+pub(crate) fn bad_form(alloc: Global, write: &Write) -> Result<Option<Refusal>, Memory>
     ensures { IfOk result (λ refused. refused ≡ bad_form write.now) }
 {
     match write {

@@ -6,6 +6,9 @@ use Rattle.lrs_made.specs.LrsPartsParts.{state_of}
 use Rattle.lrs_replies.specs.Texts.{token_text}
 use Rattle.lrs_refusals.proofs.refusals.refusal.Goals as goal
 
+pub refusal_of-requires-clause-formed : goal.refusal_of-requires-clause-formed
+refusal_of-requires-clause-formed c = c.requires.formed
+
 pub returns-clause-refused : goal.returns-clause-refused
 returns-clause-refused c =
     let st = state_of c.args.parts.now in

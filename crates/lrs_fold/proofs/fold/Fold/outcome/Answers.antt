@@ -1,12 +1,42 @@
-use Rattle.std.proofs.Common.{◌∙◌, ℕ, IfOk, ap, max, subst, sym}
+use Rattle.std.proofs.Common.{IfOk, subst, sym}
+use Rattle.lrs_command.specs.Commands.{HasReadTrees}
+use Rattle.lrs_command.specs.declared.command.Command.{Command}
 use Rattle.lrs_fold.specs.Outcomes.{IsOutcome}
-use Rattle.lrs_reads.specs.LrsHistoryHistory.{entry_at, outcome, write_outcome}
+use Rattle.lrs_fold.specs.declared.outcome.Outcome.TheVariants as made
+use Rattle.lrs_fold.proofs.Malformed.{told_malformed}
+use Rattle.lrs_reads.specs.LrsHistoryHistory.{outcome, write_outcome}
+use Rattle.lrs_reads.specs.LrsRefusalsSubmissions.{IsJudgedAs}
+use Rattle.lrs_record.specs.Entries.{IsLawfulCaller, IsLawfulWrite}
+use Rattle.lrs_record.specs.declared.entry.Entry.{Entry}
 use Rattle.lrs_learning.specs.LrsPartsParts.{state_of}
-use Rattle.lrs_time.specs.Moments.{clamped}
 use Rattle.lrs_fold.proofs.fold.Fold.outcome.Goals as goal
 
-pub returns-in-Write : goal.returns-in-Write
-returns-in-Write c =
+pub unjudged-requires-clause-command : goal.unjudged-requires-clause-command
+unjudged-requires-clause-command c = subst (λ (k : Command). HasReadTrees k) (sym c.in-Unjudged.ensures) c.requires.command
+
+pub write_outcome-requires-clause-caller : goal.write_outcome-requires-clause-caller
+write_outcome-requires-clause-caller c = subst (λ (e : Entry). IsLawfulCaller e.caller) (sym c.next_entry-entry.ensures) c.requires.caller
+
+pub write_outcome-requires-clause-write : goal.write_outcome-requires-clause-write
+write_outcome-requires-clause-write c =
+    subst (λ (e : Entry). IsLawfulWrite e.write) (sym c.next_entry-entry.ensures) (subst (λ (k : Command). HasReadTrees k) (sym c.in-Judged.ensures.0) c.requires.command)
+
+pub write_outcome-requires-clause-judged : goal.write_outcome-requires-clause-judged
+write_outcome-requires-clause-judged c = subst (λ (e : Entry). IsJudgedAs e.write c.in-Judged.written) (sym c.next_entry-entry.ensures) c.in-Judged.ensures.1
+
+pub returns-in-Unjudged : goal.returns-in-Unjudged
+returns-in-Unjudged c =
     let st = state_of c.args.self.now.parts in
-    subst (λ k. IfOk c.write_outcome.result (IsOutcome st (outcome st c.args.caller k c.args.clock c.args.draw.now))) (sym c.in-Write.is)
-    (subst (λ m. IfOk c.write_outcome.result (IsOutcome st (write_outcome st (entry_at c.args.caller c.in-Write.write m c.args.draw.now)))) (c.next_moment.ensures ∙ ap (λ (last : ℕ). max (clamped c.args.clock) last) c.last_moment.ensures) c.write_outcome.ensures)
+    subst (λ k. IfOk c.unjudged.result (IsOutcome st (outcome st c.args.caller k c.args.clock c.args.draw.now))) c.in-Unjudged.ensures c.unjudged.ensures
+
+pub returns-in-Judged : goal.returns-in-Judged
+returns-in-Judged c =
+    let st = state_of c.args.self.now.parts in
+    subst (λ k. IfOk c.write_outcome.result (IsOutcome st (outcome st c.args.caller k c.args.clock c.args.draw.now))) c.in-Judged.ensures.0
+    (subst (λ e. IfOk c.write_outcome.result (IsOutcome st (write_outcome st e))) c.next_entry-entry.ensures c.write_outcome.ensures)
+
+pub returns-in-Refused : goal.returns-in-Refused
+returns-in-Refused c =
+    let st = state_of c.args.self.now.parts in
+    subst (λ v. IsOutcome st v (made.Said c.refused-said.result))
+    (sym (told_malformed st c.args.caller c.args.command c.args.clock c.args.draw.now c.in-Refused.area c.in-Refused.refusal c.in-Refused.ensures)) c.refused-said.ensures
