@@ -11,7 +11,7 @@ use Rattle.atomic_table.proofs.Lists.{at_set, set_again, set_else, at_snoc, at_l
 use Rattle.lrs_turn.specs.declared.view.View.{View}
 use Rattle.lrs_turn.specs.declared.view.Sight.{Sight}
 use Rattle.lrs_turn.specs.Lists.{Each, NoneFalls, total, times}
-use Rattle.lrs_turn.specs.Rule.{Meaning, Whole, Fits, AreAt, parts_of, own_times, Books, seeing, pointed_view, committed_view, rising, spent, less, another, both, starter, turn_of, Shows, Place, Turn, KeptBy, Kept, Takes, Gives, Rests, Fetches, Points, Commits, Leaves}
+use Rattle.lrs_turn.specs.Rule.{Meaning, Whole, Fits, AreAt, parts_of, own_times, Books, seeing, pointed_view, committed_view, rising, given_view, spent, less, another, both, starter, turn_of, Shows, Place, Turn, KeptBy, Kept, Takes, Gives, Rests, Fetches, Points, Commits}
 
 -- lists
 module _ {A : Type 0} where
@@ -81,6 +81,12 @@ module _ {A : Type 0} where
   each_all P Q h [] e = tt
   each_all P Q h (x ∷ xs) e = (h x e.0, each_all P Q h xs e.1)
 
+  nothing_both : (xs ys : List A) → xs ≡ [] → ys ≡ [] → xs ++ ys ≡ []
+  nothing_both xs ys e f = ap (λ (l : List A). l ++ ys) e ∙ f
+
+  some_not_none : (x : A) (xs : List A) → x ∷ xs ≡ [] → ⊥
+  some_not_none x xs e = let long : suc (length xs) ≡ 0 = ap (λ (l : List A). length l) e in omega (arith, long)
+
   pub each_append : (P : A → Type 0) (xs ys : List A) → Each P xs → Each P ys → Each P (xs ++ ys)
   each_append P [] ys e f = f
   each_append P (x ∷ xs) ys e f = (e.0, each_append P xs ys e.1 f)
@@ -112,9 +118,6 @@ hit n x e = subst (λ (b : Bool). either b 1 0 ≡ 1) (sym (eq-eqb n x e)) refl
 miss : (n x : ℕ) → n ≢ x → either (n == x) 1 0 ≡ 0
 miss n x ne = subst (λ (b : Bool). either b 1 0 ≡ 0) (sym (ne_eqb n x ne)) refl
 
-nothing_both : (xs ys : List ℕ) → xs ≡ [] → ys ≡ [] → xs ++ ys ≡ []
-nothing_both xs ys e f = ap (λ (l : List ℕ). l ++ ys) e ∙ f
-
 -- the books
 module _ {T : Type 0} where
   append_again : (xs ys zs : List T) → (xs ++ ys) ++ zs ≡ xs ++ (ys ++ zs)
@@ -125,16 +128,23 @@ module _ {T : Type 0} where
   nothing_behind [] = refl
   nothing_behind (x ∷ xs) = ap (λ (l : List T). x ∷ l) (nothing_behind xs)
 
+  has_part : (v w u : View T) → w.parts ≡ v.parts → 0 < v.parts → w ≡ u → u.parts ≡ 0 → ⊥
+  has_part v w u parts some is z = let p : w.parts ≡ u.parts = ap (λ (x : View T). x.parts) is in omega (arith, p, z, parts, some)
+
   pub books_same : (passes opening count : ℕ) (views : List (View T)) (id : ℕ) (v w : View T) → Books passes opening count views → AreAt views id v
-      → w.parts ≡ v.parts → w.own ≡ v.own → Books passes opening count (set views id w)
-  books_same passes opening count views id v w b mine parts own =
+      → w.parts ≡ v.parts → 0 < v.parts → w.own ≡ v.own → Books passes opening count (set views id w)
+  books_same passes opening count views id v w b mine parts some own =
       let own_same : (n : ℕ) → total (own_times n) (set views id w) ≡ total (own_times n) views =
       λ n. (let t = total_set (own_times n) views id v w mine in let o : own_times n w ≡ own_times n v = ap (times n) own in omega (arith, t, o)) in
       record {
         parts = let t = total_set parts_of views id v w mine in omega (arith, t, parts, b.parts);
         spent = λ k u e z. elim (at_set views id k w u e) [
-          | inl t ↦ subst (λ (x : View T). x.parts ≡ 0 → x.own ≡ []) t.1 (λ zero'. own ∙ b.spent id v mine (sym parts ∙ zero')) z
+          | inl t ↦ absurd (has_part v w u parts some t.1 z)
           | inr t ↦ b.spent k u t.1 z
+        ];
+        blind = λ k u e z. elim (at_set views id k w u e) [
+          | inl t ↦ absurd (has_part v w u parts some t.1 z)
+          | inr t ↦ b.blind k u t.1 z
         ];
         once = λ n from to. own_same n ∙ b.once n from to;
         none = λ n out. own_same n ∙ b.none n out;
@@ -151,8 +161,12 @@ module _ {T : Type 0} where
       record {
         parts = let t = total_set parts_of views id v w mine in omega (arith, t, parts, b.parts);
         spent = λ k u e z. elim (at_set views id k w u e) [
-          | inl t ↦ (let p : w.parts ≡ u.parts = ap (λ (x : View T). x.parts) t.1 in absurd (omega (arith, p, z, parts, some)))
+          | inl t ↦ absurd (has_part v w u parts some t.1 z)
           | inr t ↦ b.spent k u t.1 z
+        ];
+        blind = λ k u e z. elim (at_set views id k w u e) [
+          | inl t ↦ absurd (has_part v w u parts some t.1 z)
+          | inr t ↦ b.blind k u t.1 z
         ];
         once = λ n from to. elim (cases_eq n count) [
           | inl same ↦ (let o = own_now n in let h = hit n count same in let z = b.none n (inr (omega (arith, same))) in omega (arith, o, h, z))
@@ -186,6 +200,13 @@ module _ {T : Type 0} where
           ]
           | inr new ↦ (let p : 1 ≡ u.parts = ap (λ (x : View T). x.parts) new in absurd (omega (arith, p, z)))
         ];
+        blind = λ k u e z. elim (at_snoc (set views id (less v)) (another v) u k e) [
+          | inl old ↦ elim (at_set views id k (less v) u old) [
+            | inl t ↦ (let p : v.parts - 1 ≡ u.parts = ap (λ (x : View T). x.parts) t.1 in absurd (omega (arith, p, z, many)))
+            | inr t ↦ b.blind k u t.1 z
+          ]
+          | inr new ↦ (let p : 1 ≡ u.parts = ap (λ (x : View T). x.parts) new in absurd (omega (arith, p, z)))
+        ];
         once = λ n from to. own_same n ∙ b.once n from to;
         none = λ n out. own_same n ∙ b.none n out;
         grown = b.grown;
@@ -208,10 +229,26 @@ module _ {T : Type 0} where
             | inr t ↦ b.spent k u t.1 z
           ]
         ];
+        blind = λ k u e z. elim (at_set (set views id (both v w)) other k spent u e) [
+          | inl t ↦ sym (ap (λ (x : View T). x.sights) t.1)
+          | inr r ↦ elim (at_set views id k (both v w) u r.1) [
+            | inl t ↦ (let p : v.parts + w.parts ≡ u.parts = ap (λ (x : View T). x.parts) t.1 in
+                sym (ap (λ (x : View T). x.sights) t.1) ∙ nothing_both v.sights w.sights (b.blind id v mine (omega (arith, p, z))) (b.blind other w theirs (omega (arith, p, z))))
+            | inr t ↦ b.blind k u t.1 z
+          ]
+        ];
         once = λ n from to. own_same n ∙ b.once n from to;
         none = λ n out. own_same n ∙ b.none n out;
         grown = b.grown;
       }
+
+  -- beside the view of the only pass there is none that has seen anything
+  books_alone : (passes opening count : ℕ) (views : List (View T)) (id : ℕ) (v : View T) → Books passes opening count views → AreAt views id v
+      → 0 < v.parts → passes ≡ 1 → (k : ℕ) (u : View T) → AreAt views k u → k ≢ id → u.sights ≡ []
+  books_alone passes opening count views id v b mine some one k u e other =
+      let low = total_least parts_of views id v mine in
+      let all : total parts_of views ≡ parts_of v = omega (arith, low, b.parts, one, some) in
+      b.blind k u e (total_others parts_of views id k v u mine e other all)
 
   -- a view with all parts has the own of all
   pub books_close : (passes opening count : ℕ) (views : List (View T)) (id : ℕ) (v : View T) → Books passes opening count views → AreAt views id v
@@ -220,16 +257,47 @@ module _ {T : Type 0} where
       total_alone parts_of (own_times n) views id v (λ k u e z. ap (times n) (b.spent k u e z)) mine (b.parts ∙ sym all)
 
   -- sights
-  pub sights_set : (a : Whole T) (views : List (View T)) (id : ℕ) (w : View T) → ((k : ℕ) (u : View T) → AreAt views k u → Each (Fits a) u.sights)
+  sights_else : (a : Whole T) (views : List (View T)) (id : ℕ) (w : View T) → ((k : ℕ) (u : View T) → AreAt views k u → k ≢ id → Each (Fits a) u.sights)
       → Each (Fits a) w.sights → (k : ℕ) (u : View T) → AreAt (set views id w) k u → Each (Fits a) u.sights
-  sights_set a views id w all new k u e = elim (at_set views id k w u e) [
+  sights_else a views id w others new k u e = elim (at_set views id k w u e) [
     | inl t ↦ subst (λ (x : View T). Each (Fits a) x.sights) t.1 new
-    | inr t ↦ all k u t.1
+    | inr t ↦ others k u t.1 t.0
   ]
 
-  pub fits_later : (a b : Whole T) (more : List T) → b.log ≡ a.log ++ more → b.marks ≡ a.marks → NoneFalls a.tide b.tide → b.opening ≡ a.opening → (x : Sight T) → Fits a x → Fits b x
-  fits_later a b more log marks tide start x f =
-      ((f.0.0 ++ more, sym (append_again x.front f.0.0 more) ∙ (ap (λ (l : List T). l ++ more) f.0.1 ∙ sym log)), f.1 ∙ sym marks, none_falls_then x.tide a.tide b.tide f.2 tide, f.3 ∙ sym start)
+  sights_set : (a : Whole T) (views : List (View T)) (id : ℕ) (w : View T) → ((k : ℕ) (u : View T) → AreAt views k u → Each (Fits a) u.sights)
+      → Each (Fits a) w.sights → (k : ℕ) (u : View T) → AreAt (set views id w) k u → Each (Fits a) u.sights
+  sights_set a views id w all new = sights_else a views id w (λ k u e _. all k u e) new
+
+  fits_later : (a : Whole T) (list more : List T) → list ≡ a.log ++ more → (x : Sight T) → Fits a x → Fits (record a { log = list }) x
+  fits_later a list more longer x f = record {
+    front = (f.front.0 ++ more, sym (append_again x.front f.front.0 more) ∙ (ap (λ (l : List T). l ++ more) f.front.1 ∙ sym longer));
+    marks = f.marks;
+    tide = f.tide;
+    opening = f.opening;
+    passes = f.passes;
+    alone = f.alone;
+  }
+
+  -- where others have seen nothing with one pass, they fit a whole whose tide has risen
+  fits_higher : (a : Whole T) (tide : List ℕ) (xs : List (Sight T)) → NoneFalls a.tide tide → (a.passes ≡ 1 → xs ≡ []) → Each (Fits a) xs
+      → Each (Fits (record a { tide = tide })) xs
+  fits_higher a tide [] up blind e = tt
+  fits_higher a tide (x ∷ xs) up blind e =
+      let f = e.0 in (
+        record {
+          front = f.front;
+          marks = f.marks;
+          tide = none_falls_then x.tide a.tide tide f.tide up;
+          opening = f.opening;
+          passes = f.passes;
+          alone = λ one. absurd (some_not_none x xs (blind one));
+        },
+        fits_higher a tide xs up (λ one. absurd (some_not_none x xs (blind one))) e.1,
+      )
+
+  fits_risen : (a : Whole T) (next tide : List ℕ) (x : Sight T) → NoneFalls tide next → (a.passes ≡ 1 → tide ≡ next) → Fits a x → Fits (record a { tide = next }) (rising tide x)
+  fits_risen a next tide x low same f =
+      record { front = f.front; marks = f.marks; tide = low; opening = f.opening; passes = f.passes; alone = same }
 
   first : (v : View T) (k : ℕ) (u : View T) → AreAt (v ∷ []) k u → v ≡ u
   first v zero u e = some-injective v u e
@@ -245,6 +313,7 @@ module _ {S T : Type 0} (m : Meaning S T) (passes : ℕ) where
       subst (λ (vs : List (View T)). KeptBy m passes a h record { words = set s.words 1 n; homes = s.homes; views = vs }) (sym (set_again s.views id v mine))
       record {
         words = ap (λ (ws : List ℕ). set ws 1 n) kept.words ∙ ap (λ (x : ℕ). length a.log ∷ x ∷ []) one;
+        count = kept.count;
         sights = kept.sights;
         turn = kept.turn;
         books = kept.books;
@@ -258,6 +327,7 @@ module _ {S T : Type 0} (m : Meaning S T) (passes : ℕ) where
       let out : set s.homes 0 core.none ≡ core.none ∷ [] = ap (λ (hs : List (core.Option (Option S))). set hs 0 core.none) at_home in
       record {
         words = ap (λ (ws : List ℕ). set ws 1 1) kept.words;
+        count = kept.count;
         sights = sights_set a s.views id w kept.sights (kept.sights id v mine);
         turn = (
           λ k u e ne. elim (at_set s.views id k w u e) [
@@ -266,7 +336,7 @@ module _ {S T : Type 0} (m : Meaning S T) (passes : ℕ) where
           ],
           (w, set_it s.views id v w mine, some, shows.0, shows.2, inl (refl, out), refl),
         );
-        books = books_same passes a.opening (length a.log) s.views id v w kept.books mine refl refl;
+        books = books_same passes a.opening (length a.log) s.views id v w kept.books mine refl some refl;
       }
 
   pub take_allowed : (id : ℕ) (v : View T) → 0 < v.parts → Allows (Kept m passes) 1 id (v, []) 1 (λ n. either (n == 0) 1 n) (Takes m (v, []))
@@ -318,6 +388,7 @@ module _ {S T : Type 0} (m : Meaning S T) (passes : ℕ) where
       let kept = has.0 in
       record {
         words = words ∙ kept.words;
+        count = kept.count;
         sights = sights_set a s.views id w kept.sights fits;
         turn = (
           λ k u e ne. elim (at_set s.views id k w u e) [
@@ -326,7 +397,7 @@ module _ {S T : Type 0} (m : Meaning S T) (passes : ℕ) where
           ],
           (w, set_it s.views id v w mine, subst (λ (x : ℕ). 0 < x) (sym parts) has.1, line ∙ has.2, level ∙ has.3, place, holds ∙ has.5),
         );
-        books = books_same passes a.opening (length a.log) s.views id v w kept.books mine parts own;
+        books = books_same passes a.opening (length a.log) s.views id v w kept.books mine parts has.1 own;
       }
 
   unchanged : (s : State (Option S) (View T)) (a : Whole T) (h : Option ℕ) → s.words ≡ length a.log ∷ turn_of h ∷ [] → set s.words 0 (slice_index s.words 0) ≡ s.words
@@ -364,7 +435,14 @@ module _ {S T : Type 0} (m : Meaning S T) (passes : ℕ) where
       ]
 
   all_of : (a : Whole T) (list : List T) → list ≡ a.log → (x : Sight T) → Fits a x → Fits a (seeing list x)
-  all_of a list is x f = (([], sym (nothing_behind list) ∙ is), f.1, f.2, f.3)
+  all_of a list is x f = record {
+    front = ([], sym (nothing_behind list) ∙ is);
+    marks = f.marks;
+    tide = f.tide;
+    opening = f.opening;
+    passes = f.passes;
+    alone = f.alone;
+  }
 
   pub point_allowed : (id : ℕ) (v : View T) → v.holds ≡ true → v.out ≡ false → Allows (Kept m passes) 1 id (v, []) 0 (λ n. n) (λ n. Points {S = S} (v, []))
   point_allowed id v on out s (a, h, kept) one mine small =
@@ -384,7 +462,7 @@ module _ {S T : Type 0} (m : Meaning S T) (passes : ℕ) where
       let long : length list ≡ length a.log + 1 = ap (λ (l : List T). length l) longer ∙ length-append a.log (r ∷ []) in
       let found : slice_index s.words 0 ≡ length a.log = ap (λ (ws : List ℕ). slice_index ws 0) kept.words in
       let becomes : (slice_index s.words 0 + 1) % 2 ^ 64 ≡ length list = omega (arith, found, long, fits64) in
-      let later = fits_later a b (r ∷ []) longer refl (none_falls_same a.tide) refl in
+      let later = fits_later a list (r ∷ []) longer in
       let old : (k : ℕ) (u : View T) → AreAt s.views k u → Each (Fits b) u.sights = λ k u e. each_all (Fits a) (Fits b) later u.sights (kept.sights k u e) in
       let all = each_map (Fits b) (Fits b) (seeing list) (all_of b list refl) v.sights (old id v mine) in
       let count : length v.line ≡ length a.log = ap (λ (l : List T). length l) line in
@@ -397,6 +475,7 @@ module _ {S T : Type 0} (m : Meaning S T) (passes : ℕ) where
           Some id,
           record {
             words = ap (λ (ws : List ℕ). set ws 0 ((slice_index s.words 0 + 1) % 2 ^ 64)) has.0.words ∙ ap (λ (n : ℕ). n ∷ 1 ∷ []) becomes;
+            count = has.0.count;
             sights = sights_set b s.views id w old all;
             turn = (
               λ k u e ne. elim (at_set s.views id k w u e) [
@@ -411,26 +490,27 @@ module _ {S T : Type 0} (m : Meaning S T) (passes : ℕ) where
         refl,
       )
 
-  higher : (a : Whole T) (tide : List ℕ) → NoneFalls a.tide tide → (x : Sight T) → Fits a x → Fits (record a { tide = tide }) x
-  higher a tide up x f = (f.0, f.1, none_falls_then x.tide a.tide tide f.2 up, f.3)
-
-  risen : (a : Whole T) (tide : List ℕ) → (x : Sight T) → Fits a x → Fits (record a { tide = tide }) (rising tide x)
-  risen a tide x f = (f.0, f.1, none_falls_same tide, f.3)
-
-  -- The state goes home. What the pass has seen still fits the whole, whose tide is then the state's.
-  given_back : (id : ℕ) (v : View T) (x : Sight T) (st : S) (seen : List (Sight T)) (then : Me (Option S) (View T) → Type 0)
-      → v.holds ≡ true → v.out ≡ true → m.line st ≡ v.line → v.sights ≡ x ∷ [] → m.marks st ≡ x.marks → NoneFalls v.level (m.tide st)
-      → ((a : Whole T) → NoneFalls a.tide (m.tide st) → Each (Fits a) v.sights → Each (Fits (record a { tide = m.tide st })) seen)
-      → then (record v { holds = false; out = false; sights = seen }, [])
-      → Allows (Kept m passes) 1 id (v, (0, Some st) ∷ []) 1 (λ n. 0) (λ n. then)
-  given_back id v x st seen then on is_out shows only marks up fits is s (a, h, kept) one mine small =
+  -- The state goes home, and the whole's tide is then the state's. The pass knows it, or, where it is as it was taken,
+  -- what it knew before.
+  pub give_allowed : (id : ℕ) (v : View T) (x : Sight T) (st : S) (tide : List ℕ) → v.holds ≡ true → v.out ≡ true → m.line st ≡ v.line → v.sights ≡ x ∷ [] → m.marks st ≡ x.marks
+      → NoneFalls v.level (m.tide st) → (tide ≡ m.tide st) ⊎ ((tide ≡ x.tide) × (m.tide st ≡ v.level))
+      → Allows (Kept m passes) 1 id (v, (0, Some st) ∷ []) 1 (λ n. 0) (λ n. Gives {S = S} tide (v, (0, Some st) ∷ []))
+  give_allowed id v x st tide on is_out shows only marks up knows_it s (a, h, kept) one mine small =
       let has = knows s a h id v kept mine on in
-      let w : View T = record v { holds = false; out = false; sights = seen } in
+      let w : View T = given_view tide v in
       let b : Whole T = record a { tide = m.tide st } in
       let up' : NoneFalls a.tide (m.tide st) = subst (λ (l : List ℕ). NoneFalls l (m.tide st)) has.3 up in
-      let mine_fits : Each (Fits a) (x ∷ []) = subst (Each (Fits a)) only (kept.sights id v mine) in
-      let old : (k : ℕ) (u : View T) → AreAt s.views k u → Each (Fits b) u.sights = λ k u e. each_all (Fits a) (Fits b) (higher a (m.tide st) up') u.sights (kept.sights k u e) in
-      let all : Each (Fits b) seen = fits a up' (kept.sights id v mine) in
+      let f : Fits a x = (subst (Each (Fits a)) only (kept.sights id v mine)).0 in
+      let others : (k : ℕ) (u : View T) → AreAt s.views k u → k ≢ id → Each (Fits b) u.sights =
+      λ k u e other. fits_higher a (m.tide st) u.sights up'
+      (λ alone. books_alone passes a.opening (length a.log) s.views id v kept.books mine has.1 (sym kept.count ∙ alone) k u e other) (kept.sights k u e) in
+      let known : Fits b (rising tide x) = elim knows_it [
+        | inl last ↦ fits_risen a (m.tide st) tide x (subst (λ (l : List ℕ). NoneFalls l (m.tide st)) (sym last) (none_falls_same (m.tide st))) (λ _. last) f
+        | inr same ↦ fits_risen a (m.tide st) tide x
+            (subst (λ (l : List ℕ). NoneFalls l (m.tide st)) (sym same.0) (none_falls_then x.tide a.tide (m.tide st) f.tide up'))
+            (λ alone. same.0 ∙ (f.alone alone ∙ sym (same.1 ∙ has.3))) f
+      ] in
+      let all : Each (Fits b) w.sights = subst (λ (l : List (Sight T)). Each (Fits b) (map (rising tide) l)) (sym only) (known, tt) in
       elim has.4 [
         | inl p ↦
             (let home : set s.homes 0 (core.some (Some st)) ≡ core.some (Some st) ∷ [] = ap (λ (hs : List (core.Option (Option S))). set hs 0 (core.some (Some st))) p.1 in (
@@ -442,34 +522,22 @@ module _ {S T : Type 0} (m : Meaning S T) (passes : ℕ) where
                 None,
                 record {
                   words = ap (λ (ws : List ℕ). set ws 1 0) has.0.words;
-                  sights = sights_set b s.views id w old all;
+                  count = has.0.count;
+                  sights = sights_else b s.views id w others all;
                   turn = (
                     λ k u e. elim (at_set s.views id k w u e) [
                       | inl t ↦ sym (ap (λ (y : View T). y.holds) t.1)
                       | inr t ↦ has.0.turn.0 k u t.1 t.0
                     ],
-                    (st, home, (shows ∙ has.2, marks ∙ mine_fits.0.1, refl)),
+                    (st, home, (shows ∙ has.2, marks ∙ f.marks, refl)),
                   );
-                  books = books_same passes a.opening (length a.log) s.views id v w has.0.books mine refl refl;
+                  books = books_same passes a.opening (length a.log) s.views id v w has.0.books mine refl has.1 refl;
                 },
               ),
-              is,
+              refl,
             ))
         | inr p ↦ absurd (apart v.out is_out p.0)
       ]
-
-  pub give_allowed : (id : ℕ) (v : View T) (x : Sight T) (st : S) → v.holds ≡ true → v.out ≡ true → m.line st ≡ v.line → v.sights ≡ x ∷ [] → m.marks st ≡ x.marks → NoneFalls v.level (m.tide st)
-      → Allows (Kept m passes) 1 id (v, (0, Some st) ∷ []) 1 (λ n. 0) (λ n. Gives m (v, (0, Some st) ∷ []))
-  give_allowed id v x st on is_out shows only marks up =
-      given_back id v x st (map (rising (m.tide st)) v.sights) (Gives m (v, (0, Some st) ∷ [])) on is_out shows only marks up
-      (λ a up' fits. each_map (Fits a) (Fits (record a { tide = m.tide st })) (rising (m.tide st)) (risen a (m.tide st)) v.sights fits) (st, refl, refl)
-
-  -- and the pass knows no more than before
-  pub leave_allowed : (id : ℕ) (v : View T) (x : Sight T) (st : S) → v.holds ≡ true → v.out ≡ true → m.line st ≡ v.line → v.sights ≡ x ∷ [] → m.marks st ≡ x.marks → NoneFalls v.level (m.tide st)
-      → Allows (Kept m passes) 1 id (v, (0, Some st) ∷ []) 1 (λ n. 0) (λ n. Leaves {S = S} (v, (0, Some st) ∷ []))
-  leave_allowed id v x st on is_out shows only marks up =
-      given_back id v x st v.sights (Leaves {S = S} (v, (0, Some st) ∷ [])) on is_out shows only marks up
-      (λ a up' fits. each_all (Fits a) (Fits (record a { tide = m.tide st })) (higher a (m.tide st) up') v.sights fits) refl
 
   -- who has the turn is not idle
   busy_else : (homes : List (core.Option (Option S))) (views : List (View T)) (id j : ℕ) (v u : View T) → AreAt views id v → v.holds ≡ false → AreAt views j u → u.holds ≡ true → j ≢ id
@@ -516,6 +584,7 @@ module _ {S T : Type 0} (m : Meaning S T) (passes : ℕ) where
     h,
     record {
       words = kept.words;
+      count = kept.count;
       sights = λ k u e. elim (at_snoc (set s.views id (less v)) (another v) u k e) [
         | inl old ↦ sights_set a s.views id (less v) kept.sights (kept.sights id v mine) k u old
         | inr new ↦ subst (λ (y : View T). Each (Fits a) y.sights) new (kept.sights id v mine)
@@ -565,26 +634,31 @@ module _ {S T : Type 0} (m : Meaning S T) (passes : ℕ) where
         h,
         record {
           words = kept.words;
+          count = kept.count;
           sights = sights_set a (set s.views id (both v w)) other spent (sights_set a s.views id (both v w) kept.sights fits) tt;
           turn = join_turn a s.homes s.views h id other v w mine theirs idle idle' kept.turn;
           books = books_join passes a.opening (length a.log) s.views id other v w kept.books mine theirs theirs';
         },
       )
 
-  pub starts : (st : S) → Kept m passes (opening (length (m.line st) ∷ 0 ∷ []) (Some st ∷ []) (starter (m.line st) (m.marks st) (m.tide st) passes))
-  starts st =
-      let a : Whole T = record { log = m.line st; marks = m.marks st; tide = m.tide st; opening = length (m.line st) } in
+  pub starts : (st : S) → 0 < passes → Kept m passes (opening (length (m.line st) ∷ 0 ∷ []) (Some st ∷ []) (starter (m.line st) (m.marks st) (m.tide st) passes))
+  starts st some =
+      let a : Whole T = record { log = m.line st; marks = m.marks st; tide = m.tide st; opening = length (m.line st); passes = passes } in
+      let f : Fits a (record { front = m.line st; marks = m.marks st; tide = m.tide st; opening = length (m.line st); passes = passes }) =
+      record { front = ([], sym (nothing_behind (m.line st))); marks = refl; tide = none_falls_same (m.tide st); opening = refl; passes = refl; alone = λ _. refl } in
       let v = starter (m.line st) (m.marks st) (m.tide st) passes in
       let only : (k : ℕ) (u : View T) → AreAt (v ∷ []) k u → v ≡ u = first v in (
         a,
         None,
         record {
           words = refl;
-          sights = λ k u e. subst (λ (y : View T). Each (Fits a) y.sights) (only k u e) ((([], sym (nothing_behind (m.line st))), refl, none_falls_same (m.tide st), refl), tt);
+          count = refl;
+          sights = λ k u e. subst (λ (y : View T). Each (Fits a) y.sights) (only k u e) (f, tt);
           turn = (λ k u e. sym (ap (λ (y : View T). y.holds) (only k u e)), (st, refl, (refl, refl, refl)));
           books = record {
             parts = omega arith;
             spent = λ k u e z. sym (ap (λ (y : View T). y.own) (only k u e));
+            blind = λ k u e z. absurd (has_part v v u refl some (only k u e) z);
             once = λ n from to. absurd (omega (arith, from, to));
             none = λ n out. refl;
             grown = omega arith;
@@ -592,17 +666,18 @@ module _ {S T : Type 0} (m : Meaning S T) (passes : ℕ) where
         },
       )
 
-  pub starts_at : (st v : S) (n : ℕ) (items : List (Option S)) → n ≡ length (m.line st) → items ≡ Some st ∷ [] → v ≡ st
+  pub starts_at : (st v : S) (n : ℕ) (items : List (Option S)) → 0 < passes → n ≡ length (m.line st) → items ≡ Some st ∷ [] → v ≡ st
       → Kept m passes (opening (n ∷ 0 ∷ []) items (starter (m.line v) (m.marks v) (m.tide v) passes))
-  starts_at st v n items count only is =
+  starts_at st v n items some count only is =
       subst (λ (x : S). Kept m passes (opening (n ∷ 0 ∷ []) items (starter (m.line x) (m.marks x) (m.tide x) passes))) (sym is)
       (subst (λ (l : List (Option S)). Kept m passes (opening (n ∷ 0 ∷ []) l (starter (m.line st) (m.marks st) (m.tide st) passes))) (sym only)
-      (subst (λ (k : ℕ). Kept m passes (opening (k ∷ 0 ∷ []) (Some st ∷ []) (starter (m.line st) (m.marks st) (m.tide st) passes))) (sym count) (starts st)))
+      (subst (λ (k : ℕ). Kept m passes (opening (k ∷ 0 ∷ []) (Some st ∷ []) (starter (m.line st) (m.marks st) (m.tide st) passes))) (sym count) (starts st some)))
 
   -- with all parts back and no turn held the state is at home
   abbrev pub Ends : List (core.Option (Option S)) → View T → Type 0
   Ends homes v = (a : Whole T) × (st : S) × (homes ≡ core.some (Some st) ∷ []) × Shows m a st × Each (Fits a) v.sights
       × ((n : ℕ) → a.opening ≤ n → n < length a.log → times n v.own ≡ 1) × ((n : ℕ) → (n < a.opening) ⊎ (length a.log ≤ n) → times n v.own ≡ 0)
+      × (a.passes ≡ passes)
 
   pub closes : (s : State (Option S) (View T)) (id : ℕ) (v : View T) → Kept m passes s → AreAt s.views id v → v.holds ≡ false → v.parts ≡ passes → Ends s.homes v
   closes s id v (a, None, kept) mine idle all =
@@ -614,6 +689,7 @@ module _ {S T : Type 0} (m : Meaning S T) (passes : ℕ) where
         kept.sights id v mine,
         λ n from to. (sym (own n) ∙ kept.books.once n from to),
         λ n out. (sym (own n) ∙ kept.books.none n out),
+        kept.count,
       ))
   closes s id v (a, Some j, kept) mine idle all =
       let other = busy_else s.homes s.views id j v kept.turn.1.0 mine idle kept.turn.1.1 kept.turn.1.6 in
@@ -654,16 +730,11 @@ module _ {S T : Type 0} (m : Meaning S T) (passes : ℕ) where
       (subst (λ (x : Me (Option S) (View T)). Allows (Kept m passes) 1 id x 0 (λ n. (n + 1) % 2 ^ 64) (λ n. Commits {S = S} list x)) (sym is)
       (commit_allowed id v list r on longer small))
 
-  pub give_asks : (id slots : ℕ) (me : Me (Option S) (View T)) (v : View T) (x : Sight T) (st : S) → slots ≡ 1 → me ≡ (v, (0, Some st) ∷ [])
+  pub give_asks : (id slots : ℕ) (me : Me (Option S) (View T)) (v : View T) (x : Sight T) (st : S) (tide : List ℕ) → slots ≡ 1 → me ≡ (v, (0, Some st) ∷ [])
       → v.holds ≡ true → v.out ≡ true → m.line st ≡ v.line → v.sights ≡ x ∷ [] → m.marks st ≡ x.marks → NoneFalls v.level (m.tide st)
-      → Allows (Kept m passes) slots id me 1 (λ n. 0) (λ n. Gives m me)
-  give_asks id slots me v x st one is on out shows only marks up =
-      subst (λ (k : ℕ). Allows (Kept m passes) k id me 1 (λ n. 0) (λ n. Gives m me)) (sym one)
-      (subst (λ (y : Me (Option S) (View T)). Allows (Kept m passes) 1 id y 1 (λ n. 0) (λ n. Gives m y)) (sym is) (give_allowed id v x st on out shows only marks up))
-
-  pub leave_asks : (id slots : ℕ) (me : Me (Option S) (View T)) (v : View T) (x : Sight T) (st : S) → slots ≡ 1 → me ≡ (v, (0, Some st) ∷ [])
-      → v.holds ≡ true → v.out ≡ true → m.line st ≡ v.line → v.sights ≡ x ∷ [] → m.marks st ≡ x.marks → NoneFalls v.level (m.tide st)
-      → Allows (Kept m passes) slots id me 1 (λ n. 0) (λ n. Leaves {S = S} me)
-  leave_asks id slots me v x st one is on out shows only marks up =
-      subst (λ (k : ℕ). Allows (Kept m passes) k id me 1 (λ n. 0) (λ n. Leaves {S = S} me)) (sym one)
-      (subst (λ (y : Me (Option S) (View T)). Allows (Kept m passes) 1 id y 1 (λ n. 0) (λ n. Leaves {S = S} y)) (sym is) (leave_allowed id v x st on out shows only marks up))
+      → (tide ≡ m.tide st) ⊎ ((tide ≡ x.tide) × (m.tide st ≡ v.level))
+      → Allows (Kept m passes) slots id me 1 (λ n. 0) (λ n. Gives {S = S} tide me)
+  give_asks id slots me v x st tide one is on out shows only marks up known =
+      subst (λ (k : ℕ). Allows (Kept m passes) k id me 1 (λ n. 0) (λ n. Gives {S = S} tide me)) (sym one)
+      (subst (λ (y : Me (Option S) (View T)). Allows (Kept m passes) 1 id y 1 (λ n. 0) (λ n. Gives {S = S} tide y)) (sym is)
+      (give_allowed id v x st tide on out shows only marks up known))

@@ -70,7 +70,11 @@ module _ {T : Type 0} where
 -- a state that was found fits what a pass has seen
 module _ {S T : Type 0} (m : Meaning S T) where
   pub goes_on : (a : Whole T) (s : S) (p : Pass T) → Shows m a s → Fits a (sight_of p) → BeginsWith p.front (m.line s) × (m.marks s ≡ p.marks) × NoneFalls p.tide (m.tide s)
-  goes_on a s p shows f = ((f.0.0, f.0.1 ∙ sym shows.0), shows.1 ∙ sym f.1, subst (λ (n : List ℕ). NoneFalls p.tide n) (sym shows.2) f.2)
+  goes_on a s p shows f = ((f.front.0, f.front.1 ∙ sym shows.0), shows.1 ∙ sym f.marks, subst (λ (n : List ℕ). NoneFalls p.tide n) (sym shows.2) f.tide)
+
+  -- and with one pass it has just the tide that this one has seen
+  pub goes_on_alone : (a : Whole T) (s : S) (p : Pass T) → Shows m a s → Fits a (sight_of p) → p.turns.passes ≡ 1 → m.tide s ≡ p.tide
+  goes_on_alone a s p shows f one = shows.2 ∙ sym (f.alone (sym f.passes ∙ one))
 
 pub not_some : {S : Type 0} (s : S) → None ≡ Some s → ⊥
 not_some s e = grind (arith, e)
@@ -80,14 +84,15 @@ same_some a b e = grind (arith, e)
 
 -- what is told of a state when all passes are back
 module _ {S T : Type 0} (m : Meaning S T) where
-  pub record Ends (all : List (Pass T)) (st : S) : Type 0 where
+  pub record Ends (passes : ℕ) (all : List (Pass T)) (st : S) : Type 0 where
     pub fronts : All (λ (p : Pass T). BeginsWith p.front (m.line st)) all
     pub marks : All (λ (p : Pass T). m.marks st ≡ p.marks) all
     pub tide : All (λ (p : Pass T). NoneFalls p.tide (m.tide st)) all
+    pub alone : passes ≡ 1 → All (λ (p : Pass T). m.tide st ≡ p.tide) all
     pub own : (opening : ℕ) × OwnsEach all opening (length (m.line st))
 
   pub ending : (passes id : ℕ) (v : View T) (ws : List ℕ) (xs : List (Option S)) (r : Option S) (all : List (Pass T))
-      → Final (Seen (Kept m passes) id v) ws xs → get_elem? xs 0 ≡ core.some r → Covers all v → length all ≡ passes → (st : S) × (r ≡ Some st) × Ends all st
+      → Final (Seen (Kept m passes) id v) ws xs → get_elem? xs 0 ≡ core.some r → Covers all v → length all ≡ passes → (st : S) × (r ≡ Some st) × Ends passes all st
   ending passes id v ws xs r all final at covers count =
       let s = final.0 in
       let ends = closes m passes s id v final.1.0 final.1.1 covers.holds (covers.parts ∙ count) in
@@ -104,11 +109,13 @@ module _ {S T : Type 0} (m : Meaning S T) where
           fronts = all_of (λ (p : Pass T). Fits a (sight_of p)) (λ (p : Pass T). BeginsWith p.front (m.line st)) (λ p f. (goes_on m a st p shows f).0) all fits;
           marks = all_of (λ (p : Pass T). Fits a (sight_of p)) (λ (p : Pass T). m.marks st ≡ p.marks) (λ p f. (goes_on m a st p shows f).1) all fits;
           tide = all_of (λ (p : Pass T). Fits a (sight_of p)) (λ (p : Pass T). NoneFalls p.tide (m.tide st)) (λ p f. (goes_on m a st p shows f).2) all fits;
+          alone = λ one. all_of (λ (p : Pass T). Fits a (sight_of p)) (λ (p : Pass T). m.tide st ≡ p.tide)
+              (λ p f. goes_on_alone m a st p shows f (f.passes ∙ (ends.7 ∙ one))) all fits;
           own = (
             a.opening,
             subst (OwnsEach all a.opening) long
                 record {
-                  opened = all_of (λ (p : Pass T). Fits a (sight_of p)) (λ (p : Pass T). p.opening ≡ a.opening) (λ p f. f.3) all fits;
+                  opened = all_of (λ (p : Pass T). Fits a (sight_of p)) (λ (p : Pass T). p.opening ≡ a.opening) (λ p f. f.opening) all fits;
                   once = λ n from to. sym (covers.own n) ∙ ends.5 n from to;
                   none = λ n out. sym (covers.own n) ∙ ends.6 n out;
                 },
@@ -118,7 +125,7 @@ module _ {S T : Type 0} (m : Meaning S T) where
 
   -- the same of the state that was found
   pub ended : (passes id : ℕ) (v : View T) (ws : List ℕ) (xs : List (Option S)) (r : Option S) (all : List (Pass T)) (st : S)
-      → Final (Seen (Kept m passes) id v) ws xs → get_elem? xs 0 ≡ core.some r → Covers all v → length all ≡ passes → r ≡ Some st → Ends all st
+      → Final (Seen (Kept m passes) id v) ws xs → get_elem? xs 0 ≡ core.some r → Covers all v → length all ≡ passes → r ≡ Some st → Ends passes all st
   ended passes id v ws xs r all st final at covers count is =
       let end = ending passes id v ws xs r all final at covers count in
-      subst (Ends all) (same_some end.0 st (sym end.1 ∙ is)) end.2
+      subst (Ends passes all) (same_some end.0 st (sym end.1 ∙ is)) end.2

@@ -11,7 +11,7 @@ pub record Turns : Type 0 where
 -- What one worker knows of the one list of records.
 pub record Pass (T : Type 0) : Type 0 where
   -- of which turns it is
-  pub turns : TableId
+  pub turns : Turns
   -- whether it holds the turn
   pub holds : Bool
   -- the records that it has seen: the list begins with them
@@ -31,16 +31,16 @@ pub record Pass (T : Type 0) : Type 0 where
 module _ {T : Type 0} where
   -- it is of these turns and doesn't hold the turn
   abbrev pub IsIdle : Turns → Pass T → Type 0
-  IsIdle turns pass = (pass.turns ≡ turns.id) × (pass.holds ≡ false)
+  IsIdle turns pass = (pass.turns ≡ turns) × (pass.holds ≡ false)
 
   -- it is of these turns and holds the turn
   abbrev pub HasTurn : Turns → Pass T → Type 0
-  HasTurn turns pass = (pass.turns ≡ turns.id) × (pass.holds ≡ true)
+  HasTurn turns pass = (pass.turns ≡ turns) × (pass.holds ≡ true)
 
   -- a pass of new turns, whose state has this list, these marks and this tide
   abbrev pub opened : Turns → List T → List ℕ → List ℕ → Pass T
   opened turns line marks tide = record {
-    turns = turns.id;
+    turns = turns;
     holds = false;
     front = line;
     own = [];

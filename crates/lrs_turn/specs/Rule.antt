@@ -17,12 +17,13 @@ pub record Meaning (S T : Type 0) : Type 0 where
 abbrev pub meaning : {S T : Type 0} → (S → List T) → (S → List ℕ) → (S → List ℕ) → Meaning S T
 meaning line marks tide = record { line = line; marks = marks; tide = tide }
 
--- The one list and the tide, and the marks and the opening, which never change.
+-- The one list and the tide, and the marks, the opening and the number of passes, which never change.
 pub record Whole (T : Type 0) : Type 0 where
   pub log : List T
   pub marks : List ℕ
   pub tide : List ℕ
   pub opening : ℕ
+  pub passes : ℕ
 
 module _ {T : Type 0} where
   -- a view that stands for no pass
@@ -34,15 +35,20 @@ module _ {T : Type 0} where
   view_in (v ∷ rest) = v
 
   abbrev pub blank_sight : Sight T
-  blank_sight = record { front = []; marks = []; tide = []; opening = 0 }
+  blank_sight = record { front = []; marks = []; tide = []; opening = 0; passes = 0 }
 
   abbrev pub sight_in : List (Sight T) → Sight T
   sight_in [] = blank_sight
   sight_in (x ∷ rest) = x
 
-  -- what a pass has seen is so
-  abbrev pub Fits : Whole T → Sight T → Type 0
-  Fits a x = BeginsWith x.front a.log × (x.marks ≡ a.marks) × NoneFalls x.tide a.tide × (x.opening ≡ a.opening)
+  -- what a pass has seen is so, and the only pass has seen the last tide
+  pub record Fits (a : Whole T) (x : Sight T) : Type 0 where
+    pub front : BeginsWith x.front a.log
+    pub marks : x.marks ≡ a.marks
+    pub tide : NoneFalls x.tide a.tide
+    pub opening : x.opening ≡ a.opening
+    pub passes : x.passes ≡ a.passes
+    pub alone : a.passes ≡ 1 → x.tide ≡ a.tide
 
   abbrev pub AreAt : List (View T) → ℕ → View T → Type 0
   AreAt views k v = get_elem? views k ≡ core.some v
@@ -53,11 +59,12 @@ module _ {T : Type 0} where
   abbrev pub own_times : ℕ → View T → ℕ
   own_times n v = times n v.own
 
-  -- The parts add up to all passes. Each number from the opening to the end of the list is once in just one own, and no
-  -- other is in any.
+  -- The parts add up to all passes, and a view that stands for none has seen nothing. Each number from the opening to
+  -- the end of the list is once in just one own, and no other is in any.
   pub record Books (passes opening count : ℕ) (views : List (View T)) : Type 0 where
     pub parts : total parts_of views ≡ passes
     pub spent : (k : ℕ) (v : View T) → AreAt views k v → v.parts ≡ 0 → v.own ≡ []
+    pub blind : (k : ℕ) (v : View T) → AreAt views k v → v.parts ≡ 0 → v.sights ≡ []
     pub once : (n : ℕ) → opening ≤ n → n < count → total (own_times n) views ≡ 1
     pub none : (n : ℕ) → (n < opening) ⊎ (count ≤ n) → total (own_times n) views ≡ 0
     pub grown : opening ≤ count
@@ -82,9 +89,6 @@ module _ {T : Type 0} where
   abbrev pub given_view : List ℕ → View T → View T
   given_view tide v = record v { holds = false; out = false; sights = map (rising tide) v.sights }
 
-  abbrev pub rested_view : View T → View T
-  rested_view v = record v { holds = false; out = false }
-
   -- a view that gives one part away, the view that gets it, and two that become one
   abbrev pub less : View T → View T
   less v = record v { parts = v.parts - 1 }
@@ -97,10 +101,10 @@ module _ {T : Type 0} where
 
   -- the first view, with all parts
   abbrev pub starter : List T → List ℕ → List ℕ → ℕ → View T
-  starter line marks tide parts = record {
-    sights = record { front = line; marks = marks; tide = tide; opening = length line } ∷ [];
+  starter line marks tide passes = record {
+    sights = record { front = line; marks = marks; tide = tide; opening = length line; passes = passes } ∷ [];
     own = [];
-    parts = parts;
+    parts = passes;
     holds = false;
     out = false;
     line = [];
@@ -133,6 +137,7 @@ module _ {S T : Type 0} (m : Meaning S T) where
   -- Between any two steps.
   pub record KeptBy (passes : ℕ) (a : Whole T) (holder : Option ℕ) (s : State (Option S) (View T)) : Type 0 where
     pub words : s.words ≡ length a.log ∷ turn_of holder ∷ []
+    pub count : a.passes ≡ passes
     pub sights : (k : ℕ) (v : View T) → AreAt s.views k v → Each (Fits a) v.sights
     pub turn : Turn a s.homes s.views holder
     pub books : Books passes a.opening (length a.log) s.views
@@ -147,9 +152,6 @@ module _ {S T : Type 0} (m : Meaning S T) where
       × (n ≢ 1 → (a : Whole T) × (s : S) × Shows a s × Each (Fits a) v.0.sights
       × (w ≡ (record v.0 { holds = true; out = true; line = m.line s; level = m.tide s }, (0, Some s) ∷ [])))
 
-  abbrev pub Gives : Me (Option S) (View T) → Me (Option S) (View T) → Type 0
-  Gives v w = (s : S) × (v.1 ≡ (0, Some s) ∷ []) × (w ≡ (given_view (m.tide s) v.0, []))
-
 module _ {S T : Type 0} where
   abbrev pub Rests : Me (Option S) (View T) → Me (Option S) (View T) → Type 0
   Rests v w = w ≡ (record v.0 { out = false }, [])
@@ -157,8 +159,8 @@ module _ {S T : Type 0} where
   abbrev pub Fetches : Me (Option S) (View T) → Me (Option S) (View T) → Type 0
   Fetches v w = w ≡ (record v.0 { out = true }, (0, None) ∷ [])
 
-  abbrev pub Leaves : Me (Option S) (View T) → Me (Option S) (View T) → Type 0
-  Leaves v w = w ≡ (rested_view v.0, [])
+  abbrev pub Gives : List ℕ → Me (Option S) (View T) → Me (Option S) (View T) → Type 0
+  Gives tide v w = w ≡ (given_view tide v.0, [])
 
   abbrev pub Points : Me (Option S) (View T) → Me (Option S) (View T) → Type 0
   Points v w = w ≡ (pointed_view v.0, v.1)

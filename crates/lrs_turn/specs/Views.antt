@@ -9,7 +9,13 @@ use Rattle.lrs_turn.specs.Rule.{Fits, Meaning, Whole, starter, view_in, sight_in
 
 module _ {T : Type 0} where
   abbrev pub sight_of : Pass T → Sight T
-  sight_of pass = record { front = pass.front; marks = pass.marks; tide = pass.tide; opening = pass.opening }
+  sight_of pass = record {
+    front = pass.front;
+    marks = pass.marks;
+    tide = pass.tide;
+    opening = pass.opening;
+    passes = pass.turns.passes;
+  }
 
   abbrev pub view_of : Pass T → View T
   view_of pass = record {
@@ -28,7 +34,7 @@ module _ {T : Type 0} where
       let v = view_in views in
       let x = sight_in v.sights in
       record {
-        turns = table;
+        turns = record { id = table; passes = x.passes };
         holds = v.holds;
         front = x.front;
         own = v.own;
@@ -48,8 +54,8 @@ abbrev pub AreTurns : TableId → ℕ → Type 0
 AreTurns table passes = (table.words ≡ 2) × (table.slots ≡ 1) × (0 < passes)
 
 module _ {T : Type 0} where
-  abbrev pub IsIdleAt : TableId → Pass T → Type 0
-  IsIdleAt table pass = (pass.turns ≡ table) × (pass.holds ≡ false)
+  abbrev pub IsIdleAt : TableId → ℕ → Pass T → Type 0
+  IsIdleAt table passes pass = (pass.turns ≡ record { id = table; passes = passes }) × (pass.holds ≡ false)
 
   -- a view that stands for these passes
   pub record Covers (passes : List (Pass T)) (v : View T) : Type 0 where
@@ -59,9 +65,9 @@ module _ {T : Type 0} where
     pub sights : (a : Whole T) → Each (Fits a) v.sights → Each (λ (p : Pass T). Fits a (sight_of p)) passes
 
 module _ {S T : Type 0} (m : Meaning S T) where
-  abbrev pub opened_at : TableId → S → Pass T
-  opened_at table s = opened (record { id = table; passes = 0 }) (m.line s) (m.marks s) (m.tide s)
+  abbrev pub opened_at : TableId → ℕ → S → Pass T
+  opened_at table passes s = opened (record { id = table; passes = passes }) (m.line s) (m.marks s) (m.tide s)
 
-  -- the view of the first seat, while it still stands for so many passes
-  abbrev pub fresh : S → ℕ → View T
-  fresh s parts = starter (m.line s) (m.marks s) (m.tide s) parts
+  -- the view of the first seat of so many passes, while it still stands for this part of them
+  abbrev pub fresh : S → ℕ → ℕ → View T
+  fresh s passes parts = record (starter (m.line s) (m.marks s) (m.tide s) passes) { parts = parts }

@@ -28,10 +28,10 @@ fn deal_all<S: Journaled>(
 ) -> Vec<Pass<S::Record>>
     requires table { (seat.table_id ≡ shared.now.table_id) × (shared.now.table_id.words ≡ 2)
         × (shared.now.table_id.slots ≡ 1) }
-    requires seat { seat.me ≡ (fresh (meaning S.line S.marks S.tide) _state.value count, []) }
+    requires seat { seat.me ≡ (fresh (meaning S.line S.marks S.tide) _state.value count count, []) }
     requires seen { seen ≡ length (S.line _state.value) }
     requires room { (passes.items ≡ []) × (0 < count) × (count ≤ vec_capacity passes) }
-    ensures of { Each (λ p. p ≡ opened_at (meaning S.line S.marks S.tide) shared.now.table_id _state.value)
+    ensures of { Each (λ p. p ≡ opened_at (meaning S.line S.marks S.tide) shared.now.table_id count _state.value)
         result.items }
     ensures count { length result.items ≡ count }
 {
@@ -52,7 +52,7 @@ fn gather<S: Journaled>(
     mut passes: Vec<Pass<S::Record>>,
 ) -> Seat<Option<S>, View<S::Record>>
     requires table { (shared.now.table_id.words ≡ 2) × (shared.now.table_id.slots ≡ 1) }
-    requires of { Each (IsIdleAt shared.now.table_id) passes.items }
+    requires of { Each (IsIdleAt shared.now.table_id shared.now.key.passes) passes.items }
     requires some { 0 < length passes.items }
     ensures table { (result.table_id ≡ shared.now.table_id) × (result.me.1 ≡ []) }
     ensures covers { Covers passes.items result.me.0 }
@@ -118,6 +118,7 @@ impl<S: Journaled> Turns<S> {
         ensures fronts { All (λ p. BeginsWith p.front (S.line result)) passes.items }
         ensures marks { All (λ p. S.marks result ≡ p.marks) passes.items }
         ensures tide { All (λ p. NoneFalls p.tide (S.tide result)) passes.items }
+        ensures alone { self.passes ≡ 1 → All (λ p. S.tide result ≡ p.tide) passes.items }
         ensures own { (opening : ℕ) × OwnsEach passes.items opening (length (S.line result)) }
     {
         let Turns { table } = self;

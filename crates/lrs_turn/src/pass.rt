@@ -36,7 +36,7 @@ impl<T: Drop> Pass<T> {
 
     // The seat that it is at the table.
     pub(crate) fn into_seat<S: Drop>(self) -> Seat<Option<S>, View<T>>
-        ensures table { result.table_id ≡ self.turns }
+        ensures table { result.table_id ≡ self.turns.id }
         ensures seat { result.me ≡ (view_of self, []) }
     {
         self.badge.into_seat()

@@ -1,7 +1,7 @@
 // The rule of the table, and what each step tells.
-ghost use Rattle.std.specs.Prelude.{List, []};
+ghost use Rattle.std.specs.Prelude.{ℕ, List, []};
 ghost use Rattle.lrs_turn.specs.Rule.{meaning, Kept, starter, less, another, both, spent};
-ghost use Rattle.lrs_turn.specs.Rule.{Takes, Rests, Fetches, Points, Commits, Gives, Leaves};
+ghost use Rattle.lrs_turn.specs.Rule.{Takes, Rests, Fetches, Points, Commits, Gives};
 
 use crate::journaled::Journaled;
 use crate::view::{Opening, View};
@@ -36,18 +36,6 @@ impl<S: Journaled> Play<Option<S>, View<S::Record>> for Fetch {
     ghost then = { λ s v n w. Fetches v w };
 }
 
-pub struct Give;
-
-impl<S: Journaled> Play<Option<S>, View<S::Record>> for Give {
-    ghost then = { λ s v n w. Gives (meaning S.line S.marks S.tide) v w };
-}
-
-pub struct Leave;
-
-impl<S: Journaled> Play<Option<S>, View<S::Record>> for Leave {
-    ghost then = { λ s v n w. Leaves v w };
-}
-
 pub struct Point;
 
 impl<S: Journaled> Play<Option<S>, View<S::Record>> for Point {
@@ -69,6 +57,23 @@ pub struct Commit<W> {
 
 impl<S: Journaled, W: Said<S::Record>> Play<Option<S>, View<S::Record>> for Commit<W> {
     ghost then = { λ s v n w. Commits W.list v w };
+}
+
+/// The tide that a pass knows behind a give, for the proof alone.
+pub trait Known {
+    ghost tide: { List ℕ };
+}
+
+impl Known for Brand {
+    ghost tide = { [] };
+}
+
+pub struct Give<W> {
+    marker: PhantomData<W>,
+}
+
+impl<S: Journaled, W: Known> Play<Option<S>, View<S::Record>> for Give<W> {
+    ghost then = { λ s v n w. Gives W.tide v w };
 }
 
 // A further pass.

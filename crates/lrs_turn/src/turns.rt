@@ -1,11 +1,11 @@
 // One state that workers take in turns.
-ghost use Rattle.std.specs.Prelude.{◌≡◌, length, MatchOption};
+ghost use Rattle.std.specs.Prelude.{◌≡◌, ◌⊎◌, length, MatchOption};
 ghost use Rattle.lrs_turn.specs.Lists.{BeginsWith, NoneFalls};
 ghost use Rattle.lrs_turn.specs.Passes.{IsIdle, HasTurn, IsOneMore, taken, pointed, committed, given, rested};
 
 use crate::journaled::Journaled;
 use crate::pass::Pass;
-use crate::rule::{Commit, Fetch, Give, Keeps, Leave, Point, Rest, Said, Take};
+use crate::rule::{Commit, Fetch, Give, Keeps, Known, Point, Rest, Said, Take};
 use crate::view::{Opening, View};
 use atomic_table::{Badge, Seat, Table};
 use std::alloc::Global;
@@ -43,7 +43,7 @@ impl<S: Journaled> Turns<S> {
             (pass.new ≡ pass.old)
             (λ state. (pass.new ≡ taken (S.line state) (S.tide state) pass.old)
             × BeginsWith pass.old.front (S.line state) × (S.marks state ≡ pass.old.marks)
-            × NoneFalls pass.old.tide (S.tide state)) }
+            × NoneFalls pass.old.tide (S.tide state) × (self.now.passes ≡ 1 → S.tide state ≡ pass.old.tide)) }
     {
         let shared = &self.table.shared;
         let badge = replace(&mut pass.badge, Badge::blank());
@@ -67,6 +67,9 @@ impl<S: Journaled> Turns<S> {
         ensures line { BeginsWith pass.old.front (S.line result) }
         ensures marks { S.marks result ≡ pass.old.marks }
         ensures tide { NoneFalls pass.old.tide (S.tide result) }
+
+        // With one pass nobody else has come between.
+        ensures alone { self.now.passes ≡ 1 → S.tide result ≡ pass.old.tide }
     {
         for _ in rt.forever() {
             if let Some(state) = self.try_take(pass) {
@@ -117,6 +120,27 @@ impl<S: Journaled> Turns<S> {
         self.commit_as::<Brand>(pass, state, count);
     }
 
+    // Gives the state back. Behind it the pass knows the tide that `W` names: the state's, or, where that is as it was
+    // taken, what it knew before.
+    fn give_as<W: Known>(&self, pass: &mut Pass<S::Record>, state: S)
+        requires turn { HasTurn self.now pass.old }
+        requires line { S.line state ≡ pass.old.line }
+        requires marks { S.marks state ≡ pass.old.marks }
+        requires tide { NoneFalls pass.old.level (S.tide state) }
+        requires known { (W.tide ≡ S.tide state) ⊎ ((W.tide ≡ pass.old.tide) × (S.tide state ≡ pass.old.level)) }
+        ensures turn { IsIdle self.now pass.new }
+        ensures pass { pass.new ≡ given W.tide pass.old }
+    {
+        let shared = &self.table.shared;
+        let badge = replace(&mut pass.badge, Badge::blank());
+        let mut seat: Seat<Option<S>, View<S::Record>> = badge.into_seat();
+        shared.load::<Fetch>(&mut seat, 0);
+        let _nothing = shared.exchange(&mut seat, 0, Some(state));
+        shared.swap::<Give<W>>(&mut seat, 1, 0);
+        pass.badge = seat.into_badge();
+        shared.wake_one(1);
+    }
+
     /// Gives the state back, and with it the turn. All that was added to the state must be committed.
     pub fn give(&self, pass: &mut Pass<S::Record>, state: S)
         requires turn { HasTurn self.now pass.old }
@@ -126,34 +150,19 @@ impl<S: Journaled> Turns<S> {
         ensures turn { IsIdle self.now pass.new }
         ensures pass { pass.new ≡ given (S.tide state) pass.old }
     {
-        let shared = &self.table.shared;
-        let badge = replace(&mut pass.badge, Badge::blank());
-        let mut seat: Seat<Option<S>, View<S::Record>> = badge.into_seat();
-        shared.load::<Fetch>(&mut seat, 0);
-        let _nothing = shared.exchange(&mut seat, 0, Some(state));
-        shared.swap::<Give>(&mut seat, 1, 0);
-        pass.badge = seat.into_badge();
-        shared.wake_one(1);
+        self.give_as::<Brand>(pass, state);
     }
 
-    /// Gives the state back like `give`. The pass knows no more than before the state was taken, so a worker calls it
-    /// that only looked.
+    /// Gives the state back as it was taken. The pass knows no more than before, so a worker calls it that only looked.
     pub fn put_back(&self, pass: &mut Pass<S::Record>, state: S)
         requires turn { HasTurn self.now pass.old }
         requires line { S.line state ≡ pass.old.line }
         requires marks { S.marks state ≡ pass.old.marks }
-        requires tide { NoneFalls pass.old.level (S.tide state) }
+        requires tide { S.tide state ≡ pass.old.level }
         ensures turn { IsIdle self.now pass.new }
         ensures pass { pass.new ≡ rested pass.old }
     {
-        let shared = &self.table.shared;
-        let badge = replace(&mut pass.badge, Badge::blank());
-        let mut seat: Seat<Option<S>, View<S::Record>> = badge.into_seat();
-        shared.load::<Fetch>(&mut seat, 0);
-        let _empty = shared.exchange(&mut seat, 0, Some(state));
-        shared.swap::<Leave>(&mut seat, 1, 0);
-        pass.badge = seat.into_badge();
-        shared.wake_one(1);
+        self.give_as::<Brand>(pass, state);
     }
 }
 

@@ -9,6 +9,8 @@ pub struct Sight<T: Drop> {
     pub marks: LinkedList<u64>,
     pub tide: LinkedList<u64>,
     pub opening: u64,
+    /// How many passes the turns have.
+    pub passes: u64,
 }
 
 /// What a seat at the table knows. It stands for one pass or for several, each with its sight: the rule says of each

@@ -8,13 +8,13 @@ use Rattle.lrs_turn.proofs.dealing.gather.Goals as goal
 
 pub join_seat-requires : goal.join_seat-requires
 join_seat-requires g c =
-    let table = c.args.shared.now.table_id in
+    let idle_at = IsIdleAt c.args.shared.now.table_id c.args.shared.now.key.passes in
     let inv = c.loop-pass.invariant in
     let seat = c.into_seat.ensures in
     let pop = c.in-Some-pop.ensures in
-    let idle = each_last (IsIdleAt table) c.pop-in-loop-pass.new.self.items c.in-Some-pop.pass (subst (Each (IsIdleAt table)) pop.items inv.2) in (
+    let idle = each_last idle_at c.pop-in-loop-pass.new.self.items c.in-Some-pop.pass (subst (Each idle_at) pop.items inv.2) in (
       inv.0,
-      seat.table ∙ idle.0,
+      seat.table ∙ ap (λ t. t.id) idle.0,
       ap (λ m. m.1) seat.seat,
       omega (arith, c.requires.table.0),
       joins (meaning g.S.Journaled.line g.S.Journaled.marks g.S.Journaled.tide) _ _ _ _ _ inv.3.2.holds (ap (λ m. m.0.holds) seat.seat ∙ idle.1),
@@ -22,17 +22,17 @@ join_seat-requires g c =
 
 pub loop-pass-preserved : goal.loop-pass-preserved
 loop-pass-preserved g c =
-    let table = c.args.shared.now.table_id in
+    let idle_at = IsIdleAt c.args.shared.now.table_id c.args.shared.now.key.passes in
     let inv = c.loop-pass.invariant in
     let seat = c.into_seat.ensures in
     let pop = c.in-Some-pop.ensures in
     let p = c.in-Some-pop.pass in
     let left = c.pop-in-loop-pass.new.self.items in
-    let all = subst (Each (IsIdleAt table)) pop.items inv.2 in
+    let all = subst (Each idle_at) pop.items inv.2 in
     let joined = c.join_seat.ensures in
     let covers = covers_more p inv.3.0 c.loop-pass.seat.me.0 c.into_seat.result.me.0 (ap (λ m. m.0) seat.seat) inv.3.2 in (
       joined.0 ∙ inv.0,
       ap (λ m. m.1) joined.2 ∙ inv.1,
-      each_left (IsIdleAt table) left (p ∷ []) all,
+      each_left idle_at left (p ∷ []) all,
       (p ∷ inv.3.0, inv.3.1 ∙ (ap (λ l. l ++ inv.3.0) pop.items ∙ moved_over left p inv.3.0), subst (Covers (p ∷ inv.3.0)) (sym (ap (λ m. m.0) joined.2)) covers),
     )

@@ -6,7 +6,7 @@ use Rattle.lrs_turn.proofs.dealing.gather.Given as goal
 
 abbrev pub invariant-loop-pass : goal.invariant-loop-pass
 invariant-loop-pass g l =
-    (l.seat.table_id ≡ l.shared.table_id) × (l.seat.me.1 ≡ []) × Each (IsIdleAt l.shared.table_id) l.passes.items
+    (l.seat.table_id ≡ l.shared.table_id) × (l.seat.me.1 ≡ []) × Each (IsIdleAt l.shared.table_id l.shared.key.passes) l.passes.items
     × ((done : List (Pass g.row.S-Record.Denot)) × (l.fn.passes.items ≡ l.passes.items ++ done) × Covers done l.seat.me.0)
 
 abbrev pub decreases-loop-pass : goal.decreases-loop-pass

@@ -25,6 +25,11 @@ returns-clause-tide g c =
     (ended (meaning g.S.Journaled.line g.S.Journaled.marks g.S.Journaled.tide) _ _ _ _ _ _ c.args.passes.items _ c.close_with-closed.ensures.values.2
     c.take-state.ensures.value c.gather-seat.ensures.covers (c.requires.all ∙ sym (ap (λ t. t.passes) c.self.view_is)) c.in-Some.is).tide
 
+pub returns-clause-alone : goal.returns-clause-alone
+returns-clause-alone g c one =
+    (ended (meaning g.S.Journaled.line g.S.Journaled.marks g.S.Journaled.tide) _ _ _ _ _ _ c.args.passes.items _ c.close_with-closed.ensures.values.2
+    c.take-state.ensures.value c.gather-seat.ensures.covers (c.requires.all ∙ sym (ap (λ t. t.passes) c.self.view_is)) c.in-Some.is).alone (ap (λ t. t.passes) c.self.view_is ∙ one)
+
 pub returns-clause-own : goal.returns-clause-own
 returns-clause-own g c =
     (ended (meaning g.S.Journaled.line g.S.Journaled.marks g.S.Journaled.tide) _ _ _ _ _ _ c.args.passes.items _ c.close_with-closed.ensures.values.2

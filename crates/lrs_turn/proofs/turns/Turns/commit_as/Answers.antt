@@ -14,7 +14,7 @@ fetch_add-requires g c =
     let asked = c.requires.turn in
     let fits = c.ranges.count.fits in
     let count = c.requires.count in (
-      seat.0 ∙ (ap (λ b. b.table_id) old ∙ (ap (λ q. q.turns) c.pass.view_is ∙ (asked.0 ∙ sym (ap (λ t. t.id) c.self.view_is)))),
+      seat.0 ∙ (ap (λ b. b.table_id) old ∙ ap (λ t. t.id) (ap (λ q. q.turns) c.pass.view_is ∙ (asked.0 ∙ sym c.self.view_is))),
       omega (arith, c.self.invariant.0),
       commit_asks (meaning g.S.Journaled.line g.S.Journaled.marks g.S.Journaled.tide) _ _ _ _ (view_of p) _ c.requires.line.0 c.self.invariant.1 me asked.1
           c.requires.line.1 (omega (arith, fits, count)),

@@ -12,7 +12,7 @@ compare_exchange-found-requires g c =
     let old = c.replace-badge.ensures.value in
     let me = opens _ _ _ p _ c.pass.view_is c.pass.invariant.0 (ap (λ b. b.views) old) seat.2 seat.3 in
     let asked = c.requires in (
-      seat.0 ∙ (ap (λ b. b.table_id) old ∙ (ap (λ q. q.turns) c.pass.view_is ∙ (asked.0 ∙ sym (ap (λ t. t.id) c.self.view_is)))),
+      seat.0 ∙ (ap (λ b. b.table_id) old ∙ ap (λ t. t.id) (ap (λ q. q.turns) c.pass.view_is ∙ (asked.0 ∙ sym c.self.view_is))),
       omega (arith, c.self.invariant.0),
       take_asks (meaning g.S.Journaled.line g.S.Journaled.marks g.S.Journaled.tide) _ _ _ _ (view_of p) c.self.invariant.1 me (omega arith),
     )
@@ -23,7 +23,7 @@ exchange-state-requires g c =
     let old = c.replace-badge.ensures.value in
     let took = c.compare_exchange-found.ensures in
     let st = took.2.1 c.if-found-eq1.false in (
-      took.0 ∙ (seat.0 ∙ (ap (λ b. b.table_id) old ∙ (ap (λ q. q.turns) c.pass.view_is ∙ (c.requires.0 ∙ sym (ap (λ t. t.id) c.self.view_is))))),
+      took.0 ∙ (seat.0 ∙ (ap (λ b. b.table_id) old ∙ ap (λ t. t.id) (ap (λ q. q.turns) c.pass.view_is ∙ (c.requires.0 ∙ sym c.self.view_is)))),
       (Some st.1, carries _ _ _ st.4),
     )
 
@@ -34,7 +34,7 @@ load-requires g c =
     let took = c.compare_exchange-found.ensures in
     let st = took.2.1 c.if-found-eq1.false in
     let put = c.exchange-state.ensures in (
-      put.0 ∙ (took.0 ∙ (seat.0 ∙ (ap (λ b. b.table_id) old ∙ (ap (λ q. q.turns) c.pass.view_is ∙ (c.requires.0 ∙ sym (ap (λ t. t.id) c.self.view_is)))))),
+      put.0 ∙ (took.0 ∙ (seat.0 ∙ (ap (λ b. b.table_id) old ∙ ap (λ t. t.id) (ap (λ q. q.turns) c.pass.view_is ∙ (c.requires.0 ∙ sym c.self.view_is))))),
       omega (arith, c.self.invariant.0),
       rest_asks (meaning g.S.Journaled.line g.S.Journaled.marks g.S.Journaled.tide) _ _ _ _ _ c.self.invariant.1 (puts _ _ _ _ _ st.4 put.3) refl refl,
     )
