@@ -14,7 +14,7 @@ use Rattle.lrs_hall.specs.LrsMachineActs.{Receipt, changed}
 use Rattle.lrs_hall.specs.LrsMachineLine.{Record}
 use Rattle.lrs_hall.specs.Acts.{ActsIn, ActsNext, Reach}
 use Rattle.lrs_hall.specs.Draws.{start_of}
-use Rattle.lrs_hall.specs.Serving.{AreOnLinks, Mark, worker_at}
+use Rattle.lrs_hall.specs.Serving.{AreOnLinks, Tide, worker_at}
 use Rattle.lrs_hall.specs.Talks.{Talk}
 use Rattle.lrs_hall.specs.Workers.{AreStints, IsStint, ServesDoors, Stint}
 use Rattle.lrs_hall.specs.declared.serving.ServeEnd.{ServeEnd}
@@ -70,7 +70,7 @@ module _ (limit : ℕ) (line : List Record) where
 -- ---- one worker
 
 -- where there was one worker, no act but its own came between
-pub alone_serves : (limit : ℕ) (opened line : List Record) (start end : Mark) (connections : ℕ) (seed : List ℕ) (openings closings : List DoorState) (all : List (List Talk)) (why : ServeEnd)
+pub alone_serves : (limit : ℕ) (opened line : List Record) (start end : Tide) (connections : ℕ) (seed : List ℕ) (openings closings : List DoorState) (all : List (List Talk)) (why : ServeEnd)
     → (serves : ServesDoors limit opened line start end connections seed openings closings all why) → IsAlone limit line (length opened) start end connections seed serves.stints serves.each
 alone_serves limit opened line start end connections seed openings closings all why serves = by_stints serves.stints serves.each serves.owned
   where
@@ -80,7 +80,7 @@ alone_serves limit opened line start end connections seed openings closings all 
     by_stints (s ∷ []) each owned =
         let one : IsStint limit line (length opened) start end connections (start_of seed 1) s = each.0 in
         let came = over_all (ActsIn limit line) (λ (receipts : List Receipt). Comes limit line) (comes limit line) s.talks one.links (worker_at (start_of seed 1) (length opened) [] start)
-        (worker_at one.last s.reach.records s.reach.own s.reach.mark) one.on_links in
+        (worker_at one.last s.reach.records s.reach.own s.reach.tide) one.on_links in
         let within : s.reach.records ≤ length line = came.0 (begins_length opened line serves.begins) in
         let later : length opened ≤ s.reach.records = came.1 in
         let mine : (n : ℕ) → length opened ≤ n → n < length line → times n s.reach.own + 0 ≡ 1 = owned in
@@ -89,7 +89,7 @@ alone_serves limit opened line start end connections seed openings closings all 
         let own = mine s.reach.records later short in
         let ahead = came.2 (λ n from. refl) s.reach.records (omega arith) in
         absurd (omega (arith, own, ahead))) (eq-or-lt_of_le within) in
-        subst (λ (n : ℕ). AreOnLinks (ActsNext limit line) s.talks one.links (worker_at (start_of seed 1) (length opened) [] start) (worker_at one.last n s.reach.own s.reach.mark)) whole
-        (alone limit line s.talks one.links (worker_at (start_of seed 1) (length opened) [] start) (worker_at one.last s.reach.records s.reach.own s.reach.mark) one.on_links
+        subst (λ (n : ℕ). AreOnLinks (ActsNext limit line) s.talks one.links (worker_at (start_of seed 1) (length opened) [] start) (worker_at one.last n s.reach.own s.reach.tide)) whole
+        (alone limit line s.talks one.links (worker_at (start_of seed 1) (length opened) [] start) (worker_at one.last s.reach.records s.reach.own s.reach.tide) one.on_links
         (λ n from low. let own = mine n from (omega (arith, low, within)) in omega (arith, own)) (λ n from. refl))
     by_stints (s ∷ t ∷ stints) each owned = tt

@@ -47,8 +47,8 @@ takes_file old new same adds = subst (λ (f : List ℕ). AddsName old new f) sam
 -- the disk of a file is taken as the shelf tells of it
 pub same_taken : (told : Option (List ℕ)) (count moment : ℕ) (holds : List ℕ → Option (List ℕ)) (begins starts : List ℕ → ℕ) {name file : List ℕ}
     → name ≡ file → told ≡ holds name → count ≡ begins name → moment ≡ starts name
-    → ◌≡◌ {A = Taken} (record { held = told; mark = record { faults = count; moment = moment } })
-    (record { held = holds file; mark = record { faults = begins file; moment = starts file } })
+    → ◌≡◌ {A = Taken} (record { held = told; tide = record { faults = count; moment = moment } })
+    (record { held = holds file; tide = record { faults = begins file; moment = starts file } })
 same_taken told count moment holds begins starts {name} {file} same tells counts passes =
     let t : told ≡ holds file = tells ∙ ap holds same in
     let c : count ≡ begins file = counts ∙ ap begins same in
@@ -59,36 +59,36 @@ same_taken told count moment holds begins starts {name} {file} same tells counts
 module _ {D : Type 0} (d : disks.Ghosts D) (disk : D) (taken : Taken) (n : ℕ) (end : Ending) where
   pub intake_leaves : (old : D) (left : Option (List ℕ)) (clock : ℕ) (draw : Draw) (input_count input_now : ℕ) → taken_now d old ≡ taken
       → IntakeEnds d (taken_now d old) disk left clock draw n end → HasEndingCause (d.fault_count old) (d.fault_count disk) input_count input_now end
-      → IntakeEnds d taken disk left clock draw n end × HasEndingCause taken.mark.faults (d.fault_count disk) input_count input_now end
+      → IntakeEnds d taken disk left clock draw n end × HasEndingCause taken.tide.faults (d.fault_count disk) input_count input_now end
   intake_leaves old left clock draw input_count input_now same ends cause = (
     subst (λ (t : Taken). IntakeEnds d t disk left clock draw n end) same ends,
-    subst (λ (t : Taken). HasEndingCause t.mark.faults (d.fault_count disk) input_count input_now end) same cause,
+    subst (λ (t : Taken). HasEndingCause t.tide.faults (d.fault_count disk) input_count input_now end) same cause,
   )
 
   pub load_leaves : (old : D) (seed count : ℕ) (draws : Draws) (clocks : List ℕ) → taken_now d old ≡ taken
       → LoadEnds d (taken_now d old) disk seed count draws clocks n end → HasEndingCause (d.fault_count old) (d.fault_count disk) 0 0 end
-      → LoadEnds d taken disk seed count draws clocks n end × HasEndingCause taken.mark.faults (d.fault_count disk) 0 0 end
+      → LoadEnds d taken disk seed count draws clocks n end × HasEndingCause taken.tide.faults (d.fault_count disk) 0 0 end
   load_leaves old seed count draws clocks same ends cause = (
     subst (λ (t : Taken). LoadEnds d t disk seed count draws clocks n end) same ends,
-    subst (λ (t : Taken). HasEndingCause t.mark.faults (d.fault_count disk) 0 0 end) same cause,
+    subst (λ (t : Taken). HasEndingCause t.tide.faults (d.fault_count disk) 0 0 end) same cause,
   )
 
   pub init_leaves : (old : D) (limit : ℕ) (first : Entry) → taken_now d old ≡ taken
       → InitOnDisk d (taken_now d old) disk limit first n end → HasEndingCause (d.fault_count old) (d.fault_count disk) 0 0 end
-      → InitOnDisk d taken disk limit first n end × HasEndingCause taken.mark.faults (d.fault_count disk) 0 0 end
+      → InitOnDisk d taken disk limit first n end × HasEndingCause taken.tide.faults (d.fault_count disk) 0 0 end
   init_leaves old limit first same ends cause = (
     subst (λ (t : Taken). InitOnDisk d t disk limit first n end) same ends,
-    subst (λ (t : Taken). HasEndingCause t.mark.faults (d.fault_count disk) 0 0 end) same cause,
+    subst (λ (t : Taken). HasEndingCause t.tide.faults (d.fault_count disk) 0 0 end) same cause,
   )
 
   pub serve_leaves : (old : D) (address : List ℕ) (workers connections : ℕ) (seed : List ℕ) (before after : Doors) (talks : List (List Talk)) → taken_now d old ≡ taken
       → ServesDisk d (taken_now d old) disk address workers connections seed before after talks n end → HasEndingCause (d.fault_count old) (d.fault_count disk) 0 0 end
       → CountsOn (d.fault_count old) talks (d.fault_count disk)
-      → HasEndingCause taken.mark.faults (d.fault_count disk) 0 0 end × CountsOn taken.mark.faults talks (d.fault_count disk)
+      → HasEndingCause taken.tide.faults (d.fault_count disk) 0 0 end × CountsOn taken.tide.faults talks (d.fault_count disk)
       × ServesDisk d taken disk address workers connections seed before after talks n end
   serve_leaves old address workers connections seed before after talks same serves cause counts = (
-    subst (λ (t : Taken). HasEndingCause t.mark.faults (d.fault_count disk) 0 0 end) same cause,
-    subst (λ (t : Taken). CountsOn t.mark.faults talks (d.fault_count disk)) same counts,
+    subst (λ (t : Taken). HasEndingCause t.tide.faults (d.fault_count disk) 0 0 end) same cause,
+    subst (λ (t : Taken). CountsOn t.tide.faults talks (d.fault_count disk)) same counts,
     subst (λ (t : Taken). ServesDisk d t disk address workers connections seed before after talks n end) same serves,
   )
 
@@ -305,15 +305,14 @@ meant_workers read file address workers connections is_read meant = ranged meant
   ranged (serve w) range means = (subst (λ (n : ℕ). 1 ≤ n) (sym means.2) range.workers.least, subst (λ (n : ℕ). n ≤ 16) (sym means.2) range.workers.most)
 
 -- the same of intake
-pub does_intake : {D : Type 0} (d : disks.Ghosts D) (c : CommandLine) (read : ProgramCommand) (file : List ℕ) (seed : List ℕ) (drawn : Draw) (before after : Outside) (o : program.Ended D)
-    → read ≡ words.Intake file → drawn ≡ draw_at (start_of seed 0) → Denotes read c → IntakeRuns d file drawn before after o → CommandRuns d c seed before after o
-does_intake d c read file seed drawn before after o is_read is_drawn means run = meant c (subst (λ (r : ProgramCommand). Denotes r c) is_read means) where
+pub does_intake : {D : Type 0} (d : disks.Ghosts D) (c : CommandLine) (read : ProgramCommand) (file : List ℕ) (seed : List ℕ) (before after : Outside) (o : program.Ended D)
+    → read ≡ words.Intake file → Denotes read c → IntakeRuns d file (draw_at (start_of seed 0)) before after o → CommandRuns d c seed before after o
+does_intake d c read file seed before after o is_read means run = meant c (subst (λ (r : ProgramCommand). Denotes r c) is_read means) where
   meant : (c : CommandLine) → Denotes (words.Intake file) c → CommandRuns d c seed before after o
   meant (init w) means = absurd means
   meant (serve w) means = absurd means
   meant (load w) means = absurd means
-  meant (intake name) means =
-      subst (λ (f : List ℕ). IntakeRuns d f (draw_at (start_of seed 0)) before after o) means (subst (λ (w : Draw). IntakeRuns d file w before after o) is_drawn run)
+  meant (intake name) means = subst (λ (f : List ℕ). IntakeRuns d f (draw_at (start_of seed 0)) before after o) means run
 
 -- the same of serve
 pub does_serve : {D : Type 0} (d : disks.Ghosts D) (c : CommandLine) (read : ProgramCommand) (file address : List ℕ) (workers connections : ℕ) (seed : List ℕ) (before after : Outside) (o : program.Ended D)
@@ -331,15 +330,15 @@ does_serve d c read file address workers connections seed before after o is_read
       (spares, subst (λ (n : ℕ). ServeRuns d w.file w.address (workers_of w) n seed before after o) means.3 many)
 
 -- the same of load
-pub does_load : {D : Type 0} (d : disks.Ghosts D) (c : CommandLine) (read : ProgramCommand) (file : List ℕ) (number count : ℕ) (seed : List ℕ) (draws : Draws) (before after : Outside) (o : program.Ended D)
-    → read ≡ words.Load file number count → draws ≡ start_of seed 0 → Denotes read c → SparesInput before after → LoadRuns d file number count draws before after o → CommandRuns d c seed before after o
-does_load d c read file number count seed draws before after o is_read is_start means spares run = meant c (subst (λ (r : ProgramCommand). Denotes r c) is_read means) where
+pub does_load : {D : Type 0} (d : disks.Ghosts D) (c : CommandLine) (read : ProgramCommand) (file : List ℕ) (number count : ℕ) (seed : List ℕ) (before after : Outside) (o : program.Ended D)
+    → read ≡ words.Load file number count → Denotes read c → SparesInput before after → LoadRuns d file number count (start_of seed 0) before after o
+    → CommandRuns d c seed before after o
+does_load d c read file number count seed before after o is_read means spares run = meant c (subst (λ (r : ProgramCommand). Denotes r c) is_read means) where
   meant : (c : CommandLine) → Denotes (words.Load file number count) c → CommandRuns d c seed before after o
   meant (intake name) means = absurd means
   meant (init w) means = absurd means
   meant (serve w) means = absurd means
   meant (load w) means =
-      let drawn : LoadRuns d file number count (start_of seed 0) before after o = subst (λ (p : Draws). LoadRuns d file number count p before after o) is_start run in
-      let named : LoadRuns d w.file number count (start_of seed 0) before after o = subst (λ (f : List ℕ). LoadRuns d f number count (start_of seed 0) before after o) means.0 drawn in
+      let named : LoadRuns d w.file number count (start_of seed 0) before after o = subst (λ (f : List ℕ). LoadRuns d f number count (start_of seed 0) before after o) means.0 run in
       let seeded : LoadRuns d w.file (seed_of w) count (start_of seed 0) before after o = subst (λ (n : ℕ). LoadRuns d w.file n count (start_of seed 0) before after o) means.1 named in
       (spares, subst (λ (n : ℕ). LoadRuns d w.file (seed_of w) n (start_of seed 0) before after o) means.2 seeded)

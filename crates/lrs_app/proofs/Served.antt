@@ -15,7 +15,7 @@ use Rattle.lrs_hall.specs.LrsMachineActs.{Receipt}
 use Rattle.lrs_hall.specs.LrsMachineDesk.{Desk, HoldsPrefix, IsStoreOf, KeepsLine, LeavesStore, OpensOnly, history}
 use Rattle.lrs_hall.specs.LrsMachineLine.{Record, entries, in_doubt, opened_line, sure}
 use Rattle.lrs_hall.specs.Laws.{IsKept}
-use Rattle.lrs_hall.specs.Serving.{AreCounted, AreWithin, EndsServing, Mark, all_receipts, mark_of}
+use Rattle.lrs_hall.specs.Serving.{AreCounted, AreWithin, EndsServing, Tide, all_receipts, tide_at}
 use Rattle.lrs_hall.specs.Talks.{Talk}
 use Rattle.lrs_hall.specs.Workers.{AreStints, ServesDoors, ServesNone, Stint, end_of, end_with}
 use Rattle.lrs_hall.specs.declared.serving.ServeEnd.{ServeEnd}
@@ -41,7 +41,7 @@ any_next : {A : Type 0} (P : A → Type 0) (x : A) (xs : List A) → Any P xs �
 any_next P x xs any = (suc any.0, any.1, (let near = any.2 in omega (arith, near)), any.3, any.4)
 
 -- the door of the first worker that didn't end well has failed
-door_failed : (limit : ℕ) (line : List Record) (opened : ℕ) (start end : Mark) (connections : ℕ) (seed : List ℕ) (n : ℕ) (stints : List Stint) → AreStints limit line opened start end connections seed n stints
+door_failed : (limit : ℕ) (line : List Record) (opened : ℕ) (start end : Tide) (connections : ℕ) (seed : List ℕ) (n : ℕ) (stints : List Stint) → AreStints limit line opened start end connections seed n stints
     → AllByRecursion IsFresh (map (λ (s : Stint). s.before) stints) → end_of (map (λ (s : Stint). s.end) stints) ≡ serve.DoorFault → Any (λ (d : DoorState). 0 < d.faults) (map (λ (s : Stint). s.behind) stints)
 door_failed limit line opened start end connections seed n [] all fresh is = absurd (let no : ⊥ = cc is in no)
 door_failed limit line opened start end connections seed n (s ∷ stints) all fresh is = by_end s.end all.0.why is (λ more. door_failed limit line opened start end connections seed (n + 1) stints all.1 fresh.1 more)
@@ -56,7 +56,7 @@ door_failed limit line opened start end connections seed n (s ∷ stints) all fr
         (0, s.behind, omega arith, refl, failed)
     by_end serve.Memory why is more = absurd (let no : ⊥ = cc is in no)
 
-served_cause : (limit : ℕ) (opened line : List Record) (start end : Mark) (connections : ℕ) (seed : List ℕ) (openings closings : List DoorState) (talks : List (List Talk)) (why : ServeEnd) (address : List ℕ) (workers : ℕ) (before after : Doors)
+served_cause : (limit : ℕ) (opened line : List Record) (start end : Tide) (connections : ℕ) (seed : List ℕ) (openings closings : List DoorState) (talks : List (List Talk)) (why : ServeEnd) (address : List ℕ) (workers : ℕ) (before after : Doors)
     → ServesDoors limit opened line start end connections seed openings closings talks why → HadDoors address workers openings closings before after → HasLobbyCause before after (ending_of_serving why talks)
 served_cause limit opened line start end connections seed openings closings talks serve.Done address workers before after serves doors = λ e. cc
 served_cause limit opened line start end connections seed openings closings talks serve.Memory address workers before after serves doors = λ e. cc
@@ -67,7 +67,7 @@ served_cause limit opened line start end connections seed openings closings talk
 
 -- ---- what each response promises
 
-promises : (now : ℕ) (since : ℕ → List ℕ → Type 0) → ((t u : ℕ) (c : List ℕ) → t ≤ u → since u c → since t c) → (limit : ℕ) (line : List Record) (opened : ℕ) (start end : Mark) (connections : ℕ) (seed : List ℕ) (n : ℕ) (stints : List Stint)
+promises : (now : ℕ) (since : ℕ → List ℕ → Type 0) → ((t u : ℕ) (c : List ℕ) → t ≤ u → since u c → since t c) → (limit : ℕ) (line : List Record) (opened : ℕ) (start end : Tide) (connections : ℕ) (seed : List ℕ) (n : ℕ) (stints : List Stint)
     → KeepsLine limit now since line → 1 ≤ opened → AreStints limit line opened start end connections seed n stints
     → AllByRecursion (λ (of_one : List Talk). AllByRecursion (IsKept limit since line) (all_receipts of_one)) (map (λ (s : Stint). s.talks) stints)
 promises now since later limit line opened start end connections seed n [] kept some all = tt
@@ -80,7 +80,7 @@ module _ {D : Type 0} (d : disks.Ghosts D) (counts_now : (x : D) (t : ℕ) (c : 
     (only_now : (x : D) (c : List ℕ) → d.image_since x (d.time x) c → d.image x c) (since_later : (x : D) (t u : ℕ) (c : List ℕ) → t ≤ u → d.image_since x u c → d.image_since x t c)
     (desk mid : Desk D) (disk : D) (address : List ℕ) (workers connections : ℕ) (seed : List ℕ) (before after : Doors) (talks : List (List Talk)) (n : ℕ) (end : Ending)
     (opened : IsOpened d desk) (on : GoesOn d desk mid) (count : n ≡ length (history mid)) (legal : IsLegal mid.limit (history mid))
-    (within : AreWithin (mark_of d.fault_count d.time desk.disk) (mark_of d.fault_count d.time mid.disk) (receipts_of_all talks)) (grown : d.fault_count desk.disk ≤ d.fault_count mid.disk)
+    (within : AreWithin (tide_at d.fault_count d.time desk.disk) (tide_at d.fault_count d.time mid.disk) (receipts_of_all talks)) (grown : d.fault_count desk.disk ≤ d.fault_count mid.disk)
     (risen : d.fault_count mid.disk ≤ d.fault_count disk) (passed : d.time mid.disk ≤ d.time disk)
     (stops : ForSome (d.told mid.disk) (λ _. LeavesOnly d.time d.image_since mid.disk disk (HoldsPrefix mid.limit (sure mid.line) (history mid))))
     (keeps : ForSome (d.told mid.disk) (λ _. KeepsLine mid.limit (d.time disk) (d.image_since disk) mid.line)) where
@@ -91,7 +91,7 @@ module _ {D : Type 0} (d : disks.Ghosts D) (counts_now : (x : D) (t : ℕ) (c : 
       omega (arith, some, all)
 
   -- what is the same however the closing ends
-  served_with : (openings closings : List DoorState) (why : ServeEnd) (last : Ending) → ServesDoors desk.limit desk.line mid.line (mark_of d.fault_count d.time desk.disk) (mark_of d.fault_count d.time mid.disk) connections seed openings closings talks why
+  served_with : (openings closings : List DoorState) (why : ServeEnd) (last : Ending) → ServesDoors desk.limit desk.line mid.line (tide_at d.fault_count d.time desk.disk) (tide_at d.fault_count d.time mid.disk) connections seed openings closings talks why
       → (last ≡ ending.DiskFault → in_doubt mid.line ≡ true)
       → ForSome (d.told mid.disk) (λ _. HoldsAfter last (in_doubt mid.line) (d.told disk) desk.limit (history mid))
       → (last ≢ ending.DiskFault → (c : List ℕ) → d.image disk c → Stands c mid.limit (map written_entry (history mid)))
@@ -101,18 +101,18 @@ module _ {D : Type 0} (d : disks.Ghosts D) (counts_now : (x : D) (t : ℕ) (c : 
       let same = opened.moment in
       let on_later = on.later in
       let line : desk.line ≡ opened_line (d.time desk.disk) (history desk) = opened.line ∙ ap (λ (t : ℕ). opened_line t (history desk)) same in
-      let begun = subst (λ (l : List Record). ServesDoors desk.limit l mid.line (mark_of d.fault_count d.time desk.disk) (mark_of d.fault_count d.time mid.disk) connections seed openings closings talks why) line serves in
+      let begun = subst (λ (l : List Record). ServesDoors desk.limit l mid.line (tide_at d.fault_count d.time desk.disk) (tide_at d.fault_count d.time mid.disk) connections seed openings closings talks why) line serves in
       record {
         line = mid.line;
         legal = here;
         counts = count;
-        began = mark_of d.fault_count d.time desk.disk;
-        served = mark_of d.fault_count d.time mid.disk;
-        marks = ((omega arith, omega arith), (grown, on_later), (risen, passed));
+        began = tide_at d.fault_count d.time desk.disk;
+        served = tide_at d.fault_count d.time mid.disk;
+        tides = ((omega arith, omega arith), (grown, on_later), (risen, passed));
         serves = begun;
-        alone = alone_serves desk.limit (opened_line (d.time desk.disk) (history desk)) mid.line (mark_of d.fault_count d.time desk.disk) (mark_of d.fault_count d.time mid.disk) connections seed openings closings talks why begun;
-        within = within_wider (mark_of d.fault_count d.time desk.disk) (mark_of d.fault_count d.time mid.disk) (mark_of d.fault_count d.time desk.disk)
-            (mark_of d.fault_count d.time disk) (receipts_of_all talks) (omega arith) (omega arith) risen passed within;
+        alone = alone_serves desk.limit (opened_line (d.time desk.disk) (history desk)) mid.line (tide_at d.fault_count d.time desk.disk) (tide_at d.fault_count d.time mid.disk) connections seed openings closings talks why begun;
+        within = within_wider (tide_at d.fault_count d.time desk.disk) (tide_at d.fault_count d.time mid.disk) (tide_at d.fault_count d.time desk.disk)
+            (tide_at d.fault_count d.time disk) (receipts_of_all talks) (omega arith) (omega arith) risen passed within;
         doubtful = doubtful;
         holds = still_told (d.told desk.disk) (d.told mid.disk) _ on.tells holds;
         stops = λ told is. (stops_from d counts_now only_now desk mid disk opened on stops told is).each;
@@ -120,7 +120,7 @@ module _ {D : Type 0} (d : disks.Ghosts D) (counts_now : (x : D) (t : ℕ) (c : 
             let t = told_on (d.told desk.disk) (d.told mid.disk) told on.tells is in
             of_all (IsKept desk.limit (d.image_since disk) mid.line) talks
             (subst (λ (ts : List (List Talk)). AllByRecursion (λ (of_one : List Talk). AllByRecursion (IsKept desk.limit (d.image_since disk) mid.line) (all_receipts of_one)) ts) serves.all_talks
-            (promises (d.time disk) (d.image_since disk) (λ a b c le left. since_later disk a b c le left) desk.limit mid.line (length desk.line) (mark_of d.fault_count d.time desk.disk) (mark_of d.fault_count d.time mid.disk) connections seed 1 serves.stints
+            (promises (d.time disk) (d.image_since disk) (λ a b c le left. since_later disk a b c le left) desk.limit mid.line (length desk.line) (tide_at d.fault_count d.time desk.disk) (tide_at d.fault_count d.time mid.disk) connections seed 1 serves.stints
             (subst (λ (l : ℕ). KeepsLine l (d.time disk) (d.image_since disk) mid.line) on.limit (keeps t.0 t.1)) some_records serves.each));
         stops_now = λ told is image left.
             let t = told_on (d.told desk.disk) (d.told mid.disk) told on.tells is in
@@ -145,12 +145,12 @@ module _ {D : Type 0} (d : disks.Ghosts D) (counts_now : (x : D) (t : ℕ) (c : 
     stops_same : mid ≡ desk → StopsFrom d desk disk (history desk)
     stops_same same = subst (λ (h : List Entry). StopsFrom d desk disk h) (ap (λ (m : Desk D). history m) same) stops_here
 
-    had_doors : ServesHad (mark_of d.fault_count d.time) desk mid address workers connections seed before after talks end → ServesOpened d desk disk address workers connections seed before after talks n end
+    had_doors : ServesHad (tide_at d.fault_count d.time) desk mid address workers connections seed before after talks end → ServesOpened d desk disk address workers connections seed before after talks n end
     unfolding served_with
     had_doors had = ⊎_elim
         (λ serves. (
           subst (λ (e : Ending). HasLobbyCause before after e) (sym had.ended)
-              (served_cause desk.limit desk.line mid.line (mark_of d.fault_count d.time desk.disk) (mark_of d.fault_count d.time mid.disk) connections seed had.openings had.closings talks had.why address workers before after serves had.doors),
+              (served_cause desk.limit desk.line mid.line (tide_at d.fault_count d.time desk.disk) (tide_at d.fault_count d.time mid.disk) connections seed had.openings had.closings talks had.why address workers before after serves had.doors),
           inr (inr (record {
             openings = had.openings;
             closings = had.closings;
@@ -180,7 +180,7 @@ module _ {D : Type 0} (d : disks.Ghosts D) (counts_now : (x : D) (t : ℕ) (c : 
         had.serves
 
     -- the store was closed
-    pub closed : ServesDesk (mark_of d.fault_count d.time) desk mid address workers connections seed before after talks end → ServesOpened d desk disk address workers connections seed before after talks n end
+    pub closed : ServesDesk (tide_at d.fault_count d.time) desk mid address workers connections seed before after talks end → ServesOpened d desk disk address workers connections seed before after talks n end
     closed serves = ⊎_elim
         (λ none. (
           doorless_cause address workers before after end none.0,
@@ -190,7 +190,7 @@ module _ {D : Type 0} (d : disks.Ghosts D) (counts_now : (x : D) (t : ℕ) (c : 
   -- the store failed at the closing
   pub failed : in_doubt mid.line ≡ true → ForSome (d.told mid.disk) (λ _. LeavesStore d.told disk mid.limit true (history mid))
       → AllByRecursion (λ (of_one : List Talk). AreCounted (d.fault_count desk.disk) (d.fault_count mid.disk) (all_receipts of_one)) talks → Rises (d.fault_count mid.disk) (d.fault_count disk)
-      → ServesDesk (mark_of d.fault_count d.time) desk mid address workers connections seed before after talks end
+      → ServesDesk (tide_at d.fault_count d.time) desk mid address workers connections seed before after talks end
       → ServesOpened d desk disk address workers connections seed before after talks n ending.DiskFault
   unfolding served_with
   failed doubt holds counts rises serves = ⊎_elim (λ none. absurd (idle none.2)) (λ had. ⊎_elim
@@ -213,9 +213,9 @@ module _ {D : Type 0} (d : disks.Ghosts D) (counts_now : (x : D) (t : ℕ) (c : 
       idle : mid ≡ desk → ⊥
       idle same = true_false (sym doubt ∙ ap (λ (m : Desk D). in_doubt m.line) same ∙ opened_settled d desk opened)
 
-pub closed_cause : {D : Type 0} (mark : D → Mark) (desk mid : Desk D) (address : List ℕ) (workers connections : ℕ) (seed : List ℕ) (before after : Doors) (talks : List (List Talk)) (end : Ending) (m k : ℕ)
-    → ServesDesk mark desk mid address workers connections seed before after talks end → HasEndingCause m k 0 0 end
-closed_cause mark desk mid address workers connections seed before after talks end m k serves = ⊎_elim (λ none. doorless_disk address workers before after end m k none.0)
+pub closed_cause : {D : Type 0} (tide : D → Tide) (desk mid : Desk D) (address : List ℕ) (workers connections : ℕ) (seed : List ℕ) (before after : Doors) (talks : List (List Talk)) (end : Ending) (m k : ℕ)
+    → ServesDesk tide desk mid address workers connections seed before after talks end → HasEndingCause m k 0 0 end
+closed_cause tide desk mid address workers connections seed before after talks end m k serves = ⊎_elim (λ none. doorless_disk address workers before after end m k none.0)
     (λ had. subst (λ (e : Ending). HasEndingCause m k 0 0 e) (sym had.ended) (served_disk had.why talks m k)) serves
 
 -- ---- opening
@@ -249,9 +249,9 @@ opened_serves d counts_now only_now first desk disk address workers connections 
     wanting = nobody.wanting;
   })) (λ had.
       let s = had.served in
-      let marks = s.marks in
-      let early = marks.0.0 in
-      let late = marks.0.1 in
+      let tides = s.tides in
+      let early = tides.0.0 in
+      let late = tides.0.1 in
       inr (record {
         limit = desk.limit;
         opened = history desk;
@@ -267,11 +267,11 @@ opened_serves d counts_now only_now first desk disk address workers connections 
           counts = s.counts;
           began = s.began;
           served = s.served;
-          marks = ((omega (arith, kept, early), omega (arith, moment, late)), marks.1, marks.2);
+          tides = ((omega (arith, kept, early), omega (arith, moment, late)), tides.1, tides.2);
           serves = s.serves;
           alone = s.alone;
-          within = within_wider (mark_of d.fault_count d.time desk.disk) (mark_of d.fault_count d.time disk) (mark_of d.fault_count d.time first)
-              (mark_of d.fault_count d.time disk) (receipts_of_all talks) (omega (arith, kept)) moment (omega arith) (omega arith) s.within;
+          within = within_wider (tide_at d.fault_count d.time desk.disk) (tide_at d.fault_count d.time disk) (tide_at d.fault_count d.time first)
+              (tide_at d.fault_count d.time disk) (receipts_of_all talks) (omega (arith, kept)) moment (omega arith) (omega arith) s.within;
           doubtful = s.doubtful;
           holds = still_told (d.told first) (d.told desk.disk) _ alike s.holds;
           stops = stops_since d counts_now only_now first desk disk (entries s.line) had.begins synced opens alike had.stops;

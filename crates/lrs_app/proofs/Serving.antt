@@ -21,7 +21,7 @@ use Rattle.lrs_hall.specs.LrsMachineLine.{BeginsWith, Record, entries, in_doubt,
 use Rattle.lrs_machine.specs.Origin.{ComesFrom, IsOfOrigin}
 use Rattle.lrs_hall.specs.LrsMachineOpeningDeskRefused.{DeskRefused}
 use Rattle.lrs_hall.specs.LrsMachineOpeningDeskRefusedTheVariants as refused
-use Rattle.lrs_hall.specs.Serving.{AreCounted, AreWithin, Mark, all_receipts, mark_of}
+use Rattle.lrs_hall.specs.Serving.{AreCounted, AreWithin, Tide, all_receipts, tide_at}
 use Rattle.lrs_hall.specs.Talks.{Talk}
 use Rattle.lrs_hall.specs.Workers.{HasSameOpening, ServesAll, ServesDoors}
 use Rattle.lrs_hall.specs.declared.serving.ServeEnd.{ServeEnd}
@@ -136,10 +136,10 @@ holds_whole serve.Done talks doubt told limit h holds = holds
 holds_whole serve.DoorFault talks doubt told limit h holds = holds
 holds_whole serve.Memory talks doubt told limit h holds = holds
 
--- ---- marks
+-- ---- tides
 
--- what lies between two marks lies between wider ones
-pub within_wider : (a b x y : Mark) (receipts : List Receipt) → x.faults ≤ a.faults → x.moment ≤ a.moment → b.faults ≤ y.faults → b.moment ≤ y.moment
+-- what lies between two tides lies between wider ones
+pub within_wider : (a b x y : Tide) (receipts : List Receipt) → x.faults ≤ a.faults → x.moment ≤ a.moment → b.faults ≤ y.faults → b.moment ≤ y.moment
     → AreWithin a b receipts → AreWithin x y receipts
 within_wider a b x y [] f m g n all = tt
 within_wider a b x y (r ∷ receipts) f m g n all = (
@@ -179,9 +179,9 @@ went_on {D} d desk mid opened count origin same begins later is =
     }
 
 -- the line goes on from the one at the opening
-pub served_begins : {D : Type 0} (mark : D → Mark) (desk mid : Desk D) (connections : ℕ) (seed : List ℕ) (openings closings : List DoorState) (talks : List (List Talk)) (why : ServeEnd)
-    → ServesAll mark desk mid connections seed openings closings talks why → BeginsWith desk.line mid.line
-served_begins {D} mark desk mid connections seed openings closings talks why serves =
+pub served_begins : {D : Type 0} (tide : D → Tide) (desk mid : Desk D) (connections : ℕ) (seed : List ℕ) (openings closings : List DoorState) (talks : List (List Talk)) (why : ServeEnd)
+    → ServesAll tide desk mid connections seed openings closings talks why → BeginsWith desk.line mid.line
+served_begins {D} tide desk mid connections seed openings closings talks why serves =
     ⊎_elim (λ doors. doors.begins) (λ none. subst (λ (m : Desk D). BeginsWith desk.line m.line) (sym none.desk) (begins_self desk.line)) serves
 
 -- a desk has records, and the first is of its opening

@@ -9,7 +9,7 @@ use Rattle.lrs_history.specs.History.{IsLegal}
 use Rattle.lrs_hall.specs.LrsMachineDesk.{HoldsPrefix, IsDeskRefused, IsSameStore, IsStoreOf}
 use Rattle.lrs_hall.specs.LrsMachineOpeningDeskRefused.{DeskRefused}
 use Rattle.lrs_hall.specs.LrsMachineOpeningDeskRefusedTheVariants as refused
-use Rattle.lrs_hall.specs.Serving.{Mark, mark_of}
+use Rattle.lrs_hall.specs.Serving.{Tide, tide_at}
 use Rattle.lrs_app.specs.Steps.{ending_of}
 use Rattle.lrs_console.specs.declared.ending.Ending.{Ending}
 use Rattle.lrs_console.specs.declared.ending.Ending.TheVariants as ending
@@ -17,17 +17,17 @@ use Rattle.lrs_console.specs.declared.ending.Ending.TheVariants as ending
 -- A disk as it was taken: what it held, if that is told, and its count of faults and its moment then.
 pub record Taken : Type 0 where
   pub held : Option (List ℕ)
-  pub mark : Mark
+  pub tide : Tide
 
 -- a disk as it is taken now
 abbrev pub taken_now : {D : Type 0} → disks.Ghosts D → D → Taken
-taken_now d disk = record { held = d.told disk; mark = mark_of d.fault_count d.time disk }
+taken_now d disk = record { held = d.told disk; tide = tide_at d.fault_count d.time disk }
 
 -- ---- what a stop leaves
 
 -- a stop at any moment since the disk was taken leaves bytes that have P
 abbrev pub AnyStopLeaves : {D : Type 0} → disks.Ghosts D → Taken → D → (List ℕ → Type 0) → Type 0
-AnyStopLeaves d taken disk P = (image : List ℕ) → d.image_since disk taken.mark.moment image → P image
+AnyStopLeaves d taken disk P = (image : List ℕ) → d.image_since disk taken.tide.moment image → P image
 
 -- a stop now leaves bytes that have P
 abbrev pub StopNowLeaves : {D : Type 0} → disks.Ghosts D → D → (List ℕ → Type 0) → Type 0
@@ -74,7 +74,7 @@ pub record LeavesUnopened {D : Type 0} (d : disks.Ghosts D) (taken : Taken) (dis
   pub why : DeskRefused
   pub ended : end ≡ ending_of why
   pub counts : n ≡ 0
-  pub later : taken.mark.moment ≤ d.time disk
+  pub later : taken.tide.moment ≤ d.time disk
   pub holds : IfSome taken.held (λ bytes. EndsUnopened bytes (d.told disk) end)
   pub stops : ForSome taken.held (λ bytes. AnyStopLeaves d taken disk (IsSpared end bytes))
 
@@ -86,7 +86,7 @@ pub record LeavesFinal {D : Type 0} (d : disks.Ghosts D) (taken : Taken) (disk :
   -- it can have come about
   pub legal : IsLegal limit final
   pub counts : n ≡ length final
-  pub later : taken.mark.moment ≤ d.time disk
+  pub later : taken.tide.moment ≤ d.time disk
   -- The disk holds it. Only if the disk failed, it may still hold the one at the opening.
   pub holds : ForSome taken.held
       (λ _. Holds (d.told disk) limit final ⊎ ((end ≡ ending.DiskFault) × Holds (d.told disk) limit opened))
@@ -102,7 +102,7 @@ pub record LeavesLoaded {D : Type 0} (d : disks.Ghosts D) (taken : Taken) (disk 
   -- it can have come about
   pub legal : IsLegal limit final
   pub counts : n ≡ length final
-  pub later : taken.mark.moment ≤ d.time disk
+  pub later : taken.tide.moment ≤ d.time disk
   -- The disk holds it. Only if the disk failed, it may lack the entry of the batch that it failed.
   pub holds : ForSome taken.held
       (λ _. Holds (d.told disk) limit final ⊎ ((end ≡ ending.DiskFault) × Holds (d.told disk) limit kept))

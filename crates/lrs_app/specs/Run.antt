@@ -76,7 +76,7 @@ outside s b i o shelf lobby input out = record {
 -- the disk of a file, as it is taken
 abbrev pub taken_from : Outside → List ℕ → Taken
 taken_from before file =
-    record { held = before.holds file; mark = record { faults = before.begins file; moment = before.starts file } }
+    record { held = before.holds file; tide = record { faults = before.begins file; moment = before.starts file } }
 
 -- no connection was served
 abbrev pub IsSilent : {D : Type 0} → program.Ended D → Type 0
@@ -228,7 +228,7 @@ InitStops d taken disk bytes limit first other = AnyStopLeaves d taken disk (λ 
 -- What init does over a disk, with this first entry.
 abbrev pub InitOnDisk : {D : Type 0} → disks.Ghosts D → Taken → D → ℕ → Entry → ℕ → Ending → Type 0
 InitOnDisk d taken disk limit first n end = InitTells limit first n end
-    × (taken.mark.moment ≤ d.time disk)
+    × (taken.tide.moment ≤ d.time disk)
     × IfSome taken.held
     (λ bytes. InitEnds bytes limit first (d.told disk) end × InitStops d taken disk bytes limit first end)
 

@@ -6,7 +6,7 @@ use Rattle.lrs_disk.specs.declared.lobby.DoorsRefused.{DoorsRefused}
 use Rattle.lrs_disk.specs.declared.lobby.DoorsRefused.TheVariants as refusals
 use Rattle.lrs_hall.specs.LrsMachineDesk.{Desk, history}
 use Rattle.lrs_hall.specs.LrsMachineLine.{BeginsWith, entries}
-use Rattle.lrs_hall.specs.Serving.{Mark}
+use Rattle.lrs_hall.specs.Serving.{Tide}
 use Rattle.lrs_hall.specs.Talks.{Talk}
 use Rattle.lrs_hall.specs.Workers.{ServesAll}
 use Rattle.lrs_hall.specs.declared.serving.ServeEnd.{ServeEnd}
@@ -22,20 +22,20 @@ ending_of_refusal refusals.Failed = ending.LobbyFault
 ending_of_refusal refusals.Memory = ending.Memory
 
 -- doors were had, served, and given back
-pub record ServesHad {D : Type 0} (mark : D → Mark) (old new : Desk D) (address : List ℕ) (workers connections : ℕ)
+pub record ServesHad {D : Type 0} (tide : D → Tide) (old new : Desk D) (address : List ℕ) (workers connections : ℕ)
     (seed : List ℕ) (before after : Doors) (talks : List (List Talk)) (end : Ending) : Type 0 where
   pub openings : List DoorState
   pub closings : List DoorState
   pub doors : HadDoors address workers openings closings before after
   pub why : ServeEnd
-  pub serves : ServesAll mark old new connections seed openings closings talks why
+  pub serves : ServesAll tide old new connections seed openings closings talks why
   pub ended : end ≡ ending_of_serving why talks
 
-abbrev pub ServesDesk : {D : Type 0} → (D → Mark) → Desk D → Desk D → List ℕ → ℕ → ℕ → List ℕ → Doors → Doors
+abbrev pub ServesDesk : {D : Type 0} → (D → Tide) → Desk D → Desk D → List ℕ → ℕ → ℕ → List ℕ → Doors → Doors
     → List (List Talk) → Ending → Type 0
-ServesDesk mark old new address workers connections seed before after talks end =
+ServesDesk tide old new address workers connections seed before after talks end =
     (HasNoDoor address workers before after end × (talks ≡ []) × (new ≡ old))
-    ⊎ ServesHad mark old new address workers connections seed before after talks end
+    ⊎ ServesHad tide old new address workers connections seed before after talks end
 
 -- no doors were had, and the store was closed
 pub record ClosesDoorless {D : Type 0} (d : disks.Ghosts D) (desk : Desk D) (disk : D) (address : List ℕ) (workers : ℕ)

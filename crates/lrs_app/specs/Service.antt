@@ -17,7 +17,7 @@ use Rattle.lrs_hall.specs.LrsMachineLine.{Record, entries, in_doubt, opened_line
 use Rattle.lrs_hall.specs.Acts.{ActsNext}
 use Rattle.lrs_hall.specs.Draws.{start_of}
 use Rattle.lrs_hall.specs.Laws.{IsKept}
-use Rattle.lrs_hall.specs.Serving.{AreCounted, AreOnLinks, AreWithin, IsNotBelow, Mark, all_receipts, mark_of, worker_at}
+use Rattle.lrs_hall.specs.Serving.{AreCounted, AreOnLinks, AreWithin, IsNotBelow, Tide, all_receipts, tide_at, worker_at}
 use Rattle.lrs_hall.specs.Talks.{Talk}
 use Rattle.lrs_hall.specs.Workers.{AreStints, ServesDoors, Stint}
 use Rattle.lrs_hall.specs.declared.serving.ServeEnd.{ServeEnd}
@@ -103,13 +103,13 @@ HoldsAfter other doubt told limit h = Holds told limit h
 
 -- Where there was one worker, no other act came between two of its acts: each was on just what stood before it, from the
 -- opening to the end of the line.
-abbrev pub IsAlone : (limit : ℕ) (line : List Record) (opened : ℕ) (opening closing : Mark) (connections : ℕ)
+abbrev pub IsAlone : (limit : ℕ) (line : List Record) (opened : ℕ) (opening closing : Tide) (connections : ℕ)
     (seed : List ℕ) (stints : List Stint) → AreStints limit line opened opening closing connections seed 1 stints
     → Type 0
 IsAlone limit line opened opening closing connections seed [] each = Unit {0}
 IsAlone limit line opened opening closing connections seed (s ∷ []) each =
     AreOnLinks (ActsNext limit line) s.talks each.0.links (worker_at (start_of seed 1) opened [] opening)
-    (worker_at each.0.last (length line) s.reach.own s.reach.mark)
+    (worker_at each.0.last (length line) s.reach.own s.reach.tide)
 IsAlone limit line opened opening closing connections seed (s ∷ t ∷ stints) each = Unit {0}
 
 -- What serving a store leaves that was opened with a history: one line of records, whose entries are the one history
@@ -122,10 +122,10 @@ pub record HoldsServed {D : Type 0} (d : disks.Ghosts D) (taken : Taken) (disk :
   pub legal : IsLegal limit (entries line)
   pub counts : n ≡ length (entries line)
   -- how far the disk had come when serving began, at the end of the opening, and when all workers had ended
-  pub began : Mark
-  pub served : Mark
-  pub marks : IsNotBelow taken.mark began × IsNotBelow began served
-      × IsNotBelow served (mark_of d.fault_count d.time disk)
+  pub began : Tide
+  pub served : Tide
+  pub tides : IsNotBelow taken.tide began × IsNotBelow began served
+      × IsNotBelow served (tide_at d.fault_count d.time disk)
   -- Each worker has served its door with the draws of its stream: each response of an act is the abstract store's reply
   -- over the entries before its point. Each further entry is that of just one response of all workers.
   pub serves : ServesDoors limit (opened_line began.moment opened) line began served connections seed openings closings
@@ -133,7 +133,7 @@ pub record HoldsServed {D : Type 0} (d : disks.Ghosts D) (taken : Taken) (disk :
   pub alone : IsAlone limit line (length (opened_line began.moment opened)) began served connections seed serves.stints
       serves.each
   -- what acts tell of the disk's count and moment lies between its taking and its return
-  pub within : AreWithin taken.mark (mark_of d.fault_count d.time disk) (receipts_of_all talks)
+  pub within : AreWithin taken.tide (tide_at d.fault_count d.time disk) (receipts_of_all talks)
   -- the disk fails at the closing only if the last entry is in doubt
   pub doubtful : end ≡ ending.DiskFault → in_doubt line ≡ true
   -- the disk holds the history

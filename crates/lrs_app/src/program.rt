@@ -1,14 +1,16 @@
-ghost use Rattle.std.specs.Prelude.{◌≡◌, ◌≤◌, [], IfOk};
+ghost use Rattle.std.specs.Prelude.{◌≡◌, ◌≤◌, [], IfOk, MatchOption};
+ghost use Rattle.lrs_hall.specs.Draws.{draw_at, start_of};
 ghost use Rattle.lrs_hall.specs.LrsFoldOwn.{founding_entry};
 ghost use Rattle.lrs_journal.specs.Journal.{IsSynced};
 ghost use Rattle.lrs_journal.specs.Store.{IsLimit};
 ghost use Rattle.lrs_parts.specs.Founding.{IsToken, IsBase};
-ghost use Rattle.lrs_command_line.specs.CommandLine.{CommandLine};
+ghost use Rattle.lrs_command_line.specs.CommandLine.{CommandLine, IsCommandLine};
 ghost use Rattle.lrs_command_line.specs.Shapes.{Denotes};
 ghost use Rattle.lrs_app.specs.Doing.{InitDoes, IntakeDoes, IsUndone, LoadDoes, ServeDoes};
 ghost use Rattle.lrs_app.specs.Service.{doors};
 ghost use Rattle.lrs_app.specs.Run.{CommandRuns, InitRuns, IntakeRuns, LoadRuns, PrintsLine, Runs, ServeRuns, outside};
 ghost use Rattle.lrs_app.specs.Steps.{DenotesInRange};
+ghost use Rattle.lrs_turn.specs.declared.turns.TheConstants.{MOST_PASSES};
 
 use crate::init::init_disk;
 use crate::intake::intake_disk;
@@ -186,7 +188,7 @@ fn serve<R: Threads + Wait + Sync, D: Disk + Send, B: Lobby>(
 ) -> Done<D>
 where
     <B::Door as Door>::Link: Send,
-    requires workers { (1 ≤ workers) × (workers ≤ 16) }
+    requires workers { (1 ≤ workers) × (workers ≤ MOST_PASSES) }
     requires settled { IfOk taken (λ disk. IsSynced D.told D.image disk) }
     ensures serves { ServeDoes D.Disk B.Lobby taken address.now workers connections seed lobby.old lobby.new result }
     ensures readings { B.readings lobby.new ≡ B.readings lobby.old }
@@ -234,21 +236,33 @@ fn run_init<S: Shelf, B: Lobby, I: Source, O: Sink>(
     end_run(out, init(alloc, taken, admin, base, limit, clock))
 }
 
+// The first draw of stream 0.
+fn first_draw(seed: [u8; 32]) -> Draw
+    ensures { result ≡ draw_at (start_of seed 0) }
+{
+    let mut draws = Draws::new(seed, 0);
+    let draw = draws.next();
+    drop(draws);
+    draw
+}
+
 fn run_intake<S: Shelf, B: Lobby, I: Source, O: Sink>(
     alloc: Global,
     file: &Text,
-    draw: &Draw,
+    seed: [u8; 32],
     shelf: &mut S,
     lobby: &mut B,
     input: &mut I,
     out: &mut O,
 ) -> Ended<S::Disk>
-    ensures { let seen = outside S.Shelf B.Lobby I.Source O.Sink in IntakeRuns S.Disk.Disk file.now draw.now
+    ensures { let seen = outside S.Shelf B.Lobby I.Source O.Sink in IntakeRuns S.Disk.Disk file.now
+        (draw_at (start_of seed 0))
         (seen shelf.old lobby.old input.old out.old) (seen shelf.new lobby.new input.new out.new) result }
 {
+    let draw = first_draw(seed);
     let clock = lobby.now();
     let taken = shelf.take(file.as_str());
-    end_run(out, intake(alloc, taken, input, clock, draw))
+    end_run(out, intake(alloc, taken, input, clock, &draw))
 }
 
 fn run_serve<R: Threads + Wait + Sync, S: Shelf, B: Lobby, I: Source, O: Sink>(
@@ -267,7 +281,7 @@ fn run_serve<R: Threads + Wait + Sync, S: Shelf, B: Lobby, I: Source, O: Sink>(
 where
     S::Disk: Send,
     <B::Door as Door>::Link: Send,
-    requires { (1 ≤ workers) × (workers ≤ 16) }
+    requires { (1 ≤ workers) × (workers ≤ MOST_PASSES) }
     ensures { let seen = outside S.Shelf B.Lobby I.Source O.Sink in ServeRuns S.Disk.Disk file.now address.now workers
         connections seed
         (seen shelf.old lobby.old input.now out.old) (seen shelf.new lobby.new input.now out.new) result }
@@ -282,17 +296,21 @@ fn run_load<S: Shelf, B: Lobby, I: Source, O: Sink>(
     file: &Text,
     number: u64,
     count: u32,
-    draws: &mut Draws,
+    seed: [u8; 32],
     shelf: &mut S,
     lobby: &mut B,
     input: &I,
     out: &mut O,
 ) -> Ended<S::Disk>
-    ensures { let seen = outside S.Shelf B.Lobby I.Source O.Sink in LoadRuns S.Disk.Disk file.now number count draws.old
+    ensures { let seen = outside S.Shelf B.Lobby I.Source O.Sink in LoadRuns S.Disk.Disk file.now number count
+        (start_of seed 0)
         (seen shelf.old lobby.old input.now out.old) (seen shelf.new lobby.new input.now out.new) result }
 {
     let taken = shelf.take(file.as_str());
-    end_run(out, load(alloc, taken, lobby, number, count, draws))
+    let mut draws = Draws::new(seed, 0);
+    let done = load(alloc, taken, lobby, number, count, &mut draws);
+    drop(draws);
+    end_run(out, done)
 }
 
 fn run_command<R: Threads + Wait + Sync, S: Shelf, B: Lobby, I: Source, O: Sink>(
@@ -320,40 +338,56 @@ where
             base,
             limit,
         } => run_init(alloc, file, admin, base, *limit, shelf, lobby, input, out),
-        ProgramCommand::Intake { file } => {
-            let draw = Draws::new(seed, 0).next();
-            run_intake(alloc, file, &draw, shelf, lobby, input, out)
-        }
+        ProgramCommand::Intake { file } => run_intake(alloc, file, seed, shelf, lobby, input, out),
         ProgramCommand::Serve {
             file,
             address,
             workers,
             connections,
-        } => {
-            run_serve(
-                rt,
-                alloc,
-                file,
-                address,
-                *workers,
-                *connections,
-                seed,
-                shelf,
-                lobby,
-                input,
-                out,
-            )
-        }
+        } => run_serve(
+            rt,
+            alloc,
+            file,
+            address,
+            *workers,
+            *connections,
+            seed,
+            shelf,
+            lobby,
+            input,
+            out,
+        ),
         ProgramCommand::Load {
             file,
             seed: number,
             count,
-        } => {
-            let mut draws = Draws::new(seed, 0);
-            run_load(
-                alloc, file, *number, *count, &mut draws, shelf, lobby, input, out,
-            )
-        }
+        } => run_load(alloc, file, *number, *count, seed, shelf, lobby, input, out),
+    }
+}
+
+// Runs the command that was found in the words.
+fn run_found<R: Threads + Wait + Sync, S: Shelf, B: Lobby, I: Source, O: Sink>(
+    rt: &R,
+    alloc: Global,
+    _words: &[Text],
+    found: &Option<ProgramCommand>,
+    shelf: &mut S,
+    lobby: &mut B,
+    input: &mut I,
+    out: &mut O,
+    seed: [u8; 32],
+) -> Ended<S::Disk>
+where
+    S::Disk: Send,
+    <B::Door as Door>::Link: Send,
+    requires { MatchOption found.now ((line : CommandLine) → IsCommandLine _words.now line → ⊥)
+        (λ command. (line : CommandLine) × IsCommandLine _words.now line × Denotes command line) }
+    ensures { let seen = outside S.Shelf B.Lobby I.Source O.Sink in Runs S.Disk.Disk _words.now seed
+        (seen shelf.old lobby.old input.old out.old) (seen shelf.new lobby.new input.new out.new) result }
+{
+    match found {
+        Some(command) => run_command(rt, alloc, command, shelf, lobby, input, out, seed),
+        None => end_run(out, undone(alloc, Ending::Usage)),
     }
 }
 
@@ -385,12 +419,12 @@ where
     ensures { let seen = outside S.Shelf B.Lobby I.Source O.Sink in Runs S.Disk.Disk words.now seed
         (seen shelf.old lobby.old input.old out.old) (seen shelf.new lobby.new input.new out.new) result }
 {
-    let command = match read_words(alloc, words) {
-        Ok(Some(command)) => command,
-        Ok(None) => return end_run(out, undone(alloc, Ending::Usage)),
-        Err(Memory) => return end_run(out, undone(alloc, Ending::Memory)),
-    };
-    let ended = run_command(rt, alloc, &command, shelf, lobby, input, out, seed);
-    drop(command);
-    ended
+    match read_words(alloc, words) {
+        Ok(found) => {
+            let ended = run_found(rt, alloc, words, &found, shelf, lobby, input, out, seed);
+            drop(found);
+            ended
+        }
+        Err(Memory) => end_run(out, undone(alloc, Ending::Memory)),
+    }
 }

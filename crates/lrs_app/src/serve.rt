@@ -1,7 +1,7 @@
 // The connections of doors, served over a store by one worker each.
 ghost use Rattle.std.specs.Prelude.{◌≡◌, ◌≤◌, ◌-◌, ◌^◌, length, min};
 ghost use Rattle.std.specs.List.{AllByRecursion};
-ghost use Rattle.lrs_hall.specs.Serving.{AreCounted, AreWithin, all_receipts, mark_of};
+ghost use Rattle.lrs_hall.specs.Serving.{AreCounted, AreWithin, all_receipts, tide_at};
 ghost use Rattle.lrs_journal.specs.Journal.{IsSynced};
 ghost use Rattle.lrs_hall.specs.LrsMachineDesk.{history};
 ghost use Rattle.lrs_app.specs.Disks.{taken_now};
@@ -9,6 +9,7 @@ ghost use Rattle.lrs_app.specs.Service.{CountsOn, doors, ending_of_serving, rece
 ghost use Rattle.lrs_app.specs.Steps.{GoesOn, IsOpened};
 ghost use Rattle.lrs_app.specs.ServeSteps.{ServesDesk, ServesOpened, ending_of_refusal};
 ghost use Rattle.lrs_app.specs.Run.{HasEndingCause, ServesDisk};
+ghost use Rattle.lrs_turn.specs.declared.turns.TheConstants.{MOST_PASSES};
 
 use crate::intake::unopened;
 use lrs_console::Ending;
@@ -75,16 +76,16 @@ fn serve_desk<R: Threads + Wait + Sync, D: Disk + Send, B: Lobby>(
 ) -> (Desk<D>, Items<Items<Talk>>, Ending)
 where
     <B::Door as Door>::Link: Send,
-    requires workers { (1 ≤ workers) × (workers ≤ 16) }
+    requires workers { (1 ≤ workers) × (workers ≤ MOST_PASSES) }
     requires opened { IsOpened D.Disk desk }
     requires origin { (desk.opened ≡ length (history desk)) × (desk.origin ≡ desk.disk) }
-    ensures served { ServesDesk (mark_of D.fault_count D.time) desk result.0 address.now workers connections seed
+    ensures served { ServesDesk (tide_at D.fault_count D.time) desk result.0 address.now workers connections seed
         (doors B.Lobby lobby.old)
         (doors B.Lobby lobby.new) result.1 result.2 }
     ensures counts { AllByRecursion (λ of_one. AreCounted (D.fault_count desk.disk) (D.fault_count result.0.disk)
         (all_receipts of_one)) result.1 }
     ensures later { D.fault_count desk.disk ≤ D.fault_count result.0.disk }
-    ensures within { AreWithin (mark_of D.fault_count D.time desk.disk) (mark_of D.fault_count D.time result.0.disk)
+    ensures within { AreWithin (tide_at D.fault_count D.time desk.disk) (tide_at D.fault_count D.time result.0.disk)
         (receipts_of_all result.1) }
     ensures goes_on { GoesOn D.Disk desk result.0 }
     ensures readings { B.readings lobby.new ≡ B.readings lobby.old }
@@ -124,7 +125,7 @@ fn serve_opened<R: Threads + Wait + Sync, D: Disk + Send, B: Lobby>(
 ) -> Service<D>
 where
     <B::Door as Door>::Link: Send,
-    requires workers { (1 ≤ workers) × (workers ≤ 16) }
+    requires workers { (1 ≤ workers) × (workers ≤ MOST_PASSES) }
     requires opened { IsOpened D.Disk desk }
     requires origin { (desk.opened ≡ length (history desk)) × (desk.origin ≡ desk.disk) }
     ensures served { ServesOpened D.Disk desk result.disk address.now workers connections seed
@@ -175,7 +176,7 @@ pub(crate) fn serve_disk<R: Threads + Wait + Sync, D: Disk + Send, B: Lobby>(
 ) -> Service<D>
 where
     <B::Door as Door>::Link: Send,
-    requires workers { (1 ≤ workers) × (workers ≤ 16) }
+    requires workers { (1 ≤ workers) × (workers ≤ MOST_PASSES) }
     requires settled { IsSynced D.told D.image disk }
     ensures served { ServesDisk D.Disk (taken_now D.Disk disk) result.disk address.now workers connections seed
         (doors B.Lobby lobby.old)

@@ -21,7 +21,7 @@
 use lrs_http::{Method, Request};
 use lrs_in_memory::MemDisk;
 use lrs_json::{Items, Text};
-use lrs_machine::{Body, Desk, Media, Reply, is_base, is_token};
+use lrs_machine::{Body, Desk, Media, Reply, Submission, is_base, is_token};
 use lrs_names::Draw;
 use lrs_routes::{Asked, RouteRefused, Routes};
 use std::alloc::Global;
@@ -343,12 +343,18 @@ fn answered(
     let request = request(alloc, asked)?;
     let asked = routes.command_of(alloc, request);
     match asked {
-        Ok(Asked { caller, command }) => {
-            let (reply, _receipt) = desk.act(caller, command, now, draw);
-            let text = reply_text(alloc, &reply, before, desk.length());
-            drop(reply);
-            text
-        }
+        Ok(Asked { caller, command }) => match Submission::of(alloc, command) {
+            Ok(command) => {
+                let (reply, _receipt) = desk.act(caller, command, now, draw);
+                let text = reply_text(alloc, &reply, before, desk.length());
+                drop(reply);
+                text
+            }
+            Err(refused) => {
+                drop(caller);
+                Err(Fail::from(refused))
+            }
+        },
         Err(refused) => refused_text(alloc, refused),
     }
 }

@@ -81,6 +81,13 @@ TOKEN POST /desk/callers?a=b { => 403 {"error":"A2"}
 TOKEN POST /desk/registrations/ID11/launches?a=b { => 403 {"error":"A2"}
 nobody POST /desk/callers?a=b { => 401 {"error":"A1"}
 nobody POST /desk/registrations/ID11/launches?a=b { => 401 {"error":"A1"}
+// before the rules on its form too
+nobody POST /xapi/statements {} => 401 {"error":"A1"}
+TOKEN POST /xapi/statements {} => 400 {"error":"S1"}
+00000000000000000000000000000002-5 PUT /xapi/statements?statementId=ID50 {} => 400 {"error":"S1"}
+nobody POST /desk/courses [] => 401 {"error":"A1"}
+TOKEN POST /desk/courses [] => 403 {"error":"A2"}
+admin POST /desk/courses [] => 400 {"error":"K1"}
 "#;
 
 #[test]

@@ -6,7 +6,7 @@ use Rattle.lrs_hall.specs.Acts.{ActsIn, ActsOn, Reach, SeenAndClock}
 use Rattle.lrs_hall.specs.Conversation.{Worker}
 use Rattle.lrs_hall.specs.Serving.{AddsReadings, AreOnLinks, IsWholeTalk, all_receipts, clocks}
 use Rattle.lrs_hall.specs.Talks.{Talk}
-use Rattle.lrs_hall.proofs.Conversing.{GoesOn, Reads, goes_on, reads}
+use Rattle.lrs_hall.proofs.Conversing.{FrontGoesOn, Reads, goes_on, reads}
 use Rattle.lrs_hall.proofs.Talking.{all_seen, over_all, over_whole, talk_seen}
 use Rattle.lrs_hall.proofs.Translating.{IsBegun, acts_in, begun_before, reach_of}
 
@@ -26,7 +26,7 @@ module _ (limit : ℕ) where
     talk_reads = over_whole (ActsOn limit) (Reads limit) (reads limit) _ talk.receipts out talk.finish old new whole
 
     pub talk_goes_on : BeginsWith old.reached.seen.front new.reached.seen.front
-    talk_goes_on = over_whole (ActsOn limit) (GoesOn limit) (goes_on limit) _ talk.receipts out talk.finish old new whole
+    talk_goes_on = over_whole (ActsOn limit) (FrontGoesOn limit) (goes_on limit) _ talk.receipts out talk.finish old new whole
 
     pub talk_on_line : (line : List Record) → IsBegun line new.reached → IsWholeTalk (ActsIn limit line) stream talk out (on_line old) (on_line new)
     talk_on_line line begun =
@@ -42,7 +42,7 @@ module _ (limit : ℕ) where
     all_read = over_all (ActsOn limit) (Reads limit) (reads limit) talks links old new all
 
     pub all_go_on : BeginsWith old.reached.seen.front new.reached.seen.front
-    all_go_on = over_all (ActsOn limit) (GoesOn limit) (goes_on limit) talks links old new all
+    all_go_on = over_all (ActsOn limit) (FrontGoesOn limit) (goes_on limit) talks links old new all
 
     -- their acts are acts on each line that begins with what was seen in the end
     pub all_on_line : (line : List Record) → IsBegun line new.reached → AreOnLinks (ActsIn limit line) talks links (on_line old) (on_line new)

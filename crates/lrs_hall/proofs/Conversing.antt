@@ -40,10 +40,10 @@ module _ (limit : ℕ) where
   }
 
   -- what was seen goes on from what was seen before
-  abbrev pub GoesOn : List Receipt → SeenAndClock → SeenAndClock → Type 0
-  GoesOn receipts old new = BeginsWith old.seen.front new.seen.front
+  abbrev pub FrontGoesOn : List Receipt → SeenAndClock → SeenAndClock → Type 0
+  FrontGoesOn receipts old new = BeginsWith old.seen.front new.seen.front
 
-  pub goes_on : Carries (ActsOn limit) GoesOn
+  pub goes_on : Carries (ActsOn limit) FrontGoesOn
   goes_on = record {
     none = λ x. begins_self x.seen.front;
     plain = λ status receipt receipts old new none more. more;

@@ -10,7 +10,7 @@ pub mod Talking
 pub mod Translating
 pub mod Conversing
 pub mod AfterTalks
-pub mod Marks
+pub mod Tides
 pub mod Once
 pub mod Doors
 pub mod OneStream

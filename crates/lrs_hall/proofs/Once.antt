@@ -9,7 +9,7 @@ use prog.Atomic.{either}
 use Rattle.lrs_history.specs.History.{Answer, answer}
 use Rattle.lrs_machine.specs.Line.{Record, entries, sure, with_made}
 use Rattle.lrs_machine.specs.Acts.{Receipt, Tells, changed, made_by, place_where, record_of}
-use Rattle.lrs_machine.specs.Desk.{KeepsLine, Mark}
+use Rattle.lrs_machine.specs.Desk.{KeepsLine, Tide}
 use Rattle.lrs_machine.specs.Steps.{one_of}
 use Rattle.lrs_machine.proofs.Lines.{entries_append, entries_one, none_some, some_same}
 use Rattle.lrs_machine.proofs.Prefixes.{prefix_less}
@@ -28,7 +28,7 @@ use Rattle.lrs_hall.specs.Acts.{ActsIn, ActsNext, Reach}
 use Rattle.lrs_hall.specs.Laws.{Alone, AreInOrder, EntriesOnce, IsAnsweredBefore, IsFrom, InOrder, IsKept, KeepsPromises, Makes, OwnEntries, entries_at, entries_in, is_at, least_of, promised}
 use Rattle.lrs_hall.proofs.Lines.{begins_take, count_next, get_last, get_past, get_some, get_take, last_of, length_take, one_has, one_length, take_next}
 use Rattle.lrs_hall.specs.Serving.{IsNotBelow}
-use Rattle.lrs_hall.proofs.Marks.{disk_left, is_left, mark_later, not_acted}
+use Rattle.lrs_hall.proofs.Tides.{disk_left, is_left, not_acted, tide_later}
 use Rattle.lrs_hall.proofs.Talking.{Carries, all_seen, over_all}
 
 -- ---- places in a line
@@ -352,7 +352,7 @@ alone limit line talks links old new over all none =
 
 -- ---- in order
 
-behind_all : (n m : ℕ) (a b : Mark) (receipts : List Receipt) → n ≤ m → IsNotBelow a b → AllByRecursion (IsFrom m b) receipts → AllByRecursion (IsFrom n a) receipts
+behind_all : (n m : ℕ) (a b : Tide) (receipts : List Receipt) → n ≤ m → IsNotBelow a b → AllByRecursion (IsFrom m b) receipts → AllByRecursion (IsFrom n a) receipts
 behind_all n m a b [] le low all = tt
 behind_all n m a b (receipt ∷ receipts) le low all = (
   λ acted.
@@ -366,17 +366,17 @@ behind_all n m a b (receipt ∷ receipts) le low all = (
   behind_all n m a b receipts le low all.1,
 )
 
-goes_all : (n : ℕ) (mark : Mark) (first : Receipt) (receipts : List Receipt) → first.point ≤ n → (IsSome first.entry → first.point < n) → mark.faults ≡ first.is → mark.moment ≡ first.disk
-    → AllByRecursion (IsFrom n mark) receipts → AllByRecursion (IsAnsweredBefore first) receipts
-goes_all n mark first [] le low count moment all = tt
-goes_all n mark first (receipt ∷ receipts) le low count moment all = (
+goes_all : (n : ℕ) (tide : Tide) (first : Receipt) (receipts : List Receipt) → first.point ≤ n → (IsSome first.entry → first.point < n) → tide.faults ≡ first.is → tide.moment ≡ first.disk
+    → AllByRecursion (IsFrom n tide) receipts → AllByRecursion (IsAnsweredBefore first) receipts
+goes_all n tide first [] le low count moment all = tt
+goes_all n tide first (receipt ∷ receipts) le low count moment all = (
   λ mine acted.
       let x = all.0 acted in
       let point = x.0 in
       let was = x.1.was in
       let ended = x.1.ended in
       (omega (arith, le, point), λ own. let y = low own in omega (arith, point, y), omega (arith, count, was), omega (arith, moment, ended)),
-  goes_all n mark first receipts le low count moment all.1,
+  goes_all n tide first receipts le low count moment all.1,
 )
 
 goes_none : (first : Receipt) (receipts : List Receipt) → first.acted ≡ false → AllByRecursion (IsAnsweredBefore first) receipts
@@ -391,7 +391,7 @@ goes_none first (receipt ∷ receipts) none = (
 module _ (limit : ℕ) (line : List Record) where
   -- after all that was seen, and in order
   abbrev OrderIn : List Receipt → Reach → Reach → Type 0
-  OrderIn receipts old new = AllByRecursion (IsFrom (entries_in old.records line) old.mark) receipts × AreInOrder receipts
+  OrderIn receipts old new = AllByRecursion (IsFrom (entries_in old.records line) old.tide) receipts × AreInOrder receipts
 
   order_in : Carries (ActsIn limit line) OrderIn
   order_in = record {
@@ -404,13 +404,13 @@ module _ (limit : ℕ) (line : List Record) where
         let from = count_more line old.records on.at on.later in
         let later = count_more line on.at mid.records (at_within limit line caller command draw reply receipt old mid on) in
         let own = step_past limit line caller command draw reply receipt old mid on in
-        let low = mark_later limit line caller command draw reply receipt old mid on in (
+        let low = tide_later limit line caller command draw reply receipt old mid on in (
           (
             λ acted. (omega (arith, point, from), on.since),
-            behind_all (entries_in old.records line) (entries_in mid.records line) old.mark mid.mark receipts (omega (arith, from, later)) low more.0,
+            behind_all (entries_in old.records line) (entries_in mid.records line) old.tide mid.tide receipts (omega (arith, from, later)) low more.0,
           ),
           (
-            goes_all (entries_in mid.records line) mid.mark receipt receipts (omega (arith, point, later)) own
+            goes_all (entries_in mid.records line) mid.tide receipt receipts (omega (arith, point, later)) own
                 (is_left limit line caller command draw reply receipt old mid on) (disk_left limit line caller command draw reply receipt old mid on) more.0,
             more.1,
           ),

@@ -7,7 +7,7 @@ use Rattle.lrs_hall.specs.Steps.{AreNumbered, backwards}
 use Rattle.lrs_hall.specs.Workers.{end_of, end_with}
 use Rattle.lrs_hall.specs.declared.serving.ServeEnd.{ServeEnd}
 use Rattle.lrs_hall.specs.declared.serving.ServeEnd.TheVariants as serve
-use Rattle.lrs_hall.specs.declared.workers.Worker as held
+use Rattle.lrs_hall.specs.declared.workers.Seat as held
 
 -- ---- lists in the other order
 
@@ -71,11 +71,11 @@ module _ {A : Type 0} where
 
 -- ---- the draws
 
-pub numbered_more : {O : Type 0} (seed : List ℕ) (k n : ℕ) (ws next : List (held.Worker O)) (w : held.Worker O) → AreNumbered seed (suc k) ws → w.draws ≡ start_of seed n → n ≡ k + 1 → next ≡ ws ++ w ∷ []
+pub numbered_more : {O : Type 0} (seed : List ℕ) (k n : ℕ) (ws next : List (held.Seat O)) (w : held.Seat O) → AreNumbered seed (suc k) ws → w.draws ≡ start_of seed n → n ≡ k + 1 → next ≡ ws ++ w ∷ []
     → AreNumbered seed k next
-numbered_more {O} seed k n ws next w numbered draws is pushed = subst (λ (l : List (held.Worker O)). AreNumbered seed k l) (sym pushed) (goes ws numbered)
+numbered_more {O} seed k n ws next w numbered draws is pushed = subst (λ (l : List (held.Seat O)). AreNumbered seed k l) (sym pushed) (goes ws numbered)
   where
-    goes : (vs : List (held.Worker O)) → AreNumbered seed (suc k) vs → AreNumbered seed k (vs ++ w ∷ [])
+    goes : (vs : List (held.Seat O)) → AreNumbered seed (suc k) vs → AreNumbered seed k (vs ++ w ∷ [])
     goes [] so =
         let e : n ≡ k + 0 + 1 = omega (arith, is) in
         (subst (λ (m : ℕ). w.draws ≡ start_of seed m) e draws, tt)

@@ -3,19 +3,19 @@ use Rattle.std.proofs.Common.{◌≡◌, ◌+◌, ℕ, List, [], ◌∷◌, ◌+
 use Rattle.std.specs.Prelude.{if◌then◌else◌}
 use Rattle.lrs_machine.specs.Line.{BeginsWith, Record, entries}
 use Rattle.lrs_machine.specs.Acts.{Acts, Receipt, changed, line_behind, made_by, record_of}
-use Rattle.lrs_machine.specs.Desk.{Mark}
+use Rattle.lrs_machine.specs.Desk.{Tide}
 use Rattle.lrs_history.specs.History.{Answer, answer}
 use Rattle.lrs_names.specs.declared.draw.Draw.{Draw}
 use Rattle.lrs_record.specs.declared.entry.Caller.{Caller}
 use Rattle.lrs_record.specs.declared.entry.Entry.{Entry}
 use Rattle.lrs_command.specs.declared.command.Command.{Command}
 use Rattle.lrs_replies.specs.declared.reply.Reply.{Reply}
-use Rattle.lrs_hall.specs.Acts.{ActsAt, ActsIn, ActsOn, Reach, Seen, SeenAndClock, mark_behind, own_behind}
+use Rattle.lrs_hall.specs.Acts.{ActsAt, ActsIn, ActsOn, Reach, Seen, SeenAndClock, own_behind, tide_behind}
 use Rattle.lrs_hall.proofs.Lines.{begins_length, begins_more, begins_take, entries_take}
 
 -- how far a worker has come in a line that begins with all that it has seen
 abbrev pub reach_of : SeenAndClock → Reach
-reach_of x = record { records = length x.seen.front; own = x.seen.own; mark = x.seen.mark }
+reach_of x = record { records = length x.seen.front; own = x.seen.own; tide = x.seen.tide }
 
 -- the line begins with what was seen
 abbrev pub IsBegun : List Record → SeenAndClock → Type 0
@@ -35,12 +35,12 @@ behind_length line next a receipt is = by_change (changed receipt) is
     by_change true is = ap length is ∙ length-append line (record_of (made_by a receipt) receipt ∷ [])
     by_change false is = ap length is
 
-same_reach : (n m : ℕ) (own other : List ℕ) (mark left : Mark) → n ≡ m → own ≡ other → mark ≡ left
-    → (let r : Reach = record { records = n; own = own; mark = mark } in r ≡ record { records = m; own = other; mark = left })
-same_reach n m own other mark left is same at =
-    ap (λ (k : ℕ). let r : Reach = record { records = k; own = own; mark = mark } in r) is
-    ∙ ap (λ (l : List ℕ). let r : Reach = record { records = m; own = l; mark = mark } in r) same
-    ∙ ap (λ (x : Mark). let r : Reach = record { records = m; own = other; mark = x } in r) at
+same_reach : (n m : ℕ) (own other : List ℕ) (tide left : Tide) → n ≡ m → own ≡ other → tide ≡ left
+    → (let r : Reach = record { records = n; own = own; tide = tide } in r ≡ record { records = m; own = other; tide = left })
+same_reach n m own other tide left is same at =
+    ap (λ (k : ℕ). let r : Reach = record { records = k; own = own; tide = tide } in r) is
+    ∙ ap (λ (l : List ℕ). let r : Reach = record { records = m; own = l; tide = tide } in r) same
+    ∙ ap (λ (x : Tide). let r : Reach = record { records = m; own = other; tide = x } in r) at
 
 module _ (limit : ℕ) (caller : Caller) (command : Command) (draw : Draw) (reply : Reply) (receipt : Receipt) where
   -- what was seen after an act begins with the line that the desk had
@@ -53,8 +53,8 @@ module _ (limit : ℕ) (caller : Caller) (command : Command) (draw : Draw) (repl
 
   -- an act of a pass is one over each line that begins with what the pass has seen after it
   at_in : (line whole : List Record) (old new : Seen) → ActsAt line limit caller command draw reply receipt old new → BeginsWith new.front whole
-      → ActsIn limit whole caller command draw reply receipt (record { records = length old.front; own = old.own; mark = old.mark })
-      (record { records = length new.front; own = new.own; mark = new.mark })
+      → ActsIn limit whole caller command draw reply receipt (record { records = length old.front; own = old.own; tide = old.tide })
+      (record { records = length new.front; own = new.own; tide = new.tide })
   at_in line whole old new on begun =
       let front : take (length line) whole ≡ line = begins_take line whole (begins_more line new.front whole (front_taken line old new on) begun) in
       let seen : take (length new.front) whole ≡ new.front = begins_take new.front whole begun in
@@ -72,8 +72,8 @@ module _ (limit : ℕ) (caller : Caller) (command : Command) (draw : Draw) (repl
         acts = subst (λ (l : List Record). Acts a on.said receipt l (take (length new.front) whole)) (sym front)
             (subst (λ (l : List Record). Acts a on.said receipt line l) (sym seen) acts);
         within = begins_length new.front whole begun;
-        reach = same_reach (length new.front) (if changed receipt then length line + 1 else length line) new.own (own_behind (length line) receipt old.own) new.mark (mark_behind receipt)
-            (behind_length line new.front (answer limit (entries line) caller command receipt.clock draw) receipt on.acts.line) on.own on.mark;
+        reach = same_reach (length new.front) (if changed receipt then length line + 1 else length line) new.own (own_behind (length line) receipt old.own) new.tide (tide_behind receipt)
+            (behind_length line new.front (answer limit (entries line) caller command receipt.clock draw) receipt on.acts.line) on.own on.tide;
       }
 
   pub acts_in : (whole : List Record) (old new : SeenAndClock) → ActsOn limit caller command draw reply receipt old new → IsBegun whole new

@@ -4,8 +4,8 @@ use Rattle.std.proofs.Common.{arith, ◌≡◌, ◌≤◌, ℕ, List, [], ◌∷
 use Rattle.std.specs.Prelude.{if◌then◌else◌}
 use Rattle.lrs_disk.specs.Readings.{AddsReading}
 use Rattle.lrs_machine.specs.Line.{BeginsWith, Record, entries}
-use Rattle.lrs_machine.specs.Acts.{Acts, GoesOn, Receipt, changed}
-use Rattle.lrs_machine.specs.Desk.{Desk, Mark, history, marks_of, receipt_of, tide_of}
+use Rattle.lrs_machine.specs.Acts.{Acts, LineGoesOn, Receipt, changed}
+use Rattle.lrs_machine.specs.Desk.{Desk, Tide, history, marks_of, receipt_of, tide_of}
 use Rattle.lrs_history.specs.History.{answer}
 use Rattle.lrs_names.specs.declared.draw.Draw.{Draw}
 use Rattle.lrs_record.specs.declared.entry.Caller.{Caller}
@@ -17,7 +17,7 @@ use Rattle.lrs_replies.specs.declared.reply.Trouble.{Trouble}
 use Rattle.lrs_turn.specs.Lists.{NoneFalls}
 use Rattle.lrs_turn.specs.Passes.{HasTurn, IsIdle, Pass, Turns, committed, given, pointed, rested, taken}
 use Rattle.lrs_turn.proofs.Steps.{none_falls_same, none_falls_then}
-use Rattle.lrs_hall.specs.Acts.{ActsAt, ActsOn, IsSince, limit_in, mark_in, own_behind, seen_of}
+use Rattle.lrs_hall.specs.Acts.{ActsAt, ActsOn, IsSince, limit_in, own_behind, seen_of, tide_in}
 use Rattle.lrs_hall.specs.Serving.{KeepsPass}
 use Rattle.lrs_hall.specs.Steps.{IsTaken, pass_behind, seen_with}
 
@@ -28,16 +28,16 @@ SaysActs old new caller command clock draw reply receipt =
 
 -- ---- what is known of the disk
 
-pub mark_below : (xs : List ℕ) (faults moment : ℕ) → NoneFalls xs (faults ∷ moment ∷ []) → ((mark_in xs).faults ≤ faults) × ((mark_in xs).moment ≤ moment)
-mark_below [] faults moment low = absurd low
-mark_below (a ∷ []) faults moment low = absurd low.1
-mark_below (a ∷ b ∷ []) faults moment low = (low.0, low.1.0)
-mark_below (a ∷ b ∷ c ∷ xs) faults moment low = absurd low.1.1
+pub tide_below : (xs : List ℕ) (faults moment : ℕ) → NoneFalls xs (faults ∷ moment ∷ []) → ((tide_in xs).faults ≤ faults) × ((tide_in xs).moment ≤ moment)
+tide_below [] faults moment low = absurd low
+tide_below (a ∷ []) faults moment low = absurd low.1
+tide_below (a ∷ b ∷ []) faults moment low = (low.0, low.1.0)
+tide_below (a ∷ b ∷ c ∷ xs) faults moment low = absurd low.1.1
 
-same_mark : (a b c d : ℕ) → a ≡ b → c ≡ d → (let m : Mark = record { faults = a; moment = c } in m ≡ record { faults = b; moment = d })
-same_mark a b c d e f =
-    ap (λ (n : ℕ). let m : Mark = record { faults = n; moment = c } in m) e
-    ∙ ap (λ (n : ℕ). let m : Mark = record { faults = b; moment = n } in m) f
+same_tide : (a b c d : ℕ) → a ≡ b → c ≡ d → (let m : Tide = record { faults = a; moment = c } in m ≡ record { faults = b; moment = d })
+same_tide a b c d e f =
+    ap (λ (n : ℕ). let m : Tide = record { faults = n; moment = c } in m) e
+    ∙ ap (λ (n : ℕ). let m : Tide = record { faults = b; moment = n } in m) f
 
 -- ---- the pass after an act
 
@@ -71,7 +71,7 @@ module _ (line : List Record) (receipt : Receipt) (pass : Pass Record) where
       by_change false = refl
 
   -- it has seen the desk's line
-  front_is : GoesOn receipt pass.line line → (pass_behind line receipt pass).front ≡ line
+  front_is : LineGoesOn receipt pass.line line → (pass_behind line receipt pass).front ≡ line
   front_is goes = by_change (changed receipt) goes.1
     where
       by_change : (b : Bool) → (b ≡ false → line ≡ pass.line) → (let p : Pass Record = (if b then committed line pass else pointed pass) in p.front ≡ line)
@@ -79,7 +79,7 @@ module _ (line : List Record) (receipt : Receipt) (pass : Pass Record) where
       by_change false same = sym (same refl)
 
   -- which is committed
-  line_is : GoesOn receipt pass.line line → (pass_behind line receipt pass).line ≡ line
+  line_is : LineGoesOn receipt pass.line line → (pass_behind line receipt pass).line ≡ line
   line_is goes = by_change (changed receipt) goes.1
     where
       by_change : (b : Bool) → (b ≡ false → line ≡ pass.line) → (let p : Pass Record = (if b then committed line pass else pointed pass) in p.line ≡ line)
@@ -113,23 +113,23 @@ looked turns line tide old mid new is idle back =
     )
 
 -- and may be put back
-pub may_put_back : (line : List Record) (tide : List ℕ) (old mid : Pass Record) → mid ≡ taken line tide old → NoneFalls mid.level tide
-may_put_back line tide old mid is = subst (λ (l : List ℕ). NoneFalls l tide) (sym (ap (λ (p : Pass Record). p.level) is)) (none_falls_same tide)
+pub may_put_back : (line : List Record) (tide : List ℕ) (old mid : Pass Record) → mid ≡ taken line tide old → tide ≡ mid.level
+may_put_back line tide old mid is = sym (ap (λ (p : Pass Record). p.level) is)
 
 -- ---- an act on the desk that was taken
 
 module _ {D : Type 0} (code : Coded D) (time faults : D → ℕ) (turns : Turns) (old next : Desk D) (pass after : Pass Record) (taken_as : IsTaken code faults time turns old pass)
     (caller : Caller) (command : Command) (clock : ℕ) (draw : Draw) (reply : Reply) (receipt : Receipt)
     (acts : SaysActs old next caller command clock draw reply receipt) (receipt_is : receipt ≡ receipt_of time faults old next reply.status clock)
-    (goes : GoesOn receipt old.line next.line) (later : time old.disk ≤ time next.disk) (is : after ≡ given (tide_of faults time next) (pass_behind next.line receipt pass)) where
-  goes_here : GoesOn receipt pass.line next.line
-  goes_here = subst (λ (l : List Record). GoesOn receipt l next.line) taken_as.line goes
+    (goes : LineGoesOn receipt old.line next.line) (later : time old.disk ≤ time next.disk) (is : after ≡ given (tide_of faults time next) (pass_behind next.line receipt pass)) where
+  goes_here : LineGoesOn receipt pass.line next.line
+  goes_here = subst (λ (l : List Record). LineGoesOn receipt l next.line) taken_as.line goes
 
-  since : IsSince (mark_in pass.tide) receipt
+  since : IsSince (tide_in pass.tide) receipt
   since =
       let was : receipt.was ≡ faults old.disk = ap (λ (r : Receipt). r.was) receipt_is in
       let ended : receipt.disk ≡ time next.disk = ap (λ (r : Receipt). r.disk) receipt_is in
-      let low = mark_below pass.tide (faults old.disk) (time old.disk) taken_as.tide in
+      let low = tide_below pass.tide (faults old.disk) (time old.disk) taken_as.tide in
       let count = low.0 in
       let moment = low.1 in
       record { was = omega (arith, count, was); ended = omega (arith, moment, later, ended) }
@@ -149,8 +149,8 @@ module _ {D : Type 0} (code : Coded D) (time faults : D → ℕ) (turns : Turns)
             (subst (λ (n : ℕ). Acts (answer n (entries old.line) caller command receipt.clock draw) acts.0 receipt old.line next.line) limit
             (subst (λ (k : ℕ). Acts (answer old.limit (history old) caller command k draw) acts.0 receipt old.line next.line) (sym e) acts.2));
         own = ap (λ (p : Pass Record). p.own) is ∙ own_is next.line receipt pass ∙ ap (λ (l : List Record). own_behind (length l) receipt pass.own) (sym taken_as.line);
-        mark = ap (λ (p : Pass Record). mark_in p.tide) is
-            ∙ same_mark (faults next.disk) receipt.is (time next.disk) receipt.disk (sym (ap (λ (r : Receipt). r.is) receipt_is)) (sym (ap (λ (r : Receipt). r.disk) receipt_is));
+        tide = ap (λ (p : Pass Record). tide_in p.tide) is
+            ∙ same_tide (faults next.disk) receipt.is (time next.disk) receipt.disk (sym (ap (λ (r : Receipt). r.is) receipt_is)) (sym (ap (λ (r : Receipt). r.disk) receipt_is));
       }
 
   pub kept_after : IsIdle turns after → faults old.disk ≤ faults next.disk → KeepsPass turns pass after
@@ -164,10 +164,10 @@ module _ {D : Type 0} (code : Coded D) (time faults : D → ℕ) (turns : Turns)
 
 -- what giving the desk back asks for
 pub may_give : {D : Type 0} (code : Coded D) (faults time : D → ℕ) (turns : Turns) (old next : Desk D) (pass mid : Pass Record) (receipt : Receipt) → IsTaken code faults time turns old pass
-    → GoesOn receipt old.line next.line → marks_of code next ≡ marks_of code old → faults old.disk ≤ faults next.disk → time old.disk ≤ time next.disk → mid ≡ pass_behind next.line receipt pass
+    → LineGoesOn receipt old.line next.line → marks_of code next ≡ marks_of code old → faults old.disk ≤ faults next.disk → time old.disk ≤ time next.disk → mid ≡ pass_behind next.line receipt pass
     → (next.line ≡ mid.line) × (marks_of code next ≡ mid.marks) × NoneFalls mid.level (tide_of faults time next)
 may_give code faults time turns old next pass mid receipt taken_as goes marks rise later is =
-    let here : GoesOn receipt pass.line next.line = subst (λ (l : List Record). GoesOn receipt l next.line) taken_as.line goes in
+    let here : LineGoesOn receipt pass.line next.line = subst (λ (l : List Record). LineGoesOn receipt l next.line) taken_as.line goes in
     let level : mid.level ≡ pass.level = ap (λ (p : Pass Record). p.level) is ∙ level_behind next.line receipt pass in (
       sym (ap (λ (p : Pass Record). p.line) is ∙ line_is next.line receipt pass here),
       marks ∙ taken_as.marks ∙ sym (ap (λ (p : Pass Record). p.marks) is ∙ marks_behind next.line receipt pass),

@@ -63,7 +63,7 @@ acts_alike line limit caller area c d draw reply receipt old new out of_c of_d x
   says = x.says;
   acts = subst (λ (a : Answer). Acts a x.said receipt line new.front) (told_alike limit (entries line) caller area c d receipt.clock draw out of_c of_d) x.acts;
   own = x.own;
-  mark = x.mark;
+  tide = x.tide;
 }
 
 -- ---- one response

@@ -3,7 +3,7 @@ use Rattle.std.specs.Prelude.{◌≡◌, ◌≤◌, ◌+◌, ℕ, List, [], ◌�
 use Rattle.lrs_disk.specs.Readings.{AddsReading}
 use Rattle.lrs_machine.specs.Line.{BeginsWith, Record, entries}
 use Rattle.lrs_machine.specs.Acts.{Acts, Receipt, changed}
-use Rattle.lrs_machine.specs.Desk.{Mark}
+use Rattle.lrs_machine.specs.Desk.{Tide}
 use Rattle.lrs_history.specs.History.{answer}
 use Rattle.lrs_replies.specs.Replies.{Says}
 use Rattle.lrs_replies.specs.declared.answered.Answered.{Answered}
@@ -22,13 +22,13 @@ own_behind at receipt own = if changed receipt then own ++ at ∷ [] else own
 
 -- What an act tells of the disk goes on from what its worker knew: it found no lower count of faults, and ended at no
 -- earlier moment.
-pub record IsSince (known : Mark) (receipt : Receipt) : Type 0 where
+pub record IsSince (known : Tide) (receipt : Receipt) : Type 0 where
   pub was : known.faults ≤ receipt.was
   pub ended : known.moment ≤ receipt.disk
 
 -- what a worker knows of the disk after an act
-abbrev pub mark_behind : Receipt → Mark
-mark_behind receipt = record { faults = receipt.is; moment = receipt.disk }
+abbrev pub tide_behind : Receipt → Tide
+tide_behind receipt = record { faults = receipt.is; moment = receipt.disk }
 
 -- ---- over the one line
 
@@ -37,14 +37,14 @@ mark_behind receipt = record { faults = receipt.is; moment = receipt.disk }
 pub record Reach : Type 0 where
   pub records : ℕ
   pub own : List ℕ
-  pub mark : Mark
+  pub tide : Tide
 
 -- after an act on the first records of the line
 abbrev pub reach_behind : ℕ → Receipt → Reach → Reach
 reach_behind at receipt old = record {
   records = if changed receipt then at + 1 else at;
   own = own_behind at receipt old.own;
-  mark = mark_behind receipt;
+  tide = tide_behind receipt;
 }
 
 -- An act on the first records of the one line: on all that the worker had seen, and maybe more, since others act too.
@@ -54,7 +54,7 @@ pub record ActsIn (limit : ℕ) (line : List Record) (caller : Caller) (command 
   -- how many records there were
   pub at : ℕ
   pub later : old.records ≤ at
-  pub since : IsSince old.mark receipt
+  pub since : IsSince old.tide receipt
   pub status : receipt.status ≡ reply.status
   pub said : Result Answered Trouble
   pub says : Says said reply
@@ -75,16 +75,16 @@ pub record ActsNext (limit : ℕ) (line : List Record) (caller : Caller) (comman
 pub record Seen : Type 0 where
   pub front : List Record
   pub own : List ℕ
-  pub mark : Mark
+  pub tide : Tide
 
 -- no desk that a pass takes has a lower tide, which is the count of the disk's faults and the disk's moment
-abbrev pub mark_in : List ℕ → Mark
-mark_in [] = record { faults = 0; moment = 0 }
-mark_in (faults ∷ []) = record { faults = faults; moment = 0 }
-mark_in (faults ∷ moment ∷ others) = record { faults = faults; moment = moment }
+abbrev pub tide_in : List ℕ → Tide
+tide_in [] = record { faults = 0; moment = 0 }
+tide_in (faults ∷ []) = record { faults = faults; moment = 0 }
+tide_in (faults ∷ moment ∷ others) = record { faults = faults; moment = moment }
 
 abbrev pub seen_of : Pass Record → Seen
-seen_of pass = record { front = pass.front; own = pass.own; mark = mark_in pass.tide }
+seen_of pass = record { front = pass.front; own = pass.own; tide = tide_in pass.tide }
 
 -- each desk that a pass takes has these marks, of which the first is the limit
 abbrev pub limit_in : List ℕ → ℕ
@@ -96,13 +96,13 @@ limit_in (limit ∷ others) = limit
 pub record ActsAt (line : List Record) (limit : ℕ) (caller : Caller) (command : Command) (draw : Draw) (reply : Reply)
     (receipt : Receipt) (old new : Seen) : Type 0 where
   pub goes_on : BeginsWith old.front line
-  pub since : IsSince old.mark receipt
+  pub since : IsSince old.tide receipt
   pub status : receipt.status ≡ reply.status
   pub said : Result Answered Trouble
   pub says : Says said reply
   pub acts : Acts (answer limit (entries line) caller command receipt.clock draw) said receipt line new.front
   pub own : new.own ≡ own_behind (length line) receipt old.own
-  pub mark : new.mark ≡ mark_behind receipt
+  pub tide : new.tide ≡ tide_behind receipt
 
 -- what an act changes: what its worker has seen, and what its door tells of the clock
 pub record SeenAndClock : Type 0 where

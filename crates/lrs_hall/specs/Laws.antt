@@ -18,7 +18,7 @@ use Rattle.lrs_routes.specs.declared.asked.Asked.{Asked}
 use Rattle.lrs_routes.specs.declared.asked.RouteRefused.{RouteRefused}
 use Rattle.lrs_time.specs.Timestamp.{IsMomentText}
 use Rattle.lrs_turn.specs.Lists.{times}
-use Rattle.lrs_machine.specs.Desk.{Mark}
+use Rattle.lrs_machine.specs.Desk.{Tide}
 use Rattle.lrs_hall.specs.Acts.{ActsIn, ActsNext, IsSince, Reach}
 use Rattle.lrs_hall.specs.Conversation.{AnswersTo, ServesRequest, Worker}
 use Rattle.lrs_hall.specs.Draws.{Draws}
@@ -98,7 +98,7 @@ AreInOrder [] = Unit {0}
 AreInOrder (receipt ∷ receipts) = AllByRecursion (IsAnsweredBefore receipt) receipts × AreInOrder receipts
 
 -- the act was answered over no fewer entries than these, and goes on from what was known of the disk
-abbrev pub IsFrom : ℕ → Mark → Receipt → Type 0
+abbrev pub IsFrom : ℕ → Tide → Receipt → Type 0
 IsFrom n known receipt = receipt.acted ≡ true → (n ≤ receipt.point) × IsSince known receipt
 
 -- All acts of a worker go on: from what it had seen, and each from those before it.
@@ -106,7 +106,7 @@ abbrev pub InOrder : Type 0
 InOrder =
     (limit : ℕ) (line : List Record) (talks : List Talk) (links : List Returned) (old new : Worker Reach)
     → AreOnLinks (ActsIn limit line) talks links old new
-    → AllByRecursion (IsFrom (entries_in old.reached.records line) old.reached.mark) (all_receipts talks)
+    → AllByRecursion (IsFrom (entries_in old.reached.records line) old.reached.tide) (all_receipts talks)
     × AreInOrder (all_receipts talks)
 
 -- ---- what was acknowledged is kept
@@ -161,10 +161,10 @@ pub record IsSmooth (talk : Talk) : Type 0 where
 -- and end alike, if nobody else acts between.
 abbrev pub OneStream : Type 0
 OneStream =
-    (limit : ℕ) (line_a line_b : List Record) (records_a records_b : ℕ) (own_a own_b : List ℕ) (mark_a mark_b : Mark)
+    (limit : ℕ) (line_a line_b : List Record) (records_a records_b : ℕ) (own_a own_b : List ℕ) (tide_a tide_b : Tide)
     (stream : List ℕ) (draws : Draws) (readings : List ℕ) (a b : Talk) (out_a out_b : List ℕ) (end_a end_b : Worker Reach)
     → entries (take records_a line_a) ≡ entries (take records_b line_b)
     → BeginsWith (clocks a.receipts) readings → BeginsWith (clocks b.receipts) readings
-    → IsWholeTalk (ActsNext limit line_a) (Some stream) a out_a (worker_at draws records_a own_a mark_a) end_a
-    → IsWholeTalk (ActsNext limit line_b) (Some stream) b out_b (worker_at draws records_b own_b mark_b) end_b
+    → IsWholeTalk (ActsNext limit line_a) (Some stream) a out_a (worker_at draws records_a own_a tide_a) end_a
+    → IsWholeTalk (ActsNext limit line_b) (Some stream) b out_b (worker_at draws records_b own_b tide_b) end_b
     → IsSmooth a → IsSmooth b → (out_a ≡ out_b) × (a.finish ≡ b.finish)

@@ -7,10 +7,10 @@ use Rattle.lrs_disk.specs.Faults.{Rises}
 use Rattle.lrs_http.specs.Stream.{most_requests}
 use Rattle.lrs_machine.specs.Line.{BeginsWith, Record}
 use Rattle.lrs_machine.specs.Acts.{Receipt}
-pub use Rattle.lrs_machine.specs.Desk.{Mark, mark_of}
+pub use Rattle.lrs_machine.specs.Desk.{Tide, tide_at}
 use Rattle.lrs_turn.specs.Lists.{NoneFalls}
 use Rattle.lrs_turn.specs.Passes.{IsIdle, Pass, Turns}
-use Rattle.lrs_hall.specs.Acts.{ActsIn, Reach, limit_in, mark_in}
+use Rattle.lrs_hall.specs.Acts.{ActsIn, Reach, limit_in, tide_in}
 use Rattle.lrs_hall.specs.Conversation.{ActOn, Worker, going, Converses}
 use Rattle.lrs_hall.specs.Draws.{Draws}
 use Rattle.lrs_hall.specs.Talks.{Talk}
@@ -47,18 +47,18 @@ abbrev pub AreCounted : ℕ → ℕ → List Receipt → Type 0
 AreCounted before now receipts = AllByRecursion (IsCounted before now) receipts
 
 -- no lower count of faults, and no earlier moment
-abbrev pub IsNotBelow : Mark → Mark → Type 0
+abbrev pub IsNotBelow : Tide → Tide → Type 0
 IsNotBelow before now = (before.faults ≤ now.faults) × (before.moment ≤ now.moment)
 
--- What an act tells of its disk's count and moment lies between two marks.
-pub record IsWithin (before now : Mark) (receipt : Receipt) : Type 0 where
+-- What an act tells of its disk's count and moment lies between two tides.
+pub record IsWithin (before now : Tide) (receipt : Receipt) : Type 0 where
   pub was : before.faults ≤ receipt.was
   pub is : receipt.is ≤ now.faults
   pub began : before.moment ≤ receipt.disk
   pub ended : receipt.disk ≤ now.moment
 
--- all acts of these receipts lie between two marks
-abbrev pub AreWithin : Mark → Mark → List Receipt → Type 0
+-- all acts of these receipts lie between two tides
+abbrev pub AreWithin : Tide → Tide → List Receipt → Type 0
 AreWithin before now receipts =
     AllByRecursion (λ (receipt : Receipt). receipt.acted ≡ true → IsWithin before now receipt) receipts
 
@@ -72,13 +72,13 @@ pub record KeepsPass (turns : Turns) (old new : Pass Record) : Type 0 where
 
 -- a worker over the one line: the place of its next draw, how many records it has seen, which are its own, and how its
 -- last act left the disk
-abbrev pub worker_at : Draws → ℕ → List ℕ → Mark → Worker Reach
-worker_at draws records own mark =
-    record { draws = draws; reached = record { records = records; own = own; mark = mark } }
+abbrev pub worker_at : Draws → ℕ → List ℕ → Tide → Worker Reach
+worker_at draws records own tide =
+    record { draws = draws; reached = record { records = records; own = own; tide = tide } }
 
 -- a worker with this pass
 abbrev pub worker_of : Draws → Pass Record → Worker Reach
-worker_of draws pass = worker_at draws (length pass.front) pass.own (mark_in pass.tide)
+worker_of draws pass = worker_at draws (length pass.front) pass.own (tide_in pass.tide)
 
 -- a whole conversation over the stream of a link
 abbrev pub IsWholeTalk : {X : Type 0} → ActOn X → Option (List ℕ) → Talk → List ℕ → Worker X → Worker X → Type 0
@@ -136,7 +136,7 @@ all_receipts [] = []
 all_receipts (talk ∷ talks) = talk.receipts ++ all_receipts talks
 
 -- These links came through a door and were given back, in this order.
-pub record Passes (old new : DoorState) (links : List Returned) : Type 0 where
+pub record ComesThrough (old new : DoorState) (links : List Returned) : Type 0 where
   pub out : new.out ≡ None
   pub returned : new.returned ≡ option_map (λ (so_far : List Returned). so_far ++ links) old.returned
   pub streams : Brought old.streams links new.streams

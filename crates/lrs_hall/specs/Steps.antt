@@ -24,7 +24,7 @@ use Rattle.lrs_hall.specs.Conversation.{ActOn, Worker, going, ended_with, Respon
 use Rattle.lrs_hall.specs.Conversation.{ServesRequest}
 use Rattle.lrs_machine.specs.Acts.{Receipt, changed}
 use Rattle.lrs_hall.specs.Draws.{Draws, draw_at, next_draws, start_of}
-use Rattle.lrs_hall.specs.Serving.{AreOnLinks, BringsOne, EndsServing, KeepsPass, Passes}
+use Rattle.lrs_hall.specs.Serving.{AreOnLinks, BringsOne, ComesThrough, EndsServing, KeepsPass}
 use Rattle.lrs_hall.specs.Talks.{Talk}
 use Rattle.lrs_hall.specs.declared.serving.ServeEnd.{ServeEnd}
 use Rattle.lrs_hall.specs.declared.serving.ServeEnd.TheVariants as serve
@@ -34,7 +34,7 @@ use Rattle.lrs_hall.specs.declared.exchange.Exchanged.{Exchanged}
 use Rattle.lrs_hall.specs.declared.exchange.Exchanged.TheVariants.{Next, Last, Silent}
 use Rattle.lrs_hall.specs.declared.acting.Looked.{Looked}
 use Rattle.lrs_hall.specs.declared.acting.Looked.TheVariants.{LetIn, Barred}
-use Rattle.lrs_hall.specs.declared.workers.Worker as held
+use Rattle.lrs_hall.specs.declared.workers.Seat as held
 use Rattle.lrs_hall.specs.declared.talk.Finish.{Finish}
 use Rattle.lrs_hall.specs.declared.talk.Finish.TheVariants as finish
 
@@ -173,7 +173,7 @@ pub record Served {X : Type 0} (acts : ActOn X) (connections : ℕ) (old new : W
     (talks : List Talk) (end : ServeEnd) : Type 0 where
   pub links : List Returned
   pub on_links : AreOnLinks acts talks links old new
-  pub passes : Passes before behind links
+  pub passes : ComesThrough before behind links
   pub why : EndsServing connections (length talks) before behind end
 
 -- No link came through a door, and why.
@@ -186,7 +186,7 @@ pub record EndsTurn (old new : DoorState) (end : ServeEnd) : Type 0 where
 
 -- What became of a worker that served its door.
 pub record Works {O : Type 0} (state : O → DoorState) (turns : Turns) (connections : ℕ)
-    (old new : held.Worker O) : Type 0 where
+    (old new : held.Seat O) : Type 0 where
   pub served : Served (ActsOn (limit_in old.pass.marks)) connections
       (worker old.draws old.pass (state old.door).readings) (worker new.draws new.pass (state new.door).readings)
       (state old.door) (state new.door) new.talks new.end
@@ -201,32 +201,32 @@ backwards f (a ∷ xs) = backwards f xs ++ f a ∷ []
 
 -- what a worker holds
 module _ {O : Type 0} where
-  abbrev pub pass_held : held.Worker O → Pass Record
+  abbrev pub pass_held : held.Seat O → Pass Record
   pass_held w = w.pass
 
-  abbrev pub door_held : held.Worker O → O
+  abbrev pub door_held : held.Seat O → O
   door_held w = w.door
 
-  abbrev pub talks_held : held.Worker O → List Talk
+  abbrev pub talks_held : held.Seat O → List Talk
   talks_held w = w.talks
 
-  abbrev pub end_held : held.Worker O → ServeEnd
+  abbrev pub end_held : held.Seat O → ServeEnd
   end_held w = w.end
 
   -- The workers stand in the other order. Their draws are those of the streams after this number.
-  abbrev pub AreNumbered : List ℕ → ℕ → List (held.Worker O) → Type 0
+  abbrev pub AreNumbered : List ℕ → ℕ → List (held.Seat O) → Type 0
   AreNumbered seed n [] = Unit {0}
   AreNumbered seed n (w ∷ ws) = (w.draws ≡ start_of seed (n + length ws + 1)) × AreNumbered seed n ws
 
   -- Each worker has served its door.
-  abbrev pub WorksEach : (O → DoorState) → Turns → ℕ → List (held.Worker O) → List (held.Worker O) → Type 0
+  abbrev pub WorksEach : (O → DoorState) → Turns → ℕ → List (held.Seat O) → List (held.Seat O) → Type 0
   WorksEach state turns connections olds news =
-      (i : ℕ) (d : held.Worker O) → i < length olds
+      (i : ℕ) (d : held.Seat O) → i < length olds
       → Works state turns connections (slice_index_or olds i d) (slice_index_or news i d)
 
 -- Workers have taken seats: one for each door with a pass of its own, the last door's first.
 pub record Seats {O : Type 0} (passes : List (Pass Record)) (doors : List O) (seed : List ℕ)
-    (workers : List (held.Worker O)) : Type 0 where
+    (workers : List (held.Seat O)) : Type 0 where
   pub with_passes : backwards pass_held workers ≡ passes
   pub at_doors : backwards door_held workers ≡ doors
   pub numbered : AreNumbered seed 0 workers

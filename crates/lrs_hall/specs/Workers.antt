@@ -7,7 +7,7 @@ use Rattle.lrs_turn.specs.Lists.{times, total}
 use Rattle.lrs_hall.specs.Acts.{ActsIn, Reach}
 use Rattle.lrs_hall.specs.Draws.{Draws, start_of}
 use Rattle.lrs_hall.specs.Laws.{entries_at}
-use Rattle.lrs_hall.specs.Serving.{AddsReadings, AreOnLinks, EndsServing, IsNotBelow, Mark, Passes, all_receipts}
+use Rattle.lrs_hall.specs.Serving.{AddsReadings, AreOnLinks, ComesThrough, EndsServing, IsNotBelow, Tide, all_receipts}
 use Rattle.lrs_hall.specs.Serving.{clocks, worker_at}
 use Rattle.lrs_hall.specs.Talks.{Talk}
 use Rattle.lrs_hall.specs.declared.serving.ServeEnd.{ServeEnd}
@@ -23,20 +23,20 @@ pub record Stint : Type 0 where
 
 -- A worker that began with these draws and had seen so many records, none of them its own: its talks are those of its
 -- door's links, one after the other, over the one line. The disk was so when all began, and so when all had ended.
-pub record IsStint (limit : ℕ) (line : List Record) (opened : ℕ) (opening closing : Mark) (connections : ℕ)
+pub record IsStint (limit : ℕ) (line : List Record) (opened : ℕ) (opening closing : Tide) (connections : ℕ)
     (draws : Draws) (stint : Stint) : Type 0 where
   pub links : List Returned
   pub last : Draws
   pub on_links : AreOnLinks (ActsIn limit line) stint.talks links (worker_at draws opened [] opening)
-      (worker_at last stint.reach.records stint.reach.own stint.reach.mark)
-  pub known : IsNotBelow stint.reach.mark closing
-  pub passes : Passes stint.before stint.behind links
+      (worker_at last stint.reach.records stint.reach.own stint.reach.tide)
+  pub known : IsNotBelow stint.reach.tide closing
+  pub passes : ComesThrough stint.before stint.behind links
   pub readings : AddsReadings stint.before.readings stint.behind.readings (clocks (all_receipts stint.talks))
   pub why : EndsServing connections (length stint.talks) stint.before stint.behind stint.end
 
 -- The workers have numbers, one after the other from this one on. The draws of each are those of the stream of its
 -- number.
-abbrev pub AreStints : ℕ → List Record → ℕ → Mark → Mark → ℕ → List ℕ → ℕ → List Stint → Type 0
+abbrev pub AreStints : ℕ → List Record → ℕ → Tide → Tide → ℕ → List ℕ → ℕ → List Stint → Type 0
 AreStints limit line opened opening closing connections seed number [] = Unit {0}
 AreStints limit line opened opening closing connections seed number (stint ∷ stints) =
     IsStint limit line opened opening closing connections (start_of seed number) stint
@@ -53,9 +53,9 @@ abbrev pub end_of : List ServeEnd → ServeEnd
 end_of [] = serve.Done
 end_of (end ∷ ends) = end_with end (end_of ends)
 
--- Workers have served doors, over one line in the end, which goes on from the one at the opening. The disk's mark was
+-- Workers have served doors, over one line in the end, which goes on from the one at the opening. The disk's tide was
 -- the first when they began, and the last when all had ended.
-pub record ServesDoors (limit : ℕ) (opened line : List Record) (opening closing : Mark) (connections : ℕ)
+pub record ServesDoors (limit : ℕ) (opened line : List Record) (opening closing : Tide) (connections : ℕ)
     (seed : List ℕ) (befores behinds : List DoorState) (talks : List (List Talk)) (end : ServeEnd) : Type 0 where
   pub begins : BeginsWith opened line
   pub stints : List Stint
@@ -85,8 +85,8 @@ pub record ServesNone {D : Type 0} (old new : Desk D) (befores behinds : List Do
   pub silent : talks ≡ []
   pub wanting : end ≡ serve.Memory
 
-abbrev pub ServesAll : {D : Type 0} → (D → Mark) → Desk D → Desk D → ℕ → List ℕ → List DoorState → List DoorState
+abbrev pub ServesAll : {D : Type 0} → (D → Tide) → Desk D → Desk D → ℕ → List ℕ → List DoorState → List DoorState
     → List (List Talk) → ServeEnd → Type 0
-ServesAll mark old new connections seed befores behinds talks end =
-    ServesDoors old.limit old.line new.line (mark old.disk) (mark new.disk) connections seed befores behinds talks end
+ServesAll tide old new connections seed befores behinds talks end =
+    ServesDoors old.limit old.line new.line (tide old.disk) (tide new.disk) connections seed befores behinds talks end
     ⊎ ServesNone old new befores behinds talks end

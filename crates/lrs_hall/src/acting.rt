@@ -1,7 +1,7 @@
 //! Acts under the turn: the desk is taken, answers, and is given back.
 ghost use Rattle.std.specs.Prelude.{◌≡◌};
 ghost use Rattle.lrs_command.specs.Commands.{HasReadTrees};
-ghost use Rattle.lrs_machine.specs.Acts.{GoesOn};
+ghost use Rattle.lrs_machine.specs.Acts.{LineGoesOn};
 ghost use Rattle.lrs_record.specs.Entries.{IsLawfulCaller};
 ghost use Rattle.lrs_turn.specs.Passes.{HasTurn, IsIdle};
 ghost use Rattle.lrs_hall.specs.Acts.{ActsAt, ActsOn, limit_in, seen_of};
@@ -12,7 +12,7 @@ ghost use Rattle.lrs_hall.specs.Steps.{IsSaid, IsTaken, Looks, pass_behind, seen
 use crate::Draws;
 use lrs_command::Command;
 use lrs_disk::{Disk, Door};
-use lrs_machine::{Desk, Receipt, Record};
+use lrs_machine::{Desk, Receipt, Record, Submission};
 use lrs_names::Draw;
 use lrs_record::Caller;
 use lrs_replies::Reply;
@@ -24,7 +24,7 @@ use std::sync::Wait;
 // Tells the pass what an act left of the line: its own record, or nothing new.
 fn note<D: Disk>(turns: &Turns<Desk<D>>, pass: &mut Pass<Record>, desk: &Desk<D>, receipt: &Receipt)
     requires turn { HasTurn turns.now pass.old }
-    requires line { GoesOn receipt.now pass.old.line desk.now.line }
+    requires line { LineGoesOn receipt.now pass.old.line desk.now.line }
     ensures turn { HasTurn turns.now pass.new }
     ensures pass { pass.new ≡ pass_behind desk.now.line receipt.now pass.old }
 {
@@ -41,7 +41,7 @@ fn act_and_give<D: Disk>(
     pass: &mut Pass<Record>,
     mut desk: Desk<D>,
     caller: Caller,
-    command: Command,
+    command: Submission,
     clock: u64,
     draw: &Draw,
 ) -> (Reply, Receipt)
@@ -61,7 +61,7 @@ fn act_and_give<D: Disk>(
 }
 
 /// Answers a command of a caller: waits for the turn, acts, and gives the desk back. The clock is read and the draw
-/// made before that.
+/// made before that, and what rests on the command alone was found when it was submitted.
 pub(crate) fn act<R: Wait, D: Disk, O: Door>(
     rt: &R,
     turns: &Turns<Desk<D>>,
@@ -69,7 +69,7 @@ pub(crate) fn act<R: Wait, D: Disk, O: Door>(
     door: &mut O,
     draws: &mut Draws,
     caller: Caller,
-    command: Command,
+    command: Submission,
 ) -> (Reply, Receipt)
     requires idle { IsIdle turns.now pass.old }
     requires caller { IsLawfulCaller caller }
@@ -120,11 +120,11 @@ pub(crate) fn look<R: Wait, D: Disk, O: Door>(
     }
     let clock = door.now();
     let draw = draws.next();
-    let command = Command::Refused {
+    let command = Submission::unjudged(Command::Refused {
         area: routed.area,
         status: 400,
         rule: Rule::B(1),
-    };
+    });
     let (reply, receipt) = act_and_give(turns, pass, desk, routed.caller, command, clock, &draw);
     Looked::Barred(reply, receipt)
 }

@@ -1,7 +1,7 @@
 //! Conversations: one connection is served from its first request to its end.
 ghost use Rattle.std.specs.Prelude.{◌≡◌, ◌<◌, ◌++◌, List, ℕ, Some, IsTrue, option_map, vec_len, vec_capacity};
 ghost use Rattle.lrs_turn.specs.Passes.{IsIdle};
-ghost use Rattle.lrs_hall.specs.Acts.{ActsOn, limit_in, mark_in};
+ghost use Rattle.lrs_hall.specs.Acts.{ActsOn, limit_in, tide_in};
 ghost use Rattle.lrs_hall.specs.Serving.{AddsReadings, AreCounted, AreWithin, IsConversation, IsWholeTalk, KeepsPass, clocks};
 ghost use Rattle.lrs_hall.specs.Steps.{HasFinishCause, worker};
 
@@ -99,8 +99,8 @@ pub fn converse<R: Wait, D: Disk, O: Door>(
 
     // The pass is at rest. Its marks and its opening stay, and what it knows of the disk doesn't fall.
     ensures pass { KeepsPass turns.now pass.old pass.new }
-    ensures counts { AreCounted (mark_in pass.old.tide).faults (mark_in pass.new.tide).faults result.receipts }
-    ensures within { AreWithin (mark_in pass.old.tide) (mark_in pass.new.tide) result.receipts }
+    ensures counts { AreCounted (tide_in pass.old.tide).faults (tide_in pass.new.tide).faults result.receipts }
+    ensures within { AreWithin (tide_in pass.old.tide) (tide_in pass.new.tide) result.receipts }
     ensures cause { HasFinishCause (O.Link.fault_count link.old) (O.Link.fault_count link.new) result.finish }
 
     // Of all that the door tells only the readings change, and the link is still out of it.

@@ -1,8 +1,9 @@
 //! One request of a conversation, and its response.
-ghost use Rattle.std.specs.Prelude.{◌≡◌, List, ℕ, Ok};
+ghost use Rattle.std.specs.Prelude.{◌≡◌, List, ℕ, IfOk, Ok};
+ghost use Rattle.lrs_command.specs.Commands.{HasReadTrees};
 ghost use Rattle.lrs_http.specs.Links.{stream_left, HasWriteCause};
 ghost use Rattle.lrs_record.specs.Entries.{IsLawfulCaller};
-ghost use Rattle.lrs_routes.specs.Asked.{IsRoutedAs};
+ghost use Rattle.lrs_routes.specs.Asked.{IsCommandOf, IsRoutedAs};
 ghost use Rattle.lrs_turn.specs.Passes.{IsIdle};
 ghost use Rattle.lrs_hall.specs.Acts.{ActsOn, limit_in};
 ghost use Rattle.lrs_hall.specs.Conversation.{closes_after};
@@ -16,7 +17,7 @@ use crate::{Draws, Finish};
 use lrs_disk::{Disk, Door, Link};
 use lrs_http::{LinkFault, Request, RequestRefused, read_request};
 use lrs_json::Memory;
-use lrs_machine::{Desk, Receipt, Record};
+use lrs_machine::{Desk, Receipt, Record, Submission};
 use lrs_routes::{RouteRefused, Routed, Routes};
 use lrs_turn::{Pass, Turns};
 use std::alloc::Global;
@@ -51,6 +52,15 @@ fn answer_fixed<L: Link>(
     (Receipt::plain(response.status), sent)
 }
 
+// Reads a request, and judges the form of its command.
+fn submission(alloc: Global, routed: &Routed, request: &Request) -> Result<Submission, Memory>
+    ensures is { IfOk result (IsCommandOf request.now routed.now) }
+    ensures trees { IfOk result HasReadTrees }
+{
+    let command = routed.command(alloc, request)?;
+    Submission::of(alloc, command)
+}
+
 // Reads a request outside the turn, and takes the turn for its act. The act itself looks at the caller first.
 fn serve_read<R: Wait, D: Disk, O: Door>(
     rt: &R,
@@ -77,7 +87,7 @@ fn serve_read<R: Wait, D: Disk, O: Door>(
     ensures name_kept { O.Link.name link.new ≡ O.Link.name link.old }
     ensures cause { HasWriteCause (O.Link.fault_count link.old) (O.Link.fault_count link.new) result.1 }
 {
-    match routed.command(alloc, request) {
+    match submission(alloc, &routed, request) {
         Ok(command) => {
             let (reply, receipt) = act(rt, turns, pass, door, draws, routed.caller, command);
             let sent = write_reply(link, &reply, closes);

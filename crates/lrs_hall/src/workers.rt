@@ -4,9 +4,10 @@ ghost use Rattle.std.specs.List.{AllByRecursion};
 ghost use Rattle.lrs_machine.specs.Desk.{IsOnDisk, marks_of, tide_of};
 ghost use Rattle.lrs_machine.specs.Origin.{IsOfOrigin};
 ghost use Rattle.lrs_turn.specs.Passes.{IsIdle, opened};
-ghost use Rattle.lrs_hall.specs.Serving.{AreCounted, AreWithin, all_receipts, mark_of};
+ghost use Rattle.lrs_hall.specs.Serving.{AreCounted, AreWithin, all_receipts, tide_at};
 ghost use Rattle.lrs_hall.specs.Steps.{Seats, Works, WorksEach, backwards, door_held, end_held, pass_held, talks_held};
 ghost use Rattle.lrs_hall.specs.Workers.{HasSameOpening, ServesAll, ServesDoors, end_of, end_with};
+ghost use Rattle.lrs_turn.specs.declared.turns.TheConstants.{MOST_PASSES};
 
 use crate::serving::serve_door;
 use crate::{Draws, ServeEnd, Talk};
@@ -19,9 +20,9 @@ use std::snapshot::Snapshot;
 use std::sync::Wait;
 use std::thread::{Threads, for_each_mut};
 
-/// One worker, with what came of it.
+/// What a worker works with, and what came of it.
 #[derive(Drop)]
-pub(crate) struct Worker<O: Drop> {
+pub(crate) struct Seat<O: Drop> {
     pub(crate) pass: Pass<Record>,
     pub(crate) door: O,
     pub(crate) draws: Draws,
@@ -32,7 +33,7 @@ pub(crate) struct Worker<O: Drop> {
 // Room for the workers, and for all that they hand back. It is made before they start.
 #[derive(Drop)]
 struct Room<O: Drop> {
-    workers: Vec<Worker<O>>,
+    workers: Vec<Seat<O>>,
     passes: Vec<Pass<Record>>,
     doors: Vec<O>,
     talks: Vec<Items<Talk>>,
@@ -62,7 +63,7 @@ fn begin<D: Disk, O: Drop>(
     desk: Desk<D>,
     count: usize,
 ) -> Result<(Turns<Desk<D>>, Vec<Pass<Record>>, Room<O>), Desk<D>>
-    requires { (0 < count) × (count ≤ 16) }
+    requires { (0 < count) × (count ≤ MOST_PASSES) }
     ensures turns { IfOk result (λ r. (length r.1.items ≡ count) × (r.0.passes ≡ count)) }
     ensures opened { IfOk result
         (λ r. All (λ p. p ≡ opened r.0 desk.line (marks_of D.row.coded desk) (tide_of D.fault_count D.time desk))
@@ -91,11 +92,11 @@ fn seat_all<O: Door>(
     alloc: Global,
     mut passes: Vec<Pass<Record>>,
     mut doors: Vec<O>,
-    mut workers: Vec<Worker<O>>,
+    mut workers: Vec<Seat<O>>,
     seed: [u8; 32],
-) -> Vec<Worker<O>>
+) -> Vec<Seat<O>>
     requires same { length passes.items ≡ length doors.items }
-    requires few { length doors.items ≤ 16 }
+    requires few { length doors.items ≤ MOST_PASSES }
     requires room { (workers.items ≡ []) × (length doors.items ≤ vec_capacity workers) }
     ensures { Seats passes.items doors.items seed result.items }
 {
@@ -104,7 +105,7 @@ fn seat_all<O: Door>(
             unreachable!()
         };
         let draws = Draws::new(seed, doors.len() as u64 + 1);
-        workers.push_reserved(Worker {
+        workers.push_reserved(Seat {
             pass,
             door,
             draws,
@@ -120,7 +121,7 @@ fn work<R: Wait, D: Disk, O: Door>(
     rt: &R,
     alloc: Global,
     turns: &Turns<Desk<D>>,
-    worker: &mut Worker<O>,
+    worker: &mut Seat<O>,
     connections: u32,
 )
     requires idle { IsIdle turns.now worker.old.pass }
@@ -148,7 +149,7 @@ trait Workable: Journaled {
         rt: &R,
         alloc: Global,
         turns: &Turns<Self>,
-        worker: &mut Worker<O>,
+        worker: &mut Seat<O>,
         connections: u32,
     )
         requires idle { IsIdle turns.now worker.old.pass }
@@ -161,7 +162,7 @@ impl<D: Disk> Workable for Desk<D> {
         rt: &R,
         alloc: Global,
         turns: &Turns<Desk<D>>,
-        worker: &mut Worker<O>,
+        worker: &mut Seat<O>,
         connections: u32,
     )
         requires idle { IsIdle turns.now worker.old.pass }
@@ -177,7 +178,7 @@ fn work_all<R: Threads + Wait + Sync, S: Workable + Send, O: Door + Send>(
     rt: &R,
     alloc: Global,
     turns: &Turns<S>,
-    workers: &mut [Worker<O>],
+    workers: &mut [Seat<O>],
     connections: u32,
 )
 where
@@ -190,7 +191,7 @@ where
     ensures each { WorksEach O.state turns.now connections workers.old workers.new }
 {
     let threads = workers.len();
-    let serve = move |_: usize, worker: &mut Worker<O>|
+    let serve = move |_: usize, worker: &mut Seat<O>|
         requires { IsIdle turns.now worker.now.pass × ((O.state worker.now.door).out ≡ None) }
         ensures { Works O.state turns.entry.now connections worker.entry.now worker.exit.now }
     { S::work(rt, alloc, turns, worker, connections) };
@@ -202,9 +203,9 @@ fn worked<R: Threads + Wait + Sync, D: Disk + Send, O: Door + Send>(
     rt: &R,
     alloc: Global,
     turns: &Turns<Desk<D>>,
-    mut workers: Vec<Worker<O>>,
+    mut workers: Vec<Seat<O>>,
     connections: u32,
-) -> Vec<Worker<O>>
+) -> Vec<Seat<O>>
 where
     O::Link: Send,
     requires some { 0 < length workers.items }
@@ -229,7 +230,7 @@ fn end_with(end: ServeEnd, next: ServeEnd) -> ServeEnd
 
 // What workers leave: their passes, their doors and their talks, the first door's first, and how they ended.
 fn gather<O: Door>(
-    mut workers: Vec<Worker<O>>,
+    mut workers: Vec<Seat<O>>,
     mut passes: Vec<Pass<Record>>,
     mut doors: Vec<O>,
     mut talks: Vec<Items<Talk>>,
@@ -244,7 +245,7 @@ fn gather<O: Door>(
 {
     let mut end = ServeEnd::Done;
     while let Some(worker) = workers.pop() {
-        let Worker {
+        let Seat {
             pass,
             door,
             draws,
@@ -282,7 +283,7 @@ fn serve_by<R: Threads + Wait + Sync, D: Disk + Send, O: Door + Send>(
 ) -> (Desk<D>, Vec<O>, Items<Items<Talk>>, ServeEnd)
 where
     O::Link: Send,
-    requires count { (0 < length doors.items) × (length doors.items ≤ 16) }
+    requires count { (0 < length doors.items) × (length doors.items ≤ MOST_PASSES) }
     requires out { All (λ door. (O.state door).out ≡ None) doors.items }
     requires same { (length passes.items ≡ length doors.items) × (turns.passes ≡ length doors.items) }
     requires opened { All (λ p. p ≡ opened turns _begun.value.line (marks_of D.row.coded _begun.value)
@@ -293,14 +294,14 @@ where
     requires doors { (room.doors.items ≡ []) × (length doors.items ≤ vec_capacity room.doors) }
     requires talks { (room.talks.items ≡ []) × (length doors.items ≤ vec_capacity room.talks) }
     ensures served { ServesDoors _begun.value.limit _begun.value.line result.0.line
-        (mark_of D.fault_count D.time _begun.value.disk) (mark_of D.fault_count D.time result.0.disk) connections seed
+        (tide_at D.fault_count D.time _begun.value.disk) (tide_at D.fault_count D.time result.0.disk) connections seed
         (map O.state doors.items) (map O.state result.1.items) result.2 result.3 }
     ensures opening { HasSameOpening _begun.value result.0 }
     ensures later { D.fault_count _begun.value.disk ≤ D.fault_count result.0.disk }
     ensures counts { AllByRecursion (λ talks. AreCounted (D.fault_count _begun.value.disk)
         (D.fault_count result.0.disk) (all_receipts talks)) result.2 }
-    ensures within { AllByRecursion (λ talks. AreWithin (mark_of D.fault_count D.time _begun.value.disk)
-        (mark_of D.fault_count D.time result.0.disk) (all_receipts talks)) result.2 }
+    ensures within { AllByRecursion (λ talks. AreWithin (tide_at D.fault_count D.time _begun.value.disk)
+        (tide_at D.fault_count D.time result.0.disk) (all_receipts talks)) result.2 }
     ensures durable { IsOnDisk D.told D.image D.time D.image_since result.0 }
     ensures origin { IsOfOrigin D.told D.time D.image_since result.0 }
 {
@@ -334,9 +335,9 @@ pub fn serve_all<R: Threads + Wait + Sync, D: Disk + Send, O: Door + Send>(
 ) -> (Desk<D>, Vec<O>, Items<Items<Talk>>, ServeEnd)
 where
     O::Link: Send,
-    requires count { (0 < length doors.items) × (length doors.items ≤ 16) }
+    requires count { (0 < length doors.items) × (length doors.items ≤ MOST_PASSES) }
     requires out { All (λ door. (O.state door).out ≡ None) doors.items }
-    ensures served { ServesAll (mark_of D.fault_count D.time) desk result.0 connections seed
+    ensures served { ServesAll (tide_at D.fault_count D.time) desk result.0 connections seed
         (map O.state doors.items) (map O.state result.1.items) result.2 result.3 }
     ensures opening { HasSameOpening desk result.0 }
 
@@ -344,8 +345,8 @@ where
     ensures later { D.fault_count desk.disk ≤ D.fault_count result.0.disk }
     ensures counts { AllByRecursion (λ talks. AreCounted (D.fault_count desk.disk) (D.fault_count result.0.disk)
         (all_receipts talks)) result.2 }
-    ensures within { AllByRecursion (λ talks. AreWithin (mark_of D.fault_count D.time desk.disk)
-        (mark_of D.fault_count D.time result.0.disk) (all_receipts talks)) result.2 }
+    ensures within { AllByRecursion (λ talks. AreWithin (tide_at D.fault_count D.time desk.disk)
+        (tide_at D.fault_count D.time result.0.disk) (all_receipts talks)) result.2 }
 
     // A crash now, or at any moment since that of a record, leaves the first entries of the history, at least all that
     // then stood without doubt; and one at any moment since the opening at least those of the opening.
@@ -376,6 +377,6 @@ where
 fn moves<T: Send>(_value: &T) {}
 
 // A worker may go to another thread if its door may.
-fn may_cross<O: Door + Send>(worker: &Worker<O>) {
+fn may_cross<O: Door + Send>(worker: &Seat<O>) {
     moves(worker);
 }

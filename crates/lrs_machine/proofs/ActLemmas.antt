@@ -4,7 +4,7 @@ use Rattle.std.specs.Prelude.{option_map, is_some, IsSome}
 use Rattle.std.specs.Option.{ForSome}
 use Rattle.lrs_disk.specs.Disk.{LeavesOnly}
 use Rattle.lrs_disk.specs.declared.failed.Failed.{Failed}
-use Rattle.lrs_fold.specs.Outcomes.{IsAccepted, IsOutcome}
+use Rattle.lrs_fold.specs.Outcomes.{IsAcceptance, IsAccepted, IsOutcome}
 use Rattle.lrs_fold.specs.declared.outcome.Accepted.{Accepted as Made}
 use Rattle.lrs_fold.specs.declared.outcome.Outcome.TheVariants as made
 use Rattle.lrs_fold.specs.LrsHistoryHistory.{Answer, Outcome, Said, Accepted, answer_of, refused}
@@ -64,7 +64,7 @@ wanting_does told image time since only_now journal st su v sound same settled =
 
 -- there was no room
 pub full_does : {D : Type 0} (told : D → Option (List ℕ)) (image : D → List ℕ → Type 0) (time : D → ℕ) (since : D → ℕ → List ℕ → Type 0) → ((d : D) (c : List ℕ) → since d (time d) c → image d c)
-    → (journal : Journal D) (st : State) (a : Made) (n l : ℕ) (v : Outcome) → IsJournal told image journal → IsOutcome st v (made.Accepted a) → journal.doubt ≡ false
+    → (journal : Journal D) (st : State) (a : Made) (n l : ℕ) (v : Outcome) → IsJournal told image journal → IsAcceptance st v a → journal.doubt ≡ false
     → journal.limit < need_of journal a.text → n ≡ need_told journal.end a.text → l ≡ journal.limit → Does told time since journal journal st st v (Ok (refused (refusal.Full n l))) None
 full_does told image time since only_now journal st a n l (Said t) sound is settled exceeds of_need of_limit = absurd is
 full_does told image time since only_now journal st a n l (Accepted e t) sound is settled exceeds of_need of_limit = record {
@@ -98,7 +98,7 @@ added told time since old new st su a e t said is settled fits more folds later 
 })
 
 pub kept_does : {D : Type 0} (told : D → Option (List ℕ)) (time : D → ℕ) (since : D → ℕ → List ℕ → Type 0) (old new : Journal D) (st su : State) (a : Made) (v : Outcome)
-    → IsOutcome st v (made.Accepted a) → old.doubt ≡ false → new.doubt ≡ false → need_of old a.text ≤ old.limit → IsAppended told old new a.text → su ≡ apply st a.effect → time old.disk ≤ time new.disk
+    → IsAcceptance st v a → old.doubt ≡ false → new.doubt ≡ false → need_of old a.text ≤ old.limit → IsAppended told old new a.text → su ≡ apply st a.effect → time old.disk ≤ time new.disk
     → ForSome (frames_of told old) (λ ps. LeavesOnly time since old.disk new.disk (IsBeforeOrAfter old.limit ps a.text)) → Does told time since old new st su v (Ok a.said) (Some a.entry.value)
 kept_does told time since old new st su a (Said t) is settled done fits more folds later leaves = absurd is
 kept_does told time since old new st su a (Accepted e t) is settled done fits more folds later leaves =
@@ -106,7 +106,7 @@ kept_does told time since old new st su a (Accepted e t) is settled done fits mo
 
 -- the disk failed, and the entry is in doubt
 pub doubtful_does : {D : Type 0} (told : D → Option (List ℕ)) (time : D → ℕ) (since : D → ℕ → List ℕ → Type 0) (old new : Journal D) (st su : State) (a : Made) (v : Outcome)
-    → IsOutcome st v (made.Accepted a) → old.doubt ≡ false → new.doubt ≡ true → need_of old a.text ≤ old.limit → IsAppended told old new a.text → su ≡ apply st a.effect → time old.disk ≤ time new.disk
+    → IsAcceptance st v a → old.doubt ≡ false → new.doubt ≡ true → need_of old a.text ≤ old.limit → IsAppended told old new a.text → su ≡ apply st a.effect → time old.disk ≤ time new.disk
     → ForSome (frames_of told old) (λ ps. LeavesOnly time since old.disk new.disk (IsBeforeOrAfter old.limit ps a.text)) → Does told time since old new st su v (Err trouble.Disk) (Some a.entry.value)
 doubtful_does told time since old new st su a (Said t) is settled doubt fits more folds later leaves = absurd is
 doubtful_does told time since old new st su a (Accepted e t) is settled doubt fits more folds later leaves =

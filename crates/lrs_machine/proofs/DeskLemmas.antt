@@ -9,7 +9,7 @@ use Rattle.lrs_fold.proofs.Again.{acceptance_no_refusal}
 use Rattle.lrs_fold.proofs.Puts.{put_says}
 use Rattle.lrs_fold.specs.LrsHistoryHistory.{Outcome, Said, Accepted, Answer, answer, answer_of, need, end_place, state, outcome}
 use Rattle.lrs_fold.specs.LrsHistoryRoomProofs.{no_room, kept_answer}
-use Rattle.lrs_machine.specs.Acts.{Acts, GoesOn, HasDiskCause, Receipt, Tells, changed, landed_among, line_behind, made_by, place_where, record_of}
+use Rattle.lrs_machine.specs.Acts.{Acts, HasDiskCause, LineGoesOn, Receipt, Tells, changed, landed_among, line_behind, made_by, place_where, record_of}
 use Rattle.lrs_machine.specs.Desk.{Desk, added_place, history, landed_place, marks_of, receipt_of}
 use Rattle.lrs_machine.specs.Line.{Record, entries, in_doubt}
 use Rattle.lrs_machine.specs.Numbers.{numbers_of}
@@ -153,7 +153,7 @@ acts_of a said landed old new receipt h acted status point entry lands cause = r
 true_false : true ≡ false → ⊥
 true_false e = cc
 
-pub goes_on : (a : Answer) (said : Result Answered Trouble) (receipt : Receipt) (old new : List Record) → Acts a said receipt old new → GoesOn receipt old new
+pub goes_on : (a : Answer) (said : Result Answered Trouble) (receipt : Receipt) (old new : List Record) → Acts a said receipt old new → LineGoesOn receipt old new
 goes_on a said receipt old new acts = by_change (changed receipt) acts.line
   where
     more : Record
@@ -236,5 +236,5 @@ module _ {D : Type 0} (time faults : D → ℕ) (old new : Desk D) (caller : Cal
       (act_acts old.limit caller c clock draw said reply landed old.line new.line (receipt_of time faults old new reply.status clock) h replied refl refl refl refl (sym (landed_is a said landed (time new.disk) old new h)) cause)
 
   pub act_goes_on : (reply : Reply) (receipt : Receipt) → receipt ≡ receipt_of time faults old new reply.status clock → Happens a said landed (time new.disk) old.line new.line → HasDiskCause (faults old.disk) (faults new.disk) said
-      → IsReplyTo said reply → GoesOn receipt old.line new.line
+      → IsReplyTo said reply → LineGoesOn receipt old.line new.line
   act_goes_on reply receipt is h cause replied = let told = act_told reply receipt is h cause replied in goes_on a told.0 receipt old.line new.line told.2

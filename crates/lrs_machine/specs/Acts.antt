@@ -80,8 +80,8 @@ abbrev pub line_behind : List Record → Answer → Receipt → List Record
 line_behind line a receipt = line_with line (made_by a receipt) receipt
 
 -- The line has one record more if the act changed the journal, and else it stays.
-abbrev pub GoesOn : Receipt → List Record → List Record → Type 0
-GoesOn receipt old new = (changed receipt ≡ true → IsOneMore new old) × (changed receipt ≡ false → new ≡ old)
+abbrev pub LineGoesOn : Receipt → List Record → List Record → Type 0
+LineGoesOn receipt old new = (changed receipt ≡ true → IsOneMore new old) × (changed receipt ≡ false → new ≡ old)
 
 -- ---- acts
 

@@ -48,14 +48,14 @@ abbrev pub marks_of : {D : Type 0} → Coded D → Desk D → List ℕ
 marks_of code desk = desk.limit ∷ desk.opened_at ∷ desk.opened ∷ numbers_of code desk.origin
 
 -- How far a disk has come: its count of faults, and its moment. Neither falls.
-pub record Mark : Type 0 where
+pub record Tide : Type 0 where
   pub faults : ℕ
   pub moment : ℕ
 
-abbrev pub mark_of : {D : Type 0} → (D → ℕ) → (D → ℕ) → D → Mark
-mark_of faults time disk = record { faults = faults disk; moment = time disk }
+abbrev pub tide_at : {D : Type 0} → (D → ℕ) → (D → ℕ) → D → Tide
+tide_at faults time disk = record { faults = faults disk; moment = time disk }
 
--- the mark of a desk's disk, as numbers of which no act lets one fall
+-- the tide of a desk's disk, as numbers of which no act lets one fall
 abbrev pub tide_of : {D : Type 0} → (D → ℕ) → (D → ℕ) → Desk D → List ℕ
 tide_of faults time desk = faults desk.disk ∷ time desk.disk ∷ []
 

@@ -10,8 +10,8 @@ ghost use Rattle.lrs_parts.specs.Parts.{AddsNoPlaces};
 ghost use Rattle.lrs_record.specs.Entries.{IsLawfulCaller};
 
 use crate::keeping::keep;
-use lrs_command::Command;
 use lrs_disk::Disk;
+use lrs_fold::lrs_refusals::Submission;
 use lrs_fold::{Fold, Outcome};
 use lrs_journal::Journal;
 use lrs_names::Draw;
@@ -36,7 +36,7 @@ pub(crate) fn act<D: Disk>(
     journal: &mut Journal<D>,
     fold: &mut Fold,
     caller: Caller,
-    command: Command,
+    command: Submission,
     clock: u64,
     draw: &Draw,
 ) -> Done
@@ -75,7 +75,7 @@ fn answer<D: Disk>(
     journal: &mut Journal<D>,
     fold: &mut Fold,
     caller: Caller,
-    command: Command,
+    command: Submission,
     clock: u64,
     draw: &Draw,
 ) -> (Result<Answered, Trouble>, Option<Snapshot<Entry>>)
@@ -91,7 +91,7 @@ fn answer<D: Disk>(
 {
     match fold.outcome(alloc, caller, command, clock, draw) {
         Ok(Outcome::Said(said)) => (Ok(said), None),
-        Ok(Outcome::Accepted(accepted)) => keep(journal, fold, accepted),
+        Ok(Outcome::Accepted(accepted, texts)) => keep(journal, fold, accepted, texts),
         Err(refused) => (Err(Trouble::from(refused)), None),
     }
 }

@@ -17,17 +17,17 @@ ghost use Rattle.lrs_fold.specs.Own.{put_of, IsOfPut, IsPut};
 ghost use Rattle.lrs_fold.specs.Posted.{post_of};
 ghost use Rattle.lrs_fold.specs.XapiPagesListings.{listed_of_all};
 ghost use Rattle.lrs_machine.specs.Line.{in_doubt, sure};
-ghost use Rattle.lrs_machine.specs.Acts.{Acts, GoesOn, HasDiskCause};
+ghost use Rattle.lrs_machine.specs.Acts.{Acts, HasDiskCause, LineGoesOn};
 ghost use Rattle.lrs_machine.specs.Desk.{history, HoldsPrefix, IsOnDisk, KeepsLine, LeavesNoPlace, LeavesStore, StopsWithin, lets_in, marks_of, receipt_of};
 ghost use Rattle.lrs_machine.specs.Origin.{IsOfOrigin};
 ghost use Rattle.lrs_machine.specs.Steps.{Happens, line_after};
 
 use crate::acting::{Done, act};
 use crate::{Receipt, Record};
-use lrs_command::{Area, Command};
+use lrs_command::Area;
 use lrs_disk::{Disk, Failed};
 use lrs_fold::lrs_history::barred;
-use lrs_fold::lrs_refusals::who_is;
+use lrs_fold::lrs_refusals::{Submission, who_is};
 use lrs_fold::{Fold, post_of, put_of};
 use lrs_journal::Journal;
 use lrs_json::{Items, Tree};
@@ -156,7 +156,7 @@ impl<D: Disk> Desk<D> {
     fn answer(
         &mut self,
         caller: Caller,
-        command: Command,
+        command: Submission,
         clock: u64,
         draw: &Draw,
     ) -> (Result<Answered, Trouble>, Option<u64>)
@@ -286,14 +286,14 @@ impl<D: Disk> Desk<D> {
         self.fold.listed()
     }
 
-    /// Answers a command, with its receipt.
+    /// Answers a command, with its receipt. What rests on the command alone may have been found when it was submitted.
     ///
     /// First a doubt about an earlier entry is ended. All memory is taken before anything is written, so after that
     /// the desk can only acknowledge the entry or report that the disk failed.
     pub fn act(
         &mut self,
         caller: Caller,
-        command: Command,
+        command: Submission,
         clock: u64,
         draw: &Draw,
     ) -> (Reply, Receipt)
@@ -303,7 +303,7 @@ impl<D: Disk> Desk<D> {
             × Acts (answer self.old.limit (history self.old) caller command clock draw.now) said result.1
             self.old.line self.new.line }
         // The receipt tells a worker whether there is a record to commit.
-        ensures line { GoesOn result.1 self.old.line self.new.line }
+        ensures line { LineGoesOn result.1 self.old.line self.new.line }
         ensures marks { marks_of D.row.coded self.new ≡ marks_of D.row.coded self.old }
         ensures tide { D.fault_count self.old.disk ≤ D.fault_count self.new.disk }
         ensures same { (self.new.limit ≡ self.old.limit) × (self.new.opened ≡ self.old.opened)

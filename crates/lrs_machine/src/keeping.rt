@@ -1,7 +1,6 @@
 // Adding an accepted entry to the journal and the fold.
 ghost use Rattle.std.specs.Prelude.{◌≡◌, ◌≤◌, option_map, IsNone, false};
-ghost use Rattle.lrs_fold.specs.Outcomes.{IsOutcome};
-ghost use Rattle.lrs_fold.specs.declared.outcome.Outcome.TheVariants as made;
+ghost use Rattle.lrs_fold.specs.Outcomes.{IsAcceptance};
 ghost use Rattle.lrs_fold.specs.LrsHistoryHistory.{Outcome};
 ghost use Rattle.lrs_journal.specs.Journal.{need_of, IsJournal};
 ghost use Rattle.lrs_machine.specs.Acts.{HasDiskCause};
@@ -10,13 +9,16 @@ ghost use Rattle.lrs_machine.specs.Steps.{Does};
 ghost use Rattle.lrs_parts.specs.Parts.{AddsNoPlaces, IsReadyFor, MakesPlacesFor};
 ghost use Rattle.lrs_parts.specs.State.{apply};
 ghost use Rattle.lrs_parts.specs.Parts.{SeenParts as Parts};
+ghost use Rattle.xapi_index.specs.Ahead.{AreTextsOf};
 
 use lrs_disk::Disk;
 use lrs_fold::{Accepted, Fold};
 use lrs_journal::{Full, Journal};
+use lrs_json::Items;
 use lrs_record::Entry;
 use lrs_replies::{Answered, Refusal, Trouble};
 use std::snapshot::Snapshot;
+use xapi_statement::ReceivedText;
 
 /// Keeps an accepted entry if there is room, and says whether it was made. All memory is taken before the frame is
 /// written. Where none was made, no place is left of what was made ready for it.
@@ -24,10 +26,12 @@ pub(crate) fn keep<D: Disk>(
     journal: &mut Journal<D>,
     fold: &mut Fold,
     accepted: Accepted,
+    texts: Items<ReceivedText>,
 ) -> (Result<Answered, Trouble>, Option<Snapshot<Entry>>)
     requires settled { journal.old.doubt ≡ false }
     requires sound { IsJournal D.told D.image journal.old }
-    ensures kept { (v : Outcome) → IsOutcome (state_of fold.old) v (made.Accepted accepted)
+    requires texts { AreTextsOf texts accepted.effect.statements }
+    ensures kept { (v : Outcome) → IsAcceptance (state_of fold.old) v accepted
         → Does D.told D.time D.image_since journal.old journal.new (state_of fold.old) (state_of fold.new) v
         result.0 (option_map (λ s. s.value) result.1) }
     ensures sound { IsJournal D.told D.image journal.new }
@@ -35,9 +39,10 @@ pub(crate) fn keep<D: Disk>(
     ensures places { IsNone result.1 → AddsNoPlaces fold.old.parts fold.new.parts }
 {
     match journal.room(accepted.text.as_slice()) {
-        Ok(()) => keep_within(journal, fold, accepted),
+        Ok(()) => keep_within(journal, fold, accepted, texts),
         Err(Full { need, limit }) => {
             drop(accepted);
+            drop(texts);
             (Ok(Answered::Refused(Refusal::Full { need, limit })), None)
         }
     }
@@ -48,18 +53,23 @@ fn keep_within<D: Disk>(
     journal: &mut Journal<D>,
     fold: &mut Fold,
     accepted: Accepted,
+    texts: Items<ReceivedText>,
 ) -> (Result<Answered, Trouble>, Option<Snapshot<Entry>>)
     requires settled { journal.old.doubt ≡ false }
     requires sound { IsJournal D.told D.image journal.old }
+    requires texts { AreTextsOf texts accepted.effect.statements }
     requires room { need_of journal.old accepted.text ≤ journal.old.limit }
-    ensures kept { (v : Outcome) → IsOutcome (state_of fold.old) v (made.Accepted accepted)
+    ensures kept { (v : Outcome) → IsAcceptance (state_of fold.old) v accepted
         → Does D.told D.time D.image_since journal.old journal.new (state_of fold.old) (state_of fold.new) v
         result.0 (option_map (λ s. s.value) result.1) }
     ensures sound { IsJournal D.told D.image journal.new }
     ensures cause { HasDiskCause (D.fault_count journal.old.disk) (D.fault_count journal.new.disk) result.0 }
     ensures places { IsNone result.1 → AddsNoPlaces fold.old.parts fold.new.parts }
 {
-    match fold.ready(&accepted.effect) {
+    let mut texts = texts.into_vec().into_iter();
+    let made = fold.ready(&mut texts, &accepted.effect);
+    drop(texts);
+    match made {
         Ok(()) => append(journal, fold, accepted),
         Err(refused) => {
             fold.release(&accepted.effect);
@@ -79,7 +89,7 @@ fn append<D: Disk>(
     requires sound { IsJournal D.told D.image journal.old }
     requires room { need_of journal.old accepted.text ≤ journal.old.limit }
     requires ready { IsReadyFor fold.old.parts accepted.effect }
-    ensures kept { (v : Outcome) → IsOutcome (state_of fold.old) v (made.Accepted accepted)
+    ensures kept { (v : Outcome) → IsAcceptance (state_of fold.old) v accepted
         → Does D.told D.time D.image_since journal.old journal.new (state_of fold.old) (state_of fold.new) v
         result.0 (option_map (λ s. s.value) result.1) }
     ensures sound { IsJournal D.told D.image journal.new }

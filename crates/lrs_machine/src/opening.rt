@@ -167,9 +167,14 @@ impl<D: Disk> Desk<D> {
             Ok(replay) => replay,
             Err((unread, disk)) => return Err((opening_refusal(unread), disk)),
         };
-        match replay_all(alloc, &mut replay) {
-            Ok((fold, opening)) => finish(alloc, replay, fold, opening),
-            Err(refused) => Err((refused, replay.into_disk())),
+        let mut fold = Fold::new(alloc);
+        let mut opening = Noted::new();
+        match replay_all(alloc, &mut replay, &mut fold, &mut opening) {
+            Ok(()) => finish(alloc, replay, fold, opening),
+            Err(refused) => {
+                drop(fold);
+                Err((refused, replay.into_disk()))
+            }
         }
     }
 }

@@ -69,7 +69,8 @@ fn has_room(first: bool, limit: u64, place: u64) -> bool
 pub(crate) fn take_in(fold: &mut Fold, effect: Effect) -> Result<(), Memory>
     ensures { OnOk result (state_of fold.new ≡ apply (state_of fold.old) effect) }
 {
-    match fold.ready(&effect) {
+    let mut texts = Vec::new(effect.statements.allocator()).into_iter();
+    match fold.ready(&mut texts, &effect) {
         Ok(()) => {
             fold.install(effect);
             Ok(())
@@ -134,40 +135,8 @@ fn refusal_of(unread: ReplayRefused) -> DeskRefused
     }
 }
 
-/// Reads all frames: their fold, and the entries.
+/// Takes all frames in, each as the entry that comes next.
 pub(crate) fn replay_all<D: Disk>(
-    alloc: Global,
-    replay: &mut Replay<D>,
-) -> Result<(Fold, Noted<Entry>), DeskRefused>
-    requires begun { (replay.old.place ≡ HEADER) × (replay.old.number ≡ 0) }
-    requires read { ForSome (D.told replay.old.disk) (λ bytes. HasRead bytes replay.old []) }
-    requires synced { IsSynced D.told D.image replay.old.disk }
-    ensures replayed { IfOk result (λ read. IsReplayed replay.new (state_of read.0) read.1.items) }
-    ensures some { IfOk result (λ read. 0 < length read.1.items) }
-    ensures read { IfOk result (λ read. ForSome (D.told replay.new.disk)
-        (λ bytes. HasReadAll bytes replay.new read.1.items)) }
-    ensures ended { OnOk result (replay.new.ended ≡ true) }
-    ensures refused { IfErr result (λ e. ForSome (D.told replay.old.disk) (λ bytes. IsDeskRefused bytes e)) }
-    ensures limit { replay.new.limit ≡ replay.old.limit }
-    ensures still { D.told replay.new.disk ≡ D.told replay.old.disk }
-    ensures any_moment { LeavesOnly D.time D.image_since replay.old.disk replay.new.disk
-        (λ bytes. D.told replay.old.disk ≡ Some bytes) }
-    ensures cause { HasCount (D.fault_count replay.old.disk) (D.fault_count replay.new.disk)
-        (IsErrOf result refused.Failed) (IsOk result) }
-{
-    let mut fold = Fold::new(alloc);
-    let mut opening = Noted::new();
-    match take_all(alloc, replay, &mut fold, &mut opening) {
-        Ok(()) => Ok((fold, opening)),
-        Err(refused) => {
-            drop(fold);
-            Err(refused)
-        }
-    }
-}
-
-// Takes all frames in.
-fn take_all<D: Disk>(
     alloc: Global,
     replay: &mut Replay<D>,
     fold: &mut Fold,

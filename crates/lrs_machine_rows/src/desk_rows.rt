@@ -35,7 +35,7 @@ use lrs_command::{Command, Read};
 use lrs_in_memory::MemDisk;
 use lrs_json::{Items, Text, Tree};
 use lrs_json_reader::read;
-use lrs_machine::{Body, Desk, Media, Reply, is_base, is_token};
+use lrs_machine::{Body, Desk, Media, Reply, Submission, is_base, is_token};
 use lrs_names::{Draw, Id};
 use lrs_record::{Caller, Write};
 use std::alloc::Global;
@@ -167,7 +167,7 @@ fn reply_to(
     behind: &str,
 ) -> Result<Reply, Fail> {
     let caller = caller(alloc, token_of(who))?;
-    match command(alloc, word, behind) {
+    match submission(alloc, word, behind) {
         Ok(command) => {
             let (reply, _receipt) = desk.act(caller, command, clock_at(word), &draw_at(word));
             Ok(reply)
@@ -237,6 +237,14 @@ fn caller(alloc: Global, token: &str) -> Result<Caller, Fail>
     } else {
         Ok(Caller::Token(Text::of(alloc, token)?))
     }
+}
+
+// The command as it is submitted: its form is judged.
+fn submission(alloc: Global, word: &str, behind: &str) -> Result<Submission, Fail>
+    ensures { IfOk result HasReadTrees }
+{
+    let command = command(alloc, word, behind)?;
+    Ok(Submission::of(alloc, command)?)
 }
 
 fn command(alloc: Global, word: &str, behind: &str) -> Result<Command, Fail>

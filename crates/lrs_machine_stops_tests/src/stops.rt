@@ -4,7 +4,7 @@ use lrs_command::{Command, Read};
 use lrs_desk_rows::{check_rows_of, replied};
 use lrs_disk::Disk;
 use lrs_in_memory::{MemDisk, Pending};
-use lrs_machine::Desk;
+use lrs_machine::{Desk, Submission};
 use lrs_machine_rows::{answered, founded, wrong_row};
 use lrs_names::Draw;
 use lrs_record::Caller;
@@ -148,7 +148,8 @@ fn begun(alloc: Global, script: &Script<'_>, failing: Vec<u64>) -> Result<Desk<M
 // The disk's moment, by the receipt of a read, which makes no call of it.
 fn moment(desk: &mut Desk<MemDisk>) -> u64 {
     let draw = Draw { name: 0, secret: 0 };
-    let (reply, receipt) = desk.act(Caller::Nobody, Command::Read(Read::About), 0, &draw);
+    let question = Submission::unjudged(Command::Read(Read::About));
+    let (reply, receipt) = desk.act(Caller::Nobody, question, 0, &draw);
     drop(reply);
     receipt.disk()
 }

@@ -99,6 +99,10 @@ admin post v/1 a/1 Z2;v/2 a/1 Z1 => 409 {"error":"409","id":"Z1"}
 admin get ?statementId=Z2 => 404 {"error":"404"}
 // the first that breaks a rule is told, not the least rule of all, and before a doubled id
 admin post {"actor":{"mbox":"mailto:a@b"},"verb":{"id":"http://v/1"},"object":{"id":"http://a/1"},"timestamp":"x"};{};{"id":"Z2"};{"id":"Z2"} => 400 {"error":"S30"}
+// who isn't let in is told that, and not what the form breaks
+nobody post {};{"id":"Z2"};{"id":"Z2"} => 401 {"error":"A1"}
+nobody put Z2 {} => 401 {"error":"A1"}
+admin put Z2 {} => 400 {"error":"S1"}
 // one held and one new
 admin post v/1 a/1 Z1;v/1 a/1 Z2 => 200 ["Z1","Z2"] kept
 admin get ?statementId=Z1 => 200 {"actor":{"mbox":"mailto:a@b"},"verb":{"id":"http://v/1"},"object":{"id":"http://a/1"},"id":"Z1","timestamp":"2023-11-14T22:13:20.000Z","stored":"2023-11-14T22:13:20.000Z","authority":{"objectType":"Agent","name":"admin","account":{"homePage":"https://lrs.invalid/callers","name":"admin"}},"version":"1.0.0"}

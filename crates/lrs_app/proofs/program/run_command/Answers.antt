@@ -1,5 +1,4 @@
-use Rattle.std.proofs.Common.{ap, refl, ◌∙◌}
-use Rattle.lrs_hall.specs.Draws.{draw_at}
+use Rattle.std.proofs.Common.{refl}
 use Rattle.lrs_app.proofs.Running.{does_init, does_intake, does_load, does_serve, meant_init, meant_workers}
 use Rattle.lrs_app.proofs.program.run_command.Goals as goal
 
@@ -10,8 +9,8 @@ returns-in-Init g c = λ line means.
 
 pub returns-in-Intake : goal.returns-in-Intake
 returns-in-Intake g c = λ line means.
-    does_intake g.S.Disk.Disk line c.args.command.now c.in-Intake.file c.args.seed c.next-draw.result _ _ c.run_intake.result
-    c.in-Intake.is (c.next-draw.ensures.drawn ∙ ap draw_at c.new.ensures) means c.run_intake.ensures
+    does_intake g.S.Disk.Disk line c.args.command.now c.in-Intake.file c.args.seed _ _ c.run_intake.result
+    c.in-Intake.is means c.run_intake.ensures
 
 pub returns-in-Serve : goal.returns-in-Serve
 returns-in-Serve g c = λ line means.
@@ -20,8 +19,8 @@ returns-in-Serve g c = λ line means.
 
 pub returns-in-Load : goal.returns-in-Load
 returns-in-Load g c = λ line means.
-    does_load g.S.Disk.Disk line c.args.command.now c.in-Load.file c.in-Load.number c.in-Load.count c.args.seed c.new-draws.result _ _ c.run_load.result
-    c.in-Load.is c.new-draws.ensures means (record { left = refl; faults = refl }) c.run_load.ensures
+    does_load g.S.Disk.Disk line c.args.command.now c.in-Load.file c.in-Load.number c.in-Load.count c.args.seed _ _ c.run_load.result
+    c.in-Load.is means (record { left = refl; faults = refl }) c.run_load.ensures
 
 pub run_init-requires-clause-limit : goal.run_init-requires-clause-limit
 run_init-requires-clause-limit g c κs within = (meant_init c.args.command.now c.in-Init.file c.in-Init.admin c.in-Init.base c.in-Init.limit c.in-Init.is c.requires).0

@@ -2,7 +2,7 @@ use Rattle.std.proofs.Common.{arith, ◌≡◌, true, map, inr, ap, ◌∙◌}
 use Rattle.lrs_app.specs.Service.{ending_of_serving}
 use Rattle.lrs_app.proofs.Openings.{still_goes}
 use Rattle.lrs_app.proofs.Serving.{begun_later, had_doors, none_counted, of_all, of_none, served_begins, went_on}
-use Rattle.lrs_hall.specs.Serving.{IsWithin, mark_of}
+use Rattle.lrs_hall.specs.Serving.{IsWithin, tide_at}
 use Rattle.lrs_hall.specs.LrsMachineActs.{Receipt}
 use Rattle.lrs_app.proofs.serve.serve_desk.Goals as goal
 
@@ -29,12 +29,12 @@ pub returns-in-Ok-clause-goes_on : goal.returns-in-Ok-clause-goes_on
 returns-in-Ok-clause-goes_on g c =
     let e = c.serve_all-desk.ensures in
     went_on g.D.Disk c.args.desk c.serve_all-desk.result.0 c.requires.opened c.requires.origin.0 c.requires.origin.1 e.opening
-    (served_begins (mark_of g.D.Disk.fault_count g.D.Disk.time) c.args.desk c.serve_all-desk.result.0 c.args.connections c.args.seed _ _ c.serve_all-desk.result.2 c.serve_all-desk.result.3 e.served)
+    (served_begins (tide_at g.D.Disk.fault_count g.D.Disk.time) c.args.desk c.serve_all-desk.result.0 c.args.connections c.args.seed _ _ c.serve_all-desk.result.2 c.serve_all-desk.result.3 e.served)
     (begun_later g.D.Disk c.args.desk c.serve_all-desk.result.0 c.requires.opened e.opening e.durable) e.origin
 
 pub returns-in-Ok-clause-within : goal.returns-in-Ok-clause-within
 returns-in-Ok-clause-within g c =
-    of_all (λ (receipt : Receipt). receipt.acted ≡ true → IsWithin (mark_of g.D.Disk.fault_count g.D.Disk.time c.args.desk.disk) (mark_of g.D.Disk.fault_count g.D.Disk.time c.serve_all-desk.result.0.disk) receipt)
+    of_all (λ (receipt : Receipt). receipt.acted ≡ true → IsWithin (tide_at g.D.Disk.fault_count g.D.Disk.time c.args.desk.disk) (tide_at g.D.Disk.fault_count g.D.Disk.time c.serve_all-desk.result.0.disk) receipt)
     c.serve_all-desk.result.2 c.serve_all-desk.ensures.within
 
 pub returns-in-Err-clause-goes_on : goal.returns-in-Err-clause-goes_on
@@ -47,7 +47,7 @@ returns-in-Err-clause-counts g c = none_counted (g.D.Disk.fault_count c.args.des
 
 pub returns-in-Err-clause-within : goal.returns-in-Err-clause-within
 returns-in-Err-clause-within g c =
-    of_none (λ (receipt : Receipt). receipt.acted ≡ true → IsWithin (mark_of g.D.Disk.fault_count g.D.Disk.time c.args.desk.disk) (mark_of g.D.Disk.fault_count g.D.Disk.time c.args.desk.disk) receipt) c.new.result c.new.ensures
+    of_none (λ (receipt : Receipt). receipt.acted ≡ true → IsWithin (tide_at g.D.Disk.fault_count g.D.Disk.time c.args.desk.disk) (tide_at g.D.Disk.fault_count g.D.Disk.time c.args.desk.disk) receipt) c.new.result c.new.ensures
 
 pub returns-in-Ok-clause-later : goal.returns-in-Ok-clause-later
 returns-in-Ok-clause-later g c = c.serve_all-desk.ensures.later

@@ -1,5 +1,5 @@
 use Rattle.std.proofs.Common.{arith}
-use Rattle.lrs_hall.specs.Serving.{mark_of}
+use Rattle.lrs_hall.specs.Serving.{tide_at}
 use Rattle.lrs_app.proofs.Served.{closed, closed_cause, failed}
 use Rattle.lrs_app.proofs.Serving.{rises_later}
 use Rattle.lrs_app.proofs.serve.serve_opened.Goals as goal
@@ -24,7 +24,7 @@ returns-in-Err-clause-served g c =
 
 pub returns-in-Ok-clause-cause : goal.returns-in-Ok-clause-cause
 returns-in-Ok-clause-cause g c =
-    closed_cause (mark_of g.D.Disk.fault_count g.D.Disk.time) c.args.desk c.serve_desk-desk.result.0 c.args.address.now c.args.workers c.args.connections c.args.seed _ _ c.serve_desk-desk.result.1
+    closed_cause (tide_at g.D.Disk.fault_count g.D.Disk.time) c.args.desk c.serve_desk-desk.result.0 c.args.address.now c.args.workers c.args.connections c.args.seed _ _ c.serve_desk-desk.result.1
     c.serve_desk-desk.result.2 _ _ c.serve_desk-desk.ensures.served
 
 pub returns-in-Err-clause-cause : goal.returns-in-Err-clause-cause

@@ -1,5 +1,5 @@
 use Rattle.std.proofs.Common.{◌∙◌, List, ap, subst}
-use Rattle.lrs_machine.specs.Acts.{GoesOn, Receipt}
+use Rattle.lrs_machine.specs.Acts.{LineGoesOn, Receipt}
 use Rattle.lrs_machine.specs.Desk.{tide_of}
 use Rattle.lrs_machine.specs.Line.{Record}
 use Rattle.lrs_turn.specs.Passes.{given}
@@ -8,7 +8,7 @@ use Rattle.lrs_hall.proofs.acting.act_and_give.Goals as goal
 
 pub note-requires-clause-line : goal.note-requires-clause-line
 note-requires-clause-line g c =
-    subst (λ (l : List Record). GoesOn c.act-reply.result.1 l c.act-reply.new.self.line) c.requires.taken.line c.act-reply.ensures.line
+    subst (λ (l : List Record). LineGoesOn c.act-reply.result.1 l c.act-reply.new.self.line) c.requires.taken.line c.act-reply.ensures.line
 
 pub give-requires-clause-line : goal.give-requires-clause-line
 give-requires-clause-line g c =

@@ -1,4 +1,7 @@
-use Rattle.std.proofs.Common.{◌∙◌, ap, refl, sym}
+use Rattle.std.proofs.Common.{◌∙◌, ap, refl, subst, sym}
+use Rattle.lrs_command.specs.Commands.{HasReadTrees}
+use Rattle.lrs_command.specs.declared.command.Command.{Command}
+use Rattle.lrs_command.specs.Areas.{command_area}
 use Rattle.lrs_machine.specs.Desk.{tide_of}
 use Rattle.lrs_hall.specs.Acts.{Seen}
 use Rattle.lrs_hall.specs.Conversation.{Worker}
@@ -31,6 +34,9 @@ act_and_give-reply-requires-clause-taken g c =
     let e = c.take-desk.ensures in
     is_taken g.row.D.coded g.D.Disk.fault_count g.D.Disk.time c.args.turns.now c.take-desk.result c.args.pass.now c.take-desk.new.pass e.turn e.pass e.line e.marks e.tide
 
+pub act_and_give-reply-requires-clause-command : goal.act_and_give-reply-requires-clause-command
+act_and_give-reply-requires-clause-command g c = subst (λ (k : Command). HasReadTrees k) (sym c.unjudged-command.ensures) tt
+
 pub returns-clause-pass : goal.returns-clause-pass
 returns-clause-pass g c =
     kept_taken c.take-desk.result.line (tide_of g.D.Disk.fault_count g.D.Disk.time c.take-desk.result) c.args.pass.now c.take-desk.new.pass c.take-desk.ensures.pass c.args.turns.now c.act_and_give-reply.new.pass
@@ -43,7 +49,7 @@ returns-clause-looked g c =
           acts_on c.take-desk.result.line (tide_of g.D.Disk.fault_count g.D.Disk.time c.take-desk.result) c.args.pass.now c.take-desk.new.pass c.take-desk.ensures.pass c.take-desk.result.line c.args.routed.caller command
           c.next-draw.result (draw_at c.args.draws.now) done.result.0 done.result.1 done.new.pass _ _ c.now-clock.result
           c.next-draw.ensures.drawn
-          (acts_alike c.take-desk.result.line _ c.args.routed.caller c.args.routed.area _ command c.next-draw.result done.result.0 done.result.1 _ _ (sym c.lets_in.ensures ∙ c.if-lets_in.false) refl of done.ensures.acts)
+          (acts_alike c.take-desk.result.line _ c.args.routed.caller c.args.routed.area _ command c.next-draw.result done.result.0 done.result.1 _ _ (sym c.lets_in.ensures ∙ c.if-lets_in.false) (ap command_area c.unjudged-command.ensures) of done.ensures.acts)
           done.ensures.clock c.now-clock.ensures.read,
       c.next-draw.ensures.moved,
       done.ensures.said,

@@ -2,7 +2,7 @@ use Rattle.lrs_hall.specs.Acts.{limit_in}
 use Rattle.lrs_hall.proofs.AfterTalks.{talk_goes_on, talk_on_line, talk_reads}
 use Rattle.lrs_hall.specs.Acts.{ActsIn}
 use Rattle.lrs_hall.proofs.Lines.{begins_self}
-use Rattle.lrs_hall.proofs.Marks.{MarksIn, marks_in}
+use Rattle.lrs_hall.proofs.Tides.{TidesIn, tides_in}
 use Rattle.lrs_hall.proofs.Talking.{over_whole}
 use Rattle.lrs_hall.proofs.conversation.converse.Goals as goal
 
@@ -23,12 +23,12 @@ pub returns-clause-counts : goal.returns-clause-counts
 returns-clause-counts g c =
     let limit = limit_in c.args.pass.now.marks in
     let line = c.hold.new.pass.front in
-    (over_whole (ActsIn limit line) (MarksIn limit line) (marks_in limit line) _ c.hold.result.receipts c.hold.ensures.talk.0 c.hold.result.finish _ _
+    (over_whole (ActsIn limit line) (TidesIn limit line) (tides_in limit line) _ c.hold.result.receipts c.hold.ensures.talk.0 c.hold.result.finish _ _
     (talk_on_line limit _ c.hold.result _ _ _ c.hold.ensures.talk.2 line (begins_self line))).2
 
 pub returns-clause-within : goal.returns-clause-within
 returns-clause-within g c =
     let limit = limit_in c.args.pass.now.marks in
     let line = c.hold.new.pass.front in
-    (over_whole (ActsIn limit line) (MarksIn limit line) (marks_in limit line) _ c.hold.result.receipts c.hold.ensures.talk.0 c.hold.result.finish _ _
+    (over_whole (ActsIn limit line) (TidesIn limit line) (tides_in limit line) _ c.hold.result.receipts c.hold.ensures.talk.0 c.hold.result.finish _ _
     (talk_on_line limit _ c.hold.result _ _ _ c.hold.ensures.talk.2 line (begins_self line))).1

@@ -4,7 +4,7 @@ use Rattle.std.specs.Prelude.{All}
 use Rattle.lrs_machine.specs.Desk.{IsOnDisk, marks_of, tide_of}
 use Rattle.lrs_machine.specs.Origin.{IsOfOrigin}
 use Rattle.lrs_turn.specs.Passes.{opened}
-use Rattle.lrs_hall.specs.Serving.{AreCounted, AreWithin, all_receipts, mark_of}
+use Rattle.lrs_hall.specs.Serving.{AreCounted, AreWithin, all_receipts, tide_at}
 use Rattle.lrs_hall.specs.Talks.{Talk}
 use Rattle.lrs_hall.specs.Workers.{HasSameOpening, ServesDoors}
 use Rattle.lrs_hall.proofs.workers.serve_all.Goals as goal
@@ -18,7 +18,7 @@ serve_by-requires-clause-durable g c κs within = subst (IsOnDisk g.D.Disk.told 
 
 pub returns-in-Ok-clause-served : goal.returns-in-Ok-clause-served
 returns-in-Ok-clause-served g c =
-    inl (subst (λ d. ServesDoors d.limit d.line c.serve_by.result.0.line (mark_of g.D.Disk.fault_count g.D.Disk.time d.disk) (mark_of g.D.Disk.fault_count g.D.Disk.time c.serve_by.result.0.disk) c.args.connections c.args.seed (map g.O.Door.state c.args.doors.items) (map g.O.Door.state c.serve_by.result.1.items) c.serve_by.result.2 c.serve_by.result.3)
+    inl (subst (λ d. ServesDoors d.limit d.line c.serve_by.result.0.line (tide_at g.D.Disk.fault_count g.D.Disk.time d.disk) (tide_at g.D.Disk.fault_count g.D.Disk.time c.serve_by.result.0.disk) c.args.connections c.args.seed (map g.O.Door.state c.args.doors.items) (map g.O.Door.state c.serve_by.result.1.items) c.serve_by.result.2 c.serve_by.result.3)
     c.of-begun.ensures c.serve_by.ensures.served)
 
 pub returns-in-Ok-clause-opening : goal.returns-in-Ok-clause-opening
@@ -34,7 +34,7 @@ returns-in-Ok-clause-counts g c =
 
 pub returns-in-Ok-clause-within : goal.returns-in-Ok-clause-within
 returns-in-Ok-clause-within g c =
-    subst (λ d. AllByRecursion (λ (talks : List Talk). AreWithin (mark_of g.D.Disk.fault_count g.D.Disk.time d.disk) (mark_of g.D.Disk.fault_count g.D.Disk.time c.serve_by.result.0.disk) (all_receipts talks)) c.serve_by.result.2)
+    subst (λ d. AllByRecursion (λ (talks : List Talk). AreWithin (tide_at g.D.Disk.fault_count g.D.Disk.time d.disk) (tide_at g.D.Disk.fault_count g.D.Disk.time c.serve_by.result.0.disk) (all_receipts talks)) c.serve_by.result.2)
     c.of-begun.ensures c.serve_by.ensures.within
 
 pub returns-in-Err-clause-served : goal.returns-in-Err-clause-served
@@ -52,7 +52,7 @@ returns-in-Err-clause-counts g c =
 
 pub returns-in-Err-clause-within : goal.returns-in-Err-clause-within
 returns-in-Err-clause-within g c =
-    subst (λ ts. AllByRecursion (λ (talks : List Talk). AreWithin (mark_of g.D.Disk.fault_count g.D.Disk.time c.args.desk.disk) (mark_of g.D.Disk.fault_count g.D.Disk.time c.in-Err.desk.disk) (all_receipts talks)) ts) (sym c.new.ensures) tt
+    subst (λ ts. AllByRecursion (λ (talks : List Talk). AreWithin (tide_at g.D.Disk.fault_count g.D.Disk.time c.args.desk.disk) (tide_at g.D.Disk.fault_count g.D.Disk.time c.in-Err.desk.disk) (all_receipts talks)) ts) (sym c.new.ensures) tt
 
 pub returns-in-Err-clause-durable : goal.returns-in-Err-clause-durable
 returns-in-Err-clause-durable g c = subst (IsOnDisk g.D.Disk.told g.D.Disk.image g.D.Disk.time g.D.Disk.image_since) (sym c.in-Err.ensures.back) c.show.ensures.durable

@@ -1,7 +1,6 @@
 use Rattle.std.proofs.Common.{None, Err, sym, subst, ◌∙◌}
 use Rattle.std.specs.Prelude.{option_map}
-use Rattle.lrs_fold.specs.Outcomes.{IsOutcome}
-use Rattle.lrs_fold.specs.declared.outcome.Outcome.TheVariants as made
+use Rattle.lrs_fold.specs.Outcomes.{IsAcceptance}
 use Rattle.lrs_fold.specs.LrsHistoryHistory.{Outcome}
 use Rattle.lrs_machine.specs.Fold.{state_of}
 use Rattle.lrs_machine.specs.Steps.{Does}
@@ -10,16 +9,16 @@ use Rattle.lrs_machine.proofs.keeping.keep_within.Goals as goal
 
 pub returns-in-Ok-clause-kept : goal.returns-in-Ok-clause-kept
 returns-in-Ok-clause-kept g c =
-    subst (λ z. (v : Outcome) → IsOutcome z v (made.Accepted c.args.accepted)
-    → Does g.D.Disk.told g.D.Disk.time g.D.Disk.image_since c.args.journal.now c.append.new.journal z (state_of c.append.new.fold) v c.append.result.0 (option_map (λ s. s.value) c.append.result.1)) c.ready.ensures.same c.append.ensures.kept
+    subst (λ z. (v : Outcome) → IsAcceptance z v c.args.accepted
+    → Does g.D.Disk.told g.D.Disk.time g.D.Disk.image_since c.args.journal.now c.append.new.journal z (state_of c.append.new.fold) v c.append.result.0 (option_map (λ s. s.value) c.append.result.1)) c.ready-made.ensures.same c.append.ensures.kept
 
 pub returns-in-Err-clause-kept : goal.returns-in-Err-clause-kept
 returns-in-Err-clause-kept g c = λ v is.
     subst (λ t. Does g.D.Disk.told g.D.Disk.time g.D.Disk.image_since c.args.journal.now c.args.journal.now (state_of c.args.fold.now) (state_of c.release.new.self) v (Err t) None) (sym c.from.ensures)
-    (wanting_does g.D.Disk.told g.D.Disk.image g.D.Disk.time g.D.Disk.image_since g.met.D.Disk.only_now c.args.journal.now (state_of c.args.fold.now) (state_of c.release.new.self) v c.requires.sound (c.release.ensures.same ∙ c.ready.ensures.same) c.requires.settled)
+    (wanting_does g.D.Disk.told g.D.Disk.image g.D.Disk.time g.D.Disk.image_since g.met.D.Disk.only_now c.args.journal.now (state_of c.args.fold.now) (state_of c.release.new.self) v c.requires.sound (c.release.ensures.same ∙ c.ready-made.ensures.same) c.requires.settled)
 
 pub returns-in-Ok-clause-places : goal.returns-in-Ok-clause-places
-returns-in-Ok-clause-places g c = λ none. c.append.ensures.places none c.args.fold.now.parts c.ready.ensures.made
+returns-in-Ok-clause-places g c = λ none. c.append.ensures.places none c.args.fold.now.parts c.ready-made.ensures.made
 
 pub returns-in-Err-clause-places : goal.returns-in-Err-clause-places
-returns-in-Err-clause-places g c = λ none. c.release.ensures.undone c.args.fold.now.parts c.ready.ensures.made
+returns-in-Err-clause-places g c = λ none. c.release.ensures.undone c.args.fold.now.parts c.ready-made.ensures.made

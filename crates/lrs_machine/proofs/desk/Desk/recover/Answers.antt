@@ -24,7 +24,7 @@ returns-in-Err-replay_all-clause-legal g c = λ bytes there. spares bytes c.in-E
 
 pub returns-in-Ok-replay_all-clause-opening : goal.returns-in-Ok-replay_all-clause-opening
 returns-in-Ok-replay_all-clause-opening g c =
-    let h = c.in-Ok-replay_all.opening.items in
+    let h = c.replay_all.new.opening.items in
     let r = c.in-Ok-replay_all.ensures in
     if_ok c.finish.result
     (λ desk. (desk.line ≡ opened_line desk.opened_at h) × ((desk.limit ≡ c.replay_all.new.replay.limit) × (in_doubt desk.line ≡ false) × (desk.opened ≡ length h))) _
@@ -35,7 +35,7 @@ returns-in-Ok-replay_all-clause-opening g c =
 
 pub returns-in-Ok-replay_all-clause-stops : goal.returns-in-Ok-replay_all-clause-stops
 returns-in-Ok-replay_all-clause-stops g c =
-    let h = c.in-Ok-replay_all.opening.items in
+    let h = c.replay_all.new.opening.items in
     let r = c.in-Ok-replay_all.ensures in
     let told = g.D.Disk.told in
     let mid = c.replay_all.new.replay in
@@ -51,7 +51,7 @@ returns-in-Ok-replay_all-clause-stops g c =
 
 pub returns-in-Ok-replay_all-clause-stops_err : goal.returns-in-Ok-replay_all-clause-stops_err
 returns-in-Ok-replay_all-clause-stops_err g c =
-    let h = c.in-Ok-replay_all.opening.items in
+    let h = c.replay_all.new.opening.items in
     let r = c.in-Ok-replay_all.ensures in
     let told = g.D.Disk.told in
     let mid = c.replay_all.new.replay in

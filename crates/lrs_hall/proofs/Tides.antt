@@ -1,7 +1,7 @@
 -- What acts tell of the disk's count of faults and of its moment, one after the other.
 use Rattle.std.proofs.Common.{arith, ◌≡◌, ◌≢◌, ◌≤◌, ℕ, List, [], ◌∷◌, true, false, Result, Ok, Err, ap, ◌∙◌}
 use Rattle.lrs_machine.specs.Acts.{HasDiskCause, Receipt, plain_receipt}
-use Rattle.lrs_machine.specs.Desk.{Mark}
+use Rattle.lrs_machine.specs.Desk.{Tide}
 use Rattle.lrs_machine.specs.Line.{Record}
 use Rattle.lrs_names.specs.declared.draw.Draw.{Draw}
 use Rattle.lrs_record.specs.declared.entry.Caller.{Caller}
@@ -11,7 +11,7 @@ use Rattle.lrs_replies.specs.declared.answered.Answered.{Answered}
 use Rattle.lrs_replies.specs.declared.reply.Reply.{Reply}
 use Rattle.lrs_replies.specs.declared.reply.Trouble.{Trouble}
 use Rattle.lrs_replies.specs.declared.reply.Trouble.TheVariants.{Memory, Disk}
-use Rattle.lrs_hall.specs.Acts.{ActsIn, Reach, mark_behind}
+use Rattle.lrs_hall.specs.Acts.{ActsIn, Reach, tide_behind}
 use Rattle.lrs_hall.specs.Serving.{AreCounted, AreWithin, IsNotBelow}
 use Rattle.lrs_hall.proofs.Talking.{Carries}
 
@@ -35,7 +35,7 @@ not_acted status receipt is acted =
 
 -- ---- wider bounds
 
-pub within_more : (a b x y : Mark) (receipts : List Receipt) → IsNotBelow x a → IsNotBelow b y → AreWithin a b receipts → AreWithin x y receipts
+pub within_more : (a b x y : Tide) (receipts : List Receipt) → IsNotBelow x a → IsNotBelow b y → AreWithin a b receipts → AreWithin x y receipts
 within_more a b x y [] low high all = tt
 within_more a b x y (receipt ∷ receipts) low high all = (
   λ acted.
@@ -77,25 +77,25 @@ counted_more low before now high (receipt ∷ receipts) below above all = (
 
 module _ (limit : ℕ) (line : List Record) where
   -- they lie between what was known before them and what is known behind them
-  abbrev pub MarksIn : List Receipt → Reach → Reach → Type 0
-  MarksIn receipts old new = IsNotBelow old.mark new.mark × AreWithin old.mark new.mark receipts × AreCounted old.mark.faults new.mark.faults receipts
+  abbrev pub TidesIn : List Receipt → Reach → Reach → Type 0
+  TidesIn receipts old new = IsNotBelow old.tide new.tide × AreWithin old.tide new.tide receipts × AreCounted old.tide.faults new.tide.faults receipts
 
   module _ (caller : Caller) (command : Command) (draw : Draw) (reply : Reply) (receipt : Receipt) (old mid : Reach)
       (on : ActsIn limit line caller command draw reply receipt old mid) where
-    at : mid.mark ≡ mark_behind receipt
-    at = ap (λ (r : Reach). r.mark) on.reach
+    at : mid.tide ≡ tide_behind receipt
+    at = ap (λ (r : Reach). r.tide) on.reach
 
-    pub is_left : mid.mark.faults ≡ receipt.is
-    is_left = ap (λ (m : Mark). m.faults) at
+    pub is_left : mid.tide.faults ≡ receipt.is
+    is_left = ap (λ (m : Tide). m.faults) at
 
-    pub disk_left : mid.mark.moment ≡ receipt.disk
-    disk_left = ap (λ (m : Mark). m.moment) at
+    pub disk_left : mid.tide.moment ≡ receipt.disk
+    disk_left = ap (λ (m : Tide). m.moment) at
 
     pub rose : receipt.was ≤ receipt.is
     rose = later_count receipt.was receipt.is on.said on.acts.cause
 
-    pub mark_later : IsNotBelow old.mark mid.mark
-    mark_later =
+    pub tide_later : IsNotBelow old.tide mid.tide
+    tide_later =
         let was = on.since.was in
         let ended = on.since.ended in
         let up = rose in
@@ -103,22 +103,22 @@ module _ (limit : ℕ) (line : List Record) where
         let moment = disk_left in
         (omega (arith, was, up, count), omega (arith, ended, moment))
 
-    marks_more : (receipts : List Receipt) (new : Reach) → MarksIn receipts mid new → MarksIn (receipt ∷ receipts) old new
-    marks_more receipts new more =
+    tides_more : (receipts : List Receipt) (new : Reach) → TidesIn receipts mid new → TidesIn (receipt ∷ receipts) old new
+    tides_more receipts new more =
         let was = on.since.was in
         let began = on.since.ended in
         let count = is_left in
         let moment = disk_left in
-        let low = mark_later.0 in
-        let start = mark_later.1 in
+        let low = tide_later.0 in
+        let start = tide_later.1 in
         let high = more.0.0 in
         let end = more.0.1 in
-        let same : new.mark.faults ≤ new.mark.faults = omega arith in
-        let still : new.mark.moment ≤ new.mark.moment = omega arith in (
+        let same : new.tide.faults ≤ new.tide.faults = omega arith in
+        let still : new.tide.moment ≤ new.tide.moment = omega arith in (
           (omega (arith, low, high), omega (arith, start, end)),
           (
             λ acted. record { was = was; is = omega (arith, count, high); began = began; ended = omega (arith, moment, end) },
-            within_more mid.mark new.mark old.mark new.mark receipts mark_later (same, still) more.1,
+            within_more mid.tide new.tide old.tide new.tide receipts tide_later (same, still) more.1,
           ),
           (
             λ acted. record {
@@ -127,17 +127,17 @@ module _ (limit : ℕ) (line : List Record) where
               is = omega (arith, count, high);
               told = λ well. kept_count receipt.was receipt.is on.said reply on.says on.acts.cause (λ e. well (on.status ∙ e));
             },
-            counted_more old.mark.faults mid.mark.faults new.mark.faults new.mark.faults receipts low same more.2,
+            counted_more old.tide.faults mid.tide.faults new.tide.faults new.tide.faults receipts low same more.2,
           ),
         )
 
-  pub marks_in : Carries (ActsIn limit line) MarksIn
-  marks_in = record {
+  pub tides_in : Carries (ActsIn limit line) TidesIn
+  tides_in = record {
     none = λ x. ((omega arith, omega arith), tt, tt);
     plain = λ status receipt receipts old new none more. (
       more.0,
       (λ acted. absurd (not_acted status receipt none acted), more.1),
       (λ acted. absurd (not_acted status receipt none acted), more.2),
     );
-    act = λ caller command draw reply receipt receipts old mid new on more. marks_more caller command draw reply receipt old mid on receipts new more;
+    act = λ caller command draw reply receipt receipts old mid new on more. tides_more caller command draw reply receipt old mid on receipts new more;
   }

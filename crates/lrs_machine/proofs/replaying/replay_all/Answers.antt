@@ -6,7 +6,7 @@ use Rattle.lrs_machine.specs.Fold.{state_of}
 use Rattle.lrs_machine.specs.Replays.{HasReadEntries, TakesFrame}
 use Rattle.lrs_machine.proofs.Prefixes.{rests, run_then}
 use Rattle.lrs_machine.proofs.ReplayLemmas.{ended_empty, taken_none}
-use Rattle.lrs_machine.proofs.replaying.take_all.Goals as goal
+use Rattle.lrs_machine.proofs.replaying.replay_all.Goals as goal
 
 pub returns-then-k-eq0-clause-refused : goal.returns-then-k-eq0-clause-refused
 returns-then-k-eq0-clause-refused g c = λ bytes there.

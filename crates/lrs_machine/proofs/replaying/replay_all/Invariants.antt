@@ -3,7 +3,7 @@ use Rattle.std.specs.Option.{ForSome}
 use Rattle.lrs_disk.specs.Disk.{LeavesOnly}
 use Rattle.lrs_machine.specs.Fold.{state_of}
 use Rattle.lrs_machine.specs.Replays.{HasReadEntries, IsReplayed}
-use Rattle.lrs_machine.proofs.replaying.take_all.Given as goal
+use Rattle.lrs_machine.proofs.replaying.replay_all.Given as goal
 
 abbrev pub invariant-loop-k : goal.invariant-loop-k
 invariant-loop-k g l = record {
