@@ -1,8 +1,8 @@
 #!/usr/bin/env python3
-"""Measures what several workers bring: durable PUTs by many connections beside the six calls of the disk, GETs by id and
-pages by a verb over one worker and over several, pages beside PostgreSQL if it is installed, what a page takes of the
-processor, and how long GETs take beside a client that never ceases to write. Last stands what one client gets of one
-worker, also of an older program if its path is given.
+"""Measures what several workers bring: durable PUTs by many connections beside the six calls of the disk and a server
+that makes them and looks at nothing, GETs by id and pages by a verb over one worker and over several, pages beside
+PostgreSQL if it is installed, what a page takes of the processor, and how long GETs take beside a client that never
+ceases to write. Last stands what one client gets of one worker, also of an older program if its path is given.
 
   bench/workers.py PROGRAM [--folder FOLDER] [--workers W] [--before OLDER]
 
@@ -108,16 +108,28 @@ def six_calls(size):
     return int(run("./six_calls", "plain", PUTS, size).split()[0])
 
 
+def bare_turns(workers, clients, size):
+    """The rate of a server that takes turns, makes the six calls and looks at nothing."""
+    port = free_port()
+    process = subprocess.Popen(["./bare_server", "plain", str(port), "10000", str(size), str(workers)])
+    try:
+        await_port(process, port)
+        return asked(port, "put", 0, PUTS, clients)
+    finally:
+        process.kill()
+        process.wait()
+
+
 def measure_puts(program, workers):
-    print("durable PUTs of one statement, a second")
+    print("durable PUTs of one statement, a second, the six calls alone, and a server that takes turns and looks at nothing")
     for clients in (4, 16):
         shares = []
         for _ in range(ROUNDS):
             rate, size = puts(program, workers, clients)
             calls = six_calls(size)
-            shares.append((rate / calls, rate, calls))
-        share, rate, calls = max(shares)
-        print(f"  {clients} connections, {workers} workers: {rate:,}, the six calls alone {calls:,}: {share:.2f}", flush=True)
+            shares.append((rate / calls, rate, calls, bare_turns(workers, clients, size)))
+        share, rate, calls, bare = max(shares)
+        print(f"  {clients} connections, {workers} workers: {rate:,}, {calls:,}, so {share:.2f}; {bare:,}", flush=True)
 
 
 def with_statements(program, number):
@@ -298,8 +310,8 @@ def main():
     with tempfile.TemporaryDirectory(dir=given.folder) as name:
         folder = pathlib.Path(name)
         os.chdir(folder)
-        for source in ("requests", "six_calls"):
-            run("cc", "-O2", "-D_GNU_SOURCE", "-o", source, HERE / f"{source}.c")
+        for source in ("requests", "six_calls", "bare_server"):
+            run("cc", "-O2", "-D_GNU_SOURCE", "-pthread", "-o", source, HERE / f"{source}.c")
         print(f"{os.cpu_count()} processors")
         measure_puts(program, given.workers)
         measure_gets(program, given.workers)
