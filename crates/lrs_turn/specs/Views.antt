@@ -54,9 +54,6 @@ abbrev pub AreTurns : TableId → ℕ → Type 0
 AreTurns table passes = (table.words ≡ 2) × (table.slots ≡ 1) × (0 < passes)
 
 module _ {T : Type 0} where
-  abbrev pub IsIdleAt : TableId → ℕ → Pass T → Type 0
-  IsIdleAt table passes pass = (pass.turns ≡ record { id = table; passes = passes }) × (pass.holds ≡ false)
-
   -- a view that stands for these passes
   pub record Covers (passes : List (Pass T)) (v : View T) : Type 0 where
     pub holds : v.holds ≡ false

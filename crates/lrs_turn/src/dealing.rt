@@ -2,7 +2,7 @@
 ghost use Rattle.std.specs.Prelude.{◌≡◌, ◌≤◌, ◌<◌, ℕ, [], ◌∷◌, length, vec_capacity, All, IfOk, IfErr, Some};
 ghost use Rattle.lrs_turn.specs.Lists.{BeginsWith, Each, NoneFalls};
 ghost use Rattle.lrs_turn.specs.Passes.{IsIdle, OwnsEach, opened};
-ghost use Rattle.lrs_turn.specs.Views.{IsIdleAt, Covers, opened_at, fresh};
+ghost use Rattle.lrs_turn.specs.Views.{Covers, opened_at, fresh};
 ghost use Rattle.lrs_turn.specs.Rule.{meaning};
 
 use crate::journaled::Journaled;
@@ -52,7 +52,7 @@ fn gather<S: Journaled>(
     mut passes: Vec<Pass<S::Record>>,
 ) -> Seat<Option<S>, View<S::Record>>
     requires table { (shared.now.table_id.words ≡ 2) × (shared.now.table_id.slots ≡ 1) }
-    requires of { Each (IsIdleAt shared.now.table_id shared.now.key.passes) passes.items }
+    requires of { Each (IsIdle (record { id = shared.now.table_id; passes = shared.now.key.passes })) passes.items }
     requires some { 0 < length passes.items }
     ensures table { (result.table_id ≡ shared.now.table_id) × (result.me.1 ≡ []) }
     ensures covers { Covers passes.items result.me.0 }
