@@ -1,7 +1,7 @@
 // Requests, as they come out of streams of bytes.
 use lrs_disk::Link;
 use lrs_http::{Request, RequestRefused, read_request};
-use lrs_in_memory::MemLink;
+use lrs_in_memory_doors::MemLink;
 use lrs_json::Text;
 use std::alloc::Global;
 use std::fmt::Write;

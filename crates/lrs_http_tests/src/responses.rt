@@ -3,7 +3,7 @@ ghost use Rattle.std.specs.Prelude.{◌≡◌, ◌≢◌, [], IsTrue};
 ghost use Rattle.lrs_http.specs.Response.{IsStatus};
 
 use lrs_http::{LinkFault, Reply2, write_response};
-use lrs_in_memory::MemLink;
+use lrs_in_memory_doors::MemLink;
 use std::alloc::Global;
 use std::test::Fail;
 

@@ -1,4 +1,3 @@
 mod CallLists
-mod Gated
 mod Shelves
 mod StepLists

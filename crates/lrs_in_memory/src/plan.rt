@@ -2,16 +2,18 @@ ghost use Rattle.std.specs.Prelude.{◌≡◌, ◌≤◌, ◌+◌, ◌-◌, ◌^
 
 use lrs_disk::Failed;
 
-// Which calls fail, by their numbers, and how many have failed.
+/// Which calls of an object in memory fail, by their numbers from 0, and how many have failed.
 #[derive(Drop)]
-pub(crate) struct Plan {
-    pub(crate) failing: Vec<u64>,
-    pub(crate) number: u64,
-    pub(crate) faults: u64,
+pub struct Plan {
+    pub failing: Vec<u64>,
+    /// The next call's.
+    pub number: u64,
+    pub faults: u64,
 }
 
 impl Plan {
-    pub(crate) fn new(failing: Vec<u64>) -> Self
+    /// The calls with these numbers fail. None was made so far.
+    pub fn new(failing: Vec<u64>) -> Self
         ensures failing { result.failing.items ≡ failing.items }
         ensures number { result.number ≡ 0 }
         ensures faults { result.faults ≡ 0 }
@@ -23,8 +25,8 @@ impl Plan {
         }
     }
 
-    // Counts a call, and answers whether it is one of those that fail.
-    pub(crate) fn is_due(&mut self) -> bool
+    /// Counts a call, and answers whether it is one of those that fail.
+    pub fn is_due(&mut self) -> bool
         ensures due { IsTrue result ↔ Contains self.old.failing.items self.old.number }
         ensures number { self.new.number ≡ min (self.old.number + 1) (2 ^ 64 - 1) }
         ensures range { self.old.number ≤ 2 ^ 64 - 1 }
@@ -36,8 +38,8 @@ impl Plan {
         self.failing.contains(&number)
     }
 
-    // Counts a fault.
-    pub(crate) fn fail(&mut self) -> Failed
+    /// Counts a fault.
+    pub fn fail(&mut self) -> Failed
         ensures faults { self.new.faults ≡ min (self.old.faults + 1) (2 ^ 64 - 1) }
         ensures range { self.old.faults ≤ 2 ^ 64 - 1 }
         ensures failing { self.new.failing.items ≡ self.old.failing.items }

@@ -1,11 +1,12 @@
 ghost use Rattle.std.specs.Prelude.{◌≡◌, None, IfOk};
-ghost use Rattle.lrs_in_memory.specs.GateDoor.{door_of};
-ghost use Rattle.lrs_in_memory.specs.GateLink.{link_of};
-ghost use Rattle.lrs_in_memory.specs.MemDoor.{out_of};
-ghost use Rattle.lrs_in_memory.specs.MemLink.{IsUnused, name_of};
+ghost use Rattle.lrs_in_memory_doors.specs.GateDoor.{door_of};
+ghost use Rattle.lrs_in_memory_doors.specs.GateLink.{link_of};
+ghost use Rattle.lrs_in_memory_doors.specs.MemDoor.{out_of};
+ghost use Rattle.lrs_in_memory_doors.specs.MemLink.{IsUnused, name_of};
 
 use lrs_disk::{Door, Link, Next};
-use lrs_in_memory::{Gate, GateDoor, GateLink, MemDoor, MemLink, Memory, Sign, Until};
+use lrs_in_memory::Memory;
+use lrs_in_memory_doors::{Gate, GateDoor, GateLink, MemDoor, MemLink, Sign, Until};
 use std::alloc::Global;
 use std::test::Fail;
 use std::thread;

@@ -1,4 +1,4 @@
-//! The tests of lrs_in_memory: the outside in memory.
+//! The tests of lrs_in_memory and lrs_in_memory_doors: the outside in memory.
 #![tactic(auto)]
 
 #[cfg(test)]

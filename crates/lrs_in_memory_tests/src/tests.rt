@@ -1,11 +1,10 @@
 ghost use Rattle.std.specs.Prelude.{◌≡◌, ◌≤◌, ◌∷◌, [], None, IfOk};
-ghost use Rattle.lrs_in_memory.specs.MemDoor.{out_of};
-ghost use Rattle.lrs_in_memory.specs.MemLink.{IsUnused};
+ghost use Rattle.lrs_in_memory_doors.specs.MemDoor.{out_of};
+ghost use Rattle.lrs_in_memory_doors.specs.MemLink.{IsUnused};
 
 use lrs_disk::{Disk, Door, Failed, Link, Lobby, Next, Shelf, Sink, Source};
-use lrs_in_memory::{
-    MemDisk, MemDoor, MemLink, MemLobby, MemShelf, MemSink, MemSource, Memory, Pending,
-};
+use lrs_in_memory::{MemDisk, MemShelf, Memory, Pending};
+use lrs_in_memory_doors::{MemDoor, MemLink, MemLobby, MemSink, MemSource};
 use std::alloc::Global;
 use std::test::Fail;
 

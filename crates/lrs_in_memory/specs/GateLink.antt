@@ -1,6 +1,0 @@
--- What is seen of a connection in memory behind a gate: the connection itself.
-use Rattle.lrs_in_memory.specs.declared.gate_link.GateLink.{GateLink}
-use Rattle.lrs_in_memory.specs.declared.link.MemLink.{MemLink}
-
-abbrev pub link_of : GateLink → MemLink
-link_of l = l.link

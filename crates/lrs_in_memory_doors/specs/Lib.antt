@@ -1,0 +1,11 @@
+pub mod Clock
+pub mod GateDoor
+pub mod GateLink
+pub mod Input
+pub mod MemDoor
+pub mod MemLink
+pub mod MemLobby
+pub mod MemSink
+pub mod MemSource
+pub mod Output
+pub mod Streams
