@@ -16,7 +16,7 @@ use Rattle.cmi5_session.specs.Moments.{began_at, last_own}
 use Rattle.cmi5_session.specs.Own.{has_own, is_of_session, is_own, says}
 use Rattle.lrs_json.specs.View.{view}
 use Rattle.xapi_format.specs.declared.authority.Authority.{Authority}
-use Rattle.cmi5_session.specs.XapiIndexStatements.{is_that_id}
+use Rattle.xapi_statement.specs.Statements.{is_that_id}
 use Rattle.xapi_statement.specs.Stored.{StoredStatement}
 
 -- ---- options

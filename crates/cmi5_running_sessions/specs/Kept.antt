@@ -16,7 +16,7 @@ use Rattle.cmi5_session.specs.Moments.{began_at}
 use Rattle.cmi5_session.specs.Own.{has_own, is_cmi5_defined, is_of_session}
 use Rattle.lrs_json.specs.Json.{Json}
 use Rattle.lrs_json.specs.View.{view}
-use Rattle.cmi5_session.specs.XapiIndexStatements.{is_that_id}
+use Rattle.xapi_statement.specs.Statements.{is_that_id}
 use Rattle.xapi_statement.specs.Statement.{activity_of, registration_of, verb_of}
 use Rattle.xapi_statement.specs.Stored.{StoredStatement}
 

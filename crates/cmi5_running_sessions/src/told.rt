@@ -6,7 +6,7 @@ ghost use Rattle.cmi5_session.specs.Cmi5LaunchNames.{completed, passed};
 ghost use Rattle.cmi5_running_sessions.specs.Room.{needs_unit};
 ghost use Rattle.cmi5_session.specs.Own.{is_of_session, says};
 ghost use Rattle.lrs_json.specs.View.{view};
-ghost use Rattle.cmi5_session.specs.XapiIndexStatements.{is_that_id};
+ghost use Rattle.xapi_statement.specs.Statements.{is_that_id};
 ghost use Rattle.xapi_statement.specs.Statement.{activity_of, registration_of};
 
 use cmi5_session::cmi5_launch::names::{COMPLETED, PASSED};

@@ -21,7 +21,7 @@ use Rattle.cmi5_verdict.specs.declared.said.Said.{Said}
 use Rattle.cmi5_verdict.proofs.Spoken.{same_said}
 use Rattle.lrs_json.specs.View.{view}
 use Rattle.xapi_index.specs.Index.{IsPosting}
-use Rattle.xapi_index.specs.Statements.{is_that_id, is_voided}
+use Rattle.xapi_statement.specs.Statements.{is_that_id, is_voided}
 use Rattle.xapi_index.specs.XapiPostingsAscending.{below, positions_from}
 use Rattle.xapi_statement.specs.Statement.{activity_of, registration_of}
 use Rattle.xapi_statement.specs.Stored.{StoredStatement}

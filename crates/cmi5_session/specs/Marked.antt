@@ -1,6 +1,6 @@
 -- Statements with marks: whether each is voided.
 use Rattle.std.specs.Prelude.{Bool, List, map}
-use Rattle.xapi_index.specs.Statements.{is_voided}
+use Rattle.xapi_statement.specs.Statements.{is_voided}
 use Rattle.xapi_statement.specs.Stored.{StoredStatement}
 
 pub record MarkedStatement : Type 0 where

@@ -21,7 +21,7 @@ use Rattle.lrs_ids.specs.Choices.{first_some, when}
 use Rattle.lrs_json.specs.Json.{Json}
 use Rattle.lrs_names.specs.Ids.{id_text}
 use Rattle.lrs_names.specs.Members.{is_word}
-use Rattle.xapi_index.specs.Statements.{is_that_id}
+use Rattle.xapi_statement.specs.Statements.{is_that_id}
 use Rattle.xapi_rules.specs.Rules.{is_voiding}
 use Rattle.xapi_statement.specs.Parties.{actor_of}
 use Rattle.xapi_statement.specs.Statement.{activity_of, extension_of, has_context_activity, has_duration}

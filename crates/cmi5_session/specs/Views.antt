@@ -10,7 +10,7 @@ use Rattle.cmi5_session.specs.declared.phase.Phase.{Phase}
 use Rattle.cmi5_session.specs.declared.view.SessionView.{SessionView}
 use Rattle.lrs_json.specs.Json.{Json}
 use Rattle.lrs_json.specs.View.{view}
-use Rattle.xapi_index.specs.Statements.{is_that_id, is_voided}
+use Rattle.xapi_statement.specs.Statements.{is_that_id, is_voided}
 use Rattle.xapi_statement.specs.Statement.{activity_of, registration_of, verb_of}
 use Rattle.xapi_statement.specs.Stored.{StoredStatement}
 

@@ -14,4 +14,3 @@ pub use defined::is_cmi5_defined;
 pub use phase::Phase;
 pub use rules::{Forbidden, permitted, permitted_outside};
 pub use view::{SessionView, is_that_id};
-pub use xapi_index;

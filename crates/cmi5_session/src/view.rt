@@ -3,7 +3,7 @@ ghost use Rattle.std.specs.Prelude.{◌≡◌, ◌&&◌, ◌||◌, ◌++◌, ◌
 ghost use Rattle.cmi5_session.specs.Views.{counts, seen, view_behind, view_of};
 ghost use Rattle.lrs_json.specs.View.{view};
 ghost use Rattle.xapi_format.specs.declared.authority.Authority.TheVariants.{Session};
-ghost use Rattle.xapi_index.specs.Statements.{is_target, is_that_id};
+ghost use Rattle.xapi_statement.specs.Statements.{is_target, is_that_id};
 ghost use Rattle.xapi_rules.specs.Rules.{is_voiding};
 ghost use Rattle.xapi_statement.specs.Statement.{activity_of};
 ghost use Rattle.xapi_statement.specs.Stored.{StoredStatement as SpecStatement};

@@ -14,8 +14,8 @@ use Rattle.cmi5_verdict.specs.Said.{at_positions, counts_for, either, said_among
 use Rattle.cmi5_verdict.specs.declared.said.Said.{Said}
 use Rattle.cmi5_verdict.proofs.Spoken.{among_more, among_none, either_assoc, either_unsaid, same_said, unsaid_either}
 use Rattle.lrs_json.specs.View.{view}
-use Rattle.cmi5_session.specs.XapiIndexStatements.{is_that_id, is_voided}
-use Rattle.cmi5_session.specs.XapiPostingsAscending.{below, positions_from, positions_with}
+use Rattle.xapi_statement.specs.Statements.{is_that_id, is_voided}
+use Rattle.xapi_index.specs.XapiPostingsAscending.{below, positions_from, positions_with}
 use Rattle.xapi_statement.specs.Statement.{activity_of, registration_of}
 use Rattle.xapi_statement.specs.Stored.{StoredStatement}
 use Rattle.xapi_statement_keys.specs.Keys.{has_key}

@@ -14,7 +14,7 @@ use Rattle.cmi5_verdict.specs.Said.{counts_for, either, said_among, said_by, sai
 use Rattle.cmi5_verdict.specs.declared.said.Said.{Said}
 use Rattle.cmi5_verdict.proofs.Tests.{and_true, or_assoc, or_false}
 use Rattle.lrs_json.specs.View.{view}
-use Rattle.cmi5_session.specs.XapiIndexStatements.{is_that_id, is_voided}
+use Rattle.xapi_statement.specs.Statements.{is_that_id, is_voided}
 use Rattle.xapi_statement.specs.Statement.{activity_of, registration_of, verb_of}
 use Rattle.xapi_statement.specs.Stored.{StoredStatement}
 

@@ -8,7 +8,7 @@ use Rattle.cmi5_launch.specs.Names.{completed, passed, waived}
 use Rattle.cmi5_session.specs.Own.{says}
 use Rattle.lrs_json.specs.Json.{Json}
 use Rattle.lrs_json.specs.View.{view}
-use Rattle.cmi5_session.specs.XapiIndexStatements.{is_that_id, is_voided}
+use Rattle.xapi_statement.specs.Statements.{is_that_id, is_voided}
 use Rattle.xapi_statement.specs.Statement.{activity_of, registration_of}
 use Rattle.xapi_statement.specs.Stored.{StoredStatement}
 

@@ -8,7 +8,7 @@ ghost use Rattle.cmi5_session.specs.Own.{is_cmi5_defined};
 ghost use Rattle.cmi5_verdict.specs.Nodes.{activity_at, seen};
 ghost use Rattle.cmi5_verdict.specs.Places.{is_place};
 ghost use Rattle.lrs_json.specs.View.{view};
-ghost use Rattle.cmi5_session.specs.XapiIndexStatements.{is_that_id};
+ghost use Rattle.xapi_statement.specs.Statements.{is_that_id};
 ghost use Rattle.xapi_statement.specs.Statement.{activity_of, registration_of};
 
 use crate::Enrolment;

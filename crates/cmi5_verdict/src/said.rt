@@ -9,7 +9,7 @@ ghost use Rattle.cmi5_verdict.specs.Said.{said_with, unsaid};
 ghost use Rattle.cmi5_verdict.specs.Statements.{all_of};
 ghost use Rattle.cmi5_verdict.specs.Units.{moves_on};
 ghost use Rattle.lrs_json.specs.View.{view};
-ghost use Rattle.cmi5_session.specs.XapiIndexStatements.{is_voided};
+ghost use Rattle.xapi_statement.specs.Statements.{is_voided};
 ghost use Rattle.xapi_statement.specs.Statement.{verb_of};
 
 use crate::names::place_meant;

@@ -26,7 +26,7 @@ use Rattle.xapi_keys.specs.declared.wanted.WantedDocuments.{WantedDocuments}
 use Rattle.xapi_keys.specs.declared.wanted.WantedDocuments.TheVariants.{One, Ids}
 use Rattle.xapi_format.specs.declared.format.Format.{Format}
 use Rattle.xapi_pages.specs.Listings.{page_behind, page_body}
-use Rattle.xapi_index.specs.Statements.{held_under, is_voided}
+use Rattle.xapi_statement.specs.Statements.{held_under, is_voided}
 use Rattle.xapi_query.specs.Filters.{sees}
 use Rattle.xapi_query.specs.declared.query.Query.{Query}
 use Rattle.xapi_query.specs.declared.wanted.Wanted.{Wanted}

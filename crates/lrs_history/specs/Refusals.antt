@@ -63,7 +63,7 @@ use Rattle.xapi_keys.specs.declared.wanted.WantedDocuments.TheVariants.{One, Ids
 use Rattle.xapi_index.specs.Batches.{WithId, given_ids}
 use Rattle.lrs_ids.specs.Choices.{first_some, when}
 use Rattle.lrs_ids.specs.Ids.{are_distinct}
-use Rattle.xapi_index.specs.Statements.{held_under}
+use Rattle.xapi_statement.specs.Statements.{held_under}
 use Rattle.xapi_rules.specs.Rules.{broken_rule}
 use Rattle.xapi_statement.specs.Stored.{StoredStatement}
 use Rattle.xapi_statement.specs.Statement.{is_too_long, own_id}

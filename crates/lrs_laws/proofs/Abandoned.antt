@@ -37,7 +37,7 @@ use Rattle.lrs_record.specs.declared.entry.Write.TheVariants as write
 use Rattle.lrs_replies.specs.declared.answered.Refusal.TheVariants.{Forbidden}
 use Rattle.lrs_rules.specs.declared.rule.Rule.TheVariants as rule
 use Rattle.xapi_index.specs.Batches.{WithId, kept_by, supply_after, with_ids}
-use Rattle.xapi_index.specs.Statements.{add_each, new_ones}
+use Rattle.xapi_statement.specs.Statements.{add_each, new_ones}
 use Rattle.xapi_format.specs.declared.authority.Authority.TheVariants.{Session}
 use Rattle.xapi_statement.specs.Stored.{StoredStatement}
 

@@ -30,7 +30,7 @@ use Rattle.xapi_format.specs.declared.authority.Authority.{Authority}
 use Rattle.xapi_index.specs.Batches.{WithId, given_ids, held_of, id_for, kept_by, with_ids, ids_under, supply_after, supply_behind, with_given}
 use Rattle.lrs_ids.specs.Choices.{first_some, when}
 use Rattle.lrs_ids.specs.Ids.{Supply}
-use Rattle.xapi_index.specs.Statements.{is_held, new_ones}
+use Rattle.xapi_statement.specs.Statements.{is_held, new_ones}
 use Rattle.xapi_statement.specs.Stored.{StoredStatement}
 use Rattle.xapi_statement.specs.Statement.{own_id}
 

@@ -29,7 +29,7 @@ use Rattle.lrs_names.specs.Members.{is_one_of}
 use Rattle.lrs_state.specs.State.{State}
 use Rattle.xapi_format.specs.declared.authority.Authority.TheVariants.{Session}
 use Rattle.xapi_index.specs.Batches.{held_of}
-use Rattle.xapi_index.specs.Statements.{add, add_each, is_held, is_target, is_that_id, voids}
+use Rattle.xapi_statement.specs.Statements.{add, add_each, is_held, is_target, is_that_id, voids}
 use Rattle.xapi_rules.specs.Rules.{is_voiding}
 use Rattle.xapi_statement.specs.Statement.{activity_of, has_context_activity, registration_of, target_of, verb_of}
 use Rattle.xapi_statement.specs.Stored.{StoredStatement}

@@ -3,7 +3,7 @@ use Rattle.std.proofs.Common.{◌≡◌, ◌⊎◌, inl, inr, ℕ, zero, suc, �
 use Rattle.std.specs.Prelude.{filter, if◌then◌else◌}
 use Rattle.std.specs.List.{AllByRecursion, range_with_len}
 use Rattle.std.proofs.lemmas.List.Elements.{filter-append}
-use Rattle.xapi_index.specs.Statements.{add, add_each, is_held}
+use Rattle.xapi_statement.specs.Statements.{add, add_each, is_held}
 use Rattle.xapi_statement.specs.Stored.{StoredStatement}
 
 abbrev pub many : {A : Type 0} → (A → Bool) → List A → ℕ

@@ -15,7 +15,7 @@ use Rattle.lrs_history.specs.Effects.{effect}
 use Rattle.lrs_history.specs.History.{state, state_from, step}
 use Rattle.lrs_state.specs.State.{State, nothing}
 use Rattle.lrs_ids.specs.Ids.{are_distinct}
-use Rattle.xapi_index.specs.Statements.{add, add_each, held_under, ids_of, is_held, is_target, is_voided, voids}
+use Rattle.xapi_statement.specs.Statements.{add, add_each, held_under, ids_of, is_held, is_target, is_voided, voids}
 use Rattle.lrs_laws.specs.Laws.{NamesForGood, NamesOne, StaysVoided}
 
 -- ---- one list

@@ -31,7 +31,7 @@ use Rattle.lrs_record.specs.declared.entry.Write.TheVariants as write
 use Rattle.xapi_format.specs.declared.authority.Authority.TheVariants.{Desk}
 use Rattle.xapi_index.proofs.Adding.{add-old}
 use Rattle.xapi_index.specs.Batches.{held_of}
-use Rattle.xapi_index.specs.Statements.{add, add_each, held_under, is_held}
+use Rattle.xapi_statement.specs.Statements.{add, add_each, held_under, is_held}
 use Rattle.xapi_statement.specs.Stored.{StoredStatement}
 
 there : {A : Type 0} (o : Option A) → unless_there o ≡ None → (a : A) × (o ≡ Some a)

@@ -27,7 +27,7 @@ use Rattle.lrs_replies.specs.declared.answered.Refusal.TheVariants.{Broken, TooL
 use Rattle.xapi_index.specs.Batches.{WithId, given_ids, id_for, with_ids, ids_under, supply_behind, with_given}
 use Rattle.lrs_ids.specs.Choices.{first_some, when}
 use Rattle.lrs_ids.specs.Ids.{Supply, Used, IsCounted, are_distinct, free_word, is_free, made_id, supply_of, words_from}
-use Rattle.xapi_index.specs.Statements.{ids_of, is_held}
+use Rattle.xapi_statement.specs.Statements.{ids_of, is_held}
 use Rattle.xapi_statement.specs.Statement.{own_id}
 
 -- the ids under which statements go that come together

@@ -41,7 +41,7 @@ use Rattle.lrs_replies.specs.declared.answered.Refusal.{Refusal}
 use Rattle.lrs_replies.specs.declared.answered.Refusal.TheVariants.{Broken}
 use Rattle.lrs_ids.specs.Choices.{first_some, when}
 use Rattle.xapi_pages.specs.Listings.{is_behind, is_listed_at, list_json, listing, listing_behind, more_text, page_behind, page_body, positions_of}
-use Rattle.xapi_index.specs.Statements.{add, add_each, is_held}
+use Rattle.xapi_statement.specs.Statements.{add, add_each, is_held}
 use Rattle.xapi_query.specs.declared.link.MoreLink.{MoreLink}
 use Rattle.xapi_query.specs.declared.query.Query.{Query}
 use Rattle.xapi_query.specs.declared.sight.Sight.{Sight}

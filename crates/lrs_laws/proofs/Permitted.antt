@@ -8,7 +8,7 @@ use Rattle.cmi5_session.specs.Views.{SeenSession}
 use Rattle.lrs_ids.specs.Choices.{first_some, when}
 use Rattle.lrs_json.specs.Json.{Json}
 use Rattle.lrs_laws.proofs.Again.{no_reason}
-use Rattle.xapi_index.specs.Statements.{is_that_id}
+use Rattle.xapi_statement.specs.Statements.{is_that_id}
 use Rattle.xapi_rules.specs.Rules.{is_voiding}
 use Rattle.xapi_statement.specs.Statement.{activity_of, has_context_activity, registration_of, verb_of}
 

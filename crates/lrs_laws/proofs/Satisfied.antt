@@ -43,7 +43,7 @@ use Rattle.lrs_state.specs.State.{State}
 use Rattle.lrs_record.specs.declared.entry.Entry.{Entry}
 use Rattle.xapi_format.specs.declared.authority.Authority.TheVariants.{Desk}
 use Rattle.xapi_index.specs.Batches.{WithId, held_of}
-use Rattle.xapi_index.specs.Statements.{add_each, is_that_id}
+use Rattle.xapi_statement.specs.Statements.{add_each, is_that_id}
 use Rattle.xapi_statement.specs.Statement.{activity_of, registration_of, verb_of}
 use Rattle.xapi_statement.specs.Stored.{StoredStatement}
 use Rattle.xapi_values.specs.Kinds.{kind_of}

@@ -25,7 +25,7 @@ use Rattle.xapi_format.specs.declared.authority.Authority.{Authority}
 use Rattle.xapi_format.specs.declared.authority.Authority.TheVariants.{Admin, Provider, Session}
 use Rattle.xapi_index.proofs.Adding.{add-new}
 use Rattle.xapi_index.specs.Batches.{WithId, held_of, kept_by}
-use Rattle.xapi_index.specs.Statements.{add, add_each, is_held, new_ones}
+use Rattle.xapi_statement.specs.Statements.{add, add_each, is_held, new_ones}
 use Rattle.xapi_statement.specs.Stored.{StoredStatement}
 
 -- ---- what others say

@@ -45,7 +45,7 @@ use Rattle.lrs_record.specs.declared.entry.Write.TheVariants as write
 use Rattle.xapi_format.specs.declared.authority.Authority.{Authority}
 use Rattle.xapi_format.specs.declared.authority.Authority.TheVariants.{Session}
 use Rattle.xapi_index.specs.Batches.{WithId, held_of, id_for, kept_by, supply_after, supply_behind, with_ids}
-use Rattle.xapi_index.specs.Statements.{add_each, held_under, is_held, new_ones}
+use Rattle.xapi_statement.specs.Statements.{add_each, held_under, is_held, new_ones}
 use Rattle.xapi_statement.specs.Statement.{own_id, verb_of}
 use Rattle.xapi_statement.specs.Stored.{StoredStatement}
 

@@ -49,7 +49,7 @@ use Rattle.xapi_format.specs.declared.authority.Authority.TheVariants.{Admin, Pr
 use Rattle.xapi_index.specs.Batches.{WithId, held_of, id_for, kept_by, with_ids, ids_under, supply_after, supply_behind}
 use Rattle.lrs_ids.specs.Choices.{when}
 use Rattle.lrs_ids.specs.Ids.{Supply, are_distinct}
-use Rattle.xapi_index.specs.Statements.{add, add_each, held_under, ids_of, is_held, new_ones}
+use Rattle.xapi_statement.specs.Statements.{add, add_each, held_under, ids_of, is_held, new_ones}
 use Rattle.xapi_index.proofs.Adding.{add-new, add_each-new}
 use Rattle.xapi_statement.specs.Stored.{StoredStatement}
 use Rattle.xapi_statement.specs.Statement.{own_id}

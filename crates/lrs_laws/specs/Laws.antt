@@ -37,7 +37,7 @@ use Rattle.xapi_format.specs.declared.authority.Authority.{Authority}
 use Rattle.xapi_index.specs.Batches.{WithId, given_ids, with_ids, ids_under}
 use Rattle.lrs_ids.specs.Ids.{are_distinct}
 use Rattle.xapi_pages.specs.Listings.{is_behind, listing, listing_behind, page_behind, page_body}
-use Rattle.xapi_index.specs.Statements.{held_under, ids_of, is_voided}
+use Rattle.xapi_statement.specs.Statements.{held_under, ids_of, is_voided}
 use Rattle.xapi_query.specs.declared.link.MoreLink.{MoreLink}
 use Rattle.xapi_query.specs.declared.query.Query.{Query}
 use Rattle.xapi_query.specs.declared.sight.Sight.{Sight}

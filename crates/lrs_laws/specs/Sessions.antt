@@ -37,7 +37,7 @@ use Rattle.lrs_replies.specs.declared.answered.Refusal.TheVariants.{Forbidden}
 use Rattle.lrs_rules.specs.declared.rule.Rule.TheVariants as rule
 use Rattle.xapi_keys.specs.declared.wanted.WantedDocuments.TheVariants.{One, Ids}
 use Rattle.xapi_query.specs.Filters.{is_registered, sees}
-use Rattle.xapi_index.specs.Statements.{held_under}
+use Rattle.xapi_statement.specs.Statements.{held_under}
 use Rattle.xapi_statement.specs.Stored.{StoredStatement}
 
 -- the caller acts in the session of that launch

@@ -21,7 +21,7 @@ use Rattle.lrs_state.specs.declared.registrations.HeldRegistration.{HeldRegistra
 use Rattle.lrs_ids.specs.Ids.{Used, either, those}
 use Rattle.lrs_state.specs.declared.acceptance.Acceptance.TheVariants.{Plain}
 use Rattle.lrs_register.specs.Changes.{changes}
-use Rattle.xapi_index.specs.Statements.{add_each, ids_of}
+use Rattle.xapi_statement.specs.Statements.{add_each, ids_of}
 use Rattle.xapi_docs.specs.Changes.{changes_documents, documents_after}
 use Rattle.xapi_docs.specs.Documents.{Documents}
 use Rattle.xapi_docs.specs.declared.changes.DocumentsChange.TheVariants.{Unchanged}

@@ -36,7 +36,7 @@ pub fn put_agent(authority: &Authority, into: &mut Vec<u8>) -> Result<(), Memory
     put_account(authority, into)
 }
 
-/// Appends the same Agent by its account alone.
+/// Appends the Agent of an authority by its account alone.
 #[tactic(auto, using(lrs_json::proofs::Extending::extends_trans))]
 pub fn put_account_agent(authority: &Authority, into: &mut Vec<u8>) -> Result<(), Memory>
     ensures ok { OnOk result (into.new.items ≡ into.old.items ++ written (account_agent (account_name authority.now))) }

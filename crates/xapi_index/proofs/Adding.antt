@@ -4,7 +4,7 @@ use Rattle.std.specs.Prelude.{is_some, find, cond, if◌then◌else◌}
 use Rattle.std.specs.Str.{bytes_eq}
 use Rattle.std.proofs.lemmas.List.{length-append, length_push, take_more}
 use Rattle.xapi_postings.specs.XapiStatementStored.{StoredStatement}
-use Rattle.xapi_index.specs.Statements.{add, add_each, is_held, new_ones}
+use Rattle.xapi_postings.specs.XapiStatementStatements.{add, add_each, is_held, new_ones}
 
 found-append : {A : Type 0} (p : A → Bool) (xs ys : List A) → is_some (find p xs) ≡ true → is_some (find p (xs ++ ys)) ≡ true
 found-append p [] ys is = cc is

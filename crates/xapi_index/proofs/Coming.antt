@@ -1,7 +1,7 @@
 -- Whether a statement is held, by the first position under its id.
 use Rattle.std.proofs.Common.{◌≡◌, ℕ, List, refl, sym, ◌∙◌, ap, Option, Bool, true, false, not, is_some, slice_get}
 use Rattle.xapi_index.specs.Index.{ArePosted}
-use Rattle.xapi_index.specs.Statements.{is_held}
+use Rattle.xapi_postings.specs.XapiStatementStatements.{is_held}
 use Rattle.xapi_index.proofs.Found.{found_at}
 use Rattle.xapi_postings.specs.Postings.{posting_of}
 use Rattle.xapi_postings.proofs.Ascending.{first-position}

@@ -7,7 +7,7 @@ use Rattle.std.proofs.lemmas.List.Folds.{list_any_more}
 use Rattle.std.proofs.lemmas.List.Recursion.{or_push}
 use Rattle.lrs_json.specs.View.{view}
 use Rattle.xapi_index.specs.Index.{is_coming, lists_of}
-use Rattle.xapi_index.specs.Statements.{is_that_id, voids}
+use Rattle.xapi_postings.specs.XapiStatementStatements.{is_that_id, voids}
 use Rattle.xapi_postings.specs.XapiRulesRules.{is_voiding}
 use Rattle.xapi_postings.specs.XapiStatementStatement.{target_of}
 use Rattle.xapi_postings.specs.XapiStatementKeysKeys.{has_key, is_among, is_same_key}

@@ -9,7 +9,7 @@ use Rattle.lrs_ids.specs.Ids.{Supply, IsCounted, those}
 use Rattle.lrs_ids.specs.IdSupply.{GiveSame}
 use Rattle.xapi_postings.specs.XapiStatementStored.{StoredStatement}
 use Rattle.xapi_postings.specs.XapiStatementStatement.{own_id}
-use Rattle.xapi_index.specs.Statements.{held_under, ids_of, is_held}
+use Rattle.xapi_postings.specs.XapiStatementStatements.{held_under, ids_of, is_held}
 use Rattle.xapi_index.specs.Batches.{id_for, with_ids, ids_under, supply_after, supply_behind}
 
 pub used_held : (held : List StoredStatement) (id : List ℕ) → is_held id held ≡ is_one_of (ids_of held) id

@@ -42,7 +42,3 @@ AreTextsOf (t ∷ ts) (s ∷ ss) = (t ≡ s.received) × AreTextsOf ts ss
 abbrev pub IsNextTextOf : List Tree → StoredStatement → Type 0
 IsNextTextOf [] s = Unit {0}
 IsNextTextOf (t ∷ ts) s = t ≡ s.received
-
-abbrev pub texts_behind : List Tree → List Tree
-texts_behind [] = []
-texts_behind (t ∷ ts) = ts

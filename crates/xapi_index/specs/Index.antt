@@ -1,7 +1,7 @@
 -- What is seen of the statements in memory, and when statements that are to come are ready.
 use Rattle.std.specs.Prelude.{◌≡◌, ◌≤◌, ◌+◌, ◌<◌, ◌++◌, ℕ, Bool, true, false, List, [], length, map, slice_get, Some}
 use Rattle.std.specs.List.{AllByRecursion, list_any}
-use Rattle.xapi_index.specs.Statements.{add_each}
+use Rattle.xapi_postings.specs.XapiStatementStatements.{add_each}
 use Rattle.xapi_postings.specs.Ascending.{IsAscending, below, positions_with}
 use Rattle.xapi_postings.specs.Postings.{posting_of}
 use Rattle.xapi_postings.specs.XapiStatementStored.{StoredStatement}

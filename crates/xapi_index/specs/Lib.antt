@@ -1,5 +1,4 @@
 pub use Rattle.xapi_postings.specs.Ascending as XapiPostingsAscending
-pub mod Statements
 pub mod Batches
 pub mod Index
 pub mod Ahead

@@ -1,11 +1,11 @@
 // Statements that are to come: their held forms are made and their positions written ahead, where memory may run out.
 // The positions are taken back here where the statements don't come.
-ghost use Rattle.std.specs.Prelude.{◌≡◌, ◌<◌, ◌≤◌, ◌+◌, ◌-◌, [], ◌∷◌, ◌++◌, false, length, List, IfOk, OnOk};
+ghost use Rattle.std.specs.Prelude.{◌≡◌, ◌<◌, ◌≤◌, ◌+◌, ◌-◌, [], ◌∷◌, ◌++◌, false, length, drop, List, IfOk, OnOk};
 ghost use Rattle.std.specs.Prelude.{vec_len, vec_capacity};
 ghost use Rattle.std.specs.Vec.Iter.{into_iter_items};
-ghost use Rattle.xapi_index.specs.Ahead.{texts_behind, AreTextsOf, ChangesEach, ChangesSome, IsNextTextOf, StandAhead};
+ghost use Rattle.xapi_index.specs.Ahead.{AreTextsOf, ChangesEach, ChangesSome, IsNextTextOf, StandAhead};
 ghost use Rattle.xapi_index.specs.Index.{ArePosted, IsIndex, is_coming, lists_of};
-ghost use Rattle.xapi_index.specs.Statements.{add, add_each};
+ghost use Rattle.xapi_postings.specs.XapiStatementStatements.{add, add_each};
 ghost use Rattle.xapi_postings.specs.Ascending.{below};
 ghost use Rattle.xapi_postings.specs.Postings.{posted};
 ghost use Rattle.xapi_postings.specs.XapiStatementHeld.{IsTextOf};
@@ -107,12 +107,9 @@ fn next_text(
 ) -> Option<ReceivedText>
     requires { IsNextTextOf (into_iter_items texts.old) statement.now }
     ensures text { IsTextOf result statement.now.received }
-    ensures rest { into_iter_items texts.new ≡ texts_behind (into_iter_items texts.old) }
+    ensures rest { into_iter_items texts.new ≡ drop 1 (into_iter_items texts.old) }
 {
-    match texts.next() {
-        Some(text) => Some(text),
-        None => None,
-    }
+    texts.next()
 }
 
 // Does nothing with a statement if one stands under its id, held or to come.

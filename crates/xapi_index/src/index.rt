@@ -5,8 +5,8 @@ ghost use Rattle.std.specs.Str.{bytes_eq};
 ghost use Rattle.std.specs.Vec.Iter.{into_iter_items};
 ghost use Rattle.xapi_index.specs.Ahead.{AreTextsOf};
 ghost use Rattle.xapi_index.specs.Index.{HoldsNothingAhead, IsIndexReadyFor, IsPosting};
-ghost use Rattle.xapi_index.specs.Statements.{add_each, held_under, is_held, is_target, is_voided, voids};
-ghost use Rattle.xapi_index.specs.Statements.{position_referred, referred_at};
+ghost use Rattle.xapi_postings.specs.XapiStatementStatements.{add_each, held_under, is_held, is_target, is_voided, voids};
+ghost use Rattle.xapi_postings.specs.XapiStatementStatements.{position_referred, referred_at};
 ghost use Rattle.xapi_index.specs.Times.{AreLaterFrom};
 ghost use Rattle.xapi_postings.specs.XapiStatementStored.{StoredStatement as SpecStatement};
 ghost use Rattle.xapi_postings.specs.XapiStatementKeysKeys.{has_key};
@@ -305,7 +305,7 @@ impl Index {
 // The ids of the statements are used.
 impl UsedIds for Index {
     ghost use Rattle.lrs_ids.specs.Ids.{those};
-    ghost use Rattle.xapi_index.specs.Statements.{ids_of};
+    ghost use Rattle.xapi_postings.specs.XapiStatementStatements.{ids_of};
 
     ghost used = { λ index. those (ids_of index.held) };
 

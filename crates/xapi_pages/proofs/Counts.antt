@@ -5,7 +5,7 @@ use Rattle.std.specs.Prelude.{filter, reverse, slice_get, cond}
 use Rattle.std.specs.List.{list_any, range_with_len}
 use Rattle.std.specs.Option.{option_map_or}
 use Rattle.std.proofs.lemmas.List.{take_all}
-use Rattle.xapi_index.specs.Statements.{is_voided}
+use Rattle.xapi_statement.specs.Statements.{is_voided}
 use Rattle.xapi_pages.specs.Listings.{chain, chain_from, every, is_listed, is_listed_at, listed_of_all}
 use Rattle.xapi_query.specs.Filters.{direct, sees}
 use Rattle.xapi_query.specs.declared.sight.Sight.TheVariants.{All}

@@ -8,7 +8,7 @@ use Rattle.std.proofs.lemmas.Bool.{and_from, and_parts, and_right, cases_lt, le-
 use Rattle.std.proofs.lemmas.List.{drop_all}
 use Rattle.lrs_json.specs.View.{view}
 use Rattle.xapi_index.specs.Index.{IsPosting}
-use Rattle.xapi_index.specs.Statements.{is_voided, position_referred, referred_at}
+use Rattle.xapi_statement.specs.Statements.{is_voided, position_referred, referred_at}
 use Rattle.xapi_index.proofs.Firsts.{get_first}
 use Rattle.xapi_postings.specs.Ascending.{is_in}
 use Rattle.xapi_postings.proofs.Ascending.{is_in-below, is_in-positions}

@@ -17,7 +17,7 @@ use Rattle.xapi_search.specs.declared.sought.Sought.{Sought}
 use Rattle.xapi_statement.specs.Stored.{StoredStatement}
 use Rattle.xapi_statement.specs.Statement.{target_of}
 use Rattle.xapi_pages.specs.Listings.{chain_from, referred}
-use Rattle.xapi_index.specs.Statements.{held_under, position_referred, referred_at}
+use Rattle.xapi_statement.specs.Statements.{held_under, position_referred, referred_at}
 use Rattle.xapi_index.proofs.Firsts.{get_first}
 use Rattle.xapi_pages.specs.Chains.{chain_passes, is_among, is_direct_at, reaches}
 use Rattle.xapi_pages.proofs.Walks.{alike, enough, none_reached, reach}

@@ -19,7 +19,7 @@ use Rattle.xapi_statement.specs.Shown.{shown_form}
 use Rattle.xapi_statement.specs.Statement.{target_of}
 use Rattle.xapi_format.specs.declared.format.Format.{Format}
 use Rattle.xapi_format.specs.declared.format.Format.TheVariants.{Exact}
-use Rattle.xapi_index.specs.Statements.{held_under, is_voided}
+use Rattle.xapi_statement.specs.Statements.{held_under, is_voided}
 
 -- ---- references
 

@@ -1,7 +1,7 @@
 -- What a page is found to be, and where it is looked for: said of each sight of which the lists tell.
 use Rattle.std.specs.Prelude.{◌≡◌, ◌<◌, ◌≤◌, ◌&&◌, ℕ, Bool, true, false, not, List, slice_get, take, Option, Some}
 use Rattle.std.specs.Option.{option_map_or}
-use Rattle.xapi_index.specs.Statements.{is_voided}
+use Rattle.xapi_statement.specs.Statements.{is_voided}
 use Rattle.xapi_postings.specs.Ascending.{is_in}
 use Rattle.xapi_query.specs.Filters.{in_time}
 use Rattle.xapi_query.specs.declared.query.Query.{Query}

@@ -3,6 +3,7 @@ pub use Rattle.xapi_statement.specs.Shown as XapiStatementShown
 pub use Rattle.xapi_statement.specs.Statement as XapiStatementStatement
 pub use Rattle.xapi_statement.specs.Held as XapiStatementHeld
 pub use Rattle.xapi_statement.specs.Stored as XapiStatementStored
+pub use Rattle.xapi_statement.specs.Statements as XapiStatementStatements
 pub use Rattle.xapi_statement.specs.XapiFormatAuthorities as XapiFormatAuthorities
 pub use Rattle.xapi_statement.specs.XapiFormatAuthoritiesProofs as XapiFormatAuthoritiesProofs
 pub use Rattle.xapi_statement.specs.XapiFormatAuthorityAuthority as XapiFormatAuthorityAuthority

@@ -20,7 +20,7 @@ direct_context_member name j =
 abbrev pub direct_context : Json → Json
 direct_context j = with_each_member direct_context_member j
 
--- a member that a SubStatement has, too, but for the object
+-- a member other than the object, of a statement or a SubStatement
 abbrev pub direct_part : List ℕ → Json → Json
 direct_part name j =
     if bytes_eq name (codes "actor") then reduced_party j else (if bytes_eq name (codes "verb") then reduced_verb j

@@ -95,7 +95,7 @@ reduced_context_member name j =
 abbrev pub reduced_context : Json → Json
 reduced_context j = with_each_member reduced_context_member j
 
--- a member that a SubStatement has, too, but for the object
+-- a member other than the object, of a statement or a SubStatement
 abbrev pub reduced_part : List ℕ → Json → Json
 reduced_part name j =
     if bytes_eq name (codes "actor") then reduced_party j else (if bytes_eq name (codes "verb") then reduced_verb j

@@ -21,7 +21,7 @@ use lrs_time::Moment;
 use xapi_format::{Authority, is_added};
 use xapi_values::{Kind, is_nested};
 
-/// Appends the text of the form with ids alone of the completed form of a received statement. Neither form is made as
+/// Appends the text of a received statement with ids alone, as if it had been completed first. Neither form is made as
 /// a tree.
 #[tactic(auto, unfolding(crate::specs::Reduced::reduced, xapi_format::specs::Completed::completed))]
 pub fn put_reduced(
@@ -230,6 +230,7 @@ fn put_with_only(names: &[&str], tree: &Tree, into: &mut Vec<u8>) -> Result<(), 
 }
 
 // Of each object in an array the members of these names.
+#[tactic(auto, using(lrs_json::proofs::Extending::extends_trans))]
 fn put_with_only_in_each(names: &[&str], tree: &Tree, into: &mut Vec<u8>) -> Result<(), Memory>
     ensures ok { OnOk result (into.new.items ≡ into.old.items
         ++ written (with_each_item (with_only (map (λ name. name.now) names.now)) (view tree.now))) }
@@ -237,7 +238,7 @@ fn put_with_only_in_each(names: &[&str], tree: &Tree, into: &mut Vec<u8>) -> Res
 {
     match tree {
         Tree::List(items) => {
-            into.push(b'[')?;
+            put(b"[", into)?;
             put_items(names, items.as_slice(), into)
         }
         _ => put_tree(tree, into),
@@ -283,7 +284,7 @@ impl Part for OfStatement {
     }
 }
 
-// A member that a SubStatement has, too, but for the object.
+// A member other than the object, of a statement or a SubStatement.
 fn put_part(name: &str, value: &Tree, into: &mut Vec<u8>) -> Result<(), Memory>
     ensures ok { OnOk result (into.new.items ≡ into.old.items ++ written (direct_part name.now (view value.now))) }
     ensures kept { Extends into.old.items into.new.items }

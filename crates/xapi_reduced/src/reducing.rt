@@ -72,7 +72,7 @@ impl Part for OfStatement {
     }
 }
 
-// A member that a SubStatement has, too, but for the object.
+// A member other than the object, of a statement or a SubStatement.
 fn reduced_part(name: &str, value: Tree) -> Result<Tree, Memory>
     ensures { IfOk result (λ made. view made ≡ reduced_part name.now (view value)) }
 {

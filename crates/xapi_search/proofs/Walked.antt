@@ -14,7 +14,7 @@ use Rattle.std.proofs.lemmas.List.Quantifiers.{position-Some}
 use Rattle.std.proofs.lemmas.Option.{option_and_then_some, slice_get-get_or}
 use Rattle.lrs_json.specs.View.{view}
 use Rattle.xapi_index.specs.Index.{IsPosting}
-use Rattle.xapi_index.specs.Statements.{position_referred, referred_at}
+use Rattle.xapi_statement.specs.Statements.{position_referred, referred_at}
 use Rattle.xapi_index.proofs.Firsts.{get_first}
 use Rattle.xapi_postings.specs.Ascending.{IsAscending, is_in}
 use Rattle.xapi_search.specs.Candidates.{Reaches}

@@ -1,7 +1,7 @@
 -- Positions that may be listed, and those from which references lead to given ones.
 use Rattle.std.specs.Prelude.{◌≡◌, ◌<◌, ◌≤◌, ◌&&◌, ◌||◌, ℕ, nat_le, nat_lt, Bool, true, false, List, slice_get, take}
 use Rattle.std.specs.Prelude.{Option, Some}
-use Rattle.xapi_index.specs.Statements.{referred_at}
+use Rattle.xapi_statement.specs.Statements.{referred_at}
 use Rattle.xapi_postings.specs.Ascending.{IsAscending, is_in}
 pub use Rattle.xapi_postings.specs.Nearest.{is_after, is_before}
 use Rattle.xapi_query.specs.Filters.{in_time}

@@ -1,6 +1,6 @@
 -- The walk along references backwards, from positions to those of the statements that refer to them.
 use Rattle.std.specs.Prelude.{◌≡◌, ◌<◌, ℕ, Bool, true, false, List, take, Some}
-use Rattle.xapi_index.specs.Statements.{referred_at}
+use Rattle.xapi_statement.specs.Statements.{referred_at}
 use Rattle.xapi_postings.specs.Ascending.{is_in}
 use Rattle.xapi_statement.specs.Stored.{StoredStatement}
 

@@ -9,5 +9,6 @@ pub use Rattle.xapi_rules.specs.Rules as XapiRulesRules
 pub use Rattle.xapi_properties.specs.Parties
 pub mod Statement
 pub mod Stored
+pub mod Statements
 pub mod Shown
 pub mod Held

@@ -46,21 +46,6 @@ impl Model for HeldStatement {
     ghost invariant = { λ h. StandsBeside h.received h.target h.registration h.is_voiding };
 }
 
-// The text of a tree. It isn't written again.
-fn text_of(
-    alloc: Global,
-    text: Option<ReceivedText>,
-    received: &Tree,
-) -> Result<ReceivedText, Memory>
-    requires { IsTextOf text received.now }
-    ensures { IfOk result (λ text. text ≡ received.now) }
-{
-    match text {
-        Some(text) => Ok(text),
-        None => ReceivedText::of(alloc, received),
-    }
-}
-
 impl HeldStatement {
     /// Writes the text of a statement, and puts beside it what is asked of many. The statement stays with the caller.
     pub fn of(alloc: Global, statement: &StoredStatement) -> Result<HeldStatement, Memory>
@@ -179,7 +164,7 @@ impl HeldStatement {
         Ok(Statement::of(tree).complete(self.id, self.stored, authority))
     }
 
-    /// Appends the written form of its tree in that form, or nothing if memory runs out. Of the form by ids
+    /// Appends the written form of its tree in that form, or nothing if memory runs out. For the form with ids alone
     /// the received tree is read back; no other tree is made.
     pub fn write(&self, format: Format, into: &mut Vec<u8>) -> Result<(), Memory>
         ensures ok { OnOk result (into.new.items ≡ into.old.items ++ shown_text format self.now) }
@@ -222,5 +207,20 @@ impl HeldStatement {
         let written = put_reduced(&received, &self.id, self.stored, authority, into);
         drop(received);
         written
+    }
+}
+
+// The text of a tree: the one that was written before, else it is written now.
+fn text_of(
+    alloc: Global,
+    text: Option<ReceivedText>,
+    received: &Tree,
+) -> Result<ReceivedText, Memory>
+    requires { IsTextOf text received.now }
+    ensures { IfOk result (λ text. text ≡ received.now) }
+{
+    match text {
+        Some(text) => Ok(text),
+        None => ReceivedText::of(alloc, received),
     }
 }

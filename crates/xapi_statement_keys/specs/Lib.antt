@@ -4,5 +4,6 @@ pub use Rattle.xapi_query.specs.XapiRulesRules as XapiRulesRules
 pub use Rattle.xapi_query.specs.XapiStatementStatement as XapiStatementStatement
 pub use Rattle.xapi_query.specs.XapiStatementHeld as XapiStatementHeld
 pub use Rattle.xapi_query.specs.XapiStatementStored as XapiStatementStored
+pub use Rattle.xapi_query.specs.XapiStatementStatements as XapiStatementStatements
 pub mod Keys
 pub mod Adding

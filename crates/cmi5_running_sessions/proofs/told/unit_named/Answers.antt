@@ -1,6 +1,6 @@
 use Rattle.std.proofs.Common.{◌≡◌, ◌∙◌, ℕ, ◌&&◌, Bool, true, false, List, Option, Some, refl, sym, ap, option_map}
 use Rattle.lrs_json.specs.View.{view}
-use Rattle.cmi5_session.specs.XapiIndexStatements.{is_that_id}
+use Rattle.xapi_statement.specs.Statements.{is_that_id}
 use Rattle.xapi_statement.specs.Statement.{activity_of, registration_of}
 use Rattle.cmi5_running_sessions.proofs.told.unit_named.Goals as goal
 

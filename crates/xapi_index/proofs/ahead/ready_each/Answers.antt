@@ -1,6 +1,6 @@
 use Rattle.std.proofs.Common.{◌≡◌, ◌∙◌, ◌++◌, List, OnOk, ap, false, subst, sym, true≢false}
 use Rattle.xapi_index.specs.Index.{ArePosted, IsIndex, lists_of}
-use Rattle.xapi_index.specs.Statements.{add_each}
+use Rattle.xapi_postings.specs.XapiStatementStatements.{add_each}
 use Rattle.xapi_index.proofs.Standing.{rest_index}
 use Rattle.xapi_index.proofs.Succeeding.{given_ok}
 use Rattle.xapi_postings.specs.XapiStatementStored.{StoredStatement}

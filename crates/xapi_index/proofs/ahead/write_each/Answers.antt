@@ -6,7 +6,7 @@ use Rattle.lrs_json.specs.declared.tree.Tree.{Tree}
 use Rattle.xapi_index.specs.Ahead.{AreTextsOf}
 use Rattle.xapi_index.proofs.Texts.{text_next, texts_more}
 use Rattle.xapi_index.specs.Index.{ArePosted, lists_of}
-use Rattle.xapi_index.specs.Statements.{add, add_each}
+use Rattle.xapi_postings.specs.XapiStatementStatements.{add, add_each}
 use Rattle.xapi_index.proofs.Adding.{add_each-more}
 use Rattle.xapi_index.proofs.Standing.{stand_index, stand_start}
 use Rattle.xapi_postings.specs.XapiStatementStored.{StoredStatement}

@@ -2,7 +2,7 @@ use Rattle.std.proofs.Common.{◌≡◌, ◌+◌, ◌++◌, ◌-◌, ◌≤◌, 
 use Rattle.std.specs.Vec.Iter.{into_iter_items}
 use Rattle.xapi_index.specs.Ahead.{AreTextsOf, StandAhead}
 use Rattle.xapi_index.specs.Index.{lists_of}
-use Rattle.xapi_index.specs.Statements.{add_each}
+use Rattle.xapi_postings.specs.XapiStatementStatements.{add_each}
 use Rattle.xapi_index.proofs.ahead.write_each.Given as goal
 
 -- those so far stand ahead, and for each that is left there is room

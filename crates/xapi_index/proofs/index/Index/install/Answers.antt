@@ -1,6 +1,6 @@
 use Rattle.std.proofs.Common.{◌≡◌, ◌∙◌, ◌++◌, ◌-◌, ◌≤◌, List, ap, arith, length, subst, sym, vec_capacity, vec_len}
 use Rattle.xapi_index.specs.Index.{ArePosted, Indexed, lists_of}
-use Rattle.xapi_index.specs.Statements.{add_each}
+use Rattle.xapi_postings.specs.XapiStatementStatements.{add_each}
 use Rattle.xapi_index.proofs.Adding.{few_new}
 use Rattle.xapi_index.proofs.Standing.{rest_index}
 use Rattle.xapi_postings.specs.XapiStatementStored.{StoredStatement}

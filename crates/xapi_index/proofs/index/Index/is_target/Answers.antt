@@ -1,5 +1,5 @@
 use Rattle.std.proofs.Common.{◌∙◌}
-use Rattle.xapi_index.specs.Statements.{voids}
+use Rattle.xapi_postings.specs.XapiStatementStatements.{voids}
 use Rattle.xapi_index.proofs.Firsts.{any_place}
 use Rattle.xapi_index.proofs.index.Index.is_target.Goals as goal
 

@@ -1,6 +1,6 @@
 use Rattle.std.proofs.Common.{◌∙◌, ap, sym, false, nat_lt}
 use Rattle.std.specs.Option.{option_map_or}
-use Rattle.xapi_index.specs.Statements.{voids}
+use Rattle.xapi_postings.specs.XapiStatementStatements.{voids}
 use Rattle.xapi_index.proofs.Firsts.{any_first}
 use Rattle.xapi_index.proofs.index.Index.is_target_in.Goals as goal
 

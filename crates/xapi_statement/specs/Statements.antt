@@ -5,9 +5,9 @@ use Rattle.std.specs.Prelude.{Some, None, is_some, option_and_then, if◌then◌
 use Rattle.std.specs.List.{list_any}
 use Rattle.std.specs.Str.{bytes_eq}
 use Rattle.lrs_json.specs.View.{view}
-use Rattle.xapi_postings.specs.XapiRulesRules.{is_voiding}
-use Rattle.xapi_postings.specs.XapiStatementStored.{StoredStatement}
-use Rattle.xapi_postings.specs.XapiStatementStatement.{target_of}
+use Rattle.xapi_rules.specs.Rules.{is_voiding}
+use Rattle.xapi_statement.specs.Stored.{StoredStatement}
+use Rattle.xapi_statement.specs.Statement.{target_of}
 
 -- the statement that is held under an id
 abbrev pub held_under : List ℕ → List StoredStatement → Option StoredStatement
