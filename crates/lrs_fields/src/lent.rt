@@ -16,6 +16,7 @@ use lrs_agents::{Agent, Ifi};
 use lrs_json::appending::{put, put_comma, put_name, put_quoted, put_tree};
 use lrs_json::{Items, Memory, Text, Tree, utf8_text};
 use lrs_names::{Id, Iri};
+use xapi_received::ReceivedText;
 
 /// What a field holds, lent.
 #[derive(Clone, Copy)]
@@ -24,6 +25,10 @@ pub enum Lent<'a> {
     Id(&'a Id),
     Tree(&'a Tree),
     Trees(&'a Items<Tree>),
+    /// A tree, copied from its text.
+    Received(&'a ReceivedText),
+    /// Trees, copied from their texts.
+    AllReceived(&'a Items<ReceivedText>),
     Word(&'a str),
     Iri(&'a Iri),
     Agent(&'a Ifi),
@@ -69,6 +74,8 @@ pub(crate) fn put_value(value: &Lent<'_>, into: &mut Vec<u8>) -> Result<(), Memo
         Lent::Id(id) => put_quoted(utf8_text(&id.text()), into),
         Lent::Tree(tree) => put_tree(tree, into),
         Lent::Trees(trees) => put_array(trees.as_slice(), into),
+        Lent::Received(text) => text.put(into),
+        Lent::AllReceived(texts) => put_text_array(texts.as_slice(), into),
         Lent::Word(word) => put_quoted(word, into),
         Lent::Iri(iri) => put_quoted(iri.text().as_str(), into),
         Lent::Agent(agent) => put_agent(agent, into),
@@ -129,4 +136,37 @@ fn put_item(later: bool, tree: &Tree, into: &mut Vec<u8>) -> Result<(), Memory>
 {
     put_comma(later, into)?;
     put_tree(tree, into)
+}
+
+// The same array, copied from the texts of its items.
+#[tactic(auto, using(lrs_json::proofs::Extending::extends_trans))]
+fn put_text_array(texts: &[ReceivedText], into: &mut Vec<u8>) -> Result<(), Memory>
+    ensures ok { OnOk result (into.new.items
+        ≡ into.old.items ++ written (array (elements_of (map view texts.now)))) }
+    ensures kept { Extends into.old.items into.new.items }
+{
+    put(b"[", into)?;
+    put_texts(texts, into)
+}
+
+// The items of an array and the closing bracket.
+#[tactic(auto, using(lrs_json::proofs::Extending::extends_trans))]
+fn put_texts(texts: &[ReceivedText], into: &mut Vec<u8>) -> Result<(), Memory>
+    ensures ok { OnOk result (into.new.items ≡ into.old.items
+        ++ elements_text false (elements_of (map view texts.now))) }
+    ensures kept { Extends into.old.items into.new.items }
+{
+    for (i, text) in texts.iter().enumerate() {
+        put_text_item(i > 0, text, into)?;
+    }
+    put(b"]", into)
+}
+
+#[tactic(auto, using(lrs_json::proofs::Extending::extends_trans))]
+fn put_text_item(later: bool, text: &ReceivedText, into: &mut Vec<u8>) -> Result<(), Memory>
+    ensures ok { OnOk result (into.new.items ≡ into.old.items ++ (comma_if later ++ written (view text.now))) }
+    ensures kept { Extends into.old.items into.new.items }
+{
+    put_comma(later, into)?;
+    text.put(into)
 }

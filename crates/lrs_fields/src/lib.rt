@@ -14,3 +14,4 @@ pub use digits::{draw_digits, draw_of, put_word};
 pub use fields::Fields;
 pub use lent::{Lent, put_fields};
 pub use matching::fields_behind;
+pub use xapi_received::ReceivedText;

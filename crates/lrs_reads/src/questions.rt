@@ -10,7 +10,7 @@ ghost use Rattle.lrs_refusals.specs.LrsHistoryRefusals.{outside_of};
 ghost use Rattle.lrs_refusals.specs.LrsHistoryWhose.{launch_of, who_is};
 ghost use Rattle.lrs_refusals.specs.LrsMadeLent.{IsLentBy, seen_enrolled};
 ghost use Rattle.lrs_refusals.specs.LrsPartsParts.{state_of};
-ghost use Rattle.xapi_index.specs.Statements.{held_under};
+ghost use Rattle.xapi_statement.specs.Statements.{held_under};
 ghost use Rattle.xapi_statement.specs.Shown.{shown_text};
 
 use crate::sight::sight_of;

@@ -1,4 +1,5 @@
 pub mod Joined
+pub mod Copied
 pub mod EntryParts
 pub mod Exactly
 pub mod DocumentWrites

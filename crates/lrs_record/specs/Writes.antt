@@ -13,6 +13,7 @@ use Rattle.lrs_fields.specs.Reading.{from_next, from_optional}
 use Rattle.lrs_fields.specs.Values.{Value, text_value, id_value, tree_value, trees_value, iri_value, agent_value}
 use Rattle.lrs_fields.specs.Values.{bytes_value, actor_value, number_value, optional_field}
 use Rattle.lrs_json.specs.Json.{Json}
+use Rattle.lrs_json.specs.declared.tree.Tree.{Tree}
 use Rattle.lrs_names.specs.Members.{text_of}
 use Rattle.lrs_record.specs.declared.entry.Area.{Area}
 use Rattle.lrs_record.specs.declared.entry.Area.TheVariants.{Free, Store, Desk}
@@ -58,6 +59,12 @@ write_area (Fetch key) = Free
 write_area (Waive registration unit reason) = Desk
 write_area (Abandon session) = Desk
 write_area (Sweep idle) = Desk
+
+-- the statements that come with a write
+abbrev pub trees_of : Write → List Tree
+trees_of (Put id statement) = statement ∷ []
+trees_of (Post statements) = statements
+trees_of other = []
 
 -- the name under which a write is kept
 abbrev pub write_name : Write → List ℕ

@@ -1,5 +1,5 @@
 // The writes of statements and of documents: how their fields are lent, and read back.
-ghost use Rattle.std.specs.Prelude.{◌≡◌, ◌++◌, drop, false, IfOk, IfSome, None, OnOk, Some};
+ghost use Rattle.std.specs.Prelude.{◌≡◌, ◌∷◌, ◌++◌, [], drop, false, IfOk, IfSome, None, OnOk, Some};
 ghost use Rattle.std.specs.List.{AllByRecursion};
 ghost use Rattle.lrs_fields.specs.Reading.{members_left, read_first, values_left};
 ghost use Rattle.lrs_fields.specs.Values.{members_for};
@@ -12,11 +12,53 @@ ghost use Rattle.lrs_record.specs.declared.entry.Write.TheVariants as write;
 
 use crate::{How, Write};
 use lrs_agents::Ifi;
-use lrs_fields::{Fields, Lent, put_fields};
-use lrs_json::{Items, Memory, Text};
+use lrs_fields::{Fields, Lent, ReceivedText, put_fields};
+use lrs_json::{Items, Memory, Text, Tree};
 use lrs_names::{Id, Iri};
 use std::alloc::Global;
 use xapi_keys::StateKey;
+
+/// Appends the fields of a statement that is kept, copied from the one text, and the closing brace.
+pub fn copy_statement(
+    id: &Id,
+    statement: &Tree,
+    texts: &Items<ReceivedText>,
+    into: &mut Vec<u8>,
+) -> Result<(), Memory>
+    requires { texts.now ≡ statement.now ∷ [] }
+    ensures ok { OnOk result (into.new.items ≡ into.old.items ++ members_text false
+        (members_of (members_for (write_fields (write.Put id.now statement.now))))) }
+    ensures kept { Extends into.old.items into.new.items }
+    ensures holds { OnOk result (HoldsWrite (write.Put id.now statement.now)) }
+{
+    match texts.get(0) {
+        Some(text) => put_statement(id, text, into),
+        None => unreachable!(),
+    }
+}
+
+// The fields of the statement of that text.
+fn put_statement(id: &Id, text: &ReceivedText, into: &mut Vec<u8>) -> Result<(), Memory>
+    ensures ok { OnOk result (into.new.items ≡ into.old.items ++ members_text false
+        (members_of (members_for (write_fields (write.Put id.now text.now))))) }
+    ensures kept { Extends into.old.items into.new.items }
+    ensures holds { OnOk result (HoldsWrite (write.Put id.now text.now)) }
+{
+    put_fields(
+        &[("id", Lent::Id(id)), ("statement", Lent::Received(text))],
+        into,
+    )
+}
+
+/// Appends the fields of the statements of these texts, kept together, and the closing brace.
+pub fn copy_statements(texts: &Items<ReceivedText>, into: &mut Vec<u8>) -> Result<(), Memory>
+    ensures ok { OnOk result (into.new.items ≡ into.old.items ++ members_text false
+        (members_of (members_for (write_fields (write.Post texts.now))))) }
+    ensures kept { Extends into.old.items into.new.items }
+    ensures holds { OnOk result (HoldsWrite (write.Post texts.now)) }
+{
+    put_fields(&[("statements", Lent::AllReceived(texts))], into)
+}
 
 /// Appends the fields of a document that is written, and the closing brace.
 pub fn put_state(

@@ -1,17 +1,21 @@
-ghost use Rattle.std.specs.Prelude.{◌≡◌, ◌≤◌, ◌++◌, codes, true, OnOk, OnErr};
+ghost use Rattle.std.specs.Prelude.{◌≡◌, ◌≤◌, ◌++◌, codes, true, false, OnOk, OnErr};
 ghost use Rattle.std.specs.Fmt.{decimal};
+ghost use Rattle.lrs_fields.specs.Values.{members_for};
 ghost use Rattle.lrs_json.specs.Json.{number};
 ghost use Rattle.lrs_json.specs.Texts.{member_text};
-ghost use Rattle.lrs_json.specs.Written.{Extends};
+ghost use Rattle.lrs_json.specs.View.{members_of};
+ghost use Rattle.lrs_json.specs.Written.{Extends, members_text};
 ghost use Rattle.lrs_record.specs.Entries.{HasValues, HoldsHeading, HoldsWrite, IsLawful, IsLawfulCaller, IsLawfulWrite, closing_text, heading_text, opening_text, written_entry};
+ghost use Rattle.lrs_record.specs.Writes.{trees_of, write_fields};
 ghost use Rattle.lrs_time.specs.declared.moments.TheConstants.{LATEST};
 ghost use Rattle.lrs_record.specs.declared.entry.Entry.{Entry as SpecEntry};
 
+use crate::store_writes::{copy_statement, copy_statements};
 use crate::{Entry, Moment, Write};
 use itoa::Buffer;
-use lrs_fields::draw_digits;
+use lrs_fields::{ReceivedText, draw_digits};
 use lrs_json::appending::{put, put_name, put_text};
-use lrs_json::{Memory, utf8_text};
+use lrs_json::{Items, Memory, utf8_text};
 
 /// Appends the text of the entry, or nothing if memory runs out.
 pub fn write_entry(entry: &Entry, into: &mut Vec<u8>) -> Result<(), Memory>
@@ -35,23 +39,46 @@ pub fn write_entry(entry: &Entry, into: &mut Vec<u8>) -> Result<(), Memory>
     }
 }
 
-/// Appends what stands in the text of an entry from the fields of its write on. If memory runs out, a part of it may
-/// stand there.
-pub fn write_closing(write: &Write, into: &mut Vec<u8>) -> Result<(), Memory>
+/// Appends the end of an entry's text, from the fields of its write on. Its statements are copied from their texts. What
+/// stood before stays if memory runs out in the middle.
+pub fn write_closing(
+    write: &Write,
+    texts: &Items<ReceivedText>,
+    into: &mut Vec<u8>,
+) -> Result<(), Memory>
+    requires { texts.now ≡ trees_of write.now }
     ensures ok { OnOk result (into.new.items ≡ into.old.items ++ closing_text write.now) }
+    ensures kept { Extends into.old.items into.new.items }
     ensures holds { OnOk result (HoldsWrite write.now) }
 {
-    write.put_fields(into)?;
+    copy_fields(write, texts, into)?;
     put(b"}}", into)
 }
 
-/// Appends the text of the entry, whose closing was written before. If memory runs out, a part of it may stand there.
+// The fields as the members of an object and the closing brace. Statements are copied from their texts.
+fn copy_fields(write: &Write, texts: &Items<ReceivedText>, into: &mut Vec<u8>) -> Result<(), Memory>
+    requires { texts.now ≡ trees_of write.now }
+    ensures ok { OnOk result (into.new.items ≡ into.old.items ++ members_text false
+        (members_of (members_for (write_fields write.now)))) }
+    ensures kept { Extends into.old.items into.new.items }
+    ensures holds { OnOk result (HoldsWrite write.now) }
+{
+    match write {
+        Write::Put { id, statement } => copy_statement(id, statement, texts, into),
+        Write::Post { statements: _ } => copy_statements(texts, into),
+        _ => write.put_fields(into),
+    }
+}
+
+/// Appends the text of the entry, whose closing was written before. What stood before stays if memory runs out in the
+/// middle.
 pub fn write_headed(entry: &Entry, closing: &[u8], into: &mut Vec<u8>) -> Result<(), Memory>
     requires caller { IsLawfulCaller entry.now.caller }
     requires write { IsLawfulWrite entry.now.write }
     requires closing { closing.now ≡ closing_text entry.now.write }
     requires holds { HoldsWrite entry.now.write }
     ensures ok { OnOk result (into.new.items ≡ into.old.items ++ written_entry entry.now) }
+    ensures kept { Extends into.old.items into.new.items }
     ensures lawful { OnOk result (IsLawful entry.now) }
 {
     put_heading(entry, into)?;

@@ -11,7 +11,7 @@ use Rattle.lrs_names.specs.declared.draw.Draw.{Draw}
 use Rattle.lrs_made.specs.LrsStateState.{State, used_in}
 use Rattle.lrs_record.specs.declared.entry.Write.{Write}
 use Rattle.lrs_record.specs.declared.entry.Write.TheVariants.{Put, Post}
-use Rattle.lrs_refusals.specs.Known.{batch_in, behind_first, is_own_held, own_held, AreTold, IsBatch, IsKnown, IsKnownOf, IsTold, TellHeld, TellsNext}
+use Rattle.lrs_refusals.specs.Known.{batch_in, is_own_held, own_held, AreTold, IsBatch, IsKnown, IsKnownOf, IsTold, TellHeld, TellsNext}
 use Rattle.lrs_refusals.specs.Naming.{with_these_ids}
 use Rattle.lrs_refusals.specs.declared.known.Batch.{Batch}
 use Rattle.lrs_refusals.specs.declared.known.Known.{Known}
@@ -86,6 +86,6 @@ pub tells_next : (st : State) (flags : List Bool) (id : List ℕ) (ids : List (L
 tells_next st [] id ids told = tt
 tells_next st (held ∷ more) id ids told = told.0
 
-pub tells_more : (st : State) (flags : List Bool) (id : List ℕ) (ids : List (List ℕ)) → TellHeld st flags (id ∷ ids) → TellHeld st (behind_first flags) ids
+pub tells_more : (st : State) (flags : List Bool) (id : List ℕ) (ids : List (List ℕ)) → TellHeld st flags (id ∷ ids) → TellHeld st (drop 1 flags) ids
 tells_more st [] id ids told = tt
 tells_more st (held ∷ more) id ids told = told.1

@@ -7,7 +7,7 @@ use Rattle.lrs_made.specs.LrsStateState.{State}
 use Rattle.lrs_refusals.specs.Known.{is_given_held}
 use Rattle.lrs_refusals.specs.Meeting.{told_beside, told_if_held}
 use Rattle.lrs_replies.specs.declared.answered.Refusal.{Refusal}
-use Rattle.xapi_index.specs.Statements.{held_under}
+use Rattle.xapi_statement.specs.Statements.{held_under}
 use Rattle.xapi_statement.specs.Stored.{StoredStatement}
 
 beside_or_new : (new : Option Refusal) (id : List ℕ) (j : Json) (held : Option StoredStatement) → refused_over new id j held ≡ unwrap_or (told_beside id j held) new

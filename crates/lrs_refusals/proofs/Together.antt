@@ -25,7 +25,7 @@ use Rattle.lrs_record.specs.declared.entry.Write.TheVariants.{Post}
 use Rattle.lrs_replies.specs.declared.answered.Refusal.{Refusal}
 use Rattle.xapi_format.specs.declared.authority.Authority.TheVariants as authority
 use Rattle.xapi_index.specs.Batches.{WithId, held_of, id_for, kept_by, supply_behind, with_ids}
-use Rattle.xapi_index.specs.Statements.{held_under, is_held, is_target, new_ones}
+use Rattle.xapi_statement.specs.Statements.{held_under, is_held, is_target, new_ones}
 use Rattle.xapi_rules.specs.Rules.{is_voiding}
 use Rattle.xapi_statement.specs.Statement.{own_id}
 use Rattle.xapi_statement.specs.Stored.{StoredStatement}

@@ -22,7 +22,7 @@ use Rattle.lrs_refusals.specs.Known.{AreTold, is_given_held}
 use Rattle.lrs_refusals.specs.Naming.{with_these_ids}
 use Rattle.xapi_index.proofs.Supplies.{used_held}
 use Rattle.xapi_index.specs.Batches.{WithId, given_ids, id_for, ids_under, supply_behind, with_given, with_ids}
-use Rattle.xapi_index.specs.Statements.{ids_of, is_held}
+use Rattle.xapi_statement.specs.Statements.{ids_of, is_held}
 use Rattle.xapi_statement.specs.Statement.{own_id}
 
 -- ---- the search

@@ -1,7 +1,7 @@
 -- What is known of the statements of a write: under which of their ids one is held, and the ids under which those go
 -- that come together.
-use Rattle.std.specs.Prelude.{◌≡◌, ℕ, suc, Bool, true, false, List, [], ◌∷◌, map, Option, Some, None}
-use Rattle.std.specs.List.{AllByRecursion}
+use Rattle.std.specs.Prelude.{◌≡◌, ℕ, Bool, false, not, List, [], ◌∷◌, map, Option, Some, None}
+use Rattle.std.specs.List.{AllByRecursion, prefix_len}
 use Rattle.lrs_made.specs.LrsHistoryOccasions.{supply_in}
 use Rattle.lrs_ids.specs.IdSupply.{GiveSame, left_of}
 use Rattle.lrs_json.specs.View.{view}
@@ -14,7 +14,7 @@ use Rattle.lrs_refusals.specs.declared.known.Batch.{Batch}
 use Rattle.lrs_refusals.specs.declared.known.Known.{Known}
 use Rattle.lrs_refusals.specs.declared.known.Known.TheVariants as known
 use Rattle.xapi_index.specs.Batches.{WithId, ids_under, supply_after, with_ids}
-use Rattle.xapi_index.specs.Statements.{is_held}
+use Rattle.xapi_statement.specs.Statements.{is_held}
 use Rattle.xapi_statement.specs.Statement.{own_id}
 
 -- ---- which ids are held
@@ -43,10 +43,6 @@ abbrev pub TellsNext : State → List Bool → List ℕ → Type 0
 TellsNext st [] id = Unit {0}
 TellsNext st (held ∷ more) id = held ≡ is_held id st.statements
 
-abbrev pub behind_first : List Bool → List Bool
-behind_first [] = []
-behind_first (held ∷ more) = more
-
 -- ---- statements that come together
 
 -- A statement is held under the id under which this one goes exactly if one is under the id that this one gives itself:
@@ -72,11 +68,9 @@ flags_of (Put id statement) (known.Put held) = held ∷ []
 flags_of (Post statements) (known.Batch b) = b.held
 flags_of other k = []
 
--- how many of the first ones aren't held
-abbrev pub first_new : List Bool → ℕ
-first_new [] = 0
-first_new (true ∷ more) = 0
-first_new (false ∷ more) = suc (first_new more)
+-- how many of its first statements are known not to be held
+abbrev pub leading_new : Write → Known → ℕ
+leading_new w k = prefix_len not (flags_of w k)
 
 abbrev pub batch_in : Known → Option Batch
 batch_in (known.Batch b) = Some b

@@ -21,7 +21,7 @@ use Rattle.lrs_replies.specs.declared.answered.Refusal.{Refusal}
 use Rattle.lrs_replies.specs.declared.answered.Refusal.TheVariants.{Conflict}
 use Rattle.xapi_alike.specs.Same.{same}
 use Rattle.xapi_index.specs.Batches.{WithId}
-use Rattle.xapi_index.specs.Statements.{held_under, is_held, is_target}
+use Rattle.xapi_statement.specs.Statements.{held_under, is_held, is_target}
 use Rattle.xapi_statement.specs.Statement.{own_id}
 use Rattle.xapi_statement.specs.Stored.{StoredStatement}
 

@@ -1,6 +1,7 @@
 // What is known of the statements of a write.
-ghost use Rattle.std.specs.Prelude.{◌≡◌};
-ghost use Rattle.lrs_refusals.specs.Known.{batch_in, first_new, flags_of};
+ghost use Rattle.std.specs.Prelude.{◌≡◌, not};
+ghost use Rattle.std.specs.List.{prefix_len};
+ghost use Rattle.lrs_refusals.specs.Known.{batch_in, leading_new};
 
 use lrs_ids::IdSupply;
 use lrs_json::Items;
@@ -30,28 +31,14 @@ pub struct Batch {
     pub supply: IdSupply,
 }
 
-// How many of the first of these tell of none that is held.
-fn first_new(held: &[bool]) -> usize
-    ensures { result ≡ first_new held.now }
-{
-    let mut count = 0;
-    for is_held in held {
-        if *is_held {
-            return count;
-        }
-        count += 1;
-    }
-    count
-}
-
 impl Known {
     /// How many of the first statements of the write are known not to be held.
-    pub fn first_new(&self, write: &Write) -> usize
-        ensures { result ≡ first_new (flags_of write.now self.now) }
+    pub fn leading_new(&self, write: &Write) -> usize
+        ensures { result ≡ leading_new write.now self.now }
     {
         match (write, self) {
-            (Write::Put { .. }, Known::Put { is_held }) => { if *is_held { 0 } else { 1 } }
-            (Write::Post { .. }, Known::Batch(batch)) => first_new(batch.held.as_slice()),
+            (Write::Put { .. }, Known::Put { is_held }) => usize::from(!*is_held),
+            (Write::Post { .. }, Known::Batch(batch)) => leading_false(batch.held.as_slice()),
             _ => 0,
         }
     }
@@ -67,4 +54,11 @@ impl Known {
             Known::Put { is_held: _ } => None,
         }
     }
+}
+
+// How many of the first ones are false.
+fn leading_false(flags: &[bool]) -> usize
+    ensures { result ≡ prefix_len not flags.now }
+{
+    flags.iter().take_while(|flag| !**flag).count()
 }

@@ -19,7 +19,7 @@ ghost use Rattle.lrs_replies.specs.declared.answered.Refusal.TheVariants as refu
 ghost use Rattle.lrs_rules.specs.declared.rule.Rule.TheVariants as rule;
 ghost use Rattle.xapi_alike.specs.Same.{same};
 ghost use Rattle.xapi_index.specs.Batches.{with_ids};
-ghost use Rattle.xapi_index.specs.Statements.{is_held};
+ghost use Rattle.xapi_statement.specs.Statements.{is_held};
 ghost use Rattle.xapi_statement.specs.Statement.{own_id};
 
 use crate::batch::batch_of;

@@ -1,5 +1,5 @@
 // Why a write is refused.
-ghost use Rattle.std.specs.Prelude.{◌≡◌, ℕ, List, true, IfOk, Ok, None};
+ghost use Rattle.std.specs.Prelude.{◌≡◌, ℕ, List, IfOk, Ok, None};
 ghost use Rattle.std.specs.Option.{option_copied};
 ghost use Rattle.lrs_made.specs.LrsHistoryRefusals.{bad_form, conflict, refusal, refusal_at, unmergeable, unmergeable_with};
 ghost use Rattle.lrs_made.specs.LrsHistoryWhose.{who_is};
@@ -8,6 +8,7 @@ ghost use Rattle.lrs_record.specs.Entries.{IsLawfulWrite};
 ghost use Rattle.lrs_refusals.specs.Judged.{IsJudged};
 ghost use Rattle.lrs_refusals.specs.Known.{IsKnown};
 ghost use Rattle.lrs_refusals.specs.Meeting.{occasion_of};
+ghost use Rattle.lrs_refusals.specs.Submissions.{IsWrittenIf};
 
 use crate::Known;
 use crate::absent::missing;
@@ -15,6 +16,7 @@ use crate::courses::{course_conflict, refused_course};
 use crate::forms::{refused_batch, refused_form};
 use crate::meeting::{refused_put, refused_together};
 use crate::whose::bad_role;
+use crate::written::Written;
 use lrs_command::Who;
 use lrs_json::{Memory, Text};
 use lrs_made::lrs_history::{
@@ -30,33 +32,25 @@ use std::alloc::Global;
 use xapi_docs::{Document, MergeRefused, merge};
 
 /// Why an entry's write is refused whatever room there is. What isn't refused breaks no rule on statements and courses.
-/// Who its caller is was found before; what is found out about its statements is handed on. Its form isn't judged again
-/// if that was done before, and it is unbroken.
+/// Who its caller is was found before; what is found out about its statements is handed on. If anything was written of
+/// it, its form was judged before and is unbroken, so it isn't judged again.
 pub fn refusal(
     alloc: Global,
     parts: &Parts,
     who: Who,
-    is_judged: bool,
+    written: Option<&Written>,
     entry: &Entry,
     known: &mut Known,
 ) -> Result<Option<Refusal>, Memory>
     requires lawful { IsLawfulWrite entry.now.write }
     requires who { who ≡ who_is (state_of parts.now) entry.now.caller }
-    requires formed { is_judged ≡ true → bad_form entry.now.write ≡ None }
+    requires written { IsWrittenIf entry.now.write (option_copied written) }
     requires known { IsKnown (state_of parts.now) entry.now.draw entry.now.write known.old }
     ensures refused { IfOk result (λ refused. refused ≡ refusal (state_of parts.now) entry.now) }
     ensures judged { result ≡ Ok None → IsJudged entry.now.write }
     ensures known { IsKnown (state_of parts.now) entry.now.draw entry.now.write known.new }
 {
-    refusal_of(
-        alloc,
-        parts,
-        who,
-        is_judged,
-        &entry.draw,
-        &entry.write,
-        known,
-    )
+    refusal_of(alloc, parts, who, written, &entry.draw, &entry.write, known)
 }
 
 #[tactic(auto, using(crate::proofs::Judged::judged_form))]
@@ -64,13 +58,13 @@ fn refusal_of(
     alloc: Global,
     parts: &Parts,
     who: Who,
-    is_judged: bool,
+    written: Option<&Written>,
     draw: &Draw,
     write: &Write,
     known: &mut Known,
 ) -> Result<Option<Refusal>, Memory>
     requires lawful { IsLawfulWrite write.now }
-    requires formed { is_judged ≡ true → bad_form write.now ≡ None }
+    requires written { IsWrittenIf write.now (option_copied written) }
     requires known { IsKnown (state_of parts.now) draw.now write.now known.old }
     ensures refused { IfOk result (λ refused. (moment : ℕ) (token : List ℕ) → refused
         ≡ refusal_at (state_of parts.now)
@@ -81,7 +75,7 @@ fn refusal_of(
     if let Some(refusal) = barred(write.area(), who) {
         return Ok(Some(refusal));
     }
-    if let Some(refusal) = unjudged_form(alloc, is_judged, write)? {
+    if let Some(refusal) = form_refusal(alloc, written, write)? {
         return Ok(Some(refusal));
     }
     if let Some(refusal) = bad_role(parts, who, write) {
@@ -97,14 +91,18 @@ fn refusal_of(
 }
 
 // Why a write isn't looked at, whatever the store holds. Of one that was judged before nothing is left to be told.
-fn unjudged_form(alloc: Global, is_judged: bool, write: &Write) -> Result<Option<Refusal>, Memory>
-    requires { is_judged ≡ true → bad_form write.now ≡ None }
+fn form_refusal(
+    alloc: Global,
+    written: Option<&Written>,
+    write: &Write,
+) -> Result<Option<Refusal>, Memory>
+    requires { IsWrittenIf write.now (option_copied written) }
     ensures { IfOk result (λ refused. refused ≡ bad_form write.now) }
 {
-    if is_judged {
-        return Ok(None);
+    match written {
+        Some(_) => Ok(None),
+        None => bad_form(alloc, write),
     }
-    bad_form(alloc, write)
 }
 
 /// Why a write isn't looked at, whatever the store holds.

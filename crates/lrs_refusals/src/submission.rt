@@ -2,7 +2,7 @@
 ghost use Rattle.std.specs.Prelude.{◌≡◌, IfOk, None};
 ghost use Rattle.lrs_command.specs.declared.command.Command.TheVariants as commands;
 ghost use Rattle.lrs_made.specs.LrsHistoryRefusals.{bad_form};
-ghost use Rattle.lrs_refusals.specs.Submissions.{IsFormOf, IsJudgedAs};
+ghost use Rattle.lrs_refusals.specs.Submissions.{IsFormOf, IsWrittenOf};
 
 use crate::refusals::bad_form;
 use crate::written::{Written, closing_of, texts_of};
@@ -126,9 +126,9 @@ fn unbroken(alloc: Global, write: Write, same: Snapshot<Command>) -> Result<Subm
 
 fn written_of(alloc: Global, write: &Write) -> Result<Written, Memory>
     requires { bad_form write.now ≡ None }
-    ensures { IfOk result (IsJudgedAs write.now) }
+    ensures { IfOk result (IsWrittenOf write.now) }
 {
-    let closing = closing_of(alloc, write)?;
     let texts = texts_of(alloc, write)?;
+    let closing = closing_of(alloc, write, &texts)?;
     Ok(Written { closing, texts })
 }

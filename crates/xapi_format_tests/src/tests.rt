@@ -109,6 +109,14 @@ fn is_written_as(alloc: Global, tree: &Tree, text: &str) -> Result<bool, Fail> {
     Ok(bytes.as_slice() == text.as_bytes())
 }
 
+// Whether this is the text that it is kept as.
+fn is_kept_as(alloc: Global, received: &Tree, text: &str) -> Result<bool, Fail> {
+    let mut bytes = Vec::new(alloc);
+    let kept = ReceivedText::of(alloc, received)?;
+    kept.put(&mut bytes)?;
+    Ok(bytes.as_slice() == text.as_bytes())
+}
+
 // Whether the text that it is kept as gives the tree back.
 fn is_read_back(alloc: Global, received: &Tree, text: &str) -> Result<bool, Fail> {
     let kept = ReceivedText::of(alloc, received)?;
@@ -124,7 +132,8 @@ fn is_completed_each_way(
 ) -> Result<bool, Fail> {
     let received = read(alloc, text.as_bytes())?;
     Ok(
-        is_read_back(alloc, &received, text)?
+        is_kept_as(alloc, &received, text)?
+            && is_read_back(alloc, &received, text)?
             && is_completed_as(alloc, &received, by, wanted)?
             && is_completed_to(alloc, &received, by, wanted)?,
     )

@@ -1,7 +1,7 @@
 ghost use Rattle.std.specs.Prelude.{◌≡◌, ◌↔◌, ◌++◌, length, IsTrue, IfOk, OnOk};
 ghost use Rattle.lrs_json.specs.Json.{Json};
 ghost use Rattle.lrs_json.specs.View.{view};
-ghost use Rattle.lrs_json.specs.Written.{Extends, written};
+ghost use Rattle.lrs_json.specs.Written.{Extends, written, written_tree};
 ghost use Rattle.lrs_time.specs.Moments.{moment_text};
 ghost use Rattle.xapi_format.specs.Authorities.{authority_json};
 ghost use Rattle.xapi_format.specs.Completed.{added, completed};
@@ -14,6 +14,7 @@ use crate::excerpts::Excerpts;
 use crate::marking::mark_tree;
 use crate::marks::Ending;
 use crate::offsets::Offsets;
+use lrs_json::appending::put;
 use lrs_json::{Memory, Tree, is_written};
 use lrs_json_reader::reread;
 use lrs_names::Id;
@@ -81,6 +82,14 @@ impl ReceivedText {
         ensures { IsTrue result ↔ (tree.now ≡ self.now) }
     {
         is_written(tree, self.text.as_slice())
+    }
+
+    /// Appends the text. What stood before stays if memory runs out in the middle.
+    pub fn put(&self, into: &mut Vec<u8>) -> Result<(), Memory>
+        ensures ok { OnOk result (into.new.items ≡ into.old.items ++ written_tree self.now) }
+        ensures kept { Extends into.old.items into.new.items }
+    {
+        put(self.text.as_slice(), into)
     }
 
     /// Appends the text of the completed form. What stood before stays if memory runs out in the middle.

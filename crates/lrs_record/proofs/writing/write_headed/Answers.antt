@@ -1,9 +1,13 @@
 use Rattle.std.proofs.Common.{◌++◌, ap, sym, ◌∙◌}
 use Rattle.std.proofs.lemmas.Result.{on_ok_weaker}
+use Rattle.lrs_fields.proofs.Kept.{over_two}
 use Rattle.lrs_record.specs.Entries.{heading_text}
 use Rattle.lrs_record.proofs.EntryParts.{entry_parts}
 use Rattle.lrs_record.proofs.Joined.{behind}
 use Rattle.lrs_record.proofs.writing.write_headed.Goals as goal
+
+pub returns-clause-kept : goal.returns-clause-kept
+returns-clause-kept c = over_two _ _ _ c.put_heading.ensures.kept c.put.ensures.kept
 
 pub returns-clause-ok : goal.returns-clause-ok
 returns-clause-ok c =

@@ -6,8 +6,8 @@ use Rattle.lrs_made.specs.LrsPartsParts.{state_of}
 use Rattle.lrs_replies.specs.Texts.{token_text}
 use Rattle.lrs_refusals.proofs.refusals.refusal.Goals as goal
 
-pub refusal_of-requires-clause-formed : goal.refusal_of-requires-clause-formed
-refusal_of-requires-clause-formed c = c.requires.formed
+pub refusal_of-requires-clause-written : goal.refusal_of-requires-clause-written
+refusal_of-requires-clause-written c = c.requires.written
 
 pub returns-clause-refused : goal.returns-clause-refused
 returns-clause-refused c =

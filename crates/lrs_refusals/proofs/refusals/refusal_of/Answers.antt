@@ -4,8 +4,8 @@ use Rattle.lrs_refusals.proofs.Together.{last_reason}
 use Rattle.lrs_made.specs.LrsHistoryRefusals.{barred}
 use Rattle.lrs_refusals.proofs.refusals.refusal_of.Goals as goal
 
-pub unjudged_form-requires : goal.unjudged_form-requires
-unjudged_form-requires c = c.requires.formed
+pub form_refusal-requires : goal.form_refusal-requires
+form_refusal-requires c = c.requires.written
 
 pub returns-clause-refused : goal.returns-clause-refused
 returns-clause-refused c =
