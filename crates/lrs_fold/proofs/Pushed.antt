@@ -9,7 +9,7 @@ use Rattle.lrs_reads.specs.LrsHistoryWhose.{authority_of}
 use Rattle.lrs_json.specs.declared.tree.Tree.{Tree}
 use Rattle.lrs_learning.specs.LrsStateState.{State}
 use Rattle.xapi_index.specs.Batches.{WithId, held_of, kept_by}
-use Rattle.xapi_index.specs.Statements.{is_held, new_ones}
+use Rattle.xapi_statement.specs.Statements.{is_held, new_ones}
 use Rattle.xapi_statement.specs.declared.Authority.{Authority}
 use Rattle.xapi_statement.specs.Stored.{StoredStatement}
 

@@ -26,7 +26,7 @@ use Rattle.lrs_replies.specs.declared.answered.Refusal.{Refusal}
 use Rattle.lrs_replies.specs.declared.answered.Refusal.TheVariants.{Broken, Conflict, TooLong}
 use Rattle.xapi_alike.specs.Same.{same}
 use Rattle.lrs_ids.specs.Choices.{first_some, when}
-use Rattle.xapi_index.specs.Statements.{held_under}
+use Rattle.xapi_statement.specs.Statements.{held_under}
 use Rattle.xapi_rules.specs.Rules.{broken_rule, is_voiding}
 use Rattle.xapi_statement.specs.Stored.{StoredStatement}
 use Rattle.xapi_statement.specs.Statement.{is_too_long, own_id}

@@ -20,6 +20,7 @@ pub record IsAccepted (st : State) (e : Entry) (told : Answered) (a : Accepted) 
   pub effect : a.effect ≡ effect st e
   pub said : a.said ≡ told
 
+-- the outcome is an acceptance, and this was made of it
 abbrev pub IsAcceptance : State → Outcome → Accepted → Type 0
 IsAcceptance st (Said said) a = ⊥
 IsAcceptance st (Keeps e said) a = IsAccepted st e said a

@@ -4,7 +4,7 @@ use Rattle.lrs_json.specs.declared.tree.Tree.{Tree}
 use Rattle.lrs_reads.specs.LrsRefusalsWrittenWritten.{Written}
 use Rattle.xapi_statement.specs.Stored.{StoredStatement}
 
--- so many of what was written, if it is of an entry that brings statements
+-- the first `n` texts that were written, if the entry brings statements
 abbrev pub texts_for : Option Written → ℕ → List StoredStatement → List Tree
 texts_for None n ss = []
 texts_for (Some written) n [] = []

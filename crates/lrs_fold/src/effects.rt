@@ -1,5 +1,5 @@
 // What an entry changes.
-ghost use Rattle.std.specs.Prelude.{◌≡◌, ◌∷◌, ◌++◌, [], None, Some, IfOk, OnOk};
+ghost use Rattle.std.specs.Prelude.{◌≡◌, ◌∷◌, ◌++◌, [], drop, None, Some, IfOk, OnOk};
 ghost use Rattle.std.specs.List.{AllByRecursion};
 ghost use Rattle.std.specs.Option.{option_copied};
 ghost use Rattle.std.specs.Vec.Iter.{into_iter_items};
@@ -17,11 +17,11 @@ ghost use Rattle.lrs_learning.specs.LrsStateAcceptanceAcceptanceTheVariants as a
 ghost use Rattle.lrs_learning.specs.LrsStateState.{no_change};
 ghost use Rattle.lrs_record.specs.declared.entry.Write.TheVariants as writes;
 ghost use Rattle.lrs_reads.specs.LrsRefusalsJudged.{IsJudged, IsJudgedTree};
-ghost use Rattle.lrs_reads.specs.LrsRefusalsKnown.{behind_first, IsBatch, IsKnown, IsKnownOf, IsKnownUnder, TellHeld};
+ghost use Rattle.lrs_reads.specs.LrsRefusalsKnown.{IsBatch, IsKnown, IsKnownOf, IsKnownUnder, TellHeld};
 ghost use Rattle.lrs_reads.specs.LrsRefusalsKnown.{TellsNext};
 ghost use Rattle.lrs_reads.specs.LrsRefusalsNaming.{with_these_ids};
 ghost use Rattle.lrs_replies.specs.Texts.{token_text};
-ghost use Rattle.xapi_index.specs.Statements.{is_held};
+ghost use Rattle.xapi_statement.specs.Statements.{is_held};
 
 use crate::Fold;
 use crate::authority::authority_of;
@@ -420,7 +420,7 @@ impl Fold {
     fn is_next_held(&self, held: &mut IntoIter<bool>, id: &Id) -> bool
         requires { TellsNext (state_of self.now.parts) (into_iter_items held.old) id.now }
         ensures held { result ≡ is_held id.now (state_of self.now.parts).statements }
-        ensures rest { into_iter_items held.new ≡ behind_first (into_iter_items held.old) }
+        ensures rest { into_iter_items held.new ≡ drop 1 (into_iter_items held.old) }
     {
         match held.next() {
             Some(told) => told,

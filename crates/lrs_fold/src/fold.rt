@@ -5,11 +5,11 @@ ghost use Rattle.std.specs.Vec.Iter.{into_iter_items};
 ghost use Rattle.xapi_index.specs.Ahead.{AreTextsOf};
 ghost use Rattle.lrs_learning.specs.LrsStateState.{apply, nothing};
 
-use lrs_json::Memory;
+use lrs_json::{Items, Memory};
 use lrs_learning::lrs_parts::{Effect, Parts};
 use std::alloc::Global;
 use std::vec::IntoIter;
-use xapi_statement::ReceivedText;
+use xapi_statement::{ReceivedText, StoredStatement};
 
 /// What the entries so far give.
 #[derive(Drop)]
@@ -51,11 +51,12 @@ impl Fold {
         self.parts.release(effect);
     }
 
-    /// Takes an effect in for which there is room. It takes no memory.
-    pub fn install(&mut self, effect: Effect)
+    /// Takes an effect in for which there is room. It takes no memory. What is left of its statements is handed back:
+    /// dropping their trees takes long.
+    pub fn install(&mut self, effect: Effect) -> Items<StoredStatement>
         requires { IsReadyFor self.old.parts effect }
         ensures { state_of self.new.parts ≡ apply (state_of self.old.parts) effect }
     {
-        self.parts.install(effect);
+        self.parts.install(effect)
     }
 }

@@ -82,7 +82,7 @@ impl Fold {
         if first {
             return is_founding(alloc, entry);
         }
-        if refusal(alloc, &self.parts, who, false, entry, known)?.is_some() {
+        if refusal(alloc, &self.parts, who, None, entry, known)?.is_some() {
             return Ok(false);
         }
         Ok(self.last_moment().milliseconds() <= entry.moment.milliseconds())

@@ -3,7 +3,7 @@ ghost use Rattle.std.specs.Prelude.{◌≡◌, max, IfOk, Ok, None};
 ghost use Rattle.lrs_command.specs.Commands.{HasReadTrees};
 ghost use Rattle.lrs_reads.specs.LrsRefusalsJudged.{IsJudged};
 ghost use Rattle.lrs_reads.specs.LrsRefusalsKnown.{IsKnown};
-ghost use Rattle.lrs_reads.specs.LrsRefusalsSubmissions.{IsJudgedIf};
+ghost use Rattle.lrs_reads.specs.LrsRefusalsSubmissions.{IsWrittenIf};
 ghost use Rattle.lrs_fold.specs.Texts.{texts_for};
 ghost use Rattle.lrs_reads.specs.LrsHistoryAnswers.{write_said};
 ghost use Rattle.lrs_fold.specs.Outcomes.{IsOutcome, made_of};
@@ -57,7 +57,8 @@ const ENTRY_ROOM: usize = 1_024;
 const HEADING_ROOM: usize = 256;
 
 impl Fold {
-    /// What becomes of a command. All that it takes to keep its entry is made here, but for the room in the parts.
+    /// What becomes of a command. All that it takes to keep its entry is made here, or was when it was submitted, but
+    /// for the room in the parts. What closed the entry's text is of no more use: it is put into `spent`.
     pub fn outcome(
         &self,
         alloc: Global,
@@ -65,6 +66,7 @@ impl Fold {
         command: Submission,
         clock: u64,
         draw: &Draw,
+        spent: &mut Items<u8>,
     ) -> Result<Outcome, Memory>
         requires caller { IsLawfulCaller caller }
         requires command { HasReadTrees command }
@@ -72,10 +74,12 @@ impl Fold {
             (IsOutcome (state_of self.now.parts) (outcome (state_of self.now.parts) caller command clock draw.now)) }
     {
         match command.into_form() {
-            Form::Unjudged(command) => self.unjudged(alloc, caller, command, clock, draw),
+            Form::Unjudged(command) => self.outcome_of_command(
+                alloc, caller, command, clock, draw, spent,
+            ),
             Form::Judged { write, written } => {
                 let entry = self.next_entry(caller, write, clock, draw);
-                self.write_outcome(alloc, Some(written), entry)
+                self.write_outcome(alloc, Some(written), entry, spent)
             }
             Form::Refused { area, refusal } => {
                 let said = self.refused(&caller, area, refusal);
@@ -86,13 +90,14 @@ impl Fold {
     }
 
     // Of a command whose form wasn't judged.
-    fn unjudged(
+    fn outcome_of_command(
         &self,
         alloc: Global,
         caller: Caller,
         command: Command,
         clock: u64,
         draw: &Draw,
+        spent: &mut Items<u8>,
     ) -> Result<Outcome, Memory>
         requires caller { IsLawfulCaller caller }
         requires command { HasReadTrees command }
@@ -102,7 +107,7 @@ impl Fold {
         match command {
             Command::Write(write) => {
                 let entry = self.next_entry(caller, write, clock, draw);
-                self.write_outcome(alloc, None, entry)
+                self.write_outcome(alloc, None, entry, spent)
             }
             Command::Read(read) => {
                 let said = read_answered(alloc, &self.parts, &caller, &read);
@@ -157,17 +162,24 @@ impl Fold {
         alloc: Global,
         written: Option<Written>,
         entry: Entry,
+        spent: &mut Items<u8>,
     ) -> Result<Outcome, Memory>
         requires caller { IsLawfulCaller entry.caller }
         requires write { IsLawfulWrite entry.write }
-        requires judged { IsJudgedIf entry.write written }
+        requires written { IsWrittenIf entry.write written }
         ensures { IfOk result (IsOutcome (state_of self.now.parts) (write_outcome (state_of self.now.parts) entry)) }
     {
         let who = who_is(&self.parts, &entry.caller);
         let mut known = Known::Nothing;
-        let is_judged = written.is_some();
-        match refusal(alloc, &self.parts, who, is_judged, &entry, &mut known) {
-            Ok(None) => self.accepted(alloc, who, known, written, entry),
+        match refusal(
+            alloc,
+            &self.parts,
+            who,
+            written.as_ref(),
+            &entry,
+            &mut known,
+        ) {
+            Ok(None) => self.accepted(alloc, who, known, written, entry, spent),
             Ok(Some(refusal)) => {
                 drop(known);
                 drop(written);
@@ -191,10 +203,11 @@ impl Fold {
         known: Known,
         written: Option<Written>,
         entry: Entry,
+        spent: &mut Items<u8>,
     ) -> Result<Outcome, Memory>
         requires caller { IsLawfulCaller entry.caller }
         requires write { IsLawfulWrite entry.write }
-        requires written { IsJudgedIf entry.write written }
+        requires written { IsWrittenIf entry.write written }
         requires who { who ≡ who_is (state_of self.now.parts) entry.caller }
         requires known { IsKnown (state_of self.now.parts) entry.draw entry.write known }
         requires judged { IsJudged entry.write }
@@ -202,7 +215,7 @@ impl Fold {
         ensures { IfOk result (IsOutcome (state_of self.now.parts) (write_outcome (state_of self.now.parts) entry)) }
     {
         match text_of(alloc, &written, &entry) {
-            Ok(text) => self.outcome_with(alloc, who, known, written, text, entry),
+            Ok(text) => self.outcome_with(alloc, who, known, written, text, entry, spent),
             Err(refused) => {
                 drop(known);
                 drop(written);
@@ -221,8 +234,9 @@ impl Fold {
         written: Option<Written>,
         text: Vec<u8>,
         entry: Entry,
+        spent: &mut Items<u8>,
     ) -> Result<Outcome, Memory>
-        requires written { IsJudgedIf entry.write written }
+        requires written { IsWrittenIf entry.write written }
         requires who { who ≡ who_is (state_of self.now.parts) entry.caller }
         requires known { IsKnown (state_of self.now.parts) entry.draw entry.write known }
         requires judged { IsJudged entry.write }
@@ -232,9 +246,9 @@ impl Fold {
         ensures { IfOk result (IsOutcome (state_of self.now.parts) (write_outcome (state_of self.now.parts) entry)) }
     {
         let made = Snapshot::of(&entry);
-        let count = known.first_new(&entry.write);
+        let count = known.leading_new(&entry.write);
         match self.prepare_known(alloc, who, known, entry) {
-            Ok(effect) => said_with(alloc, made, written, count, text, effect),
+            Ok(effect) => said_with(alloc, made, written, count, text, effect, spent),
             Err(refused) => {
                 drop(written);
                 Err(refused)
@@ -243,7 +257,7 @@ impl Fold {
     }
 }
 
-// Of an entry with its text and its effect. Of what was written before it, so many of the first texts are those of its
+// Of an entry with its text and its effect. The first `count` texts of what was written before are those of its
 // statements.
 fn said_with(
     alloc: Global,
@@ -252,6 +266,7 @@ fn said_with(
     count: usize,
     text: Vec<u8>,
     effect: Effect,
+    spent: &mut Items<u8>,
 ) -> Result<Outcome, Memory>
     ensures { IfOk result (λ outcome. outcome ≡ made_of
         (record { entry = entry; text = text.items; effect = effect; said = write_said effect })
@@ -259,7 +274,7 @@ fn said_with(
 {
     match write_said(alloc, &effect) {
         Ok(said) => {
-            let texts = texts_for(alloc, written, count, &effect);
+            let texts = texts_for(alloc, written, count, &effect, spent);
             Ok(outcome_of(
                 Accepted {
                     entry,
@@ -278,19 +293,21 @@ fn said_with(
     }
 }
 
-// So many of the texts that were written before, if it is of an entry that brings statements.
+// The first `count` of the texts that were written before, if the entry brings statements. What closed the entry's text
+// is put aside.
 fn texts_for(
     alloc: Global,
     written: Option<Written>,
     count: usize,
     effect: &Effect,
+    spent: &mut Items<u8>,
 ) -> Items<ReceivedText>
     ensures { result ≡ texts_for written count effect.now.statements }
 {
     let Some(Written { closing, texts }) = written else {
         return Items::new(alloc);
     };
-    drop(closing);
+    *spent = closing;
     if effect.statements.is_empty() {
         drop(texts);
         return Items::new(alloc);
@@ -322,7 +339,7 @@ fn outcome_of(accepted: Accepted, texts: Items<ReceivedText>) -> Outcome
 fn text_of(alloc: Global, written: &Option<Written>, entry: &Entry) -> Result<Vec<u8>, Memory>
     requires caller { IsLawfulCaller entry.now.caller }
     requires write { IsLawfulWrite entry.now.write }
-    requires written { IsJudgedIf entry.now.write written.now }
+    requires written { IsWrittenIf entry.now.write written.now }
     ensures text { IfOk result (λ text. text.items ≡ written_entry entry.now) }
     ensures lawful { IfOk result (λ _. IsLawful entry.now) }
 {
@@ -332,7 +349,7 @@ fn text_of(alloc: Global, written: &Option<Written>, entry: &Entry) -> Result<Ve
     }
 }
 
-// The text of an entry that is closed so.
+// The text of an entry whose closing was written before.
 fn closed_text(alloc: Global, closing: &[u8], entry: &Entry) -> Result<Vec<u8>, Memory>
     requires caller { IsLawfulCaller entry.now.caller }
     requires write { IsLawfulWrite entry.now.write }

@@ -35,7 +35,8 @@ fn note<D: Disk>(turns: &Turns<Desk<D>>, pass: &mut Pass<Record>, desk: &Desk<D>
     turns.point(pass, desk);
 }
 
-// Acts on the desk that was taken, and gives it back.
+// Acts on the desk that was taken, and gives it back. What a write left over is dropped behind that, when others may
+// have the turn.
 fn act_and_give<D: Disk>(
     turns: &Turns<Desk<D>>,
     pass: &mut Pass<Record>,
@@ -56,7 +57,9 @@ fn act_and_give<D: Disk>(
 {
     let (reply, receipt) = desk.act(caller, command, clock, draw);
     note(turns, pass, &desk, &receipt);
+    let spent = desk.spent();
     turns.give(pass, desk);
+    drop(spent);
     (reply, receipt)
 }
 

@@ -34,6 +34,7 @@ use Rattle.lrs_journal.specs.contracts.journal.Journal as Journal
 use Rattle.lrs_noted.specs.contracts.noted.Noted as Noted
 use Rattle.lrs_machine.specs.contracts.desk.Desk as Desk
 use Rattle.lrs_machine.specs.contracts.record.Record as Record
+use Rattle.lrs_machine.specs.contracts.spent.Spent as Spent
 use Rattle.lrs_names.proofs.draw.Draw.TheSendSync as draw
 use Rattle.lrs_names.proofs.iris.Iri.TheSendSync as iri
 use Rattle.lrs_record.proofs.entry.Caller.TheSendSync as caller
@@ -95,6 +96,11 @@ parts_sent = search (plain, counted.the_send, provider.the_send, index_sent, doc
 pub fold_sent : IsSend (Fold.the_field).row
 fold_sent = search (plain, parts_sent) depth 20
 
+-- ---- what a write leaves over
+
+pub spent_sent : IsSend (Spent.the_field).row
+spent_sent = search (plain, stored_sent) depth 20
+
 -- ---- the line
 
 pub write_sent : IsSend (Write.the_field).row
@@ -119,4 +125,4 @@ acts_sent : IsSend (Noted.the_row Record.the_row)
 acts_sent = search (plain, noted.the_send, record_sent) depth 20
 
 pub desk_sent : (D : RattleType) (disk : disks.Ghosts D.Denot) → IsSend D → IsSend (Desk.the_row D disk)
-desk_sent D disk s = search (plain, journal_sent, opening_sent, acts_sent, fold_sent) depth 20 fits 5000
+desk_sent D disk s = search (plain, journal_sent, opening_sent, acts_sent, fold_sent, spent_sent) depth 20 fits 5000

@@ -9,6 +9,7 @@ ghost use Rattle.lrs_machine.specs.Steps.{Does, landed_of};
 ghost use Rattle.lrs_parts.specs.Parts.{AddsNoPlaces};
 ghost use Rattle.lrs_record.specs.Entries.{IsLawfulCaller};
 
+use crate::Spent;
 use crate::keeping::keep;
 use lrs_disk::Disk;
 use lrs_fold::lrs_refusals::Submission;
@@ -35,6 +36,7 @@ pub(crate) fn act<D: Disk>(
     alloc: Global,
     journal: &mut Journal<D>,
     fold: &mut Fold,
+    spent: &mut Spent,
     caller: Caller,
     command: Submission,
     clock: u64,
@@ -54,7 +56,7 @@ pub(crate) fn act<D: Disk>(
 {
     match journal.settle() {
         Ok(landed) => {
-            let (said, made) = answer(alloc, journal, fold, caller, command, clock, draw);
+            let (said, made) = answer(alloc, journal, fold, spent, caller, command, clock, draw);
             Done { said, made, landed }
         }
         Err(_) => {
@@ -74,6 +76,7 @@ fn answer<D: Disk>(
     alloc: Global,
     journal: &mut Journal<D>,
     fold: &mut Fold,
+    spent: &mut Spent,
     caller: Caller,
     command: Submission,
     clock: u64,
@@ -89,9 +92,9 @@ fn answer<D: Disk>(
     ensures cause { HasDiskCause (D.fault_count journal.old.disk) (D.fault_count journal.new.disk) result.0 }
     ensures places { IsNone result.1 → AddsNoPlaces fold.old.parts fold.new.parts }
 {
-    match fold.outcome(alloc, caller, command, clock, draw) {
+    match fold.outcome(alloc, caller, command, clock, draw, &mut spent.closing) {
         Ok(Outcome::Said(said)) => (Ok(said), None),
-        Ok(Outcome::Accepted(accepted, texts)) => keep(journal, fold, accepted, texts),
+        Ok(Outcome::Accepted(accepted, texts)) => keep(journal, fold, spent, accepted, texts),
         Err(refused) => (Err(Trouble::from(refused)), None),
     }
 }

@@ -23,7 +23,7 @@ ghost use Rattle.lrs_machine.specs.Origin.{IsOfOrigin};
 ghost use Rattle.lrs_machine.specs.Steps.{Happens, line_after};
 
 use crate::acting::{Done, act};
-use crate::{Receipt, Record};
+use crate::{Receipt, Record, Spent};
 use lrs_command::Area;
 use lrs_disk::{Disk, Failed};
 use lrs_fold::lrs_history::barred;
@@ -38,6 +38,7 @@ use lrs_replies::{Answered, Reply, Trouble, reply_to, status_in};
 use lrs_turn::Journaled;
 use std::alloc::Global;
 use std::marker::Model;
+use std::mem;
 use std::snapshot::Snapshot;
 
 /// One history of accepted writes on a disk, and the state that follows from it. Clauses see it as a line of records.
@@ -53,6 +54,8 @@ pub struct Desk<D: Disk> {
     pub(crate) origin: Snapshot<Journal<D>>,
     /// How many records the line has.
     pub(crate) records: u64,
+    /// What the last accepted write left over, of which clauses see nothing.
+    pub(crate) spent: Spent,
     pub(crate) opening: Noted<Entry>,
     pub(crate) acts: Noted<Record>,
 }
@@ -179,6 +182,7 @@ impl<D: Disk> Desk<D> {
             self.alloc,
             &mut self.journal,
             &mut self.fold,
+            &mut self.spent,
             caller,
             command,
             clock,
@@ -324,6 +328,14 @@ impl<D: Disk> Desk<D> {
         (reply, receipt)
     }
 
+    /// What the last accepted write left over. At most one write's is held: what the next one leaves over takes its
+    /// place, if it wasn't taken out.
+    pub fn spent(&mut self) -> Spent
+        ensures { self.new ≡ self.old }
+    {
+        mem::replace(&mut self.spent, Spent::none(self.alloc))
+    }
+
     /// Ends a doubt, and hands the disk back. If that fails, the disk comes back with the failure.
     pub fn close(self) -> Result<D, (Failed, D)>
         ensures closed { IfOk result (λ disk. ForSome (D.told self.disk)
@@ -356,9 +368,11 @@ impl<D: Disk> Desk<D> {
             opened: _,
             origin: _,
             records: _,
+            spent,
             opening: _,
             acts: _,
         } = self;
+        drop(spent);
         drop(fold);
         match journal.settle() {
             Ok(_) => Ok(journal.into_disk()),

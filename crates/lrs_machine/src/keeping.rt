@@ -11,6 +11,7 @@ ghost use Rattle.lrs_parts.specs.State.{apply};
 ghost use Rattle.lrs_parts.specs.Parts.{SeenParts as Parts};
 ghost use Rattle.xapi_index.specs.Ahead.{AreTextsOf};
 
+use crate::Spent;
 use lrs_disk::Disk;
 use lrs_fold::{Accepted, Fold};
 use lrs_journal::{Full, Journal};
@@ -21,10 +22,12 @@ use std::snapshot::Snapshot;
 use xapi_statement::ReceivedText;
 
 /// Keeps an accepted entry if there is room, and says whether it was made. All memory is taken before the frame is
-/// written. Where none was made, no place is left of what was made ready for it.
+/// written. Where none was made, no place is left of what was made ready for it. What an entry that was made leaves over
+/// isn't dropped.
 pub(crate) fn keep<D: Disk>(
     journal: &mut Journal<D>,
     fold: &mut Fold,
+    spent: &mut Spent,
     accepted: Accepted,
     texts: Items<ReceivedText>,
 ) -> (Result<Answered, Trouble>, Option<Snapshot<Entry>>)
@@ -39,7 +42,7 @@ pub(crate) fn keep<D: Disk>(
     ensures places { IsNone result.1 → AddsNoPlaces fold.old.parts fold.new.parts }
 {
     match journal.room(accepted.text.as_slice()) {
-        Ok(()) => keep_within(journal, fold, accepted, texts),
+        Ok(()) => keep_within(journal, fold, spent, accepted, texts),
         Err(Full { need, limit }) => {
             drop(accepted);
             drop(texts);
@@ -52,6 +55,7 @@ pub(crate) fn keep<D: Disk>(
 fn keep_within<D: Disk>(
     journal: &mut Journal<D>,
     fold: &mut Fold,
+    spent: &mut Spent,
     accepted: Accepted,
     texts: Items<ReceivedText>,
 ) -> (Result<Answered, Trouble>, Option<Snapshot<Entry>>)
@@ -70,7 +74,7 @@ fn keep_within<D: Disk>(
     let made = fold.ready(&mut texts, &accepted.effect);
     drop(texts);
     match made {
-        Ok(()) => append(journal, fold, accepted),
+        Ok(()) => append(journal, fold, spent, accepted),
         Err(refused) => {
             fold.release(&accepted.effect);
             drop(accepted);
@@ -83,6 +87,7 @@ fn keep_within<D: Disk>(
 fn append<D: Disk>(
     journal: &mut Journal<D>,
     fold: &mut Fold,
+    spent: &mut Spent,
     accepted: Accepted,
 ) -> (Result<Answered, Trouble>, Option<Snapshot<Entry>>)
     requires settled { journal.old.doubt ≡ false }
@@ -99,13 +104,13 @@ fn append<D: Disk>(
 {
     match journal.append(accepted.text.as_slice()) {
         Ok(_) => {
-            let (said, entry) = take_in(fold, accepted);
+            let (said, entry) = take_in(fold, spent, accepted);
             (Ok(said), Some(entry))
         }
         // There was room, so the disk failed.
         Err(_) => {
             if journal.in_doubt() {
-                let (said, entry) = take_in(fold, accepted);
+                let (said, entry) = take_in(fold, spent, accepted);
                 drop(said);
                 (Err(Trouble::Disk), Some(entry))
             } else {
@@ -117,8 +122,9 @@ fn append<D: Disk>(
     }
 }
 
-// Takes in the effect of an entry for which all is ready, and hands on what is said of it and the entry.
-fn take_in(fold: &mut Fold, accepted: Accepted) -> (Answered, Snapshot<Entry>)
+// Takes in the effect of an entry for which all is ready, and hands on what is said of it and the entry. What is left
+// over stands in place of what an earlier one left.
+fn take_in(fold: &mut Fold, spent: &mut Spent, accepted: Accepted) -> (Answered, Snapshot<Entry>)
     requires { IsReadyFor fold.old.parts accepted.effect }
     ensures applied { state_of fold.new ≡ apply (state_of fold.old) accepted.effect }
     ensures same { (result.0 ≡ accepted.said) × (result.1 ≡ accepted.entry) }
@@ -129,7 +135,7 @@ fn take_in(fold: &mut Fold, accepted: Accepted) -> (Answered, Snapshot<Entry>)
         effect,
         said,
     } = accepted;
-    drop(text);
-    fold.install(effect);
+    spent.statements = fold.install(effect);
+    spent.text = text;
     (said, entry)
 }

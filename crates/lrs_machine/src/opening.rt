@@ -20,8 +20,8 @@ ghost use Rattle.lrs_machine.specs.Fold.{state_of};
 ghost use Rattle.lrs_machine.specs.Steps.{HoldsEntries};
 ghost use Rattle.lrs_machine.specs.Replays.{IsReplayed, HasReadAll, founding_refusal, opening_refusal};
 
-use crate::Desk;
 use crate::replaying::{replay_all, take_in};
+use crate::{Desk, Spent};
 use lrs_disk::Disk;
 use lrs_fold::{Fold, entry_text, founding_entry};
 use lrs_journal::{CreateRefused, Journal, MOST_BYTES, RecoverRefused, Replay};
@@ -244,6 +244,7 @@ fn opened<D: Disk>(alloc: Global, journal: Journal<D>, fold: Fold, opening: Note
         opened,
         origin,
         records: opened,
+        spent: Spent::none(alloc),
         opening,
         acts: Noted::new(),
     }

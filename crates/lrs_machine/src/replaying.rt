@@ -72,7 +72,7 @@ pub(crate) fn take_in(fold: &mut Fold, effect: Effect) -> Result<(), Memory>
     let mut texts = Vec::new(effect.statements.allocator()).into_iter();
     match fold.ready(&mut texts, &effect) {
         Ok(()) => {
-            fold.install(effect);
+            drop(fold.install(effect));
             Ok(())
         }
         Err(refused) => {

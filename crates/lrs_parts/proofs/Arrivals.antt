@@ -8,7 +8,7 @@ use Rattle.std.proofs.lemmas.Option.{slice_get_past, slice_get_within}
 use Rattle.lrs_ids.specs.Ids.{are_distinct}
 use Rattle.lrs_parts.specs.Progress.{is_at, place_behind}
 use Rattle.lrs_parts.proofs.Events.{bytes_same, next_added, passes_there, same_bytes, same_place, stands_there, take_next, within_front}
-use Rattle.xapi_index.specs.Statements.{add_each, ids_of, is_held}
+use Rattle.xapi_statement.specs.Statements.{add_each, ids_of, is_held}
 use Rattle.xapi_index.proofs.Adding.{add-new, add-old}
 use Rattle.xapi_index.proofs.Found.{found_at}
 use Rattle.xapi_statement.specs.Stored.{StoredStatement}

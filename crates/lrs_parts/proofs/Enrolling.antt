@@ -26,7 +26,7 @@ use Rattle.lrs_register.proofs.Firsts.{position-push}
 use Rattle.lrs_register.specs.Changes.{with_replaced}
 use Rattle.lrs_register.specs.Register.{with_new}
 use Rattle.lrs_register.specs.declared.change.Change.{Change}
-use Rattle.xapi_index.specs.Statements.{is_that_id}
+use Rattle.xapi_statement.specs.Statements.{is_that_id}
 use Rattle.xapi_statement.specs.Statement.{registration_of}
 use Rattle.xapi_statement.specs.Stored.{StoredStatement}
 

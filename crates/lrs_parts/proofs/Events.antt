@@ -15,7 +15,7 @@ use Rattle.lrs_ids.specs.Ids.{are_distinct}
 use Rattle.lrs_json.specs.View.{view}
 use Rattle.lrs_names.specs.Members.{is_one_of}
 use Rattle.lrs_parts.specs.Progress.{is_voided_anew, voided_anew}
-use Rattle.xapi_index.specs.Statements.{add, add_each, ids_of, is_held, is_that_id, is_target, is_voided, position_referred, referred_at, voided_by, voids}
+use Rattle.xapi_statement.specs.Statements.{add, add_each, ids_of, is_held, is_that_id, is_target, is_voided, position_referred, referred_at, voided_by, voids}
 use Rattle.xapi_index.proofs.Adding.{extends}
 use Rattle.xapi_index.proofs.Coming.{not_true}
 use Rattle.xapi_index.proofs.Firsts.{get_first, lt_yes, place_first}

@@ -27,7 +27,7 @@ use Rattle.lrs_state.specs.declared.registrations.HeldRegistration.{HeldRegistra
 use Rattle.lrs_parts.proofs.Enrolling.{counted_under, enrolled_on, registered}
 use Rattle.lrs_register.specs.Register.{with_new}
 use Rattle.lrs_register.specs.declared.change.Change.{Change}
-use Rattle.xapi_index.specs.Statements.{ids_of}
+use Rattle.xapi_statement.specs.Statements.{ids_of}
 use Rattle.xapi_statement.specs.Stored.{StoredStatement}
 
 -- ---- places for what is said

@@ -21,7 +21,7 @@ use Rattle.lrs_register.specs.Register.{Registered}
 use Rattle.xapi_docs.specs.Docs as docs
 use Rattle.xapi_docs.specs.Docs.{HasRoomForDocuments, Places, documents_in, is_written}
 use Rattle.xapi_index.specs.Index.{HoldsNothingAhead, Indexed, IsIndexReadyFor}
-use Rattle.xapi_index.specs.Statements.{ids_of}
+use Rattle.xapi_statement.specs.Statements.{ids_of}
 
 -- what is seen of all parts together
 pub record SeenParts : Type 0 where

@@ -19,7 +19,7 @@ use Rattle.lrs_state.specs.declared.effect.Effect.{Effect}
 use Rattle.lrs_state.specs.declared.founding.Founding.{Founding}
 use Rattle.lrs_parts.specs.declared.progress.Progress.{Progress}
 use Rattle.lrs_state.specs.declared.registrations.HeldRegistration.{HeldRegistration}
-use Rattle.xapi_index.specs.Statements.{ids_of, is_voided, referred_at}
+use Rattle.xapi_statement.specs.Statements.{ids_of, is_voided, referred_at}
 use Rattle.xapi_statement.specs.Statement.{registration_of}
 use Rattle.xapi_statement.specs.Stored.{StoredStatement}
 

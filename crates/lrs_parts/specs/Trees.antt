@@ -2,7 +2,7 @@
 -- tree is read before one comes that voids it.
 use Rattle.std.specs.Prelude.{◌≡◌, List, Option, option_and_then}
 use Rattle.std.specs.List.{AllByRecursion}
-use Rattle.xapi_index.specs.Statements.{held_under, voided_by}
+use Rattle.xapi_statement.specs.Statements.{held_under, voided_by}
 use Rattle.xapi_statement.specs.Stored.{StoredStatement}
 
 -- the statement of a list that this one voids, the first of its id

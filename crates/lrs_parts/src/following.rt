@@ -18,7 +18,7 @@ ghost use Rattle.lrs_state.specs.declared.founding.Founding.{Founding as SpecFou
 ghost use Rattle.lrs_state.specs.declared.registrations.HeldRegistration.{HeldRegistration as SpecRegistration};
 ghost use Rattle.lrs_register.specs.Register.{with_new};
 ghost use Rattle.xapi_index.specs.Index.{HoldsNothingAhead, IsIndexReadyFor};
-ghost use Rattle.xapi_index.specs.Statements.{add_each, ids_of, is_voided};
+ghost use Rattle.xapi_statement.specs.Statements.{add_each, ids_of, is_voided};
 ghost use Rattle.xapi_statement.specs.Stored.{StoredStatement as SpecStatement};
 
 use crate::Progress;

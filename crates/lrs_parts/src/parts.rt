@@ -11,7 +11,7 @@ use crate::Progress;
 use crate::following::{enrol_new, take_in_each};
 use crate::readying::ready_each;
 use lrs_ids::UsedIds;
-use lrs_json::Memory;
+use lrs_json::{Items, Memory};
 use lrs_names::Id;
 use lrs_state::{Effect, Founding, Learning, Providers};
 use lrs_time::Moment;
@@ -20,7 +20,7 @@ use std::marker::Model;
 use std::vec::IntoIter;
 use xapi_docs::Docs;
 use xapi_index::Index;
-use xapi_statement::ReceivedText;
+use xapi_statement::{ReceivedText, StoredStatement};
 
 /// All that a store holds. What is kept of progress follows the other parts.
 #[derive(Drop)]
@@ -124,8 +124,9 @@ impl Parts {
         self.progress.release(effect.statements.as_slice());
     }
 
-    /// Takes an effect in for which there is room. It takes no memory.
-    pub fn install(&mut self, effect: Effect)
+    /// Takes an effect in for which there is room. It takes no memory. What is left of its statements is handed back:
+    /// dropping their trees takes long.
+    pub fn install(&mut self, effect: Effect) -> Items<StoredStatement>
         requires { IsReadyFor self.old effect }
         ensures state { state_of self.new ≡ apply (state_of self.old) effect }
         ensures nothing { HoldsNothingMore self.new }
@@ -156,7 +157,6 @@ impl Parts {
             &mut self.statements,
             statements.as_slice(),
         );
-        drop(statements);
         self.providers.install(providers);
         self.documents.install_change(documents);
         self.learning.launches.install(launches);
@@ -166,6 +166,7 @@ impl Parts {
         self.learning.tokens.install(tokens);
         self.length += 1;
         self.last = moment;
+        statements
     }
 }
 

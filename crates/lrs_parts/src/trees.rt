@@ -5,7 +5,7 @@ ghost use Rattle.std.specs.Option.{option_copied, option_or};
 ghost use Rattle.std.specs.Str.{bytes_eq};
 ghost use Rattle.lrs_parts.specs.Trees.{AreTargets, voided_in};
 ghost use Rattle.lrs_register.specs.Register.{with_new};
-ghost use Rattle.xapi_index.specs.Statements.{held_under, voided_by};
+ghost use Rattle.xapi_statement.specs.Statements.{held_under, voided_by};
 
 use lrs_json::{Items, Memory};
 use lrs_names::Id;

@@ -13,6 +13,11 @@ returns-in-Ok-Said-clause-does g c =
     said_does g.D.Disk.told g.D.Disk.image g.D.Disk.time g.D.Disk.image_since g.met.D.Disk.only_now c.args.journal.now (state_of c.args.fold.now) c.in-Ok-Said.said v c.requires.sound
     (subst (λ o. IsOutcome (state_of c.args.fold.now) v o) c.in-Ok-Said.field-0-is c.in-Ok-Said.ensures) c.requires.settled
 
+pub returns-in-Ok-Accepted-clause-does : goal.returns-in-Ok-Accepted-clause-does
+returns-in-Ok-Accepted-clause-does g c =
+    let v = outcome (state_of c.args.fold.now) c.args.caller c.args.command c.args.clock c.args.draw.now in
+    c.keep.ensures.kept v (subst (λ o. IsOutcome (state_of c.args.fold.now) v o) c.in-Ok-Accepted.field-0-is c.in-Ok-Accepted.ensures).0
+
 pub returns-in-Err-clause-does : goal.returns-in-Err-clause-does
 returns-in-Err-clause-does g c =
     let v = outcome (state_of c.args.fold.now) c.args.caller c.args.command c.args.clock c.args.draw.now in

@@ -6,7 +6,7 @@ use Rattle.lrs_parts.specs.Progress.{Follows}
 use Rattle.lrs_parts.specs.Trees.{voided_in}
 use Rattle.lrs_parts.proofs.Events.{marks_few}
 use Rattle.lrs_parts.proofs.Kept.{places_on}
-use Rattle.xapi_index.specs.Statements.{is_voided}
+use Rattle.xapi_statement.specs.Statements.{is_voided}
 use Rattle.xapi_statement.specs.Stored.{StoredStatement}
 use Rattle.lrs_parts.proofs.following.follow.Goals as goal
 

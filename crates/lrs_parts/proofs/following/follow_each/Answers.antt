@@ -8,7 +8,7 @@ use Rattle.lrs_parts.specs.Progress.{Follows}
 use Rattle.lrs_parts.proofs.Arrivals.{Next, next_of}
 use Rattle.lrs_parts.proofs.Kept.{places_kept, places_on, still_has}
 use Rattle.lrs_parts.proofs.Voided.{each_at, tree_found}
-use Rattle.xapi_index.specs.Statements.{add_each}
+use Rattle.xapi_statement.specs.Statements.{add_each}
 use Rattle.xapi_statement.specs.Stored.{StoredStatement}
 use Rattle.lrs_parts.proofs.following.follow_each.Goals as goal
 

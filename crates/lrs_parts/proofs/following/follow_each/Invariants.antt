@@ -2,7 +2,7 @@ use Rattle.std.proofs.Common.{◌≡◌, ◌≤◌, drop, length, take}
 use Rattle.cmi5_running_sessions.specs.Room.{KeepsPlaces}
 use Rattle.cmi5_running_sessions.specs.Cmi5SessionMarked.{marked}
 use Rattle.lrs_parts.specs.Progress.{Follows}
-use Rattle.xapi_index.specs.Statements.{add_each}
+use Rattle.xapi_statement.specs.Statements.{add_each}
 use Rattle.lrs_parts.proofs.following.follow_each.Given as goal
 
 -- the statements before the position are followed, and behind them stand those that are left

@@ -5,7 +5,7 @@ use Rattle.lrs_parts.specs.Progress.{Follows}
 use Rattle.lrs_parts.specs.Trees.{AreTargets}
 use Rattle.lrs_parts.proofs.Events.{distinct_each, front_of, longer}
 use Rattle.lrs_parts.proofs.Kept.{settled}
-use Rattle.xapi_index.specs.Statements.{add_each, ids_of}
+use Rattle.xapi_statement.specs.Statements.{add_each, ids_of}
 use Rattle.xapi_statement.specs.Stored.{StoredStatement}
 use Rattle.lrs_parts.proofs.following.take_in_each.Goals as goal
 

@@ -4,7 +4,7 @@ use Rattle.lrs_parts.specs.Progress.{Follows, voided_anew}
 use Rattle.lrs_parts.proofs.Events.{Voiding, no_event, voiding_at}
 use Rattle.lrs_parts.proofs.Kept.{places_kept}
 use Rattle.lrs_parts.proofs.Voided.{no_item, some_item, voided_there}
-use Rattle.xapi_index.specs.Statements.{is_voided}
+use Rattle.xapi_statement.specs.Statements.{is_voided}
 use Rattle.lrs_parts.proofs.following.void_by.Goals as goal
 
 pub returns-then-voids_anew-clause-follows : goal.returns-then-voids_anew-clause-follows

@@ -2,7 +2,7 @@ use Rattle.std.proofs.Common.{◌≡◌, ◌+◌, ◌∙◌, ℕ, List, Bool, So
 use Rattle.std.specs.Str.{bytes_eq}
 use Rattle.lrs_ids.proofs.Turns.{next_found, next_passed, none_found, turn}
 use Rattle.lrs_parts.proofs.Voided.{first_fails, first_passes}
-use Rattle.xapi_index.specs.Statements.{held_under}
+use Rattle.xapi_statement.specs.Statements.{held_under}
 use Rattle.xapi_statement.specs.Stored.{StoredStatement}
 use Rattle.lrs_parts.proofs.trees.first_under.Goals as goal
 

@@ -1,6 +1,6 @@
 use Rattle.std.proofs.Common.{◌∙◌, ℕ, List, Option, ap, sym}
 use Rattle.std.specs.Prelude.{option_and_then}
-use Rattle.xapi_index.specs.Statements.{held_under}
+use Rattle.xapi_statement.specs.Statements.{held_under}
 use Rattle.lrs_parts.proofs.trees.held_voided.Goals as goal
 
 pub returns-in-Some : goal.returns-in-Some

@@ -1,4 +1,4 @@
 use Rattle.lrs_fold.proofs.fold.Fold.may_be_next.Goals as goal
 
-pub refusal-requires-clause-formed : goal.refusal-requires-clause-formed
-refusal-requires-clause-formed c = λ judged. cc judged
+pub refusal-requires-clause-written : goal.refusal-requires-clause-written
+refusal-requires-clause-written c = tt

@@ -3,7 +3,7 @@ use Rattle.lrs_parts.proofs.Counting.{either_counted, those_counted}
 use Rattle.lrs_state.specs.Launches.{session_ids}
 use Rattle.lrs_state.specs.Registrations.{registration_ids}
 use Rattle.lrs_state.specs.Sessions.{made_session_ids}
-use Rattle.xapi_index.specs.Statements.{ids_of}
+use Rattle.xapi_statement.specs.Statements.{ids_of}
 use Rattle.lrs_parts.specs.Parts.{SeenParts, state_of}
 use Rattle.lrs_state.specs.State.{used_in}
 use Rattle.std.proofs.Common.{◌∙◌, ap}

@@ -6,7 +6,7 @@ use Rattle.lrs_reads.specs.LrsHistoryHistory.{outcome, write_outcome}
 use Rattle.lrs_record.specs.Entries.{IsLawfulCaller, IsLawfulWrite}
 use Rattle.lrs_record.specs.declared.entry.Entry.{Entry}
 use Rattle.lrs_learning.specs.LrsPartsParts.{state_of}
-use Rattle.lrs_fold.proofs.fold.Fold.unjudged.Goals as goal
+use Rattle.lrs_fold.proofs.fold.Fold.outcome_of_command.Goals as goal
 
 pub write_outcome-requires-clause-caller : goal.write_outcome-requires-clause-caller
 write_outcome-requires-clause-caller c = subst (λ (e : Entry). IsLawfulCaller e.caller) (sym c.next_entry-entry.ensures) c.requires.caller
@@ -15,8 +15,8 @@ pub write_outcome-requires-clause-write : goal.write_outcome-requires-clause-wri
 write_outcome-requires-clause-write c =
     subst (λ (e : Entry). IsLawfulWrite e.write) (sym c.next_entry-entry.ensures) (subst (λ (k : Command). HasReadTrees k) c.in-Write.is c.requires.command)
 
-pub write_outcome-requires-clause-judged : goal.write_outcome-requires-clause-judged
-write_outcome-requires-clause-judged c = tt
+pub write_outcome-requires-clause-written : goal.write_outcome-requires-clause-written
+write_outcome-requires-clause-written c = tt
 
 pub returns-in-Write : goal.returns-in-Write
 returns-in-Write c =
