@@ -37,7 +37,7 @@ use Rattle.lrs_replies.specs.declared.answered.Refusal.{Refusal}
 use Rattle.lrs_replies.specs.declared.answered.Refusal.TheVariants.{Conflict}
 use Rattle.xapi_alike.specs.Same.{same}
 use Rattle.xapi_index.specs.Batches.{WithId, given_ids, supply_behind, with_ids}
-use Rattle.xapi_index.specs.Statements.{held_under}
+use Rattle.xapi_statement.specs.Statements.{held_under}
 use Rattle.xapi_rules.specs.Rules.{broken_rule, is_voiding}
 use Rattle.xapi_statement.specs.Statement.{is_too_long, own_id}
 use Rattle.xapi_statement.specs.Stored.{StoredStatement}

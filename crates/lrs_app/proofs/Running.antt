@@ -15,7 +15,7 @@ use Rattle.lrs_disk.specs.declared.streams.Source as sources
 use Rattle.lrs_names.specs.declared.draw.Draw.{Draw}
 use Rattle.lrs_record.specs.declared.entry.Entry.{Entry}
 use Rattle.lrs_hall.specs.Draws.{Draws, draw_at, start_of}
-use Rattle.lrs_hall.specs.Serving.{AddsReadings}
+use Rattle.lrs_hall.specs.Serving.{AddsReadings, tide_at}
 use Rattle.lrs_command_line.specs.CommandLine.{CommandLine, init, intake, serve, load, IsInRange, IsNumberIn, base_of, seed_of, workers_of}
 use Rattle.lrs_command_line.specs.Shapes.{Denotes}
 use Rattle.lrs_command_line.specs.declared.words.ProgramCommand.{ProgramCommand}
@@ -23,6 +23,7 @@ use Rattle.lrs_command_line.specs.declared.words.ProgramCommand.TheVariants as w
 use Rattle.lrs_console.specs.declared.ending.Ending.{Ending}
 use Rattle.lrs_hall.specs.LrsFoldOwn.{founding_entry}
 use Rattle.lrs_parts.specs.Founding.{IsBase, IsToken}
+use Rattle.lrs_turn.specs.declared.turns.TheConstants.{MOST_PASSES}
 use Rattle.lrs_journal.specs.Store.{IsLimit}
 use Rattle.lrs_journal.specs.declared.sizes.TheConstants.{LEAST_BYTES, MOST_BYTES}
 use Rattle.lrs_hall.specs.Talks.{Talk}
@@ -83,12 +84,12 @@ module _ {D : Type 0} (d : disks.Ghosts D) (disk : D) (taken : Taken) (n : ℕ) 
 
   pub serve_leaves : (old : D) (address : List ℕ) (workers connections : ℕ) (seed : List ℕ) (before after : Doors) (talks : List (List Talk)) → taken_now d old ≡ taken
       → ServesDisk d (taken_now d old) disk address workers connections seed before after talks n end → HasEndingCause (d.fault_count old) (d.fault_count disk) 0 0 end
-      → CountsOn (d.fault_count old) talks (d.fault_count disk)
-      → HasEndingCause taken.tide.faults (d.fault_count disk) 0 0 end × CountsOn taken.tide.faults talks (d.fault_count disk)
+      → CountsOn (tide_at d.fault_count d.time old) talks (tide_at d.fault_count d.time disk)
+      → HasEndingCause taken.tide.faults (d.fault_count disk) 0 0 end × CountsOn taken.tide talks (tide_at d.fault_count d.time disk)
       × ServesDisk d taken disk address workers connections seed before after talks n end
   serve_leaves old address workers connections seed before after talks same serves cause counts = (
     subst (λ (t : Taken). HasEndingCause t.tide.faults (d.fault_count disk) 0 0 end) same cause,
-    subst (λ (t : Taken). CountsOn t.tide.faults talks (d.fault_count disk)) same counts,
+    subst (λ (t : Taken). CountsOn t.tide talks (tide_at d.fault_count d.time disk)) same counts,
     subst (λ (t : Taken). ServesDisk d t disk address workers connections seed before after talks n end) same serves,
   )
 
@@ -296,13 +297,13 @@ meant_init read file admin base limit is_read meant = ranged meant.0 meant.1 (su
   )
 
 -- the number of workers of a line that is meant is in its range
-pub meant_workers : (read : ProgramCommand) (file address : List ℕ) (workers connections : ℕ) → read ≡ words.Serve file address workers connections → DenotesInRange read → (1 ≤ workers) × (workers ≤ 16)
+pub meant_workers : (read : ProgramCommand) (file address : List ℕ) (workers connections : ℕ) → read ≡ words.Serve file address workers connections → DenotesInRange read → (1 ≤ workers) × (workers ≤ MOST_PASSES)
 meant_workers read file address workers connections is_read meant = ranged meant.0 meant.1 (subst (λ (r : ProgramCommand). Denotes r meant.0) is_read meant.2) where
-  ranged : (c : CommandLine) → IsInRange c → Denotes (words.Serve file address workers connections) c → (1 ≤ workers) × (workers ≤ 16)
+  ranged : (c : CommandLine) → IsInRange c → Denotes (words.Serve file address workers connections) c → (1 ≤ workers) × (workers ≤ MOST_PASSES)
   ranged (intake name) range means = absurd means
   ranged (init w) range means = absurd means
   ranged (load w) range means = absurd means
-  ranged (serve w) range means = (subst (λ (n : ℕ). 1 ≤ n) (sym means.2) range.workers.least, subst (λ (n : ℕ). n ≤ 16) (sym means.2) range.workers.most)
+  ranged (serve w) range means = (subst (λ (n : ℕ). 1 ≤ n) (sym means.2) range.workers.least, subst (λ (n : ℕ). n ≤ MOST_PASSES) (sym means.2) range.workers.most)
 
 -- the same of intake
 pub does_intake : {D : Type 0} (d : disks.Ghosts D) (c : CommandLine) (read : ProgramCommand) (file : List ℕ) (seed : List ℕ) (before after : Outside) (o : program.Ended D)

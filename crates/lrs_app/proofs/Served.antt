@@ -15,7 +15,7 @@ use Rattle.lrs_hall.specs.LrsMachineActs.{Receipt}
 use Rattle.lrs_hall.specs.LrsMachineDesk.{Desk, HoldsPrefix, IsStoreOf, KeepsLine, LeavesStore, OpensOnly, history}
 use Rattle.lrs_hall.specs.LrsMachineLine.{Record, entries, in_doubt, opened_line, sure}
 use Rattle.lrs_hall.specs.Laws.{IsKept}
-use Rattle.lrs_hall.specs.Serving.{AreCounted, AreWithin, EndsServing, Tide, all_receipts, tide_at}
+use Rattle.lrs_hall.specs.Serving.{AreWithin, EndsServing, Tide, all_receipts, tide_at}
 use Rattle.lrs_hall.specs.Talks.{Talk}
 use Rattle.lrs_hall.specs.Workers.{AreStints, ServesDoors, ServesNone, Stint, end_of, end_with}
 use Rattle.lrs_hall.specs.declared.serving.ServeEnd.{ServeEnd}
@@ -189,11 +189,11 @@ module _ {D : Type 0} (d : disks.Ghosts D) (counts_now : (x : D) (t : ℕ) (c : 
 
   -- the store failed at the closing
   pub failed : in_doubt mid.line ≡ true → ForSome (d.told mid.disk) (λ _. LeavesStore d.told disk mid.limit true (history mid))
-      → AllByRecursion (λ (of_one : List Talk). AreCounted (d.fault_count desk.disk) (d.fault_count mid.disk) (all_receipts of_one)) talks → Rises (d.fault_count mid.disk) (d.fault_count disk)
+      → Rises (d.fault_count mid.disk) (d.fault_count disk)
       → ServesDesk (tide_at d.fault_count d.time) desk mid address workers connections seed before after talks end
       → ServesOpened d desk disk address workers connections seed before after talks n ending.DiskFault
   unfolding served_with
-  failed doubt holds counts rises serves = ⊎_elim (λ none. absurd (idle none.2)) (λ had. ⊎_elim
+  failed doubt holds rises serves = ⊎_elim (λ none. absurd (idle none.2)) (λ had. ⊎_elim
       (λ doors. (
         (λ e. cc),
         inr (inr (record {
@@ -201,7 +201,7 @@ module _ {D : Type 0} (d : disks.Ghosts D) (counts_now : (x : D) (t : ℕ) (c : 
           closings = had.closings;
           doors = had.doors;
           why = had.why;
-          ended = inr (refl, behind_all (d.fault_count desk.disk) talks (d.fault_count mid.disk) (d.fault_count disk) counts rises);
+          ended = inr (refl, behind_all (tide_at d.fault_count d.time desk.disk) (tide_at d.fault_count d.time mid.disk) (receipts_of_all talks) (d.fault_count disk) within rises);
           served = served_with had.openings had.closings had.why ending.DiskFault doors (λ is. doubt)
               (λ told is. (doubt, subst (λ (l : ℕ). HoldsIn true (d.told disk) l (history mid)) on.limit (holds told is))) (λ well. absurd (well refl));
           begins = entries_begin desk.line mid.line on.begins;

@@ -21,7 +21,7 @@ use Rattle.lrs_hall.specs.LrsMachineLine.{BeginsWith, Record, entries, in_doubt,
 use Rattle.lrs_machine.specs.Origin.{ComesFrom, IsOfOrigin}
 use Rattle.lrs_hall.specs.LrsMachineOpeningDeskRefused.{DeskRefused}
 use Rattle.lrs_hall.specs.LrsMachineOpeningDeskRefusedTheVariants as refused
-use Rattle.lrs_hall.specs.Serving.{AreCounted, AreWithin, Tide, all_receipts, tide_at}
+use Rattle.lrs_hall.specs.Serving.{AreWithin, IsNotBelow, IsWithin, Tide, all_receipts, tide_at}
 use Rattle.lrs_hall.specs.Talks.{Talk}
 use Rattle.lrs_hall.specs.Workers.{HasSameOpening, ServesAll, ServesDoors}
 use Rattle.lrs_hall.specs.declared.serving.ServeEnd.{ServeEnd}
@@ -55,26 +55,12 @@ rises_from : (a b now : ℕ) → a ≤ b → Rises b now → Rises a now
 rises_from a b now less rises = ⊎_elim (λ h. inl (omega (arith, less, h))) (λ h. inr h) rises
 
 -- a count that rises after the acts rises after what each told
-behind : (before : ℕ) (receipts : List Receipt) (end now : ℕ) → AreCounted before end receipts → Rises end now → RoseSince receipts now
-behind before [] end now counts rises = tt
-behind before (r ∷ receipts) end now counts rises = ((λ acted. rises_from r.is end now (counts.0 acted).is rises), behind _ receipts end now counts.1 rises)
-
-pub behind_all : (before : ℕ) (talks : List (List Talk)) (end now : ℕ) → AllByRecursion (λ (of_one : List Talk). AreCounted before end (all_receipts of_one)) talks → Rises end now
-    → RoseSince (receipts_of_all talks) now
-behind_all before [] end now counts rises = tt
-behind_all before (of_one ∷ talks) end now counts rises =
-    all_append (λ (receipt : Receipt). receipt.acted ≡ true → Rises receipt.is now) (all_receipts of_one) (receipts_of_all talks)
-    (behind before (all_receipts of_one) end now counts.0 rises) (behind_all before talks end now counts.1 rises)
+pub behind_all : (begins last : Tide) (receipts : List Receipt) (now : ℕ) → AreWithin begins last receipts → Rises last.faults now → RoseSince receipts now
+behind_all begins last [] now within rises = tt
+behind_all begins last (r ∷ receipts) now within rises = ((λ acted. rises_from r.is last.faults now (within.0 acted).is rises), behind_all begins last receipts now within.1 rises)
 
 pub rises_later : (before end now : ℕ) → before ≤ end → Rises end now → Rises before now
 rises_later before end now low rises = rises_from before end now low rises
-
-pub none_counted : (begins last : ℕ) (talks : List (List Talk)) → talks ≡ [] → AllByRecursion (λ (of_one : List Talk). AreCounted begins last (all_receipts of_one)) talks
-none_counted begins last talks silent = subst (λ (t : List (List Talk)). AllByRecursion (λ (of_one : List Talk). AreCounted begins last (all_receipts of_one)) t) (sym silent) tt
-
--- without a talk the count only has not to fall
-pub counts_none : (begins now : ℕ) (talks : List (List Talk)) → talks ≡ [] → begins ≤ now → CountsOn begins talks now
-counts_none begins now talks silent more = (begins, none_counted begins begins talks silent, omega arith, more)
 
 -- ---- causes of endings
 
@@ -151,12 +137,31 @@ within_wider a b x y (r ∷ receipts) f m g n all = (
       let ended = w.ended in
       record {
         was = omega (arith, f, was);
+        rise = w.rise;
         is = omega (arith, g, is);
+        told = w.told;
         began = omega (arith, m, began);
         ended = omega (arith, n, ended);
       },
   within_wider a b x y receipts f m g n all.1,
 )
+
+-- without a talk the tide only has not to fall
+pub counts_none : (begins now : Tide) (talks : List (List Talk)) → talks ≡ [] → IsNotBelow begins now → CountsOn begins talks now
+counts_none begins now talks silent more =
+    (begins, of_none (λ (receipt : Receipt). receipt.acted ≡ true → IsWithin begins begins receipt) talks silent, (omega arith, omega arith), more)
+
+-- the same from an earlier tide on
+pub counts_since : (first begins now : Tide) (talks : List (List Talk)) → IsNotBelow first begins → CountsOn begins talks now → CountsOn first talks now
+counts_since first begins now talks since counts =
+    let last = counts.0 in
+    let f = since.0 in
+    let m = since.1 in
+    let g = counts.2.0 in
+    let n = counts.2.1 in
+    let same : last.faults ≤ last.faults = omega arith in
+    let still : last.moment ≤ last.moment = omega arith in
+    (last, within_wider begins last first last (receipts_of_all talks) f m same still counts.1, (omega (arith, f, g), omega (arith, m, n)), counts.3)
 
 -- ---- the desk goes on, whoever acted
 

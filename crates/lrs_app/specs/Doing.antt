@@ -8,7 +8,7 @@ use Rattle.lrs_names.specs.declared.draw.Draw.{Draw}
 use Rattle.lrs_record.specs.declared.entry.Entry.{Entry}
 use Rattle.lrs_app.specs.Disks.{taken_now}
 use Rattle.lrs_hall.specs.Draws.{Draws}
-use Rattle.lrs_hall.specs.Serving.{AddsReadings}
+use Rattle.lrs_hall.specs.Serving.{AddsReadings, tide_at}
 use Rattle.lrs_app.specs.Run.{HasEndingCause, InitOnDisk, IntakeEnds, LoadEnds, ServesDisk}
 use Rattle.lrs_app.specs.Service.{CountsOn, doors, responses_of}
 use Rattle.lrs_app.specs.declared.program.Done as program
@@ -63,7 +63,7 @@ ServeDoes {D} d b (Ok taken) address workers connections seed lobby lobby_now do
     × (done.disk ≡ Some disk)
     × (done.report.responses ≡ responses_of done.report.talks)
     × HasEndingCause (d.fault_count taken) (d.fault_count disk) 0 0 done.ending
-    × CountsOn (d.fault_count taken) done.report.talks (d.fault_count disk)
+    × CountsOn (tide_at d.fault_count d.time taken) done.report.talks (tide_at d.fault_count d.time disk)
     × ServesDisk d (taken_now d taken) disk address workers connections seed (doors b lobby) (doors b lobby_now)
     done.report.talks done.report.length done.ending
 ServeDoes d b (Err failed) address workers connections seed lobby lobby_now done =

@@ -18,7 +18,7 @@ use Rattle.lrs_hall.specs.LrsFoldOwn.{founding_entry}
 use Rattle.lrs_hall.specs.LrsMachineDesk.{IsStoreOf}
 use Rattle.lrs_generator.specs.Generated.{batch_count}
 use Rattle.lrs_hall.specs.Draws.{Draws, draw_at, start_of}
-use Rattle.lrs_hall.specs.Serving.{AddsReadings}
+use Rattle.lrs_hall.specs.Serving.{AddsReadings, tide_at}
 use Rattle.lrs_hall.specs.Talks.{Talk}
 use Rattle.lrs_hall.specs.declared.serving.ServeEnd.{ServeEnd}
 use Rattle.lrs_app.specs.Disks.{AnyStopLeaves, Holds, LeavesFinal, LeavesLoaded, LeavesUnopened, StopNowLeaves}
@@ -306,7 +306,7 @@ ServeLeaves d file address workers connections seed before after None talks n en
     HasNoDisk before after n end × SparesDoors before after × (talks ≡ [])
 ServeLeaves d file address workers connections seed before after (Some disk) talks n end =
     HasEndingCause (before.begins file) (d.fault_count disk) 0 0 end
-    × CountsOn (before.begins file) talks (d.fault_count disk)
+    × CountsOn (taken_from before file).tide talks (tide_at d.fault_count d.time disk)
     × ServesDisk d (taken_from before file) disk address workers connections seed before.lobby after.lobby talks n end
 
 -- ---- the headline

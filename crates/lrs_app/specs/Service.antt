@@ -1,6 +1,6 @@
 -- What serve does: it asks for doors of the address, serves their connections by one worker each, and gives the doors
 -- back.
-use Rattle.std.specs.Prelude.{◌≡◌, ◌≢◌, ◌⊎◌, ◌<◌, ◌≤◌, ◌++◌, ◌∷◌, [], ◌-◌, ◌^◌, ℕ, min, List, Option, option_map}
+use Rattle.std.specs.Prelude.{◌≡◌, ◌≢◌, ◌⊎◌, ◌++◌, ◌∷◌, [], ◌-◌, ◌^◌, ℕ, min, List, Option, option_map}
 use Rattle.std.specs.Prelude.{length, Bool, true}
 use Rattle.std.specs.List.{AllByRecursion}
 use Rattle.std.specs.Option.{ForSome}
@@ -17,7 +17,7 @@ use Rattle.lrs_hall.specs.LrsMachineLine.{Record, entries, in_doubt, opened_line
 use Rattle.lrs_hall.specs.Acts.{ActsNext}
 use Rattle.lrs_hall.specs.Draws.{start_of}
 use Rattle.lrs_hall.specs.Laws.{IsKept}
-use Rattle.lrs_hall.specs.Serving.{AreCounted, AreOnLinks, AreWithin, IsNotBelow, Tide, all_receipts, tide_at, worker_at}
+use Rattle.lrs_hall.specs.Serving.{AreOnLinks, AreWithin, IsNotBelow, Tide, all_receipts, tide_at, worker_at}
 use Rattle.lrs_hall.specs.Talks.{Talk}
 use Rattle.lrs_hall.specs.Workers.{AreStints, ServesDoors, Stint}
 use Rattle.lrs_hall.specs.declared.serving.ServeEnd.{ServeEnd}
@@ -77,12 +77,11 @@ ending_of_serving serve.Done talks = ending.Served (responses_of talks)
 ending_of_serving serve.DoorFault talks = ending.LobbyFault
 ending_of_serving serve.Memory talks = ending.Memory
 
--- The disk's count of faults from its taking to its return: what the acts of each worker told of it lies between, and
--- the closing ends no lower. So a fault that an act tells is one of this disk's.
-abbrev pub CountsOn : ℕ → List (List Talk) → ℕ → Type 0
-CountsOn begins talks now = (last : ℕ)
-    × AllByRecursion (λ (of_one : List Talk). AreCounted begins last (all_receipts of_one)) talks
-    × (begins ≤ last) × (last ≤ now)
+-- The disk's tide from its taking to its return: what the acts of all workers told of the disk lies between, and the
+-- closing ends no lower. So a fault that an act tells is one of this disk's.
+abbrev pub CountsOn : Tide → List (List Talk) → Tide → Type 0
+CountsOn begins talks now = (last : Tide) × AreWithin begins last (receipts_of_all talks) × IsNotBelow begins last
+    × IsNotBelow last now
 
 -- the count of the disk's faults rose after each act
 abbrev pub RoseSince : List Receipt → ℕ → Type 0

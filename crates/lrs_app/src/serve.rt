@@ -1,7 +1,6 @@
 // The connections of doors, served over a store by one worker each.
 ghost use Rattle.std.specs.Prelude.{◌≡◌, ◌≤◌, ◌-◌, ◌^◌, length, min};
-ghost use Rattle.std.specs.List.{AllByRecursion};
-ghost use Rattle.lrs_hall.specs.Serving.{AreCounted, AreWithin, all_receipts, tide_at};
+ghost use Rattle.lrs_hall.specs.Serving.{AreWithin, all_receipts, tide_at};
 ghost use Rattle.lrs_journal.specs.Journal.{IsSynced};
 ghost use Rattle.lrs_hall.specs.LrsMachineDesk.{history};
 ghost use Rattle.lrs_app.specs.Disks.{taken_now};
@@ -82,8 +81,6 @@ where
     ensures served { ServesDesk (tide_at D.fault_count D.time) desk result.0 address.now workers connections seed
         (doors B.Lobby lobby.old)
         (doors B.Lobby lobby.new) result.1 result.2 }
-    ensures counts { AllByRecursion (λ of_one. AreCounted (D.fault_count desk.disk) (D.fault_count result.0.disk)
-        (all_receipts of_one)) result.1 }
     ensures later { D.fault_count desk.disk ≤ D.fault_count result.0.disk }
     ensures within { AreWithin (tide_at D.fault_count D.time desk.disk) (tide_at D.fault_count D.time result.0.disk)
         (receipts_of_all result.1) }
@@ -133,7 +130,8 @@ where
         (doors B.Lobby lobby.new)
         result.talks result.length result.ending }
     ensures cause { HasEndingCause (D.fault_count desk.disk) (D.fault_count result.disk) 0 0 result.ending }
-    ensures counts { CountsOn (D.fault_count desk.disk) result.talks (D.fault_count result.disk) }
+    ensures counts { CountsOn (tide_at D.fault_count D.time desk.disk) result.talks
+        (tide_at D.fault_count D.time result.disk) }
     ensures readings { B.readings lobby.new ≡ B.readings lobby.old }
 {
     let (desk, talks, ending) = serve_desk(
@@ -183,7 +181,8 @@ where
         (doors B.Lobby lobby.new)
         result.talks result.length result.ending }
     ensures cause { HasEndingCause (D.fault_count disk) (D.fault_count result.disk) 0 0 result.ending }
-    ensures counts { CountsOn (D.fault_count disk) result.talks (D.fault_count result.disk) }
+    ensures counts { CountsOn (tide_at D.fault_count D.time disk) result.talks
+        (tide_at D.fault_count D.time result.disk) }
     ensures readings { B.readings lobby.new ≡ B.readings lobby.old }
 {
     match Desk::recover(alloc, disk) {

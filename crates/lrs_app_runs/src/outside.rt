@@ -1,11 +1,12 @@
 //! Runs over the outside in memory.
 ghost use Rattle.std.specs.Prelude.{All, IfOk};
-ghost use Rattle.lrs_in_memory.specs.MemDoor.{IsUntouched};
-ghost use Rattle.lrs_in_memory.specs.MemLink.{IsUnused};
+ghost use Rattle.lrs_in_memory_doors.specs.MemDoor.{IsUntouched};
+ghost use Rattle.lrs_in_memory_doors.specs.MemLink.{IsUnused};
 
 use lrs_app::lrs_hall::Talk;
 use lrs_app::{Ended, Report, run};
-use lrs_in_memory::{MemDisk, MemDoor, MemLink, MemLobby, MemShelf, MemSink, MemSource};
+use lrs_in_memory::{MemDisk, MemShelf};
+use lrs_in_memory_doors::{MemDoor, MemLink, MemLobby, MemSink, MemSource};
 use lrs_json::{Items, Text};
 use std::alloc::Global;
 use std::sync::Wait;

@@ -2,7 +2,7 @@
 use lrs_app::run;
 use lrs_app_runs::{STATEMENT, words_of, wrong_at};
 use lrs_edge::{FileShelf, StdSource, TcpLobby};
-use lrs_in_memory::MemSink;
+use lrs_in_memory_doors::MemSink;
 use lrs_json::Text;
 use std::alloc::Global;
 use std::sync::Wait;

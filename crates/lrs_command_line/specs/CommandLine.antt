@@ -14,8 +14,9 @@ use Rattle.clap.specs.Faults.{fault_of}
 use Rattle.lrs_json.specs.Names.{is_among}
 use Rattle.lrs_state.specs.Founding.{IsToken, IsBase}
 use Rattle.lrs_journal.specs.declared.sizes.TheConstants.{LEAST_BYTES, MOST_BYTES}
+use Rattle.lrs_turn.specs.declared.turns.TheConstants.{MOST_PASSES}
 use Rattle.lrs_command_line.specs.declared.words.TheConstants.{DEFAULT_BASE, DEFAULT_LIMIT, MOST_CONNECTIONS}
-use Rattle.lrs_command_line.specs.declared.words.TheConstants.{MOST_DIGITS, MOST_STATEMENTS, MOST_WORKERS}
+use Rattle.lrs_command_line.specs.declared.words.TheConstants.{MOST_DIGITS, MOST_STATEMENTS}
 
 -- ---- plain lines
 
@@ -206,7 +207,7 @@ pub record IsInitInRange (w : InitWords) : Type 0 where
   pub limit : IfSome w.limit IsLimit
 
 pub record IsServeInRange (w : ServeWords) : Type 0 where
-  pub workers : IsNumberIn 1 MOST_WORKERS w.workers
+  pub workers : IsNumberIn 1 MOST_PASSES w.workers
   pub connections : IsNumberIn 1 MOST_CONNECTIONS w.connections
 
 abbrev pub workers_of : ServeWords → ℕ

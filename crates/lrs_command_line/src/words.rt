@@ -15,6 +15,7 @@ use crate::words::taken::read_taken;
 use lrs_journal::{LEAST_BYTES, MOST_BYTES};
 use lrs_json::{Memory, Text};
 use lrs_state::{is_base, is_token};
+use lrs_turn::MOST_PASSES;
 use std::alloc::Global;
 
 /// The base address of a store whose words name none.
@@ -25,9 +26,6 @@ const DEFAULT_LIMIT: u64 = 268_435_456;
 
 /// How many digits a number may have.
 const MOST_DIGITS: usize = 20;
-
-/// How many workers may serve.
-const MOST_WORKERS: u64 = 16;
 
 /// How many connections a worker may be asked to serve.
 const MOST_CONNECTIONS: u64 = 10_000;
@@ -203,7 +201,7 @@ fn test_serve(
     } in
         MatchOption found (IsServeInRange w → ⊥) (λ words. IsServeInRange w × Denotes words (serve w))) }
 {
-    let Some(workers) = read_number(workers, 1, MOST_WORKERS) else {
+    let Some(workers) = read_number(workers, 1, MOST_PASSES as u64) else {
         return Ok(None);
     };
     match read_number(connections, 1, MOST_CONNECTIONS) {

@@ -12,7 +12,7 @@ use Rattle.lrs_hall.specs.Conversation.{ActOn, Worker}
 use Rattle.lrs_hall.specs.Serving.{AreOnLinks, Brought, EndsServing, IsWholeTalk, IsOnLink, is_fault, BringsOne}
 use Rattle.lrs_hall.specs.declared.serving.ServeEnd.{ServeEnd}
 use Rattle.lrs_hall.specs.declared.serving.ServeEnd.TheVariants as serve
-use Rattle.lrs_hall.specs.Steps.{HasFinishCause, PassesOne, Served}
+use Rattle.lrs_hall.specs.Steps.{HasFinishCause, OneComesThrough, Served}
 use Rattle.lrs_hall.specs.Talks.{Talk}
 
 taken_all : (before now : Option (List ℕ)) (out : List ℕ) → IfSome before (λ bytes. bytes ≡ []) → now ≡ option_map (λ bytes. bytes ++ out) before → IfSome now (λ bytes. bytes ≡ out)
@@ -85,19 +85,19 @@ served_none acts start before talks none out = record {
 }
 
 pub served_one : {X : Type 0} (acts : ActOn X) (start now new : Worker X) (before behind later : DoorState) (talks : List Talk) (talk : Talk) (link : Returned) (all : List Talk)
-    → ServedSoFar acts start now before behind talks → IsOnLink acts talk link now new → PassesOne behind later link → all ≡ talks ++ talk ∷ [] → ServedSoFar acts start new before later all
-served_one acts start now new before behind later talks talk link all so on_links passes is = record {
+    → ServedSoFar acts start now before behind talks → IsOnLink acts talk link now new → OneComesThrough behind later link → all ≡ talks ++ talk ∷ [] → ServedSoFar acts start new before later all
+served_one acts start now new before behind later talks talk link all so on_links through is = record {
   links = so.links ++ link ∷ [];
   on_links = λ more others end more_over.
       subst (λ ts. AreOnLinks acts (ts ++ more) ((so.links ++ link ∷ []) ++ others) start end) (sym is)
       (subst (λ ts. AreOnLinks acts ts ((so.links ++ link ∷ []) ++ others) start end) (sym (append_assoc talks (talk ∷ []) more))
       (subst (λ ls. AreOnLinks acts (talks ++ talk ∷ more) ls start end) (sym (append_assoc so.links (link ∷ []) others))
       (so.on_links (talk ∷ more) (link ∷ others) end (new, on_links, more_over))));
-  out = passes.out;
-  returned = passes.returned ∙ ap (option_map (λ (so_far : List Returned). so_far ++ link ∷ [])) so.returned ∙ map_two before.returned so.links (link ∷ []);
+  out = through.out;
+  returned = through.returned ∙ ap (option_map (λ (so_far : List Returned). so_far ++ link ∷ [])) so.returned ∙ map_two before.returned so.links (link ∷ []);
   streams = λ others last brought.
-      subst (λ ls. Brought before.streams ls last) (sym (append_assoc so.links (link ∷ []) others)) (so.streams (link ∷ others) last (later.streams, passes.streams, brought));
-  faults = passes.faults ∙ so.faults;
+      subst (λ ls. Brought before.streams ls last) (sym (append_assoc so.links (link ∷ []) others)) (so.streams (link ∷ others) last (later.streams, through.streams, brought));
+  faults = through.faults ∙ so.faults;
 }
 
 -- serving ends after the talks so far, where the door and the worker are as they were
@@ -110,7 +110,7 @@ served_so acts connections start now new before behind later talks all end so sa
       links = so.links;
       on_links = subst (λ ts. AreOnLinks acts ts so.links start new) (append-nil talks ∙ sym is)
           (subst (λ ls. AreOnLinks acts (talks ++ []) ls start new) (append-nil so.links) (subst (λ w. AreOnLinks acts (talks ++ []) (so.links ++ []) start w) (sym same) on_links));
-      passes = record {
+      through = record {
         out = out;
         returned = returned ∙ so.returned;
         streams = subst (λ ls. Brought before.streams ls later.streams) (append-nil so.links) (so.streams [] later.streams streams);

@@ -7,25 +7,25 @@ use Rattle.lrs_hall.specs.Talks.{Talk}
 use Rattle.lrs_hall.specs.Workers.{end_of, end_with}
 use Rattle.lrs_hall.specs.declared.serving.ServeEnd.{ServeEnd}
 use Rattle.lrs_hall.specs.declared.serving.ServeEnd.TheVariants as serve
-use Rattle.lrs_hall.specs.declared.workers.Seat as held
-use Rattle.lrs_hall.proofs.Seated.{all_done, backwards_length, comes_over, end_more, moved_left}
+use Rattle.lrs_hall.specs.declared.workers.DoorWorker.{DoorWorker}
+use Rattle.lrs_hall.proofs.AtDoors.{all_done, backwards_length, comes_over, end_more, moved_left}
 
 -- These workers are left of all, and what the others had was taken.
-pub record GatheredSoFar {O : Type 0} (all left : List (held.Seat O)) (passes : List (Pass Record)) (doors : List O) (talks : List (List Talk)) (end : ServeEnd) : Type 0 where
-  pub done : List (held.Seat O)
+pub record GatheredSoFar {O : Type 0} (all left : List (DoorWorker O)) (passes : List (Pass Record)) (doors : List O) (talks : List (List Talk)) (end : ServeEnd) : Type 0 where
+  pub done : List (DoorWorker O)
   pub of_all : all ≡ left ++ done
   pub passes_are : passes ≡ backwards pass_held done
   pub doors_are : doors ≡ backwards door_held done
   pub talks_are : talks ≡ backwards talks_held done
   pub ended : end ≡ end_of (backwards end_held done)
 
-module _ {O : Type 0} (all : List (held.Seat O)) where
-  pub gathered_none : (left : List (held.Seat O)) (passes : List (Pass Record)) (doors : List O) (talks : List (List Talk)) → left ≡ all → passes ≡ [] → doors ≡ [] → talks ≡ []
+module _ {O : Type 0} (all : List (DoorWorker O)) where
+  pub gathered_none : (left : List (DoorWorker O)) (passes : List (Pass Record)) (doors : List O) (talks : List (List Talk)) → left ≡ all → passes ≡ [] → doors ≡ [] → talks ≡ []
       → GatheredSoFar all left passes doors talks serve.Done
   gathered_none left passes doors talks is no_pass no_door no_talk =
       record { done = []; of_all = sym (append-nil left ∙ is); passes_are = no_pass; doors_are = no_door; talks_are = no_talk; ended = refl }
 
-  pub gathered_more : (before left : List (held.Seat O)) (w : held.Seat O) (passes more_passes : List (Pass Record)) (doors more_doors : List O) (talks more_talks : List (List Talk)) (end last : ServeEnd)
+  pub gathered_more : (before left : List (DoorWorker O)) (w : DoorWorker O) (passes more_passes : List (Pass Record)) (doors more_doors : List O) (talks more_talks : List (List Talk)) (end last : ServeEnd)
       → GatheredSoFar all before passes doors talks end → before ≡ left ++ w ∷ [] → more_passes ≡ passes ++ w.pass ∷ [] → more_doors ≡ doors ++ w.door ∷ [] → more_talks ≡ talks ++ w.talks ∷ []
       → last ≡ end_with end w.end → GatheredSoFar all left more_passes more_doors more_talks last
   gathered_more before left w passes more_passes doors more_doors talks more_talks end last so popped pass door talk is = record {
@@ -38,7 +38,7 @@ module _ {O : Type 0} (all : List (held.Seat O)) where
   }
 
   -- so many were taken
-  pub gathered_count : (left : List (held.Seat O)) (passes : List (Pass Record)) (doors : List O) (talks : List (List Talk)) (end : ServeEnd) → GatheredSoFar all left passes doors talks end
+  pub gathered_count : (left : List (DoorWorker O)) (passes : List (Pass Record)) (doors : List O) (talks : List (List Talk)) (end : ServeEnd) → GatheredSoFar all left passes doors talks end
       → (length left + length passes ≡ length all) × (length left + length doors ≡ length all) × (length left + length talks ≡ length all)
   gathered_count left passes doors talks end so =
       let len : length all ≡ length left + length so.done = ap length so.of_all ∙ length-append left so.done in
@@ -48,12 +48,12 @@ module _ {O : Type 0} (all : List (held.Seat O)) where
       (omega (arith, len, p), omega (arith, len, d), omega (arith, len, t))
 
   -- none is left
-  pub gathered_all : (left : List (held.Seat O)) (passes : List (Pass Record)) (doors : List O) (talks : List (List Talk)) (end : ServeEnd) → GatheredSoFar all left passes doors talks end → length left ≡ 0
+  pub gathered_all : (left : List (DoorWorker O)) (passes : List (Pass Record)) (doors : List O) (talks : List (List Talk)) (end : ServeEnd) → GatheredSoFar all left passes doors talks end → length left ≡ 0
       → (passes ≡ backwards pass_held all) × (doors ≡ backwards door_held all) × (talks ≡ backwards talks_held all) × (end ≡ end_of (backwards end_held all))
   gathered_all left passes doors talks end so none =
       let done : so.done ≡ all = sym (all_done left so.done all so.of_all none) in (
         so.passes_are ∙ ap (backwards pass_held) done,
         so.doors_are ∙ ap (backwards door_held) done,
         so.talks_are ∙ ap (backwards talks_held) done,
-        so.ended ∙ ap (λ (ws : List (held.Seat O)). end_of (backwards end_held ws)) done,
+        so.ended ∙ ap (λ (ws : List (DoorWorker O)). end_of (backwards end_held ws)) done,
       )

@@ -14,6 +14,6 @@ pub mod Tides
 pub mod Once
 pub mod Doors
 pub mod OneStream
-pub mod Seated
+pub mod AtDoors
 pub mod Gathered
 pub mod AllServed

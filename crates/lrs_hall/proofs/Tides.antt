@@ -12,7 +12,7 @@ use Rattle.lrs_replies.specs.declared.reply.Reply.{Reply}
 use Rattle.lrs_replies.specs.declared.reply.Trouble.{Trouble}
 use Rattle.lrs_replies.specs.declared.reply.Trouble.TheVariants.{Memory, Disk}
 use Rattle.lrs_hall.specs.Acts.{ActsIn, Reach, tide_behind}
-use Rattle.lrs_hall.specs.Serving.{AreCounted, AreWithin, IsNotBelow}
+use Rattle.lrs_hall.specs.Serving.{AreWithin, IsNotBelow}
 use Rattle.lrs_hall.proofs.Talking.{Carries}
 
 -- ---- one act
@@ -50,27 +50,13 @@ within_more a b x y (receipt ∷ receipts) low high all = (
       let ended = one.ended in
       record {
         was = omega (arith, from, was);
+        rise = one.rise;
         is = omega (arith, now, to);
+        told = one.told;
         began = omega (arith, start, began);
         ended = omega (arith, ended, end);
       },
   within_more a b x y receipts low high all.1,
-)
-
-pub counted_more : (low before now high : ℕ) (receipts : List Receipt) → low ≤ before → now ≤ high → AreCounted before now receipts → AreCounted low high receipts
-counted_more low before now high [] below above all = tt
-counted_more low before now high (receipt ∷ receipts) below above all = (
-  λ acted.
-      let one = all.0 acted in
-      let was = one.was in
-      let end = one.is in
-      record {
-        was = omega (arith, below, was);
-        rise = one.rise;
-        is = omega (arith, end, above);
-        told = one.told;
-      },
-  counted_more low before now high receipts below above all.1,
 )
 
 -- ---- all acts of a worker
@@ -78,7 +64,7 @@ counted_more low before now high (receipt ∷ receipts) below above all = (
 module _ (limit : ℕ) (line : List Record) where
   -- they lie between what was known before them and what is known behind them
   abbrev pub TidesIn : List Receipt → Reach → Reach → Type 0
-  TidesIn receipts old new = IsNotBelow old.tide new.tide × AreWithin old.tide new.tide receipts × AreCounted old.tide.faults new.tide.faults receipts
+  TidesIn receipts old new = IsNotBelow old.tide new.tide × AreWithin old.tide new.tide receipts
 
   module _ (caller : Caller) (command : Command) (draw : Draw) (reply : Reply) (receipt : Receipt) (old mid : Reach)
       (on : ActsIn limit line caller command draw reply receipt old mid) where
@@ -117,27 +103,24 @@ module _ (limit : ℕ) (line : List Record) where
         let still : new.tide.moment ≤ new.tide.moment = omega arith in (
           (omega (arith, low, high), omega (arith, start, end)),
           (
-            λ acted. record { was = was; is = omega (arith, count, high); began = began; ended = omega (arith, moment, end) },
-            within_more mid.tide new.tide old.tide new.tide receipts tide_later (same, still) more.1,
-          ),
-          (
             λ acted. record {
               was = was;
               rise = rose;
               is = omega (arith, count, high);
               told = λ well. kept_count receipt.was receipt.is on.said reply on.says on.acts.cause (λ e. well (on.status ∙ e));
+              began = began;
+              ended = omega (arith, moment, end);
             },
-            counted_more old.tide.faults mid.tide.faults new.tide.faults new.tide.faults receipts low same more.2,
+            within_more mid.tide new.tide old.tide new.tide receipts tide_later (same, still) more.1,
           ),
         )
 
   pub tides_in : Carries (ActsIn limit line) TidesIn
   tides_in = record {
-    none = λ x. ((omega arith, omega arith), tt, tt);
+    none = λ x. ((omega arith, omega arith), tt);
     plain = λ status receipt receipts old new none more. (
       more.0,
       (λ acted. absurd (not_acted status receipt none acted), more.1),
-      (λ acted. absurd (not_acted status receipt none acted), more.2),
     );
     act = λ caller command draw reply receipt receipts old mid new on more. tides_more caller command draw reply receipt old mid on receipts new more;
   }

@@ -32,28 +32,17 @@ AddsReadings before None readings = Unit {0}
 AddsReadings None (Some now) readings = ⊥
 AddsReadings (Some before) (Some now) readings = now ≡ before ++ readings
 
--- What an act tells of its disk's count of faults lies between these two. One that rose is told by a 503.
-pub record CountsWithin (before now : ℕ) (receipt : Receipt) : Type 0 where
-  pub was : before ≤ receipt.was
-  pub rise : receipt.was ≤ receipt.is
-  pub is : receipt.is ≤ now
-  pub told : receipt.status ≢ 503 → receipt.is ≡ receipt.was
-
--- the same of a response, if it took an act
-abbrev pub IsCounted : ℕ → ℕ → Receipt → Type 0
-IsCounted before now receipt = receipt.acted ≡ true → CountsWithin before now receipt
-
-abbrev pub AreCounted : ℕ → ℕ → List Receipt → Type 0
-AreCounted before now receipts = AllByRecursion (IsCounted before now) receipts
-
 -- no lower count of faults, and no earlier moment
 abbrev pub IsNotBelow : Tide → Tide → Type 0
 IsNotBelow before now = (before.faults ≤ now.faults) × (before.moment ≤ now.moment)
 
--- What an act tells of its disk's count and moment lies between two tides.
+-- What an act tells of its disk's count of faults and of its moment lies between two tides. A count that rose is told
+-- by a 503.
 pub record IsWithin (before now : Tide) (receipt : Receipt) : Type 0 where
   pub was : before.faults ≤ receipt.was
+  pub rise : receipt.was ≤ receipt.is
   pub is : receipt.is ≤ now.faults
+  pub told : receipt.status ≢ 503 → receipt.is ≡ receipt.was
   pub began : before.moment ≤ receipt.disk
   pub ended : receipt.disk ≤ now.moment
 

@@ -34,7 +34,7 @@ use Rattle.lrs_hall.specs.declared.exchange.Exchanged.{Exchanged}
 use Rattle.lrs_hall.specs.declared.exchange.Exchanged.TheVariants.{Next, Last, Silent}
 use Rattle.lrs_hall.specs.declared.acting.Looked.{Looked}
 use Rattle.lrs_hall.specs.declared.acting.Looked.TheVariants.{LetIn, Barred}
-use Rattle.lrs_hall.specs.declared.workers.Seat as held
+use Rattle.lrs_hall.specs.declared.workers.DoorWorker.{DoorWorker}
 use Rattle.lrs_hall.specs.declared.talk.Finish.{Finish}
 use Rattle.lrs_hall.specs.declared.talk.Finish.TheVariants as finish
 
@@ -162,7 +162,7 @@ IsRefusalCause refusal before now (Last receipt f) = HasFinishCause before now f
 IsRefusalCause refusal before now (Silent f) = now ≡ before
 
 -- One link came through a door and was given back.
-pub record PassesOne (old new : DoorState) (link : Returned) : Type 0 where
+pub record OneComesThrough (old new : DoorState) (link : Returned) : Type 0 where
   pub out : new.out ≡ None
   pub returned : new.returned ≡ option_map (λ (so_far : List Returned). so_far ++ link ∷ []) old.returned
   pub streams : BringsOne link.stream old.streams new.streams
@@ -173,7 +173,7 @@ pub record Served {X : Type 0} (acts : ActOn X) (connections : ℕ) (old new : W
     (talks : List Talk) (end : ServeEnd) : Type 0 where
   pub links : List Returned
   pub on_links : AreOnLinks acts talks links old new
-  pub passes : ComesThrough before behind links
+  pub through : ComesThrough before behind links
   pub why : EndsServing connections (length talks) before behind end
 
 -- No link came through a door, and why.
@@ -186,7 +186,7 @@ pub record EndsTurn (old new : DoorState) (end : ServeEnd) : Type 0 where
 
 -- What became of a worker that served its door.
 pub record Works {O : Type 0} (state : O → DoorState) (turns : Turns) (connections : ℕ)
-    (old new : held.Seat O) : Type 0 where
+    (old new : DoorWorker O) : Type 0 where
   pub served : Served (ActsOn (limit_in old.pass.marks)) connections
       (worker old.draws old.pass (state old.door).readings) (worker new.draws new.pass (state new.door).readings)
       (state old.door) (state new.door) new.talks new.end
@@ -201,32 +201,32 @@ backwards f (a ∷ xs) = backwards f xs ++ f a ∷ []
 
 -- what a worker holds
 module _ {O : Type 0} where
-  abbrev pub pass_held : held.Seat O → Pass Record
+  abbrev pub pass_held : DoorWorker O → Pass Record
   pass_held w = w.pass
 
-  abbrev pub door_held : held.Seat O → O
+  abbrev pub door_held : DoorWorker O → O
   door_held w = w.door
 
-  abbrev pub talks_held : held.Seat O → List Talk
+  abbrev pub talks_held : DoorWorker O → List Talk
   talks_held w = w.talks
 
-  abbrev pub end_held : held.Seat O → ServeEnd
+  abbrev pub end_held : DoorWorker O → ServeEnd
   end_held w = w.end
 
   -- The workers stand in the other order. Their draws are those of the streams after this number.
-  abbrev pub AreNumbered : List ℕ → ℕ → List (held.Seat O) → Type 0
+  abbrev pub AreNumbered : List ℕ → ℕ → List (DoorWorker O) → Type 0
   AreNumbered seed n [] = Unit {0}
   AreNumbered seed n (w ∷ ws) = (w.draws ≡ start_of seed (n + length ws + 1)) × AreNumbered seed n ws
 
   -- Each worker has served its door.
-  abbrev pub WorksEach : (O → DoorState) → Turns → ℕ → List (held.Seat O) → List (held.Seat O) → Type 0
+  abbrev pub WorksEach : (O → DoorState) → Turns → ℕ → List (DoorWorker O) → List (DoorWorker O) → Type 0
   WorksEach state turns connections olds news =
-      (i : ℕ) (d : held.Seat O) → i < length olds
+      (i : ℕ) (d : DoorWorker O) → i < length olds
       → Works state turns connections (slice_index_or olds i d) (slice_index_or news i d)
 
--- Workers have taken seats: one for each door with a pass of its own, the last door's first.
-pub record Seats {O : Type 0} (passes : List (Pass Record)) (doors : List O) (seed : List ℕ)
-    (workers : List (held.Seat O)) : Type 0 where
+-- Workers stand at doors: one for each door with a pass of its own, the last door's first.
+pub record AreAtDoors {O : Type 0} (passes : List (Pass Record)) (doors : List O) (seed : List ℕ)
+    (workers : List (DoorWorker O)) : Type 0 where
   pub with_passes : backwards pass_held workers ≡ passes
   pub at_doors : backwards door_held workers ≡ doors
   pub numbered : AreNumbered seed 0 workers

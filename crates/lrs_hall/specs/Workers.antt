@@ -7,8 +7,8 @@ use Rattle.lrs_turn.specs.Lists.{times, total}
 use Rattle.lrs_hall.specs.Acts.{ActsIn, Reach}
 use Rattle.lrs_hall.specs.Draws.{Draws, start_of}
 use Rattle.lrs_hall.specs.Laws.{entries_at}
-use Rattle.lrs_hall.specs.Serving.{AddsReadings, AreOnLinks, ComesThrough, EndsServing, IsNotBelow, Tide, all_receipts}
-use Rattle.lrs_hall.specs.Serving.{clocks, worker_at}
+use Rattle.lrs_hall.specs.Serving.{AddsReadings, AreOnLinks, ComesThrough, EndsServing, IsNotBelow, Tide}
+use Rattle.lrs_hall.specs.Serving.{all_receipts, clocks, worker_at}
 use Rattle.lrs_hall.specs.Talks.{Talk}
 use Rattle.lrs_hall.specs.declared.serving.ServeEnd.{ServeEnd}
 use Rattle.lrs_hall.specs.declared.serving.ServeEnd.TheVariants as serve
@@ -30,7 +30,7 @@ pub record IsStint (limit : ℕ) (line : List Record) (opened : ℕ) (opening cl
   pub on_links : AreOnLinks (ActsIn limit line) stint.talks links (worker_at draws opened [] opening)
       (worker_at last stint.reach.records stint.reach.own stint.reach.tide)
   pub known : IsNotBelow stint.reach.tide closing
-  pub passes : ComesThrough stint.before stint.behind links
+  pub through : ComesThrough stint.before stint.behind links
   pub readings : AddsReadings stint.before.readings stint.behind.readings (clocks (all_receipts stint.talks))
   pub why : EndsServing connections (length stint.talks) stint.before stint.behind stint.end
 

@@ -2,7 +2,7 @@
 ghost use Rattle.std.specs.Prelude.{◌≡◌, ◌<◌, ◌++◌, List, ℕ, Some, IsTrue, option_map, vec_len, vec_capacity};
 ghost use Rattle.lrs_turn.specs.Passes.{IsIdle};
 ghost use Rattle.lrs_hall.specs.Acts.{ActsOn, limit_in, tide_in};
-ghost use Rattle.lrs_hall.specs.Serving.{AddsReadings, AreCounted, AreWithin, IsConversation, IsWholeTalk, KeepsPass, clocks};
+ghost use Rattle.lrs_hall.specs.Serving.{AddsReadings, AreWithin, IsConversation, IsWholeTalk, KeepsPass, clocks};
 ghost use Rattle.lrs_hall.specs.Steps.{HasFinishCause, worker};
 
 use crate::exchange::{Exchanged, exchange};
@@ -99,7 +99,6 @@ pub fn converse<R: Wait, D: Disk, O: Door>(
 
     // The pass is at rest. Its marks and its opening stay, and what it knows of the disk doesn't fall.
     ensures pass { KeepsPass turns.now pass.old pass.new }
-    ensures counts { AreCounted (tide_in pass.old.tide).faults (tide_in pass.new.tide).faults result.receipts }
     ensures within { AreWithin (tide_in pass.old.tide) (tide_in pass.new.tide) result.receipts }
     ensures cause { HasFinishCause (O.Link.fault_count link.old) (O.Link.fault_count link.new) result.finish }
 

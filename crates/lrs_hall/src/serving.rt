@@ -4,7 +4,7 @@ ghost use Rattle.lrs_disk.specs.Door.{Returned};
 ghost use Rattle.lrs_turn.specs.Passes.{IsIdle};
 ghost use Rattle.lrs_hall.specs.Acts.{ActsOn, limit_in};
 ghost use Rattle.lrs_hall.specs.Serving.{IsOnLink, KeepsPass};
-ghost use Rattle.lrs_hall.specs.Steps.{worker, EndsTurn, PassesOne, Served};
+ghost use Rattle.lrs_hall.specs.Steps.{worker, EndsTurn, OneComesThrough, Served};
 
 use crate::conversation::{has_room, hold};
 use crate::{Draws, Talk};
@@ -41,7 +41,7 @@ fn serve_one<R: Wait, D: Disk, O: Door>(
     ensures served { MatchResult result
         (λ talk. (link : Returned) × IsOnLink (ActsOn (limit_in pass.old.marks)) talk link
         (worker draws.old pass.old (O.state door.old).readings) (worker draws.new pass.new (O.state door.new).readings)
-        × PassesOne (O.state door.old) (O.state door.new) link)
+        × OneComesThrough (O.state door.old) (O.state door.new) link)
         (λ end. (worker draws.new pass.new (O.state door.new).readings
         ≡ worker draws.old pass.old (O.state door.old).readings)
         × EndsTurn (O.state door.old) (O.state door.new) end) }

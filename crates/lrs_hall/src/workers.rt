@@ -4,8 +4,9 @@ ghost use Rattle.std.specs.List.{AllByRecursion};
 ghost use Rattle.lrs_machine.specs.Desk.{IsOnDisk, marks_of, tide_of};
 ghost use Rattle.lrs_machine.specs.Origin.{IsOfOrigin};
 ghost use Rattle.lrs_turn.specs.Passes.{IsIdle, opened};
-ghost use Rattle.lrs_hall.specs.Serving.{AreCounted, AreWithin, all_receipts, tide_at};
-ghost use Rattle.lrs_hall.specs.Steps.{Seats, Works, WorksEach, backwards, door_held, end_held, pass_held, talks_held};
+ghost use Rattle.lrs_hall.specs.Serving.{AreWithin, all_receipts, tide_at};
+ghost use Rattle.lrs_hall.specs.Steps.{AreAtDoors, Works, WorksEach};
+ghost use Rattle.lrs_hall.specs.Steps.{backwards, door_held, end_held, pass_held, talks_held};
 ghost use Rattle.lrs_hall.specs.Workers.{HasSameOpening, ServesAll, ServesDoors, end_of, end_with};
 ghost use Rattle.lrs_turn.specs.declared.turns.TheConstants.{MOST_PASSES};
 
@@ -20,9 +21,9 @@ use std::snapshot::Snapshot;
 use std::sync::Wait;
 use std::thread::{Threads, for_each_mut};
 
-/// What a worker works with, and what came of it.
+/// A worker at its door: what it works with, and what came of it.
 #[derive(Drop)]
-pub(crate) struct Seat<O: Drop> {
+pub(crate) struct DoorWorker<O: Drop> {
     pub(crate) pass: Pass<Record>,
     pub(crate) door: O,
     pub(crate) draws: Draws,
@@ -33,7 +34,7 @@ pub(crate) struct Seat<O: Drop> {
 // Room for the workers, and for all that they hand back. It is made before they start.
 #[derive(Drop)]
 struct Room<O: Drop> {
-    workers: Vec<Seat<O>>,
+    workers: Vec<DoorWorker<O>>,
     passes: Vec<Pass<Record>>,
     doors: Vec<O>,
     talks: Vec<Items<Talk>>,
@@ -88,24 +89,24 @@ fn begin<D: Disk, O: Drop>(
 
 // A worker for each door with a pass of its own, the last door's first. The draws of the worker at door k, counted from
 // 1, are those of stream k.
-fn seat_all<O: Door>(
+fn workers_at<O: Door>(
     alloc: Global,
     mut passes: Vec<Pass<Record>>,
     mut doors: Vec<O>,
-    mut workers: Vec<Seat<O>>,
+    mut workers: Vec<DoorWorker<O>>,
     seed: [u8; 32],
-) -> Vec<Seat<O>>
+) -> Vec<DoorWorker<O>>
     requires same { length passes.items ≡ length doors.items }
     requires few { length doors.items ≤ MOST_PASSES }
     requires room { (workers.items ≡ []) × (length doors.items ≤ vec_capacity workers) }
-    ensures { Seats passes.items doors.items seed result.items }
+    ensures { AreAtDoors passes.items doors.items seed result.items }
 {
     while let Some(door) = doors.pop() {
         let Some(pass) = passes.pop() else {
             unreachable!()
         };
         let draws = Draws::new(seed, doors.len() as u64 + 1);
-        workers.push_reserved(Seat {
+        workers.push_reserved(DoorWorker {
             pass,
             door,
             draws,
@@ -121,7 +122,7 @@ fn work<R: Wait, D: Disk, O: Door>(
     rt: &R,
     alloc: Global,
     turns: &Turns<Desk<D>>,
-    worker: &mut Seat<O>,
+    worker: &mut DoorWorker<O>,
     connections: u32,
 )
     requires idle { IsIdle turns.now worker.old.pass }
@@ -149,7 +150,7 @@ trait Workable: Journaled {
         rt: &R,
         alloc: Global,
         turns: &Turns<Self>,
-        worker: &mut Seat<O>,
+        worker: &mut DoorWorker<O>,
         connections: u32,
     )
         requires idle { IsIdle turns.now worker.old.pass }
@@ -162,7 +163,7 @@ impl<D: Disk> Workable for Desk<D> {
         rt: &R,
         alloc: Global,
         turns: &Turns<Desk<D>>,
-        worker: &mut Seat<O>,
+        worker: &mut DoorWorker<O>,
         connections: u32,
     )
         requires idle { IsIdle turns.now worker.old.pass }
@@ -178,7 +179,7 @@ fn work_all<R: Threads + Wait + Sync, S: Workable + Send, O: Door + Send>(
     rt: &R,
     alloc: Global,
     turns: &Turns<S>,
-    workers: &mut [Seat<O>],
+    workers: &mut [DoorWorker<O>],
     connections: u32,
 )
 where
@@ -191,7 +192,7 @@ where
     ensures each { WorksEach O.state turns.now connections workers.old workers.new }
 {
     let threads = workers.len();
-    let serve = move |_: usize, worker: &mut Seat<O>|
+    let serve = move |_: usize, worker: &mut DoorWorker<O>|
         requires { IsIdle turns.now worker.now.pass × ((O.state worker.now.door).out ≡ None) }
         ensures { Works O.state turns.entry.now connections worker.entry.now worker.exit.now }
     { S::work(rt, alloc, turns, worker, connections) };
@@ -203,9 +204,9 @@ fn worked<R: Threads + Wait + Sync, D: Disk + Send, O: Door + Send>(
     rt: &R,
     alloc: Global,
     turns: &Turns<Desk<D>>,
-    mut workers: Vec<Seat<O>>,
+    mut workers: Vec<DoorWorker<O>>,
     connections: u32,
-) -> Vec<Seat<O>>
+) -> Vec<DoorWorker<O>>
 where
     O::Link: Send,
     requires some { 0 < length workers.items }
@@ -230,7 +231,7 @@ fn end_with(end: ServeEnd, next: ServeEnd) -> ServeEnd
 
 // What workers leave: their passes, their doors and their talks, the first door's first, and how they ended.
 fn gather<O: Door>(
-    mut workers: Vec<Seat<O>>,
+    mut workers: Vec<DoorWorker<O>>,
     mut passes: Vec<Pass<Record>>,
     mut doors: Vec<O>,
     mut talks: Vec<Items<Talk>>,
@@ -245,7 +246,7 @@ fn gather<O: Door>(
 {
     let mut end = ServeEnd::Done;
     while let Some(worker) = workers.pop() {
-        let Seat {
+        let DoorWorker {
             pass,
             door,
             draws,
@@ -298,8 +299,6 @@ where
         (map O.state doors.items) (map O.state result.1.items) result.2 result.3 }
     ensures opening { HasSameOpening _begun.value result.0 }
     ensures later { D.fault_count _begun.value.disk ≤ D.fault_count result.0.disk }
-    ensures counts { AllByRecursion (λ talks. AreCounted (D.fault_count _begun.value.disk)
-        (D.fault_count result.0.disk) (all_receipts talks)) result.2 }
     ensures within { AllByRecursion (λ talks. AreWithin (tide_at D.fault_count D.time _begun.value.disk)
         (tide_at D.fault_count D.time result.0.disk) (all_receipts talks)) result.2 }
     ensures durable { IsOnDisk D.told D.image D.time D.image_since result.0 }
@@ -311,8 +310,8 @@ where
         doors: doors_back,
         talks,
     } = room;
-    let seated = seat_all(alloc, passes, doors, workers, seed);
-    let served = worked(rt, alloc, &turns, seated, connections);
+    let waiting = workers_at(alloc, passes, doors, workers, seed);
+    let served = worked(rt, alloc, &turns, waiting, connections);
     let (passes, doors, talks, end) = gather(served, passes_back, doors_back, talks);
     let desk = turns.close(passes);
     show(&desk);
@@ -341,10 +340,9 @@ where
         (map O.state doors.items) (map O.state result.1.items) result.2 result.3 }
     ensures opening { HasSameOpening desk result.0 }
 
-    // Each act tells counts of the disk's faults and a moment between those before and after.
+    // Each act tells counts of the disk's faults and a moment between those before and after. A count that rose during
+    // an act is told by a 503.
     ensures later { D.fault_count desk.disk ≤ D.fault_count result.0.disk }
-    ensures counts { AllByRecursion (λ talks. AreCounted (D.fault_count desk.disk) (D.fault_count result.0.disk)
-        (all_receipts talks)) result.2 }
     ensures within { AllByRecursion (λ talks. AreWithin (tide_at D.fault_count D.time desk.disk)
         (tide_at D.fault_count D.time result.0.disk) (all_receipts talks)) result.2 }
 
@@ -377,6 +375,6 @@ where
 fn moves<T: Send>(_value: &T) {}
 
 // A worker may go to another thread if its door may.
-fn may_cross<O: Door + Send>(worker: &Seat<O>) {
+fn may_cross<O: Door + Send>(worker: &DoorWorker<O>) {
     moves(worker);
 }

@@ -1,11 +1,12 @@
 ghost use Rattle.std.specs.Prelude.{◌≡◌, ◌<◌, None, All, IfOk, length};
-ghost use Rattle.lrs_in_memory.specs.MemDoor.{out_of};
+ghost use Rattle.lrs_in_memory_doors.specs.MemDoor.{out_of};
 ghost use Rattle.lrs_turn.specs.Passes.{IsIdle};
 
 use crate::desks::founded;
 use lrs_disk::{Door, Next};
 use lrs_hall::{Draws, Finish, ServeEnd, Talk, converse, serve_all};
-use lrs_in_memory::{MemDisk, MemDoor, MemLink};
+use lrs_in_memory::MemDisk;
+use lrs_in_memory_doors::{MemDoor, MemLink};
 use lrs_json::Items;
 use lrs_machine::{Desk, Record};
 use lrs_routes::Routes;

@@ -1,12 +1,13 @@
 //! Several workers over one desk.
 ghost use Rattle.std.specs.Prelude.{◌≡◌, ◌≤◌, None, All, IfOk, length};
-ghost use Rattle.lrs_in_memory.specs.GateDoor.{door_of};
-ghost use Rattle.lrs_in_memory.specs.MemDoor.{out_of};
+ghost use Rattle.lrs_in_memory_doors.specs.GateDoor.{door_of};
+ghost use Rattle.lrs_in_memory_doors.specs.MemDoor.{out_of};
 
 use crate::desks::{NOW, founded, if_founded};
 use lrs_disk::Disk;
 use lrs_hall::{Finish, ServeEnd, Talk, serve_all};
-use lrs_in_memory::{Gate, GateDoor, MemDisk, MemDoor, MemLink, Pending, Sign, Until};
+use lrs_in_memory::{MemDisk, Pending};
+use lrs_in_memory_doors::{Gate, GateDoor, MemDoor, MemLink, Sign, Until};
 use lrs_json::Items;
 use lrs_machine::{Desk, Receipt};
 use std::alloc::Global;

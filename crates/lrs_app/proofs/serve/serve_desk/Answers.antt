@@ -1,7 +1,7 @@
 use Rattle.std.proofs.Common.{arith, ◌≡◌, true, map, inr, ap, ◌∙◌}
 use Rattle.lrs_app.specs.Service.{ending_of_serving}
 use Rattle.lrs_app.proofs.Openings.{still_goes}
-use Rattle.lrs_app.proofs.Serving.{begun_later, had_doors, none_counted, of_all, of_none, served_begins, went_on}
+use Rattle.lrs_app.proofs.Serving.{begun_later, had_doors, of_all, of_none, served_begins, went_on}
 use Rattle.lrs_hall.specs.Serving.{IsWithin, tide_at}
 use Rattle.lrs_hall.specs.LrsMachineActs.{Receipt}
 use Rattle.lrs_app.proofs.serve.serve_desk.Goals as goal
@@ -22,9 +22,6 @@ returns-in-Ok-clause-served g c =
       ended = c.served-ending.ensures ∙ ap (ending_of_serving c.serve_all-desk.result.3) c.as_slice.ensures;
     })
 
-pub returns-in-Ok-clause-counts : goal.returns-in-Ok-clause-counts
-returns-in-Ok-clause-counts g c = c.serve_all-desk.ensures.counts
-
 pub returns-in-Ok-clause-goes_on : goal.returns-in-Ok-clause-goes_on
 returns-in-Ok-clause-goes_on g c =
     let e = c.serve_all-desk.ensures in
@@ -41,9 +38,6 @@ pub returns-in-Err-clause-goes_on : goal.returns-in-Err-clause-goes_on
 returns-in-Err-clause-goes_on g c =
     let laws = g.met.D.Disk g.world.𝓛 g.world.𝓜 g.world.𝓡 ((λ s x. x), (λ x. x), (λ x. x), λ x. x) in
     still_goes g.D.Disk laws.counts_now laws.only_now c.args.desk c.requires.opened
-
-pub returns-in-Err-clause-counts : goal.returns-in-Err-clause-counts
-returns-in-Err-clause-counts g c = none_counted (g.D.Disk.fault_count c.args.desk.disk) (g.D.Disk.fault_count c.args.desk.disk) c.new.result c.new.ensures
 
 pub returns-in-Err-clause-within : goal.returns-in-Err-clause-within
 returns-in-Err-clause-within g c =

@@ -1,8 +1,8 @@
-use Rattle.std.proofs.Common.{ℕ, length, ap, subst, sym, ◌∙◌}
-use Rattle.lrs_app.specs.Service.{CountsOn}
+use Rattle.std.proofs.Common.{arith, length, ap, sym, ◌∙◌}
+use Rattle.lrs_hall.specs.Serving.{tide_at}
 use Rattle.lrs_app.proofs.Openings.{opened_history, opened_of}
 use Rattle.lrs_app.proofs.Served.{opened_serves}
-use Rattle.lrs_app.proofs.Serving.{counts_none, unopened_serves}
+use Rattle.lrs_app.proofs.Serving.{counts_none, counts_since, unopened_serves}
 use Rattle.lrs_app.proofs.Taking.{leaves_unopened, store_of}
 use Rattle.lrs_app.proofs.serve.serve_disk.Goals as goal
 
@@ -31,7 +31,9 @@ returns-in-Err-clause-served g c =
 
 pub returns-in-Ok-clause-counts : goal.returns-in-Ok-clause-counts
 returns-in-Ok-clause-counts g c =
-    subst (λ (f : ℕ). CountsOn f c.serve_opened.result.talks (g.D.Disk.fault_count c.serve_opened.result.disk)) c.in-Ok.ensures.kept c.serve_opened.ensures.counts
+    counts_since (tide_at g.D.Disk.fault_count g.D.Disk.time c.args.disk) (tide_at g.D.Disk.fault_count g.D.Disk.time c.in-Ok.desk.disk) (tide_at g.D.Disk.fault_count g.D.Disk.time c.serve_opened.result.disk)
+    c.serve_opened.result.talks (omega (arith, c.in-Ok.ensures.kept), c.in-Ok.ensures.later) c.serve_opened.ensures.counts
 
 pub returns-in-Err-clause-counts : goal.returns-in-Err-clause-counts
-returns-in-Err-clause-counts g c = counts_none _ _ c.new.result c.new.ensures c.in-Err.ensures.faults
+returns-in-Err-clause-counts g c =
+    counts_none (tide_at g.D.Disk.fault_count g.D.Disk.time c.args.disk) (tide_at g.D.Disk.fault_count g.D.Disk.time c.in-Err.disk) c.new.result c.new.ensures (c.in-Err.ensures.faults, c.in-Err.ensures.later_err)

@@ -20,7 +20,7 @@ returns-in-Err-clause-served g c =
     c.args.desk c.serve_desk-desk.result.0 c.in-Err.disk c.args.address.now c.args.workers c.args.connections c.args.seed _ _ c.serve_desk-desk.result.1
     c.length-length.result c.serve_desk-desk.result.2 c.requires.opened c.serve_desk-desk.ensures.goes_on c.length-length.ensures c.close.ensures.legal
     c.serve_desk-desk.ensures.within c.serve_desk-desk.ensures.later c.in-Err.ensures.cause.0 c.in-Err.ensures.later_err c.in-Err.ensures.stops_err c.in-Err.ensures.kept_line_err
-    c.in-Err.ensures.failed.0 c.in-Err.ensures.failed.1 c.serve_desk-desk.ensures.counts c.in-Err.ensures.cause.1 c.serve_desk-desk.ensures.served
+    c.in-Err.ensures.failed.0 c.in-Err.ensures.failed.1 c.in-Err.ensures.cause.1 c.serve_desk-desk.ensures.served
 
 pub returns-in-Ok-clause-cause : goal.returns-in-Ok-clause-cause
 returns-in-Ok-clause-cause g c =
@@ -33,8 +33,10 @@ returns-in-Err-clause-cause g c =
 
 pub returns-in-Ok-clause-counts : goal.returns-in-Ok-clause-counts
 returns-in-Ok-clause-counts g c =
-    (g.D.Disk.fault_count c.serve_desk-desk.result.0.disk, c.serve_desk-desk.ensures.counts, c.serve_desk-desk.ensures.later, omega (arith, c.in-Ok.ensures.kept))
+    let so = c.serve_desk-desk.ensures in
+    (tide_at g.D.Disk.fault_count g.D.Disk.time c.serve_desk-desk.result.0.disk, so.within, (so.later, so.goes_on.later), (omega (arith, c.in-Ok.ensures.kept), c.in-Ok.ensures.later))
 
 pub returns-in-Err-clause-counts : goal.returns-in-Err-clause-counts
 returns-in-Err-clause-counts g c =
-    (g.D.Disk.fault_count c.serve_desk-desk.result.0.disk, c.serve_desk-desk.ensures.counts, c.serve_desk-desk.ensures.later, c.in-Err.ensures.cause.0)
+    let so = c.serve_desk-desk.ensures in
+    (tide_at g.D.Disk.fault_count g.D.Disk.time c.serve_desk-desk.result.0.disk, so.within, (so.later, so.goes_on.later), (c.in-Err.ensures.cause.0, c.in-Err.ensures.later_err))

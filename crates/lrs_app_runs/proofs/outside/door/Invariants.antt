@@ -1,5 +1,5 @@
 use Rattle.std.proofs.Common.{All}
-use Rattle.lrs_in_memory.specs.MemLink.{IsUnused}
+use Rattle.lrs_in_memory_doors.specs.MemLink.{IsUnused}
 use Rattle.lrs_app_runs.proofs.outside.door.Given as goal
 
 -- no link was used so far

@@ -1,5 +1,5 @@
 use Rattle.std.proofs.Common.{All}
-use Rattle.lrs_in_memory.specs.MemDoor.{IsUntouched}
+use Rattle.lrs_in_memory_doors.specs.MemDoor.{IsUntouched}
 use Rattle.lrs_app_runs.proofs.outside.doors.Given as goal
 
 -- nothing was asked of a door so far

@@ -19,13 +19,6 @@ returns-clause-talk g c =
 pub returns-clause-readings : goal.returns-clause-readings
 returns-clause-readings g c = talk_reads (limit_in c.args.pass.now.marks) _ c.hold.result _ _ _ c.hold.ensures.talk.2
 
-pub returns-clause-counts : goal.returns-clause-counts
-returns-clause-counts g c =
-    let limit = limit_in c.args.pass.now.marks in
-    let line = c.hold.new.pass.front in
-    (over_whole (ActsIn limit line) (TidesIn limit line) (tides_in limit line) _ c.hold.result.receipts c.hold.ensures.talk.0 c.hold.result.finish _ _
-    (talk_on_line limit _ c.hold.result _ _ _ c.hold.ensures.talk.2 line (begins_self line))).2
-
 pub returns-clause-within : goal.returns-clause-within
 returns-clause-within g c =
     let limit = limit_in c.args.pass.now.marks in

@@ -1,6 +1,6 @@
 use Rattle.std.proofs.Common.{arith, refl}
 use Rattle.lrs_hall.proofs.Gathered.{gathered_all, gathered_count, gathered_more, gathered_none}
-use Rattle.lrs_hall.proofs.Seated.{length_popped}
+use Rattle.lrs_hall.proofs.AtDoors.{length_popped}
 use Rattle.lrs_hall.proofs.workers.gather.Goals as goal
 
 pub loop-worker-init : goal.loop-worker-init

@@ -4,7 +4,7 @@ use Rattle.std.specs.Prelude.{All}
 use Rattle.lrs_machine.specs.Desk.{IsOnDisk, marks_of, tide_of}
 use Rattle.lrs_machine.specs.Origin.{IsOfOrigin}
 use Rattle.lrs_turn.specs.Passes.{opened}
-use Rattle.lrs_hall.specs.Serving.{AreCounted, AreWithin, all_receipts, tide_at}
+use Rattle.lrs_hall.specs.Serving.{AreWithin, all_receipts, tide_at}
 use Rattle.lrs_hall.specs.Talks.{Talk}
 use Rattle.lrs_hall.specs.Workers.{HasSameOpening, ServesDoors}
 use Rattle.lrs_hall.proofs.workers.serve_all.Goals as goal
@@ -27,11 +27,6 @@ returns-in-Ok-clause-opening g c = subst (λ d. HasSameOpening d c.serve_by.resu
 pub returns-in-Ok-clause-later : goal.returns-in-Ok-clause-later
 returns-in-Ok-clause-later g c = subst (λ d. g.D.Disk.fault_count d.disk ≤ g.D.Disk.fault_count c.serve_by.result.0.disk) c.of-begun.ensures c.serve_by.ensures.later
 
-pub returns-in-Ok-clause-counts : goal.returns-in-Ok-clause-counts
-returns-in-Ok-clause-counts g c =
-    subst (λ d. AllByRecursion (λ (talks : List Talk). AreCounted (g.D.Disk.fault_count d.disk) (g.D.Disk.fault_count c.serve_by.result.0.disk) (all_receipts talks)) c.serve_by.result.2) c.of-begun.ensures
-    c.serve_by.ensures.counts
-
 pub returns-in-Ok-clause-within : goal.returns-in-Ok-clause-within
 returns-in-Ok-clause-within g c =
     subst (λ d. AllByRecursion (λ (talks : List Talk). AreWithin (tide_at g.D.Disk.fault_count g.D.Disk.time d.disk) (tide_at g.D.Disk.fault_count g.D.Disk.time c.serve_by.result.0.disk) (all_receipts talks)) c.serve_by.result.2)
@@ -45,10 +40,6 @@ returns-in-Err-clause-opening g c = subst (λ d. HasSameOpening c.args.desk d) (
 
 pub returns-in-Err-clause-later : goal.returns-in-Err-clause-later
 returns-in-Err-clause-later g c = subst (λ d. g.D.Disk.fault_count c.args.desk.disk ≤ g.D.Disk.fault_count d.disk) (sym c.in-Err.ensures.back) (omega arith)
-
-pub returns-in-Err-clause-counts : goal.returns-in-Err-clause-counts
-returns-in-Err-clause-counts g c =
-    subst (λ ts. AllByRecursion (λ (talks : List Talk). AreCounted (g.D.Disk.fault_count c.args.desk.disk) (g.D.Disk.fault_count c.in-Err.desk.disk) (all_receipts talks)) ts) (sym c.new.ensures) tt
 
 pub returns-in-Err-clause-within : goal.returns-in-Err-clause-within
 returns-in-Err-clause-within g c =

@@ -7,7 +7,7 @@ use Rattle.std.specs.Prelude.{◌≡◌, ◌<◌, List, All, length, None}
 use Rattle.lrs_turn.specs.Passes.{IsIdle}
 use Rattle.lrs_machine.proofs.Sent.{desk_sent, record_sent}
 use Rattle.lrs_machine.specs.contracts.desk.Desk as Desk
-use Rattle.lrs_hall.specs.declared.workers.Seat as held
+use Rattle.lrs_hall.specs.declared.workers.DoorWorker.{DoorWorker}
 use Rattle.lrs_hall.proofs.workers.worked.Lts as lts
 use Rattle.lrs_hall.proofs.workers.worked.Goals as goal
 
@@ -24,7 +24,7 @@ work_all-requires g c = (
         search (rules, sendable, c.type_bounds.send-O-Link) depth 20,
         (
           search (rules, sendable, c.type_bounds.sync-R) depth 20,
-          subst (λ (ws : List (held.Seat g.row.O.Denot)). (0 < length ws)
+          subst (λ (ws : List (DoorWorker g.row.O.Denot)). (0 < length ws)
               × (All (λ w. IsIdle c.args.turns.now w.pass) ws × All (λ w. (g.O.Door.state w.door).out ≡ None) ws))
               (sym c.as_mut_slice.ensures.value) (c.requires.some, (c.requires.idle, c.requires.out)),
         ),

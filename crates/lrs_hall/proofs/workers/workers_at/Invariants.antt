@@ -1,7 +1,7 @@
 use Rattle.std.proofs.Common.{◌≡◌, ◌≤◌, ◌+◌, ◌++◌, length}
 use Rattle.std.specs.Prelude.{vec_capacity}
 use Rattle.lrs_hall.specs.Steps.{AreNumbered, backwards, door_held, pass_held}
-use Rattle.lrs_hall.proofs.workers.seat_all.Given as goal
+use Rattle.lrs_hall.proofs.workers.workers_at.Given as goal
 
 abbrev pub invariant-loop-door : goal.invariant-loop-door
 invariant-loop-door g l = record {

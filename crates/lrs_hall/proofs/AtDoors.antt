@@ -1,4 +1,4 @@
--- Workers that take their seats, and what they leave. They stand in the other order than their doors.
+-- Workers at their doors, and what they leave. They stand in the other order than their doors.
 use Rattle.std.proofs.Common.{suc, arith, ◌≡◌, ◌+◌, ℕ, List, [], ◌∷◌, ◌++◌, length, refl, subst, sym, ap, ◌∙◌, append_assoc, length-append}
 use Rattle.std.specs.Prelude.{map}
 use Rattle.lrs_turn.specs.Lists.{total}
@@ -7,7 +7,7 @@ use Rattle.lrs_hall.specs.Steps.{AreNumbered, backwards}
 use Rattle.lrs_hall.specs.Workers.{end_of, end_with}
 use Rattle.lrs_hall.specs.declared.serving.ServeEnd.{ServeEnd}
 use Rattle.lrs_hall.specs.declared.serving.ServeEnd.TheVariants as serve
-use Rattle.lrs_hall.specs.declared.workers.Seat as held
+use Rattle.lrs_hall.specs.declared.workers.DoorWorker.{DoorWorker}
 
 -- ---- lists in the other order
 
@@ -71,11 +71,11 @@ module _ {A : Type 0} where
 
 -- ---- the draws
 
-pub numbered_more : {O : Type 0} (seed : List ℕ) (k n : ℕ) (ws next : List (held.Seat O)) (w : held.Seat O) → AreNumbered seed (suc k) ws → w.draws ≡ start_of seed n → n ≡ k + 1 → next ≡ ws ++ w ∷ []
+pub numbered_more : {O : Type 0} (seed : List ℕ) (k n : ℕ) (ws next : List (DoorWorker O)) (w : DoorWorker O) → AreNumbered seed (suc k) ws → w.draws ≡ start_of seed n → n ≡ k + 1 → next ≡ ws ++ w ∷ []
     → AreNumbered seed k next
-numbered_more {O} seed k n ws next w numbered draws is pushed = subst (λ (l : List (held.Seat O)). AreNumbered seed k l) (sym pushed) (goes ws numbered)
+numbered_more {O} seed k n ws next w numbered draws is pushed = subst (λ (l : List (DoorWorker O)). AreNumbered seed k l) (sym pushed) (goes ws numbered)
   where
-    goes : (vs : List (held.Seat O)) → AreNumbered seed (suc k) vs → AreNumbered seed k (vs ++ w ∷ [])
+    goes : (vs : List (DoorWorker O)) → AreNumbered seed (suc k) vs → AreNumbered seed k (vs ++ w ∷ [])
     goes [] so =
         let e : n ≡ k + 0 + 1 = omega (arith, is) in
         (subst (λ (m : ℕ). w.draws ≡ start_of seed m) e draws, tt)

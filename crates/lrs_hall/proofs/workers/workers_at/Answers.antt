@@ -1,7 +1,7 @@
 use Rattle.std.proofs.Common.{arith, ◌≡◌, ◌+◌, ◌∙◌, ℕ, [], ◌∷◌, ◌++◌, length, refl, subst, sym, ap, append-nil, length-append}
 use Rattle.lrs_hall.specs.Steps.{AreNumbered, backwards, door_held, pass_held}
-use Rattle.lrs_hall.proofs.Seated.{goes_over, left_all, length_popped, numbered_more}
-use Rattle.lrs_hall.proofs.workers.seat_all.Goals as goal
+use Rattle.lrs_hall.proofs.AtDoors.{goes_over, left_all, length_popped, numbered_more}
+use Rattle.lrs_hall.proofs.workers.workers_at.Goals as goal
 
 pub loop-door-init : goal.loop-door-init
 loop-door-init g c =
