@@ -1,0 +1,13 @@
+use Rattle.std.proofs.Common.{sym, ◌∙◌}
+use Rattle.lrs_json_slices.proofs.Firsts.{object_first, object_seen}
+use Rattle.lrs_json_slices.proofs.written.Written.members.Goals as goal
+
+pub invariant_of-result : goal.invariant_of-result
+invariant_of-result c =
+    let first = c.if-begins_with.ensures in
+    ((object_first c.self.inside.bytes.now first.0 c.behind_first-bytes.result.now c.self.inside.spelled first.1 c.behind_first-bytes.ensures.behind).0, tt)
+
+pub returns-then-begins_with : goal.returns-then-begins_with
+returns-then-begins_with c =
+    let first = c.if-begins_with.ensures in
+    sym c.self.view_is ∙ object_seen c.self.inside.bytes.now first.0 c.behind_first-bytes.result.now c.self.inside.spelled first.1 c.behind_first-bytes.ensures.behind c.result-1.given.0
