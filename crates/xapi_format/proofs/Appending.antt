@@ -22,7 +22,7 @@ pub first_member : (later : Bool) (name : List ℕ) (j : Json) (ms : Members) �
 first_member later name j ms = simp append_assoc
 
 -- an object of three members, as it is written
-three_members : (a b c : List ℕ) (x y z : Json) → written (object (members_of ((a, x) ∷ (b, y) ∷ (c, z) ∷ []))) ≡ 123 ∷ (member_text false a x ++ (member_text true b y ++ members_text true (members_of ((c, z) ∷ []))))
+pub three_members : (a b c : List ℕ) (x y z : Json) → written (object (members_of ((a, x) ∷ (b, y) ∷ (c, z) ∷ []))) ≡ 123 ∷ (member_text false a x ++ (member_text true b y ++ members_text true (members_of ((c, z) ∷ []))))
 three_members a b c x y z =
     ap (λ t. 123 ∷ t) (first_member false a x (members_of ((b, y) ∷ (c, z) ∷ [])) ∙ ap (λ t. member_text false a x ++ t) (first_member true b y (members_of ((c, z) ∷ []))))
 
@@ -50,26 +50,12 @@ pub two_last : (a b : List ℕ) (x y : Json) (s m1 m2 m3 : List ℕ) → m1 ≡ 
 two_last a b x y s m1 m2 m3 e1 e2 e3 =
     member_behind true a x (members_of ((b, y) ∷ [])) s m1 m3 e1 (member_behind true b y (members_of []) m1 m2 m3 e2 e3)
 
--- the brace, two members, and a third with the closing brace
-pub object_pieces : (a b c : List ℕ) (x y z : Json) (s m1 m2 m3 : List ℕ) → m1 ≡ s ++ (123 ∷ []) → m2 ≡ m1 ++ (member_text false a x ++ member_text true b y) → m3 ≡ m2 ++ members_text true (members_of ((c, z) ∷ []))
-    → m3 ≡ s ++ written (object (members_of ((a, x) ∷ (b, y) ∷ (c, z) ∷ [])))
-object_pieces a b c x y z s m1 m2 m3 e1 e2 e3 =
-    let last : List ℕ = members_text true (members_of ((c, z) ∷ [])) in
-    behind s m1 m3 (123 ∷ []) ((member_text false a x ++ member_text true b y) ++ last) e1 (behind m1 m2 m3 (member_text false a x ++ member_text true b y) last e2 e3)
-    ∙ ap (λ t. s ++ t) (ap (λ t. 123 ∷ t) (append_assoc (member_text false a x) (member_text true b y) last) ∙ sym (three_members a b c x y z))
-
 -- a name, the brace, and two members with both closing braces
 pub account_pieces : (n a b : List ℕ) (x y : Json) (s m1 m2 m3 : List ℕ) → m1 ≡ s ++ name_text true n → m2 ≡ m1 ++ (123 ∷ []) → m3 ≡ m2 ++ (member_text false a x ++ (member_text true b y ++ 125 ∷ 125 ∷ []))
     → m3 ≡ s ++ members_text true (members_of ((n, object (members_of ((a, x) ∷ (b, y) ∷ []))) ∷ []))
 account_pieces n a b x y s m1 m2 m3 e1 e2 e3 =
     let rest : List ℕ = member_text false a x ++ (member_text true b y ++ 125 ∷ 125 ∷ []) in
     behind s m1 m3 (name_text true n) (123 ∷ rest) e1 (behind m1 m2 m3 (123 ∷ []) rest e2 e3) ∙ ap (λ t. s ++ t) (sym (object_last n a b x y))
-
--- the brace, a member, and a second with the closing brace
-pub pair_pieces : (a b : List ℕ) (x y : Json) (s m1 m2 m3 : List ℕ) → m1 ≡ s ++ (123 ∷ []) → m2 ≡ m1 ++ member_text false a x → m3 ≡ m2 ++ members_text true (members_of ((b, y) ∷ []))
-    → m3 ≡ s ++ written (object (members_of ((a, x) ∷ (b, y) ∷ [])))
-pair_pieces a b x y s m1 m2 m3 e1 e2 e3 =
-    behind s m1 m3 (123 ∷ []) (members_text false (members_of ((a, x) ∷ (b, y) ∷ []))) e1 (member_behind false a x (members_of ((b, y) ∷ [])) m1 m2 m3 e2 e3)
 
 -- three pieces
 pub three_pieces : (a b c s m1 m2 m3 : List ℕ) → m1 ≡ s ++ a → m2 ≡ m1 ++ b → m3 ≡ m2 ++ c → m3 ≡ s ++ (a ++ (b ++ c))

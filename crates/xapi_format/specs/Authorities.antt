@@ -1,9 +1,11 @@
 -- Under whose authority a statement stands, as the Agent that its completed form names (xAPI 1.0.3, part two, section
 -- 2.4.9).
-use Rattle.std.specs.Prelude.{ℕ, List, [], ◌∷◌, ◌++◌, codes}
+use Rattle.std.specs.Prelude.{◌≡◌, ◌≤◌, ℕ, List, [], ◌∷◌, ◌++◌, drop, length, true, false, codes}
 use Rattle.std.specs.Fmt.{decimal}
 use Rattle.lrs_json.specs.Json.{Json, object, string}
+use Rattle.lrs_json.specs.Texts.{member_text}
 use Rattle.lrs_json.specs.View.{members_of}
+use Rattle.lrs_json.specs.Written.{members_text}
 use Rattle.lrs_names.specs.Ids.{id_text}
 use Rattle.xapi_format.specs.declared.authority.Authority.{Authority}
 use Rattle.xapi_format.specs.declared.authority.Authority.TheVariants.{Admin, Provider, Session, Desk}
@@ -43,3 +45,21 @@ authority_json authority = authority_agent (authority_name authority) (account_n
 abbrev pub account_agent : List ℕ → Json
 account_agent account =
     object (members_of ((codes "objectType", string (codes "Agent")) ∷ (codes "account", account_json account) ∷ []))
+
+-- ---- as text, after other members of a statement
+
+-- the member `authority` up to the account
+abbrev pub agent_front : Authority → List ℕ
+agent_front authority =
+    codes ",\"authority\":{" ++ (member_text false (codes "objectType") (string (codes "Agent"))
+    ++ member_text true (codes "name") (string (authority_name authority)))
+
+-- the account, and the closing brace of the Agent
+abbrev pub account_end : Authority → List ℕ
+account_end authority = members_text true (members_of ((codes "account", account_json (account_name authority)) ∷ []))
+
+-- the text is the member, of which the account begins at that place
+pub record IsWritten (authority : Authority) (text : List ℕ) (account : ℕ) : Type 0 where
+  pub member : text ≡ member_text true (codes "authority") (authority_json authority)
+  pub within : account ≤ length text
+  pub ends : drop account text ≡ account_end authority

@@ -1,11 +1,12 @@
-// The text of what the store adds to a received statement.
+// Which members the store writes, and the text of the Agent of an authority. What stood before that text stays if
+// memory runs out in the middle.
 ghost use Rattle.std.specs.Prelude.{◌≡◌, ◌∷◌, [], ◌++◌, false, true, OnOk, codes};
 ghost use Rattle.lrs_json.specs.Json.{string};
 ghost use Rattle.lrs_json.specs.Texts.{member_text};
 ghost use Rattle.lrs_json.specs.View.{members_of};
-ghost use Rattle.lrs_json.specs.Written.{Extends, members_text, written};
+ghost use Rattle.lrs_json.specs.Written.{Extends, members_text};
 ghost use Rattle.std.specs.Fmt.{decimal};
-ghost use Rattle.xapi_format.specs.Authorities.{account_agent, account_json, account_name, authority_json, authority_name, home_page};
+ghost use Rattle.xapi_format.specs.Authorities.{account_json, account_name, authority_name, home_page};
 ghost use Rattle.xapi_format.specs.Completed.{added_names};
 ghost use Rattle.lrs_names.specs.Ids.{id_text};
 ghost use Rattle.lrs_names.specs.Members.{is_one_of};
@@ -25,30 +26,9 @@ pub fn is_added(name: &str) -> bool
     )
 }
 
-/// Appends the Agent of an authority. What stood before stays if memory runs out in the middle.
+/// The first members of the Agent of an authority.
 #[tactic(auto, using(lrs_json::proofs::Extending::extends_trans))]
-pub fn put_agent(authority: &Authority, into: &mut Vec<u8>) -> Result<(), Memory>
-    ensures ok { OnOk result (into.new.items ≡ into.old.items ++ written (authority_json authority.now)) }
-    ensures kept { Extends into.old.items into.new.items }
-{
-    put(b"{", into)?;
-    put_agent_names(authority, into)?;
-    put_account(authority, into)
-}
-
-/// Appends the Agent of an authority by its account alone.
-#[tactic(auto, using(lrs_json::proofs::Extending::extends_trans))]
-pub fn put_account_agent(authority: &Authority, into: &mut Vec<u8>) -> Result<(), Memory>
-    ensures ok { OnOk result (into.new.items ≡ into.old.items ++ written (account_agent (account_name authority.now))) }
-    ensures kept { Extends into.old.items into.new.items }
-{
-    put(b"{", into)?;
-    put_text(false, "objectType", "Agent", into)?;
-    put_account(authority, into)
-}
-
-#[tactic(auto, using(lrs_json::proofs::Extending::extends_trans))]
-fn put_agent_names(authority: &Authority, into: &mut Vec<u8>) -> Result<(), Memory>
+pub(crate) fn put_agent_names(authority: &Authority, into: &mut Vec<u8>) -> Result<(), Memory>
     ensures ok { OnOk result (into.new.items ≡ into.old.items
         ++ (member_text false (codes "objectType") (string (codes "Agent"))
         ++ member_text true (codes "name") (string (authority_name authority.now)))) }
@@ -58,9 +38,9 @@ fn put_agent_names(authority: &Authority, into: &mut Vec<u8>) -> Result<(), Memo
     put_text(true, "name", authority.name(), into)
 }
 
-// The account of the Agent, and the Agent's closing brace.
+/// The account of the Agent, and the Agent's closing brace.
 #[tactic(auto, using(lrs_json::proofs::Extending::extends_trans))]
-fn put_account(authority: &Authority, into: &mut Vec<u8>) -> Result<(), Memory>
+pub(crate) fn put_account(authority: &Authority, into: &mut Vec<u8>) -> Result<(), Memory>
     ensures ok { OnOk result (into.new.items ≡ into.old.items
         ++ members_text true (members_of ((codes "account", account_json (account_name authority.now)) ∷ []))) }
     ensures kept { Extends into.old.items into.new.items }

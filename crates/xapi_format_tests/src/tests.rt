@@ -5,9 +5,9 @@ use lrs_names::Id;
 use lrs_time::Moment;
 use std::alloc::Global;
 use std::test::Fail;
-use xapi_format::{Authority, completed};
+use xapi_format::{Authority, WrittenAuthority, completed};
 use xapi_received::ReceivedText;
-use xapi_reduced::reduced;
+use xapi_reduced::{put_reduced, reduced};
 use xapi_values::is_nested;
 
 // Under whose authority: a provider by its number and name, a session by its id.
@@ -87,8 +87,9 @@ fn is_completed_as(
     text: &str,
 ) -> Result<bool, Fail> {
     let mut bytes = Vec::new(alloc);
+    let by = WrittenAuthority::of(alloc, by.copy()?)?;
     let kept = ReceivedText::of(alloc, received)?;
-    kept.put_completed(&id()?, stored(), by, &mut bytes)?;
+    kept.put_completed(&id()?, stored(), &by, &mut bytes)?;
     Ok(bytes.as_slice() == text.as_bytes())
 }
 
@@ -157,8 +158,10 @@ fn a_completed_statement_has_what_the_store_adds(rt: HostRuntime) -> Result<(), 
 }
 
 // Statements with all that is dropped, and their forms with ids alone: the first statement; names, definitions and
-// displays; Groups with and without an identifier, a context, and a SubStatement; a reference, and what is free.
-const REDUCED: [(&str, &str); 5] = [
+// displays; Groups with and without an identifier, a context, and a SubStatement; a reference, and what is free. Then
+// escapes in texts and names, brackets in texts, numbers and words as last members, a SubStatement about an anonymous
+// Group, context activities alone and in an array, parts of another kind than they should be, and an empty object.
+const REDUCED: [(&str, &str); 12] = [
     (
         r#"{"id":"11111111-1111-4111-8111-111111111111","actor":{"mbox":"mailto:a@b"},"verb":{"id":"http://v/1"},"object":{"id":"http://a/1"}}"#,
         r#"{"actor":{"mbox":"mailto:a@b"},"verb":{"id":"http://v/1"},"object":{"id":"http://a/1"}"#,
@@ -179,6 +182,42 @@ const REDUCED: [(&str, &str); 5] = [
         r#"{"actor":{"mbox":"mailto:a@b"},"verb":{"id":"http://v/1"},"object":{"id":"22222222-2222-4222-8222-222222222222","objectType":"StatementRef"},"attachments":[{"usageType":"http://u","display":{"en":"d"},"contentType":"text/plain","length":3,"sha2":"s","fileUrl":"http://f"}]}"#,
         r#"{"actor":{"mbox":"mailto:a@b"},"verb":{"id":"http://v/1"},"object":{"id":"22222222-2222-4222-8222-222222222222","objectType":"StatementRef"},"attachments":[{"usageType":"http://u","display":{"en":"d"},"contentType":"text/plain","length":3,"sha2":"s","fileUrl":"http://f"}]"#,
     ),
+    (
+        r#"{"actor":{"name":"a\"b\\","mbox":"mailto:\\\"@\u0001"},"verb":{"display":{"e\"n":"\\"},"id":"http://v/\\"},"object":{"definition":{"name":{"en":"\u0001{["}},"id":"\"\\\"}","i\u0001d":1},"result":{"response":"\\\"}","extensions":{"http://e\\x\"":{"{":"}","[\u001f":"]\n"}}},"obj\"ect":{"name":"kept"},"\\id":2}"#,
+        r#"{"actor":{"mbox":"mailto:\\\"@\u0001"},"verb":{"id":"http://v/\\"},"object":{"id":"\"\\\"}"},"result":{"response":"\\\"}","extensions":{"http://e\\x\"":{"{":"}","[\u001f":"]\n"}}},"obj\"ect":{"name":"kept"},"\\id":2"#,
+    ),
+    (
+        r#"{"actor":{},"verb":{"id":"http://v/1","display":{"]":"}"}},"object":{"definition":{"a":[[],{},[{"b":"]}","c":[["{"]]}]],"n":-1.5e3},"id":"http://a/1"},"result":{"score":{"raw":1.50},"success":true},"a":[{"x":[1,true,null,"]",{},[[]]]},"[",0],"b":null,"c":[],"d":{},"e":false,"f":-0.5E+2}"#,
+        r#"{"actor":{},"verb":{"id":"http://v/1"},"object":{"id":"http://a/1"},"result":{"score":{"raw":1.50},"success":true},"a":[{"x":[1,true,null,"]",{},[[]]]},"[",0],"b":null,"c":[],"d":{},"e":false,"f":-0.5E+2"#,
+    ),
+    (
+        r#"{"object":{"objectType":"SubStatement","object":{"objectType":"Group","member":[],"name":"[","x":1},"actor":{"member":[{"mbox":"mailto:a@b","name":"]"},{"account":{"name":"}","homePage":"http://h"},"n":0},5,{}],"objectType":"Group"},"verb":{"display":null,"id":"http://v/2"},"authority":{"name":"kept"},"context":{"instructor":{"objectType":"Group","member":"none","openid":null,"name":1},"contextActivities":{"parent":{"definition":{"}":"{"},"id":"http://p/1"},"grouping":[{"id":"http://p/2","definition":[]},7,{"definition":{}}]},"revision":"1"}},"verb":5}"#,
+        r#"{"object":{"objectType":"SubStatement","object":{"objectType":"Group","member":[]},"actor":{"member":[{"mbox":"mailto:a@b"},{"account":{"name":"}","homePage":"http://h"}},5,{}],"objectType":"Group"},"verb":{"id":"http://v/2"},"authority":{"name":"kept"},"context":{"instructor":{"objectType":"Group","openid":null},"contextActivities":{"parent":[{"id":"http://p/1"}],"grouping":[{"id":"http://p/2"},7,{}]},"revision":"1"}},"verb":5"#,
+    ),
+    (
+        r#"{"actor":"a","verb":[{"display":1}],"object":null,"context":{"team":[{"name":"kept"}],"contextActivities":[{"definition":1}],"instructor":true}}"#,
+        r#"{"actor":"a","verb":[{"display":1}],"object":null,"context":{"team":[{"name":"kept"}],"contextActivities":[{"definition":1}],"instructor":true}"#,
+    ),
+    (
+        r#"{"actor":{"objectType":"Group","member":{"name":"kept"},"name":"G"},"object":{"objectType":"\u0001","definition":"kept"},"context":{"contextActivities":{"parent":"http://p/1","other":{}}}}"#,
+        r#"{"actor":{"objectType":"Group","member":{"name":"kept"}},"object":{"objectType":"\u0001","definition":"kept"},"context":{"contextActivities":{"parent":"http://p/1","other":[{}]}}"#,
+    ),
+    (
+        r#"{"object":{"objectType":"Agent","mbox_sha1sum":"s","name":"A","openid":"o","mbox":"m","account":[]},"actor":{"objectType":7,"member":[],"mbox":{}},"context":[]}"#,
+        r#"{"object":{"objectType":"Agent","mbox_sha1sum":"s","openid":"o","mbox":"m","account":[]},"actor":{"objectType":7,"mbox":{}},"context":[]"#,
+    ),
+    (r#"{"x":"","y":{"":""}}"#, r#"{"x":"","y":{"":""}"#),
+];
+
+// Values that are no object, to which nothing is added.
+const NO_OBJECTS: [&str; 7] = [
+    r#""a\"]""#,
+    "-1.5e3",
+    "true",
+    "null",
+    "[]",
+    r#"[{"object":{"definition":"kept"}},"]"]"#,
+    r#"["id"]"#,
 ];
 
 // What the store adds for an admin, with ids alone.
@@ -191,17 +230,31 @@ fn reduced_tree(alloc: Global, received: &str) -> Result<Tree, Fail> {
     Ok(reduced(whole)?)
 }
 
-// Whether the statement, completed for an admin, has this text and what the store adds with ids alone.
-fn is_reduced_to(alloc: Global, received: &str, front: &str) -> Result<bool, Fail> {
+// Whether the statement, completed for an admin, has this text with ids alone.
+fn is_reduced_to(alloc: Global, received: &str, text: &str) -> Result<bool, Fail> {
     let tree = reduced_tree(alloc, received)?;
-    let text = format!(in alloc; "{front}{ADDED_IDS}")?;
-    is_written_as(alloc, &tree, text.as_str())
+    is_written_as(alloc, &tree, text)
 }
 
-// The number of the first row that isn't so.
+// The same, written from the text that it is kept as.
+fn is_reduced_as(alloc: Global, received: &str, text: &str) -> Result<bool, Fail> {
+    let mut bytes = Vec::new(alloc);
+    let by = WrittenAuthority::of(alloc, Authority::Admin)?;
+    let tree = read(alloc, received.as_bytes())?;
+    let kept = ReceivedText::of(alloc, &tree)?;
+    put_reduced(&kept.written(), &id()?, stored(), &by, &mut bytes)?;
+    Ok(bytes.as_slice() == text.as_bytes())
+}
+
+fn is_reduced_each_way(alloc: Global, received: &str, text: &str) -> Result<bool, Fail> {
+    Ok(is_reduced_to(alloc, received, text)? && is_reduced_as(alloc, received, text)?)
+}
+
+// The number of the first row that isn't so. Behind the text stands what the store adds.
 fn first_reduced_wrong(alloc: Global, rows: &[(&str, &str)]) -> Result<Option<usize>, Fail> {
     for (i, (received, front)) in rows.iter().enumerate() {
-        if !is_reduced_to(alloc, received, front)? {
+        let text = format!(in alloc; "{front}{ADDED_IDS}")?;
+        if !is_reduced_each_way(alloc, received, text.as_str())? {
             return Ok(Some(i));
         }
     }
@@ -211,6 +264,22 @@ fn first_reduced_wrong(alloc: Global, rows: &[(&str, &str)]) -> Result<Option<us
 #[test]
 fn a_statement_with_ids_alone_tells_which_ones_they_are(rt: HostRuntime) -> Result<(), Fail> {
     assert_eq!(rt; first_reduced_wrong(rt.alloc(), &REDUCED)?, None);
+    Ok(())
+}
+
+// The number of the first value that doesn't stay as it is.
+fn first_changed(alloc: Global, values: &[&str]) -> Result<Option<usize>, Fail> {
+    for (i, text) in values.iter().enumerate() {
+        if !is_reduced_each_way(alloc, text, text)? {
+            return Ok(Some(i));
+        }
+    }
+    Ok(None)
+}
+
+#[test]
+fn a_value_that_is_no_object_has_no_ids_alone(rt: HostRuntime) -> Result<(), Fail> {
+    assert_eq!(rt; first_changed(rt.alloc(), &NO_OBJECTS)?, None);
     Ok(())
 }
 

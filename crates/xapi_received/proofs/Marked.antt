@@ -20,7 +20,7 @@ use Rattle.xapi_received.specs.declared.draft.Draft.{Draft}
 use Rattle.xapi_received.specs.declared.marks.Ending.{Ending}
 use Rattle.xapi_received.specs.declared.marks.Excerpt.{Excerpt}
 use Rattle.xapi_received.specs.declared.marks.Place.{Place}
-use Rattle.xapi_format.proofs.Appending.{name_and_value}
+use Rattle.xapi_format.proofs.Appending.{member_parts}
 use Rattle.xapi_received.proofs.Places.{given_grown, has_grown}
 
 abbrev no_bytes : List ℕ
@@ -46,10 +46,12 @@ pub value_is : (text name otherwise : List ℕ) (received : Json) (place : Optio
 value_is text name otherwise received place given =
     ap (λ (o : Option (List ℕ)). unwrap_or o (quoted otherwise)) given.1 ∙ written_or (find name received) otherwise
 
-pub given_put : (text name otherwise : List ℕ) (received : Json) (place : Option Place) (s m1 m2 : List ℕ) → IsGiven text name received place → m1 ≡ s ++ name_text true name → m2 ≡ m1 ++ value_at text place otherwise
-    → m2 ≡ s ++ member_text true name (given_or name received otherwise)
-given_put text name otherwise received place s m1 m2 given e1 e2 =
-    name_and_value true name (given_or name received otherwise) s m1 m2 e1 (e2 ∙ ap (λ (t : List ℕ). m1 ++ t) (value_is text name otherwise received place given))
+-- its name and the bytes at its place, or the text, are the member
+pub given_member : (text name otherwise : List ℕ) (received : Json) (place found : Option Place) → place ≡ found → IsGiven text name received place
+    → name_text true name ++ value_at text found otherwise ≡ member_text true name (given_or name received otherwise)
+given_member text name otherwise received place found is given =
+    ap (λ (o : Option Place). name_text true name ++ value_at text o otherwise) (sym is)
+    ∙ (ap (λ (t : List ℕ). name_text true name ++ t) (value_is text name otherwise received place given) ∙ member_parts true name (given_or name received otherwise))
 
 -- ---- the whole
 

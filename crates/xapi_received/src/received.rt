@@ -17,12 +17,13 @@ use crate::offsets::Offsets;
 use lrs_json::appending::put;
 use lrs_json::{Memory, Tree, is_written};
 use lrs_json_reader::reread;
+use lrs_json_slices::Written;
 use lrs_names::Id;
 use lrs_noted::Noted;
 use lrs_time::Moment;
 use std::alloc::Global;
 use std::marker::Model;
-use xapi_format::Authority;
+use xapi_format::WrittenAuthority;
 
 /// The text of a received statement, seen as its tree: kept in place of it, since a tree takes several times as much
 /// memory. Marks beside the text tell which excerpts of it the completed form shows, so that this form is copied
@@ -77,6 +78,13 @@ impl ReceivedText {
         reread(alloc, self.text.as_slice())
     }
 
+    /// The value of the tree, as it stands in the text.
+    pub fn written(&self) -> Written<'_>
+        ensures { result ≡ view self.now }
+    {
+        Written::of(self.text.as_slice())
+    }
+
     /// Whether it is the text of that tree. Takes no memory.
     pub fn is_of(&self, tree: &Tree) -> bool
         ensures { IsTrue result ↔ (tree.now ≡ self.now) }
@@ -97,7 +105,7 @@ impl ReceivedText {
         &self,
         id: &Id,
         stored: Moment,
-        authority: &Authority,
+        authority: &WrittenAuthority,
         into: &mut Vec<u8>,
     ) -> Result<(), Memory>
         ensures ok { OnOk result (into.new.items ≡ into.old.items
@@ -133,7 +141,7 @@ fn put_whole(
     ending: Option<Ending>,
     id: &Id,
     stored: Moment,
-    authority: &Authority,
+    authority: &WrittenAuthority,
     into: &mut Vec<u8>,
 ) -> Result<(), Memory>
     requires excerpts { AreWithin (length text.now) (listed excerpts.now) }
@@ -152,7 +160,7 @@ fn put_ending(
     ending: Option<Ending>,
     id: &Id,
     stored: Moment,
-    authority: &Authority,
+    authority: &WrittenAuthority,
     into: &mut Vec<u8>,
 ) -> Result<(), Memory>
     requires { HasEnding (length text.now) ending }
