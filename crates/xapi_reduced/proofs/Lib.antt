@@ -1,2 +1,3 @@
 pub mod Fusing
 pub mod Itemwise
+pub mod Unchanged

@@ -1,12 +1,21 @@
 -- The form with ids alone of the completed form, in one step from what was received.
-use Rattle.std.specs.Prelude.{ℕ, List, ◌||◌, codes, if◌then◌else◌}
+use Rattle.std.specs.Prelude.{ℕ, List, [], ◌∷◌, ◌||◌, codes, if◌then◌else◌}
 use Rattle.std.specs.Str.{bytes_eq}
 use Rattle.lrs_json.specs.Json.{Json, Members, no_members, member}
 use Rattle.lrs_names.specs.Members.{is_one_of}
 use Rattle.xapi_format.specs.Completed.{added_names, in_array}
 use Rattle.xapi_values.specs.Memberwise.{with_each_member}
 use Rattle.xapi_values.specs.Nested.{is_nested}
-use Rattle.xapi_reduced.specs.Reduced.{reduced_activity, reduced_party, reduced_plain_object, reduced_verb, with_each_item}
+use Rattle.xapi_reduced.specs.Reduced.{activity_names, agent_names, group_names, reduced_activity, reduced_party, reduced_plain_object, reduced_verb, with_each_item}
+use Rattle.xapi_reduced.specs.declared.names.Kept.{Kept}
+use Rattle.xapi_reduced.specs.declared.names.Kept.TheVariants.{OfVerb, OfActivity, OfGroup, OfAgent}
+
+-- the names of the members that are kept
+abbrev pub names_kept : Kept → List (List ℕ)
+names_kept OfVerb = codes "id" ∷ []
+names_kept OfActivity = activity_names
+names_kept OfGroup = group_names
+names_kept OfAgent = agent_names
 
 -- context activities of one name
 abbrev pub direct_activities : List ℕ → Json → Json

@@ -161,7 +161,7 @@ fn reduced_party(party: Tree) -> Result<Tree, Memory>
 }
 
 // A Group that is known by its members alone.
-pub fn is_anonymous(party: &Tree) -> bool
+fn is_anonymous(party: &Tree) -> bool
     ensures { result ≡ is_anonymous (view party.now) }
 {
     match Kind::of(party) {
@@ -202,13 +202,13 @@ impl Part for OfGroup {
 // ---- the members of some names
 
 // What tells which Activity one is.
-pub const ACTIVITY_NAMES: [&str; 2] = ["objectType", "id"];
+const ACTIVITY_NAMES: [&str; 2] = ["objectType", "id"];
 
 // What tells which Group one is that is known by its members alone.
-pub const GROUP_NAMES: [&str; 2] = ["objectType", "member"];
+const GROUP_NAMES: [&str; 2] = ["objectType", "member"];
 
 // What tells which Agent or identified Group one is.
-pub const AGENT_NAMES: [&str; 5] = ["objectType", "mbox", "mbox_sha1sum", "openid", "account"];
+const AGENT_NAMES: [&str; 5] = ["objectType", "mbox", "mbox_sha1sum", "openid", "account"];
 
 // Of each object in an array the members of these names.
 fn with_only_in_each(names: &[&str], tree: Tree) -> Result<Tree, Memory>

@@ -164,8 +164,7 @@ impl HeldStatement {
         Ok(Statement::of(tree).complete(self.id, self.stored, authority))
     }
 
-    /// Appends the written form of its tree in that form, or nothing if memory runs out. For the form with ids alone
-    /// the received tree is read back; no other tree is made.
+    /// Appends the written form of its tree in that form, or nothing if memory runs out. No tree is made.
     pub fn write(&self, format: Format, into: &mut Vec<u8>) -> Result<(), Memory>
         ensures ok { OnOk result (into.new.items ≡ into.old.items ++ shown_text format self.now) }
         ensures err { OnErr result (into.new.items ≡ into.old.items) }
@@ -193,7 +192,7 @@ impl HeldStatement {
         ensures ok { OnOk result (into.new.items ≡ into.old.items ++ shown_text Format.Exact self.now) }
         ensures kept { Extends into.old.items into.new.items }
     {
-        let authority = self.authority.get();
+        let authority = self.authority.written();
         self.received
             .put_completed(&self.id, self.stored, authority, into)
     }
@@ -202,11 +201,9 @@ impl HeldStatement {
         ensures ok { OnOk result (into.new.items ≡ into.old.items ++ shown_text Format.Ids self.now) }
         ensures kept { Extends into.old.items into.new.items }
     {
-        let received = self.received.tree(*into.allocator())?;
-        let authority = self.authority.get();
-        let written = put_reduced(&received, &self.id, self.stored, authority, into);
-        drop(received);
-        written
+        let received = self.received.written();
+        let authority = self.authority.written();
+        put_reduced(&received, &self.id, self.stored, authority, into)
     }
 }
 

@@ -5,11 +5,13 @@ use lrs_json::Memory;
 use std::alloc::Global;
 use std::marker::Model;
 use std::sync::Arc;
+use xapi_format::WrittenAuthority;
 
-/// An authority that statements share, seen as the authority: many stand under one, whose name is then kept once.
+/// An authority that statements share, seen as the authority: many stand under one, whose name is then kept once, and
+/// the text that each shows of it.
 #[derive(Drop)]
 pub struct SharedAuthority {
-    shared: Arc<Authority>,
+    shared: Arc<WrittenAuthority>,
 }
 
 impl Model for SharedAuthority {
@@ -25,12 +27,20 @@ impl SharedAuthority {
     pub fn of(alloc: Global, authority: Authority) -> Result<SharedAuthority, Memory>
         ensures { IfOk result (λ shared. shared ≡ authority) }
     {
-        let shared = Arc::new(alloc, authority)?;
+        let written = WrittenAuthority::of(alloc, authority)?;
+        let shared = Arc::new(alloc, written)?;
         Ok(SharedAuthority { shared })
     }
 
     /// The authority, lent.
     pub fn get(&self) -> &Authority
+        ensures { result.now ≡ self.now }
+    {
+        self.written().authority()
+    }
+
+    /// The same with its text.
+    pub fn written(&self) -> &WrittenAuthority
         ensures { result.now ≡ self.now }
     {
         &*self.shared

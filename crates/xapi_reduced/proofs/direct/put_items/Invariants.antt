@@ -1,13 +1,17 @@
-use Rattle.std.proofs.Common.{◌≡◌, ◌++◌, drop, false, nat_lt, map}
-use Rattle.lrs_json.specs.View.{elements_of, view}
+use Rattle.std.proofs.Common.{◌≡◌, ◌++◌, false}
 use Rattle.lrs_json.specs.Written.{Extends, elements_text}
+use Rattle.lrs_json_slices.specs.Parts.{count_items}
+use Rattle.xapi_reduced.specs.Direct.{names_kept}
 use Rattle.xapi_reduced.specs.Reduced.{each_item, with_only}
 use Rattle.xapi_reduced.proofs.direct.put_items.Given as goal
 
 -- with what is left, the text is whole
-abbrev pub invariant-loop-i : goal.invariant-loop-i
-invariant-loop-i l = record {
+abbrev pub invariant-loop-item : goal.invariant-loop-item
+invariant-loop-item l = record {
   kept : Extends l.fn.into.items l.into.items;
-  whole : l.into.items ++ elements_text (nat_lt 0 l.i) (each_item (with_only (map (λ name. name.now) l.names)) (elements_of (map view (drop l.i l.items))))
-      ≡ l.fn.into.items ++ elements_text false (each_item (with_only (map (λ name. name.now) l.names)) (elements_of (map view l.items)));
+  whole : l.into.items ++ elements_text l.later (each_item (with_only (names_kept l.names)) l.left)
+      ≡ l.fn.into.items ++ elements_text false (each_item (with_only (names_kept l.names)) l.fn.items);
 }
+
+abbrev pub decreases-loop-item : goal.decreases-loop-item
+decreases-loop-item l = count_items l.left

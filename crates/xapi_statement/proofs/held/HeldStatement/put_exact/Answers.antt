@@ -16,6 +16,6 @@ returns-clause-ok c =
     let old = c.args.into.now.items in
     let inside = c.self.inside in
     on_ok_weaker c.put_completed.result
-    (λ e. e ∙ ap (λ (a : Authority). old ++ written (completed (view inside.received) inside.id (moment_text inside.stored) (authority_json a))) c.get-authority.ensures
+    (λ e. e ∙ ap (λ (a : Authority). old ++ written (completed (view inside.received) inside.id (moment_text inside.stored) (authority_json a))) c.written-authority.ensures
     ∙ ap (λ (s : StoredStatement). old ++ shown_text Exact s) c.self.view_is)
     c.put_completed.ensures.ok

@@ -1,8 +1,8 @@
 use Rattle.std.proofs.Common.{◌++◌, ◌∙◌, ap}
 use Rattle.std.proofs.lemmas.Result.{on_ok_weaker}
+use Rattle.lrs_json.specs.Json.{Json}
 use Rattle.lrs_json.specs.View.{view}
 use Rattle.lrs_json.specs.Written.{written}
-use Rattle.lrs_json.specs.declared.tree.Tree.{Tree}
 use Rattle.lrs_time.specs.Moments.{moment_text}
 use Rattle.xapi_format.specs.Authorities.{authority_json}
 use Rattle.xapi_format.specs.Completed.{completed}
@@ -17,8 +17,8 @@ pub returns-clause-ok : goal.returns-clause-ok
 returns-clause-ok c =
     let old = c.args.into.now.items in
     let inside = c.self.inside in
-    on_ok_weaker c.put_reduced-written.result
-    (λ e. e ∙ ap (λ (t : Tree). old ++ written (reduced (completed (view t) inside.id (moment_text inside.stored) (authority_json c.get-authority.result.now)))) c.in_ok-received.ensures
-    ∙ ap (λ (a : Authority). old ++ written (reduced (completed (view inside.received) inside.id (moment_text inside.stored) (authority_json a)))) c.get-authority.ensures
+    on_ok_weaker c.put_reduced.result
+    (λ e. e ∙ ap (λ (j : Json). old ++ written (reduced (completed j inside.id (moment_text inside.stored) (authority_json c.written-authority.result.now)))) c.written-received.ensures
+    ∙ ap (λ (a : Authority). old ++ written (reduced (completed (view inside.received) inside.id (moment_text inside.stored) (authority_json a)))) c.written-authority.ensures
     ∙ ap (λ (s : StoredStatement). old ++ shown_text Ids s) c.self.view_is)
-    c.put_reduced-written.ensures.ok
+    c.put_reduced.ensures.ok
