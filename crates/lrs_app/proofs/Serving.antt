@@ -18,7 +18,7 @@ use Rattle.lrs_history.specs.History.{IsLegal}
 use Rattle.lrs_hall.specs.LrsMachineActs.{Receipt}
 use Rattle.lrs_hall.specs.LrsMachineDesk.{Desk, HoldsPrefix, IsOnDisk, IsStoreOf, KeepsLine, LeavesStore, OpensOnly, history}
 use Rattle.lrs_hall.specs.LrsMachineLine.{BeginsWith, Record, entries, in_doubt, opened_line, opening_record, sure}
-use Rattle.lrs_machine.specs.Origin.{ComesFrom, IsOfOrigin}
+use Rattle.lrs_hall.specs.LrsMachineOrigin.{ComesFrom, IsOfOrigin}
 use Rattle.lrs_hall.specs.LrsMachineOpeningDeskRefused.{DeskRefused}
 use Rattle.lrs_hall.specs.LrsMachineOpeningDeskRefusedTheVariants as refused
 use Rattle.lrs_hall.specs.Serving.{AreWithin, IsNotBelow, IsWithin, Tide, all_receipts, tide_at}

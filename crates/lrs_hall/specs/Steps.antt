@@ -32,6 +32,7 @@ use Rattle.lrs_hall.specs.Responses.{FixedResponse, IsFraming, framing_response}
 use Rattle.lrs_hall.specs.declared.answering.FixedResponse as code
 use Rattle.lrs_hall.specs.declared.exchange.Exchanged.{Exchanged}
 use Rattle.lrs_hall.specs.declared.exchange.Exchanged.TheVariants.{Next, Last, Silent}
+use Rattle.lrs_hall.specs.declared.admitted.Admitted.{Admitted}
 use Rattle.lrs_hall.specs.declared.acting.Looked.{Looked}
 use Rattle.lrs_hall.specs.declared.acting.Looked.TheVariants.{LetIn, Barred}
 use Rattle.lrs_hall.specs.declared.workers.DoorWorker.{DoorWorker}
@@ -79,6 +80,10 @@ Looks limit routed old new (Barred reply receipt) =
     ((command : Command) → command_area command ≡ routed.area
     → ActsOn limit routed.caller command (draw_at old.draws) reply receipt old.reached new.reached)
     × (new.draws ≡ next_draws old.draws) × IsSaid reply
+
+-- the caller of a request that was let in, with the area
+abbrev pub admitted_of : Routed → Admitted
+admitted_of routed = record { caller = routed.caller; area = routed.area }
 
 -- a response with a body may have this status, and allow these methods
 abbrev pub IsSayable : ℕ → List ℕ → Type 0

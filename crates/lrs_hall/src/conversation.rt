@@ -51,13 +51,24 @@ pub(crate) fn hold<R: Wait, D: Disk, O: Door>(
 {
     let mut receipts = Vec::new(alloc);
     let mut kept = Vec::new(alloc);
+    let mut admitted = None;
     let mut most = MOST_REQUESTS;
     loop {
         if !has_room(&mut receipts) {
             return Talk::new(receipts, Finish::Memory);
         }
         match exchange(
-            rt, alloc, turns, pass, door, link, &mut kept, routes, draws, most,
+            rt,
+            alloc,
+            turns,
+            pass,
+            door,
+            link,
+            &mut kept,
+            routes,
+            draws,
+            &mut admitted,
+            most,
         ) {
             Exchanged::Next(receipt) => {
                 receipts.push_reserved(receipt);
@@ -74,10 +85,14 @@ pub(crate) fn hold<R: Wait, D: Disk, O: Door>(
 
 /// Serves one connection, that of the link which is out of the door: at most 1,000 requests, one after the other.
 /// Each request is read whole and asked of the routes. If it has a body, the worker first takes the turn to look at its
-/// caller. One that isn't let in is answered at once, and neither its parameters nor its body are read. Else they are
-/// read while others may have the turn, and the worker takes the turn to act with one reading of the door's clock and
-/// one draw. So a request without a body takes the turn once: there is little to read, and the act looks at the caller
-/// first. The response is written outside the turn, before the next request is read.
+/// caller, unless this connection saw that caller let in. One that isn't let in is answered at once, and neither its
+/// parameters nor its body are parsed. Else they are parsed while others may have the turn, and the worker takes the turn
+/// to act with one reading of the door's clock and one draw. The response is written outside the turn, before the next
+/// request is read.
+///
+/// A request without a body takes the turn once: there is little to read, and the act looks at the caller first. So
+/// does one with a body if its caller and its area are those that this connection saw let in last. Who was let in stays
+/// let in, so a look would tell nothing new. If there is no memory for a copy of a caller, it is looked at again.
 ///
 /// A response says that the connection ends if its request asks for that, if no request could be read, and at
 /// the last request. Memory for a receipt is taken before its request is read, so no response goes without one.

@@ -12,6 +12,7 @@ ghost use Rattle.lrs_hall.specs.Serving.{KeepsPass};
 ghost use Rattle.lrs_hall.specs.Steps.{worker, Wrote, Exchanges, HasExchangeCause, Serves, finish_after, exchanged_of, RefusesRequest, IsRefusalCause};
 
 use crate::acting::{Looked, act, look};
+use crate::admitted::{Admitted, was_let_in};
 use crate::answering::{framing_response, route_response, write_fixed, write_reply};
 use crate::{Draws, Finish};
 use lrs_disk::{Disk, Door, Link};
@@ -101,7 +102,8 @@ fn serve_read<R: Wait, D: Disk, O: Door>(
     }
 }
 
-// Answers a request that has a route. Where it has a body, the caller is looked at before that is read.
+// Answers a request that has a route. Where it has a body, the caller is looked at before that is read, unless this
+// connection saw it let into the area already: who was let in stays let in.
 fn serve_routed<R: Wait, D: Disk, O: Door>(
     rt: &R,
     alloc: Global,
@@ -110,6 +112,7 @@ fn serve_routed<R: Wait, D: Disk, O: Door>(
     door: &mut O,
     link: &mut O::Link,
     draws: &mut Draws,
+    admitted: &mut Option<Admitted>,
     routed: Routed,
     request: &Request,
     closes: bool,
@@ -127,15 +130,18 @@ fn serve_routed<R: Wait, D: Disk, O: Door>(
     ensures name_kept { O.Link.name link.new ≡ O.Link.name link.old }
     ensures cause { HasWriteCause (O.Link.fault_count link.old) (O.Link.fault_count link.new) result.1 }
 {
-    if request.body.is_empty() {
+    if request.body.is_empty() || was_let_in(admitted, &routed) {
         return serve_read(
             rt, alloc, turns, pass, door, link, draws, routed, request, closes,
         );
     }
     match look(rt, turns, pass, door, draws, routed) {
-        Looked::LetIn(routed) => serve_read(
-            rt, alloc, turns, pass, door, link, draws, routed, request, closes,
-        ),
+        Looked::LetIn(routed) => {
+            *admitted = Admitted::of(&routed).ok();
+            serve_read(
+                rt, alloc, turns, pass, door, link, draws, routed, request, closes,
+            )
+        }
         Looked::Barred(reply, receipt) => {
             let sent = write_reply(link, &reply, closes);
             drop(reply);
@@ -154,6 +160,7 @@ fn serve<R: Wait, D: Disk, O: Door>(
     link: &mut O::Link,
     routes: &Routes,
     draws: &mut Draws,
+    admitted: &mut Option<Admitted>,
     request: Request,
     closes: bool,
 ) -> (Receipt, Result<(), LinkFault>)
@@ -171,7 +178,7 @@ fn serve<R: Wait, D: Disk, O: Door>(
     match routes.routed(alloc, &request) {
         Ok(routed) => {
             let served = serve_routed(
-                rt, alloc, turns, pass, door, link, draws, routed, &request, closes,
+                rt, alloc, turns, pass, door, link, draws, admitted, routed, &request, closes,
             );
             drop(request);
             served
@@ -241,7 +248,8 @@ fn closes_after(most: u16, request: &Request) -> bool
     request.closes || most == 1
 }
 
-/// Reads one request and answers it, or ends the conversation. At most `most` requests may still come.
+/// Reads one request and answers it, or ends the conversation. At most `most` requests may still come. `admitted` is the
+/// caller that this connection saw let in last.
 pub(crate) fn exchange<R: Wait, D: Disk, O: Door>(
     rt: &R,
     alloc: Global,
@@ -252,6 +260,7 @@ pub(crate) fn exchange<R: Wait, D: Disk, O: Door>(
     kept: &mut Vec<u8>,
     routes: &Routes,
     draws: &mut Draws,
+    admitted: &mut Option<Admitted>,
     most: u16,
 ) -> Exchanged
     requires { IsIdle turns.now pass.old }
@@ -270,7 +279,7 @@ pub(crate) fn exchange<R: Wait, D: Disk, O: Door>(
         Ok(request) => {
             let closes = closes_after(most, &request);
             let (receipt, sent) = serve(
-                rt, alloc, turns, pass, door, link, routes, draws, request, closes,
+                rt, alloc, turns, pass, door, link, routes, draws, admitted, request, closes,
             );
             answered(receipt, sent, closes, Finish::Closed)
         }

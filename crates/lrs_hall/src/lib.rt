@@ -4,6 +4,7 @@
 #![tactic(auto)]
 
 mod acting;
+mod admitted;
 mod answering;
 mod conversation;
 mod draws;

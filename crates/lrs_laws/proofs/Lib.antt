@@ -10,6 +10,7 @@ pub mod GivenTokens
 pub mod WholeBatches
 pub mod Paging
 pub mod PageLaws
+pub mod LetIn
 pub mod HeldDocuments
 pub mod DocumentLaws
 pub mod DocumentIds

@@ -139,7 +139,7 @@ statements_on st [] = ([], sym (append-nil st.statements))
 statements_on st (e ∷ more) = on_and_on st.statements (step st e).statements (state_from (step st e) more).statements (each_on st.statements (effect st e).statements) (statements_on (step st e) more)
 
 -- a token that is known keeps its place
-known_on : (token : List ℕ) (k : ℕ) (st : State) (more : List Entry) → place_of_token token st.providers ≡ Some k → place_of_token token (state_from st more).providers ≡ Some k
+pub known_on : (token : List ℕ) (k : ℕ) (st : State) (more : List Entry) → place_of_token token st.providers ≡ Some k → place_of_token token (state_from st more).providers ≡ Some k
 known_on token k st [] is = is
 known_on token k st (e ∷ more) is = known_on token k (step st e) more (place_kept token_of token st.providers (effect st e).providers k is)
 

@@ -4,6 +4,7 @@ use Rattle.std.specs.Prelude.{◌≡◌, ◌≢◌, ◌<◌, ◌≤◌, ◌+◌,
 use Rattle.std.specs.Prelude.{Some, None, MatchOption, true, false, IsTrue}
 use Rattle.std.specs.List.{AllByRecursion, IsDistinct}
 use Rattle.cmi5_course.specs.Courses.{course_key}
+use Rattle.lrs_record.specs.declared.entry.Area.{Area}
 use Rattle.lrs_record.specs.declared.entry.Area.TheVariants.{Store}
 use Rattle.lrs_command.specs.declared.command.Command.{Command}
 use Rattle.lrs_command.specs.declared.command.Command.TheVariants.{Read, Write}
@@ -97,6 +98,11 @@ IsSmall h trees = (used_in (state h)).count + length trees < WORDS
 abbrev pub CallersHaveAuthority : Type 0
 CallersHaveAuthority = (h : List Entry) (caller : Caller) → IsLetIn h caller → (authority : Authority)
     × (authority_of (state h) (who_in h caller) ≡ Some authority)
+
+-- Whoever is let into an area is let in after every further entry.
+abbrev pub CallersStayLetIn : Type 0
+CallersStayLetIn = (h more : List Entry) (caller : Caller) (area : Area) → barred area (who_in h caller) ≡ None
+    → barred area (who_in (h ++ more) caller) ≡ None
 
 -- Who isn't let into an area is told so, whatever it asks there.
 abbrev pub StrangersAreToldAlike : Type 0

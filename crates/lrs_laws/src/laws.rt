@@ -1,16 +1,17 @@
 ghost use Rattle.lrs_laws.specs.Documents.{DocumentsAreFolds, HeldDocumentsAreShown, IdsTellDocuments, MergedIsRead, NothingIsDroppedQuietly, PostedDocumentsAreMerged, UnmergeableIsTold};
 ghost use Rattle.lrs_laws.specs.Fetches.{FetchesGive, KeysGiveOnce, UsedKeysAreTold};
-ghost use Rattle.lrs_laws.specs.Laws.{BatchConflictsAreTold, BatchesAreWhole, CallersHaveAuthority, ConflictsAreTold, CoursesNameOne, DeskIdsAreNew, FirstPagesAreTold, LinksGoOn, LinksStay, LinksWhereMoreComes, MadeIdsAreNew, NamesForGood, NamesOne, PagesEnd, PagesGiveTheList, PositionsComeOnce, PutsAreHeld, RepeatedBatchesAreTaken, RepeatsAreTaken, StaysVoided, StrangersAreToldAlike};
+ghost use Rattle.lrs_laws.specs.Laws.{BatchConflictsAreTold, BatchesAreWhole, CallersHaveAuthority, CallersStayLetIn, ConflictsAreTold, CoursesNameOne, DeskIdsAreNew, FirstPagesAreTold, LinksGoOn, LinksStay, LinksWhereMoreComes, MadeIdsAreNew, NamesForGood, NamesOne, PagesEnd, PagesGiveTheList, PositionsComeOnce, PutsAreHeld, RepeatedBatchesAreTaken, RepeatsAreTaken, StaysVoided, StrangersAreToldAlike};
 ghost use Rattle.lrs_laws.specs.Sessions.{GivenTokensAct, KeysAreTheirLaunches, LaunchesLeaveStatements, OtherTokensAreUnknown, SessionTokensWereGiven, SessionsAreBarredFromTheDesk, SessionsAreLaunched, SessionsKeepLaunchData, SessionsKeepToTheirDocuments, SessionsSeeTheirRegistration};
 ghost use Rattle.lrs_laws.specs.Speaking.{AbandonedSessionsAreSilent, ResultsCountOnce, SessionsSpeakInOrder};
 ghost use Rattle.lrs_laws.specs.Verdicts.{SatisfiedOnce};
 
-/// Over every history whoever is let in has an authority, and who isn't is told the same whatever it asks. An id names
-/// one statement, for good, no two courses have one, and what is voided stays so. A repeat makes no entry, and another
-/// statement under the id is told it, alone and in a batch. Made ids are new, what isn't refused is held, and a batch
-/// is kept whole.
+/// Over every history whoever is let in has an authority, and stays let in after every further entry. Who isn't let in
+/// is told the same whatever it asks. An id names one statement, for good, no two courses have one, and what is voided
+/// stays so. A repeat makes no entry, and another statement under the id is told it, alone and in a batch. Made ids are
+/// new, what isn't refused is held, and a batch is kept whole.
 pub fn law_of_names()
     ensures authority { CallersHaveAuthority }
+    ensures stay { CallersStayLetIn }
     ensures strangers { StrangersAreToldAlike }
     ensures one { NamesOne }
     ensures courses { CoursesNameOne }

@@ -1,4 +1,4 @@
-ghost use Rattle.std.specs.Prelude.{◌≡◌, ◌++◌, false, IfOk, IfSome, OnOk};
+ghost use Rattle.std.specs.Prelude.{◌≡◌, ◌↔◌, ◌++◌, false, IfOk, IfSome, IsTrue, OnOk};
 ghost use Rattle.std.specs.List.{AllByRecursion};
 ghost use Rattle.lrs_fields.specs.Reading.{members_left, values_left};
 ghost use Rattle.lrs_fields.specs.Values.{members_for};
@@ -302,6 +302,29 @@ impl Write {
 }
 
 impl Caller {
+    /// A copy of its own.
+    pub fn copy(&self) -> Result<Caller, Memory>
+        ensures { IfOk result (λ caller. caller ≡ self.now) }
+    {
+        match self {
+            Caller::Nobody => Ok(Caller::Nobody),
+            Caller::Operator => Ok(Caller::Operator),
+            Caller::Token(token) => Ok(Caller::Token(token.clone()?)),
+        }
+    }
+
+    /// Whether both present the same, a credential byte by byte.
+    pub fn is_same(&self, other: &Caller) -> bool
+        ensures { IsTrue result ↔ (self.now ≡ other.now) }
+    {
+        match (self, other) {
+            (Caller::Nobody, Caller::Nobody) => true,
+            (Caller::Operator, Caller::Operator) => true,
+            (Caller::Token(one), Caller::Token(other)) => one == other,
+            _ => false,
+        }
+    }
+
     /// What the journal keeps for the caller: nothing for nobody, `*` for the operator, else the token.
     pub fn text(&self) -> &str
         ensures text { result.now ≡ caller_text self.now }

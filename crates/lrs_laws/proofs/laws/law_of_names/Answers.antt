@@ -3,12 +3,16 @@ use Rattle.lrs_history.proofs.Strangers.{told_barred}
 use Rattle.lrs_laws.proofs.Again.{batch_conflicts_are_told, conflicts_are_told, repeated_batches_are_taken, repeats_are_taken}
 use Rattle.lrs_laws.proofs.CourseLaws.{courses_name_one}
 use Rattle.lrs_laws.proofs.Keepers.{names_for_good, names_one, stays_voided}
+use Rattle.lrs_laws.proofs.LetIn.{callers_stay_let_in}
 use Rattle.lrs_laws.proofs.NewIds.{desk_ids_are_new, made_ids_are_new}
 use Rattle.lrs_laws.proofs.WholeBatches.{batches_are_whole, callers_have_authority, puts_are_held}
 use Rattle.lrs_laws.proofs.laws.law_of_names.Goals as goal
 
 pub returns-clause-authority : goal.returns-clause-authority
 returns-clause-authority c = callers_have_authority
+
+pub returns-clause-stay : goal.returns-clause-stay
+returns-clause-stay c = callers_stay_let_in
 
 pub returns-clause-strangers : goal.returns-clause-strangers
 returns-clause-strangers c = told_barred
