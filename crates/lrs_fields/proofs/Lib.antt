@@ -12,5 +12,3 @@ pub mod Values
 pub mod Apart
 pub mod Actors
 pub mod Fitting
-pub mod ValueKinds
-pub mod SameWritten

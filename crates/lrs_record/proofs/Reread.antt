@@ -35,7 +35,7 @@ mutual
 
 -- what reading gives can be spelled
 mutual
-  spellable : (j : Json) → Fits j → IsSpellable j
+  pub spellable : (j : Json) → Fits j → IsSpellable j
   spellable null fits = tt
   spellable (boolean b) fits = tt
   spellable (number s) fits = fits.0
