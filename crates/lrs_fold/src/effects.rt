@@ -77,6 +77,7 @@ impl Fold {
     }
 
     // What a write changes by that caller, at that moment and with that draw.
+    #[tactic(auto, using(crate::proofs::Written::gives))]
     fn effect_by(
         &self,
         alloc: Global,

@@ -38,14 +38,7 @@ pub(crate) fn missing(parts: &Parts, write: &Write) -> Option<Refusal>
             Some(_) => None,
             None => Some(Refusal::NotFound),
         },
-        Write::Found { .. }
-        | Write::Provider { .. }
-        | Write::Put { .. }
-        | Write::Post { .. }
-        | Write::State { .. }
-        | Write::Drop { .. }
-        | Write::Course { .. }
-        | Write::Sweep { .. } => None,
+        _ => None,
     }
 }
 

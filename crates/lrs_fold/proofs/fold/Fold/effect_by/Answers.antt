@@ -23,13 +23,6 @@ returns-in-Found c =
 pub founding-requires : goal.founding-requires
 founding-requires c = subst IsJudged c.in-Found.is c.requires.judged
 
-pub returns-in-Provider : goal.returns-in-Provider
-returns-in-Provider c =
-    subst (GivesEffect (state_of c.args.self.now.parts) c.args.who c.args.moment c.args.draw.now c.provider.result) (sym c.in-Provider.is) c.provider.ensures
-
-pub returns-in-Put : goal.returns-in-Put
-returns-in-Put c = subst (GivesEffect (state_of c.args.self.now.parts) c.args.who c.args.moment c.args.draw.now c.put.result) (sym c.in-Put.is) c.put.ensures
-
 pub put-requires-clause-judged : goal.put-requires-clause-judged
 put-requires-clause-judged c = subst IsJudged c.in-Put.is c.requires.judged
 
@@ -44,17 +37,6 @@ post-requires-clause-judged c = subst IsJudged c.in-Post.is c.requires.judged
 
 pub post-requires-clause-known : goal.post-requires-clause-known
 post-requires-clause-known c = subst (λ (w : Write). IsKnown (state_of c.args.self.now.parts) c.args.draw.now w c.args.known.now) c.in-Post.is c.requires.known
-
-pub returns-in-State : goal.returns-in-State
-returns-in-State c = subst (GivesEffect (state_of c.args.self.now.parts) c.args.who c.args.moment c.args.draw.now c.state.result) (sym c.in-State.is) c.state.ensures
-
-pub returns-in-Drop : goal.returns-in-Drop
-returns-in-Drop c =
-    subst (GivesEffect (state_of c.args.self.now.parts) c.args.who c.args.moment c.args.draw.now c.drop_documents.result) (sym c.in-Drop.is) c.drop_documents.ensures
-
-pub returns-in-Course : goal.returns-in-Course
-returns-in-Course c =
-    subst (GivesEffect (state_of c.args.self.now.parts) c.args.who c.args.moment c.args.draw.now c.course.result) (sym c.in-Course.is) c.course.ensures
 
 pub course-requires-clause-fits : goal.course-requires-clause-fits
 course-requires-clause-fits c = (subst IsJudged c.in-Course.is c.requires.judged).0
