@@ -1,6 +1,6 @@
 // A server that looks at nothing: between reading a request and answering it, it makes the six calls of an append, and no more.
 // What it reaches is what any server of so many workers could reach here, whatever it does with a request. Several workers
-// take turns at the file, each twice for a request, as the store does: once to look who asks, once to append.
+// take turns at the file, each twice for a request, as the store does for the first of a connection: once to look who asks, once to append.
 //
 //   cc -O2 -pthread -o bare_server bare_server.c && ./bare_server FILE PORT CONNECTIONS BYTES [WORKERS]
 //
