@@ -16,11 +16,11 @@ use Rattle.lrs_names.specs.Languages.{is_language_tag}
 use Rattle.lrs_names.specs.Rules.{least, lesser, unless}
 use Rattle.xapi_values.specs.Kinds.{kind_of}
 use Rattle.xapi_values.specs.Shapes.{are_iris, extension_faults}
-use Rattle.xapi_rules.specs.Contexts.{activities_faults, context_activities_faults, context_agent_faults, context_faults, faults_of_activities, is_context, is_result, result_faults}
-use Rattle.xapi_rules.specs.Nulls.{has_null, items_have_null, role_of_member}
-use Rattle.xapi_rules.specs.Objects.{activity_faults, definition_faults, interaction_faults, is_activity, is_definition, is_interaction}
-use Rattle.xapi_rules.specs.Rules.{action_faults, actor_faults, are_timestamps, broken_rule, form_faults, has_no_revision, is_fit_revision, is_verb, is_voided_verb, is_voiding, object_faults, own_faults, shared_faults, statement_faults, verb_faults, voids_reference}
-use Rattle.xapi_rules.specs.declared.nulls.Role.TheVariants.{Plain, Object, Described, Holder, Context}
+use Rattle.xapi_statement.specs.XapiRulesContexts.{activities_faults, context_activities_faults, context_agent_faults, context_faults, faults_of_activities, is_context, is_result, result_faults}
+use Rattle.xapi_statement.specs.XapiRulesNulls.{has_null, items_have_null, role_of_member}
+use Rattle.xapi_statement.specs.XapiRulesObjects.{activity_faults, definition_faults, interaction_faults, is_activity, is_definition, is_interaction}
+use Rattle.xapi_statement.specs.XapiRulesRules.{action_faults, actor_faults, are_timestamps, broken_rule, form_faults, has_no_revision, is_fit_revision, is_verb, is_voided_verb, is_voiding, object_faults, own_faults, shared_faults, statement_faults, verb_faults, voids_reference}
+use Rattle.xapi_statement.specs.XapiRulesNullsRoleTheVariants.{Plain, Object, Described, Holder, Context}
 use Rattle.cmi5_course.specs.declared.course.Kind.{Kind}
 use Rattle.cmi5_course.specs.declared.course.Kind.TheVariants.{Course, Block, Unit as UnitKind}
 use Rattle.cmi5_launch.specs.Activities.{activity_json}

@@ -15,3 +15,4 @@ pub use addresses::launch_address;
 pub use data::launch_data;
 pub use lrs_json::Memory;
 pub use made::{Made, made_statement};
+pub use xapi_statement;

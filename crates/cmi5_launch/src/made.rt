@@ -2,7 +2,7 @@ ghost use Rattle.std.specs.Prelude.{◌≡◌, ◌++◌, IfOk, IsTrue, None, OnO
 ghost use Rattle.lrs_agents.specs.Identifiers.{is_identifier};
 ghost use Rattle.lrs_json.specs.View.{member_view, view};
 ghost use Rattle.lrs_names.specs.Ids.{id_of, id_text};
-ghost use Rattle.xapi_rules.specs.Rules.{broken_rule};
+ghost use Rattle.xapi_statement.specs.XapiRulesRules.{broken_rule};
 ghost use Rattle.cmi5_launch.specs.Made.{abandoned_result, categories_json, context_activities, context_json, definition_json, span_text, extensions_json, in_english, launched_extensions, made_json, object_json, reason_json, result_given, said, type_of, verb_json, waived_result};
 
 use crate::activities;

@@ -20,9 +20,9 @@ use Rattle.cmi5_session.specs.Own.{is_cmi5_defined, says}
 use Rattle.cmi5_session.specs.Views.{counts_still, has_counting}
 use Rattle.lrs_json.specs.Json.{Json}
 use Rattle.lrs_json.specs.View.{view}
-use Rattle.xapi_statement.specs.Statements.{is_that_id, is_voided}
-use Rattle.xapi_statement.specs.Statement.{activity_of, registration_of, verb_of}
-use Rattle.xapi_statement.specs.Stored.{StoredStatement}
+use Rattle.cmi5_session.specs.XapiStatementStatements.{is_that_id, is_voided}
+use Rattle.cmi5_session.specs.XapiStatementStatement.{activity_of, registration_of, verb_of}
+use Rattle.cmi5_session.specs.XapiStatementStored.{StoredStatement}
 
 -- ---- truth values
 

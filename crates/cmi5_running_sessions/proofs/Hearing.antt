@@ -16,8 +16,8 @@ use Rattle.cmi5_session.specs.Moments.{began_at, last_own}
 use Rattle.cmi5_session.specs.Own.{has_own, is_of_session, is_own, says}
 use Rattle.lrs_json.specs.View.{view}
 use Rattle.xapi_format.specs.declared.authority.Authority.{Authority}
-use Rattle.xapi_statement.specs.Statements.{is_that_id}
-use Rattle.xapi_statement.specs.Stored.{StoredStatement}
+use Rattle.cmi5_session.specs.XapiStatementStatements.{is_that_id}
+use Rattle.cmi5_session.specs.XapiStatementStored.{StoredStatement}
 
 -- ---- options
 

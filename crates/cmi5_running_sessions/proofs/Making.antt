@@ -12,7 +12,7 @@ use Rattle.cmi5_running_sessions.specs.Room.{AddsNoPlaces, HasOwnPlace, HasPlace
 use Rattle.cmi5_running_sessions.specs.declared.own.OwnSaid.{OwnSaid}
 use Rattle.cmi5_running_sessions.specs.declared.units.Reached.{Reached}
 use Rattle.cmi5_running_sessions.proofs.Altering.{unit_kept}
-use Rattle.xapi_statement.specs.Stored.{StoredStatement}
+use Rattle.cmi5_session.specs.XapiStatementStored.{StoredStatement}
 
 -- ---- one place
 

@@ -9,7 +9,7 @@ use Rattle.cmi5_running_sessions.proofs.Hearing.{heard, voided_same}
 use Rattle.cmi5_running_sessions.proofs.Making.{filled_kept, own_kept, units_kept}
 use Rattle.cmi5_session.specs.Marked.{MarkedStatement, mark}
 use Rattle.lrs_json.specs.View.{view}
-use Rattle.xapi_statement.specs.Stored.{StoredStatement}
+use Rattle.cmi5_session.specs.XapiStatementStored.{StoredStatement}
 
 abbrev pub seen_of : Entries OwnSaid → UnitsByRegistration → SeenSessions
 seen_of own reached = record { own = own; reached = reached }

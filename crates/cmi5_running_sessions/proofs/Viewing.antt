@@ -14,7 +14,7 @@ use Rattle.cmi5_session.specs.Phases.{phase_of}
 use Rattle.cmi5_session.specs.Views.{SeenSession, view_of}
 use Rattle.cmi5_session.specs.declared.phase.Phase.{Phase}
 use Rattle.cmi5_session.specs.declared.phase.Phase.TheVariants as phase
-use Rattle.xapi_statement.specs.Stored.{StoredStatement}
+use Rattle.cmi5_session.specs.XapiStatementStored.{StoredStatement}
 
 -- the phase by what the session's own statements said
 phase_told : (id : List ℕ) (fetched abandoned : Bool) (statements : List StoredStatement) → phase_by (own_said id statements) fetched abandoned ≡ phase_of id fetched abandoned statements

@@ -12,7 +12,7 @@ use Rattle.cmi5_session.specs.declared.phase.Phase.{Phase}
 use Rattle.cmi5_session.specs.declared.phase.Phase.TheVariants.{Launched, Fetched, Initialized, Terminated, Abandoned}
 use Rattle.lrs_json.specs.Json.{Json}
 use Rattle.lrs_json.specs.View.{view}
-use Rattle.xapi_statement.specs.Stored.{StoredStatement}
+use Rattle.cmi5_session.specs.XapiStatementStored.{StoredStatement}
 
 abbrev pub Entries : Type 0 → Type 0
 Entries X = List (List ℕ × X)

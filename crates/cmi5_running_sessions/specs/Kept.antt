@@ -16,9 +16,9 @@ use Rattle.cmi5_session.specs.Moments.{began_at}
 use Rattle.cmi5_session.specs.Own.{has_own, is_cmi5_defined, is_of_session}
 use Rattle.lrs_json.specs.Json.{Json}
 use Rattle.lrs_json.specs.View.{view}
-use Rattle.xapi_statement.specs.Statements.{is_that_id}
-use Rattle.xapi_statement.specs.Statement.{activity_of, registration_of, verb_of}
-use Rattle.xapi_statement.specs.Stored.{StoredStatement}
+use Rattle.cmi5_session.specs.XapiStatementStatements.{is_that_id}
+use Rattle.cmi5_session.specs.XapiStatementStatement.{activity_of, registration_of, verb_of}
+use Rattle.cmi5_session.specs.XapiStatementStored.{StoredStatement}
 
 -- What is seen of it: what was said by session, and what was reached by registration and activity.
 pub record SeenSessions : Type 0 where

@@ -7,9 +7,9 @@ use Rattle.cmi5_running_sessions.specs.Kept.{SeenSessions, is_same, nothing_reac
 use Rattle.cmi5_running_sessions.specs.Kept.{units_of}
 use Rattle.cmi5_session.specs.Own.{is_of_session, says}
 use Rattle.lrs_json.specs.View.{view}
-use Rattle.xapi_statement.specs.Statements.{is_that_id}
-use Rattle.xapi_statement.specs.Statement.{activity_of, registration_of}
-use Rattle.xapi_statement.specs.Stored.{StoredStatement}
+use Rattle.cmi5_session.specs.XapiStatementStatements.{is_that_id}
+use Rattle.cmi5_session.specs.XapiStatementStatement.{activity_of, registration_of}
+use Rattle.cmi5_session.specs.XapiStatementStored.{StoredStatement}
 
 -- ---- what has a place
 

@@ -9,8 +9,8 @@ ghost use Rattle.lrs_json.specs.View.{view};
 
 use crate::told::says;
 use cmi5_session::cmi5_launch::names::{INITIALIZED, TERMINATED};
+use cmi5_session::xapi_statement::StoredStatement;
 use lrs_time::Moment;
-use xapi_statement::StoredStatement;
 
 /// What a session's own statements said, voided or not.
 #[derive(Clone, Copy)]

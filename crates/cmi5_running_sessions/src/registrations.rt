@@ -11,12 +11,12 @@ ghost use Rattle.lrs_json.specs.View.{view};
 use crate::Reached;
 use crate::told::unit_told;
 use crate::units::Units;
+use cmi5_session::xapi_statement::StoredStatement;
 use lrs_json::{Memory, Text, Tree};
 use lrs_names::Id;
 use std::alloc::Global;
 use std::collections::BTreeMap;
 use std::marker::Model;
-use xapi_statement::StoredStatement;
 
 /// What was reached in each registration. One in which no unit has a place isn't kept.
 #[derive(Drop)]

@@ -8,12 +8,12 @@ ghost use Rattle.cmi5_running_sessions.specs.Room.{needs_own};
 
 use crate::OwnSaid;
 use crate::told::session_of;
+use cmi5_session::xapi_statement::StoredStatement;
 use lrs_json::Memory;
 use lrs_names::Id;
 use std::alloc::Global;
 use std::collections::BTreeMap;
 use std::marker::Model;
-use xapi_statement::StoredStatement;
 
 /// What the own statements of each session said, by its id.
 #[derive(Drop)]

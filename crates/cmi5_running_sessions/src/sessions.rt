@@ -9,18 +9,18 @@ ghost use Rattle.cmi5_session.specs.Marked.{MarkedStatement, mark, marked, state
 ghost use Rattle.cmi5_session.specs.Moments.{began_at, last_own};
 ghost use Rattle.cmi5_session.specs.Own.{has_own};
 ghost use Rattle.cmi5_session.specs.Views.{seen, view_of};
-ghost use Rattle.xapi_statement.specs.Stored.{StoredStatement as SpecStatement};
+ghost use Rattle.cmi5_session.specs.XapiStatementStored.{StoredStatement as SpecStatement};
 
 use crate::OwnSaid;
 use crate::registrations::ReachedByRegistration;
 use crate::said::SaidBySession;
+use cmi5_session::xapi_statement::StoredStatement;
 use cmi5_session::{Launch, Phase, SessionView};
 use lrs_json::Memory;
 use lrs_names::Id;
 use lrs_time::Moment;
 use std::alloc::Global;
 use std::marker::Model;
-use xapi_statement::StoredStatement;
 
 /// What is kept of all sessions: what each one's own statements said, and what was reached in each registration. It
 /// stands for a list of statements, each of which is voided or not.

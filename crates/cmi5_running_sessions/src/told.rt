@@ -6,14 +6,16 @@ ghost use Rattle.cmi5_session.specs.Cmi5LaunchNames.{completed, passed};
 ghost use Rattle.cmi5_running_sessions.specs.Room.{needs_unit};
 ghost use Rattle.cmi5_session.specs.Own.{is_of_session, says};
 ghost use Rattle.lrs_json.specs.View.{view};
-ghost use Rattle.xapi_statement.specs.Statements.{is_that_id};
-ghost use Rattle.xapi_statement.specs.Statement.{activity_of, registration_of};
+ghost use Rattle.cmi5_session.specs.XapiStatementStatements.{is_that_id};
+ghost use Rattle.cmi5_session.specs.XapiStatementStatement.{activity_of, registration_of};
 
 use cmi5_session::cmi5_launch::names::{COMPLETED, PASSED};
 use cmi5_session::is_cmi5_defined;
+use cmi5_session::xapi_statement::{
+    Authority, StoredStatement, activity_of, registration_of, verb_of,
+};
 use lrs_json::{Text, Tree};
 use lrs_names::Id;
-use xapi_statement::{Authority, StoredStatement, activity_of, registration_of, verb_of};
 
 /// The session whose own statement one under that authority is, if it is one's.
 pub(crate) fn session_of(authority: &Authority) -> Option<Id>

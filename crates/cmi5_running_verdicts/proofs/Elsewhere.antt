@@ -9,9 +9,9 @@ use Rattle.cmi5_verdict.specs.Cmi5SessionOwn.{is_cmi5_defined}
 use Rattle.cmi5_verdict.specs.Nodes.{SeenEnrolment, activity_at}
 use Rattle.lrs_json.specs.Json.{Json}
 use Rattle.lrs_json.specs.View.{view}
-use Rattle.xapi_statement.specs.Statements.{is_that_id}
-use Rattle.xapi_statement.specs.Statement.{activity_of, registration_of}
-use Rattle.xapi_statement.specs.Stored.{StoredStatement}
+use Rattle.cmi5_verdict.specs.XapiStatementStatements.{is_that_id}
+use Rattle.cmi5_verdict.specs.XapiStatementStatement.{activity_of, registration_of}
+use Rattle.cmi5_verdict.specs.XapiStatementStored.{StoredStatement}
 
 about_none : (e : SeenEnrolment) (j : Json) → is_that_id e.registration (registration_of j) ≡ false → (place : ℕ) → is_about e place j ≡ false
 about_none e j other place = ap (λ b. b && is_cmi5_defined j && is_that_id (activity_at e place) (activity_of j)) other

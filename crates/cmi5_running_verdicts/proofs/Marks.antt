@@ -19,9 +19,9 @@ use Rattle.cmi5_verdict.proofs.Spoken.{same_said}
 use Rattle.cmi5_verdict.proofs.Tests.{or_false}
 use Rattle.cmi5_running_verdicts.proofs.Counts.{count_around, count_push}
 use Rattle.lrs_json.specs.View.{view}
-use Rattle.xapi_statement.specs.Statements.{is_that_id}
-use Rattle.xapi_statement.specs.Statement.{activity_of, registration_of, verb_of}
-use Rattle.xapi_statement.specs.Stored.{StoredStatement}
+use Rattle.cmi5_verdict.specs.XapiStatementStatements.{is_that_id}
+use Rattle.cmi5_verdict.specs.XapiStatementStatement.{activity_of, registration_of, verb_of}
+use Rattle.cmi5_verdict.specs.XapiStatementStored.{StoredStatement}
 
 -- ---- what is said, as a tally counts it
 

@@ -13,8 +13,8 @@ use Rattle.cmi5_verdict.specs.Nodes.{SeenEnrolment, is_under}
 use Rattle.cmi5_verdict.specs.Said.{said_with}
 use Rattle.cmi5_verdict.specs.declared.said.Said.{Said}
 use Rattle.lrs_json.specs.View.{view}
-use Rattle.xapi_statement.specs.Statement.{verb_of}
-use Rattle.xapi_statement.specs.Stored.{StoredStatement}
+use Rattle.cmi5_verdict.specs.XapiStatementStatement.{verb_of}
+use Rattle.cmi5_verdict.specs.XapiStatementStored.{StoredStatement}
 
 -- ---- tallies by the numbers of their nodes
 

@@ -23,10 +23,10 @@ use Rattle.cmi5_verdict.proofs.Spoken.{among_both, same_said}
 use Rattle.cmi5_verdict.proofs.Tests.{and_true, or_false}
 use Rattle.cmi5_running_verdicts.proofs.Visits.{kept_any}
 use Rattle.lrs_json.specs.View.{view}
-use Rattle.xapi_statement.specs.Statements.{is_that_id, is_voided, voids}
+use Rattle.cmi5_verdict.specs.XapiStatementStatements.{is_that_id, is_voided, voids}
 use Rattle.xapi_rules.specs.Rules.{is_voiding}
-use Rattle.xapi_statement.specs.Statement.{target_of}
-use Rattle.xapi_statement.specs.Stored.{StoredStatement}
+use Rattle.cmi5_verdict.specs.XapiStatementStatement.{target_of}
+use Rattle.cmi5_verdict.specs.XapiStatementStored.{StoredStatement}
 
 -- ---- tests over lists
 

@@ -20,13 +20,13 @@ use Rattle.cmi5_verdict.specs.Said.{meets}
 use Rattle.cmi5_verdict.specs.declared.said.Said.{Said}
 use Rattle.cmi5_verdict.proofs.Spoken.{same_said}
 use Rattle.lrs_json.specs.View.{view}
-use Rattle.xapi_index.specs.Index.{IsPosting}
-use Rattle.xapi_statement.specs.Statements.{is_that_id, is_voided}
-use Rattle.xapi_index.specs.XapiPostingsAscending.{below, positions_from}
-use Rattle.xapi_statement.specs.Statement.{activity_of, registration_of}
-use Rattle.xapi_statement.specs.Stored.{StoredStatement}
-use Rattle.xapi_statement_keys.specs.Keys.{has_key}
-use Rattle.xapi_statement_keys.specs.declared.key.Key.TheVariants as key
+use Rattle.cmi5_verdict.specs.XapiIndexIndex.{IsPosting}
+use Rattle.cmi5_verdict.specs.XapiStatementStatements.{is_that_id, is_voided}
+use Rattle.cmi5_verdict.specs.XapiPostingsAscending.{below, positions_from}
+use Rattle.cmi5_verdict.specs.XapiStatementStatement.{activity_of, registration_of}
+use Rattle.cmi5_verdict.specs.XapiStatementStored.{StoredStatement}
+use Rattle.cmi5_verdict.specs.XapiStatementKeysKeys.{has_key}
+use Rattle.cmi5_verdict.specs.XapiStatementKeysKeyKeyTheVariants as key
 
 -- ---- how many pass
 

@@ -11,8 +11,8 @@ use Rattle.cmi5_verdict.specs.Nodes.{SeenEnrolment, activity_at, is_under, unit_
 use Rattle.cmi5_verdict.specs.Said.{meets}
 use Rattle.cmi5_verdict.specs.declared.said.Said.{Said}
 use Rattle.lrs_json.specs.Json.{Json}
-use Rattle.xapi_statement.specs.Statements.{is_that_id}
-use Rattle.xapi_statement.specs.Statement.{activity_of, registration_of}
+use Rattle.cmi5_verdict.specs.XapiStatementStatements.{is_that_id}
+use Rattle.cmi5_verdict.specs.XapiStatementStatement.{activity_of, registration_of}
 
 -- ---- tallies
 

@@ -2,8 +2,8 @@
 use Rattle.std.specs.Prelude.{ℕ, List, [], ◌∷◌, ◌++◌, slice_get}
 use Rattle.std.specs.Option.{option_map_or}
 use Rattle.cmi5_verdict.specs.Cmi5SessionMarked.{MarkedStatement, mark}
-use Rattle.xapi_statement.specs.Statements.{is_voided}
-use Rattle.xapi_statement.specs.Stored.{StoredStatement}
+use Rattle.cmi5_verdict.specs.XapiStatementStatements.{is_voided}
+use Rattle.cmi5_verdict.specs.XapiStatementStored.{StoredStatement}
 
 -- the one at a position, if there is one, with whether one of them voids it
 abbrev pub marked_at : List StoredStatement → ℕ → List MarkedStatement

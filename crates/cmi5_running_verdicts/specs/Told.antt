@@ -7,7 +7,7 @@ use Rattle.cmi5_running_verdicts.specs.declared.tally.Tally.{Tally}
 use Rattle.cmi5_verdict.specs.declared.said.Said.{Said}
 use Rattle.lrs_json.specs.View.{view}
 use Rattle.xapi_rules.specs.Rules.{is_voiding}
-use Rattle.xapi_statement.specs.Stored.{StoredStatement}
+use Rattle.cmi5_verdict.specs.XapiStatementStored.{StoredStatement}
 
 -- ---- the node of a number
 

@@ -11,16 +11,16 @@ ghost use Rattle.cmi5_verdict.specs.Nodes.{SeenEnrolment, seen};
 ghost use Rattle.cmi5_verdict.specs.Places.{is_place};
 ghost use Rattle.cmi5_verdict.specs.Said.{said_with};
 ghost use Rattle.lrs_json.specs.View.{view};
-ghost use Rattle.xapi_statement.specs.Statement.{verb_of};
+ghost use Rattle.cmi5_verdict.specs.XapiStatementStatement.{verb_of};
 
 use crate::holding::{follow, is_met_with, settle};
 use crate::tally::{Tally, tally_of};
 use cmi5_course::Node;
 use cmi5_verdict::cmi5_launch::names::{COMPLETED, PASSED, SATISFIED, WAIVED};
+use cmi5_verdict::xapi_statement::{StoredStatement, verb_of};
 use cmi5_verdict::{Enrolment, Said, place_meant};
 use lrs_json::Memory;
 use std::alloc::Global;
-use xapi_statement::{StoredStatement, verb_of};
 
 // ---- before anything is said
 

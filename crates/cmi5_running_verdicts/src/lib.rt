@@ -9,5 +9,6 @@ mod tally;
 mod telling;
 
 pub use cmi5_verdict;
+pub use cmi5_verdict::xapi_index;
 pub use running::Running;
 pub use tally::Tally;

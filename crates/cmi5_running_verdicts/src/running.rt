@@ -12,18 +12,18 @@ ghost use Rattle.cmi5_verdict.specs.Cmi5SessionMarked.{MarkedStatement, mark, ma
 ghost use Rattle.cmi5_verdict.specs.Nodes.{SeenEnrolment, activity_at, is_satisfied, owed, seen, verdicts};
 ghost use Rattle.cmi5_verdict.specs.Statements.{all_of};
 ghost use Rattle.cmi5_verdict.specs.Units.{stands};
-ghost use Rattle.xapi_statement.specs.Stored.{StoredStatement as SpecStatement};
+ghost use Rattle.cmi5_verdict.specs.XapiStatementStored.{StoredStatement as SpecStatement};
 
 use crate::counting::{count, discount, fresh};
 use crate::tally::Tally;
 use crate::telling::{any_voids, is_all_met_at, is_waived_at, owed_by_tallies, verdicts};
+use cmi5_verdict::xapi_index::Index;
+use cmi5_verdict::xapi_statement::{HeldStatement, StoredStatement};
+use cmi5_verdict::xapi_statement_keys::Key;
 use cmi5_verdict::{Enrolment, Statements, owed};
 use lrs_json::Memory;
 use std::alloc::Global;
 use std::marker::Model;
-use xapi_index::Index;
-use xapi_statement::{HeldStatement, StoredStatement};
-use xapi_statement_keys::Key;
 
 /// The tallies of the nodes of one registration's course, in the order of the text.
 #[derive(Drop)]

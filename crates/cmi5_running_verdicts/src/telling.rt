@@ -9,10 +9,10 @@ ghost use Rattle.cmi5_verdict.specs.Nodes.{owed, seen};
 ghost use Rattle.cmi5_verdict.specs.Statements.{all_of};
 
 use crate::tally::{Tally, tally_of};
+use cmi5_verdict::xapi_statement::StoredStatement;
 use cmi5_verdict::{Enrolment, Said, Statements, add_new, owed_by_said};
 use lrs_json::Memory;
 use std::alloc::Global;
-use xapi_statement::StoredStatement;
 
 // ---- the node of a number
 

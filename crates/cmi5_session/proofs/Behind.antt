@@ -14,10 +14,10 @@ use Rattle.cmi5_session.specs.declared.phase.Phase.TheVariants as phase
 use Rattle.lrs_json.specs.View.{view}
 use Rattle.lrs_json.specs.declared.tree.Tree.{Tree}
 use Rattle.xapi_format.specs.declared.authority.Authority.TheVariants.{Session}
-use Rattle.xapi_statement.specs.Statements.{is_that_id, is_target, is_voided, voids}
+use Rattle.cmi5_launch.specs.XapiStatementStatements.{is_that_id, is_target, is_voided, voids}
 use Rattle.xapi_rules.specs.Rules.{is_voiding}
-use Rattle.xapi_statement.specs.Statement.{target_of}
-use Rattle.xapi_statement.specs.Stored.{StoredStatement}
+use Rattle.cmi5_launch.specs.XapiStatementStatement.{target_of}
+use Rattle.cmi5_launch.specs.XapiStatementStored.{StoredStatement}
 
 -- ---- tests over one item more
 

@@ -1,7 +1,7 @@
 -- Statements with marks: whether each is voided.
 use Rattle.std.specs.Prelude.{Bool, List, map}
-use Rattle.xapi_statement.specs.Statements.{is_voided}
-use Rattle.xapi_statement.specs.Stored.{StoredStatement}
+use Rattle.cmi5_launch.specs.XapiStatementStatements.{is_voided}
+use Rattle.cmi5_launch.specs.XapiStatementStored.{StoredStatement}
 
 pub record MarkedStatement : Type 0 where
   pub statement : StoredStatement

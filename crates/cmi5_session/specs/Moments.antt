@@ -2,7 +2,7 @@
 use Rattle.std.specs.Prelude.{ℕ, List, [], ◌∷◌, Option, find, option_map, if◌then◌else◌}
 use Rattle.cmi5_launch.specs.Names.{initialized}
 use Rattle.cmi5_session.specs.Own.{is_of_session, is_own}
-use Rattle.xapi_statement.specs.Stored.{StoredStatement}
+use Rattle.cmi5_launch.specs.XapiStatementStored.{StoredStatement}
 
 -- when the session of that id said that it is initialized, if it did
 abbrev pub began_at : List ℕ → List StoredStatement → Option ℕ

@@ -7,8 +7,8 @@ use Rattle.lrs_json.specs.Json.{Json}
 use Rattle.lrs_json.specs.View.{view}
 use Rattle.xapi_format.specs.declared.authority.Authority.{Authority}
 use Rattle.xapi_format.specs.declared.authority.Authority.TheVariants.{Admin, Provider, Session, Desk}
-use Rattle.xapi_statement.specs.Statement.{has_context_activity, verb_of}
-use Rattle.xapi_statement.specs.Stored.{StoredStatement}
+use Rattle.cmi5_launch.specs.XapiStatementStatement.{has_context_activity, verb_of}
+use Rattle.cmi5_launch.specs.XapiStatementStored.{StoredStatement}
 
 -- cmi5 defines what it means: its category activities hold cmi5's own
 abbrev pub is_cmi5_defined : Json → Bool

@@ -5,7 +5,7 @@ use Rattle.cmi5_session.specs.Own.{has_own, says}
 use Rattle.cmi5_session.specs.declared.phase.Phase.{Phase}
 use Rattle.cmi5_session.specs.declared.phase.Phase.TheVariants.{Launched, Fetched, Initialized, Terminated, Abandoned}
 use Rattle.lrs_json.specs.Json.{Json}
-use Rattle.xapi_statement.specs.Stored.{StoredStatement}
+use Rattle.cmi5_launch.specs.XapiStatementStored.{StoredStatement}
 
 -- Of the session of that id. Its token was fetched or not, and it was abandoned or not.
 abbrev pub phase_of : List ℕ → Bool → Bool → List StoredStatement → Phase

@@ -21,11 +21,11 @@ use Rattle.lrs_ids.specs.Choices.{first_some, when}
 use Rattle.lrs_json.specs.Json.{Json}
 use Rattle.lrs_names.specs.Ids.{id_text}
 use Rattle.lrs_names.specs.Members.{is_word}
-use Rattle.xapi_statement.specs.Statements.{is_that_id}
+use Rattle.cmi5_launch.specs.XapiStatementStatements.{is_that_id}
 use Rattle.xapi_rules.specs.Rules.{is_voiding}
-use Rattle.xapi_statement.specs.Parties.{actor_of}
-use Rattle.xapi_statement.specs.Statement.{activity_of, extension_of, has_context_activity, has_duration}
-use Rattle.xapi_statement.specs.Statement.{registration_of, result_boolean, scaled_of, verb_of}
+use Rattle.cmi5_launch.specs.XapiStatementParties.{actor_of}
+use Rattle.cmi5_launch.specs.XapiStatementStatement.{activity_of, extension_of, has_context_activity, has_duration}
+use Rattle.cmi5_launch.specs.XapiStatementStatement.{registration_of, result_boolean, scaled_of, verb_of}
 use Rattle.xapi_values.specs.Numbers.{are_equal, is_below, is_not_above}
 use Rattle.lrs_names.specs.Members.{spelling_of}
 

@@ -10,9 +10,9 @@ use Rattle.cmi5_session.specs.declared.phase.Phase.{Phase}
 use Rattle.cmi5_session.specs.declared.view.SessionView.{SessionView}
 use Rattle.lrs_json.specs.Json.{Json}
 use Rattle.lrs_json.specs.View.{view}
-use Rattle.xapi_statement.specs.Statements.{is_that_id, is_voided}
-use Rattle.xapi_statement.specs.Statement.{activity_of, registration_of, verb_of}
-use Rattle.xapi_statement.specs.Stored.{StoredStatement}
+use Rattle.cmi5_launch.specs.XapiStatementStatements.{is_that_id, is_voided}
+use Rattle.cmi5_launch.specs.XapiStatementStatement.{activity_of, registration_of, verb_of}
+use Rattle.cmi5_launch.specs.XapiStatementStored.{StoredStatement}
 
 pub record SeenSession : Type 0 where
   pub launch : Launch

@@ -10,6 +10,7 @@ mod view;
 
 pub use cmi5_course::{Launch, Mode};
 pub use cmi5_launch;
+pub use cmi5_launch::xapi_statement;
 pub use defined::is_cmi5_defined;
 pub use phase::Phase;
 pub use rules::{Forbidden, permitted, permitted_outside};

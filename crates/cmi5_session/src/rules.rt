@@ -10,7 +10,7 @@ ghost use Rattle.cmi5_session.specs.Views.{seen};
 ghost use Rattle.lrs_json.specs.View.{view};
 ghost use Rattle.lrs_names.specs.Ids.{id_text};
 ghost use Rattle.lrs_names.specs.Members.{is_word};
-ghost use Rattle.xapi_statement.specs.Statement.{has_context_activity};
+ghost use Rattle.cmi5_launch.specs.XapiStatementStatement.{has_context_activity};
 
 use crate::defined::{is_cmi5_defined, says};
 use crate::verb::Verb;
@@ -18,12 +18,12 @@ use crate::view::{is_about, is_that_id};
 use crate::{Phase, SessionView};
 use cmi5_course::{Launch, Mode};
 use cmi5_launch::names::{INITIALIZED, MASTERY_SCORE, MOVE_ON_CATEGORY, SESSION_ID};
-use lrs_json::{Number, Tree, utf8_text};
-use lrs_names::{Id, Iri, is_word};
-use xapi_statement::{
+use cmi5_launch::xapi_statement::{
     extension_of, has_context_activity, has_duration, is_actor, is_voiding, registration_of,
     result_boolean, scaled_spelling, verb_of,
 };
+use lrs_json::{Number, Tree, utf8_text};
+use lrs_names::{Id, Iri, is_word};
 use xapi_values::numbers::{are_equal, is_below, is_not_above, spelling_of};
 
 /// Why a statement may not be kept: the least of the rules that it breaks.
@@ -94,7 +94,7 @@ fn broken_rule(session: &SessionView<'_>, statement: &Tree) -> Option<u8>
 }
 
 // Whether its actor is the learner for whom the unit was launched.
-#[tactic(auto, using(xapi_statement::proofs::Identifying::same_test))]
+#[tactic(auto, using(crate::proofs::Identifying::same_test))]
 fn is_of_learner(launch: &Launch, statement: &Tree) -> bool
     ensures { result ≡ is_of_learner launch.now (view statement.now) }
 {

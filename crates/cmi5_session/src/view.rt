@@ -3,18 +3,18 @@ ghost use Rattle.std.specs.Prelude.{◌≡◌, ◌&&◌, ◌||◌, ◌++◌, ◌
 ghost use Rattle.cmi5_session.specs.Views.{counts, seen, view_behind, view_of};
 ghost use Rattle.lrs_json.specs.View.{view};
 ghost use Rattle.xapi_format.specs.declared.authority.Authority.TheVariants.{Session};
-ghost use Rattle.xapi_statement.specs.Statements.{is_target, is_that_id};
+ghost use Rattle.cmi5_launch.specs.XapiStatementStatements.{is_target, is_that_id};
 ghost use Rattle.xapi_rules.specs.Rules.{is_voiding};
-ghost use Rattle.xapi_statement.specs.Statement.{activity_of};
-ghost use Rattle.xapi_statement.specs.Stored.{StoredStatement as SpecStatement};
+ghost use Rattle.cmi5_launch.specs.XapiStatementStatement.{activity_of};
+ghost use Rattle.cmi5_launch.specs.XapiStatementStored.{StoredStatement as SpecStatement};
 
 use crate::Phase;
 use crate::defined::is_cmi5_defined;
 use cmi5_course::Launch;
 use cmi5_launch::names::{COMPLETED, PASSED};
+use cmi5_launch::xapi_statement::{activity_of, registration_of, verb_of};
 use lrs_json::Tree;
 use lrs_names::{Id, Iri};
-use xapi_statement::{activity_of, registration_of, verb_of};
 
 /// A session as the rules on its statements see it.
 #[derive(Clone, Copy)]

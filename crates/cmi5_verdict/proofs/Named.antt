@@ -8,8 +8,8 @@ use Rattle.std.proofs.lemmas.Bool.Decides.{same_from_decides, Decides-like, Deci
 use Rattle.std.proofs.lemmas.Fmt.{decimal_injective, parse-decimal}
 use Rattle.std.proofs.lemmas.List.{append_cancel_left}
 use Rattle.std.proofs.lemmas.Slice.Eq.{bytes_eq-Decides}
-use Rattle.cmi5_launch.specs.Activities.{activity_text}
-use Rattle.cmi5_launch.proofs.LongerIris.{pieces}
+use Rattle.cmi5_session.specs.Cmi5LaunchActivities.{activity_text}
+use Rattle.cmi5_session.specs.Cmi5LaunchLongerIrisProofs.{pieces}
 
 -- ---- texts that begin alike
 

@@ -7,19 +7,19 @@ use Rattle.std.specs.Str.{bytes_eq}
 use Rattle.std.proofs.lemmas.Bool.{cases_lt, le-ltb, lt-ltb, true≢false}
 use Rattle.std.proofs.lemmas.List.{drop_all, drop_more}
 use Rattle.std.proofs.lemmas.Option.{slice_get_past}
-use Rattle.cmi5_launch.specs.Names.{completed, passed, satisfied, waived}
+use Rattle.cmi5_session.specs.Cmi5LaunchNames.{completed, passed, satisfied, waived}
 use Rattle.cmi5_session.specs.Own.{says}
 use Rattle.cmi5_verdict.specs.Nodes.{SeenEnrolment, activity_at}
 use Rattle.cmi5_verdict.specs.Said.{at_positions, counts_for, either, said_among, said_by, said_of, unsaid}
 use Rattle.cmi5_verdict.specs.declared.said.Said.{Said}
 use Rattle.cmi5_verdict.proofs.Spoken.{among_more, among_none, either_assoc, either_unsaid, same_said, unsaid_either}
 use Rattle.lrs_json.specs.View.{view}
-use Rattle.xapi_statement.specs.Statements.{is_that_id, is_voided}
+use Rattle.cmi5_session.specs.XapiStatementStatements.{is_that_id, is_voided}
 use Rattle.xapi_index.specs.XapiPostingsAscending.{below, positions_from, positions_with}
-use Rattle.xapi_statement.specs.Statement.{activity_of, registration_of}
-use Rattle.xapi_statement.specs.Stored.{StoredStatement}
-use Rattle.xapi_statement_keys.specs.Keys.{has_key}
-use Rattle.xapi_statement_keys.specs.declared.key.Key.TheVariants as key
+use Rattle.cmi5_session.specs.XapiStatementStatement.{activity_of, registration_of}
+use Rattle.cmi5_session.specs.XapiStatementStored.{StoredStatement}
+use Rattle.xapi_index.specs.XapiStatementKeysKeys.{has_key}
+use Rattle.xapi_index.specs.XapiStatementKeysKeyKeyTheVariants as key
 
 -- ---- the statements at positions
 

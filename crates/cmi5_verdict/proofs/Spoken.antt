@@ -7,16 +7,16 @@ use Rattle.std.proofs.lemmas.Bool.{cases_eq, eq-eqb, ne_eqb}
 use Rattle.std.proofs.lemmas.List.{drop_all, get_or-replicate, get_or-set_other, get_or-set_same, length-replicate}
 use Rattle.std.proofs.lemmas.List.Folds.{list_any-append}
 use Rattle.std.proofs.lemmas.List.FromFn.{fill_by_all}
-use Rattle.cmi5_launch.specs.Names.{completed, passed, satisfied, waived}
+use Rattle.cmi5_session.specs.Cmi5LaunchNames.{completed, passed, satisfied, waived}
 use Rattle.cmi5_session.specs.Own.{is_cmi5_defined}
 use Rattle.cmi5_verdict.specs.Nodes.{SeenEnrolment, activity_at}
 use Rattle.cmi5_verdict.specs.Said.{counts_for, either, said_among, said_by, said_in, said_of, said_with, unsaid}
 use Rattle.cmi5_verdict.specs.declared.said.Said.{Said}
 use Rattle.cmi5_verdict.proofs.Tests.{and_true, or_assoc, or_false}
 use Rattle.lrs_json.specs.View.{view}
-use Rattle.xapi_statement.specs.Statements.{is_that_id, is_voided}
-use Rattle.xapi_statement.specs.Statement.{activity_of, registration_of, verb_of}
-use Rattle.xapi_statement.specs.Stored.{StoredStatement}
+use Rattle.cmi5_session.specs.XapiStatementStatements.{is_that_id, is_voided}
+use Rattle.cmi5_session.specs.XapiStatementStatement.{activity_of, registration_of, verb_of}
+use Rattle.cmi5_session.specs.XapiStatementStored.{StoredStatement}
 
 -- ---- what one of two says
 

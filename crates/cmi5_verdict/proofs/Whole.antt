@@ -10,7 +10,7 @@ use Rattle.cmi5_verdict.specs.Marks.{is_marked, is_met_by, is_owed_by, is_satisf
 use Rattle.cmi5_verdict.specs.Nodes.{deeper_first, is_met_at, is_owed, is_satisfied, is_under, is_unit_in, owed, places, SeenEnrolment, unit_in, verdicts}
 use Rattle.cmi5_verdict.specs.Said.{meets, said_among, said_in, said_of, unsaid}
 use Rattle.cmi5_verdict.specs.declared.said.Said.{Said}
-use Rattle.xapi_statement.specs.Stored.{StoredStatement}
+use Rattle.cmi5_session.specs.XapiStatementStored.{StoredStatement}
 use Rattle.cmi5_verdict.proofs.Marked.{all_under, filter_alike, map_alike}
 
 -- ---- marks that were made from all

@@ -6,11 +6,11 @@ use Rattle.std.specs.List.{list_all, list_any, range_with_len}
 use Rattle.std.specs.Option.{option_map_or}
 use Rattle.cmi5_course.specs.Units.{AssignableUnit}
 use Rattle.cmi5_course.specs.declared.course.Node.{Node}
-use Rattle.cmi5_launch.specs.Activities.{activity_text}
-use Rattle.cmi5_launch.specs.Names.{satisfied}
+use Rattle.cmi5_session.specs.Cmi5LaunchActivities.{activity_text}
+use Rattle.cmi5_session.specs.Cmi5LaunchNames.{satisfied}
 use Rattle.cmi5_verdict.specs.Units.{is_met, was_said}
 use Rattle.cmi5_verdict.specs.declared.enrolment.Enrolment.{Enrolment}
-use Rattle.xapi_statement.specs.Stored.{StoredStatement}
+use Rattle.cmi5_session.specs.XapiStatementStored.{StoredStatement}
 
 -- A registration in a course, and the names under which the store knows both.
 pub record SeenEnrolment : Type 0 where

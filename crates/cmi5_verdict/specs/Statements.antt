@@ -1,7 +1,7 @@
 -- The statements over which is asked, in their order.
 use Rattle.std.specs.Prelude.{List, ◌++◌}
 use Rattle.cmi5_verdict.specs.declared.statements.Statements.{Statements}
-use Rattle.xapi_statement.specs.Stored.{StoredStatement}
+use Rattle.cmi5_session.specs.XapiStatementStored.{StoredStatement}
 
 -- those that are held, then the new ones
 abbrev pub all_of : Statements → List StoredStatement

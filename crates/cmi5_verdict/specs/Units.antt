@@ -4,13 +4,13 @@ use Rattle.std.specs.Prelude.{ℕ, ◌&&◌, ◌||◌, Bool, true, false, not, L
 use Rattle.std.specs.List.{list_any}
 use Rattle.cmi5_course.specs.declared.unit.MoveOn.{MoveOn}
 use Rattle.cmi5_course.specs.declared.unit.MoveOn.TheVariants as move_on
-use Rattle.cmi5_launch.specs.Names.{completed, passed, waived}
+use Rattle.cmi5_session.specs.Cmi5LaunchNames.{completed, passed, waived}
 use Rattle.cmi5_session.specs.Own.{says}
 use Rattle.lrs_json.specs.Json.{Json}
 use Rattle.lrs_json.specs.View.{view}
-use Rattle.xapi_statement.specs.Statements.{is_that_id, is_voided}
-use Rattle.xapi_statement.specs.Statement.{activity_of, registration_of}
-use Rattle.xapi_statement.specs.Stored.{StoredStatement}
+use Rattle.cmi5_session.specs.XapiStatementStatements.{is_that_id, is_voided}
+use Rattle.cmi5_session.specs.XapiStatementStatement.{activity_of, registration_of}
+use Rattle.cmi5_session.specs.XapiStatementStored.{StoredStatement}
 
 -- A statement of that verb that cmi5 defines, in that registration and on that activity, whosever it is.
 abbrev pub counts : List ℕ → List ℕ → List ℕ → Json → Bool

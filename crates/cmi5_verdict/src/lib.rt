@@ -14,7 +14,8 @@ mod said;
 mod statements;
 mod units;
 
-pub use cmi5_launch;
+pub use cmi5_session;
+pub use cmi5_session::{cmi5_launch, xapi_statement};
 pub use enrolment::Enrolment;
 pub use marking::verdicts;
 pub use names::place_meant;
@@ -24,3 +25,5 @@ pub use owing::{owed, owed_by_said};
 pub use said::{Said, add_new};
 pub use statements::Statements;
 pub use units::waived;
+pub use xapi_index;
+pub use xapi_index::xapi_statement_keys;

@@ -3,20 +3,20 @@
 ghost use Rattle.std.specs.Prelude.{◌≡◌, ◌<◌, ◌^◌, ◌++◌, ◌&&◌, ℕ, List, MatchOption};
 ghost use Rattle.std.specs.Fmt.{decimal};
 ghost use Rattle.std.specs.Str.{bytes_eq};
-ghost use Rattle.cmi5_launch.specs.Activities.{activity_text};
+ghost use Rattle.cmi5_session.specs.Cmi5LaunchActivities.{activity_text};
 ghost use Rattle.cmi5_session.specs.Own.{is_cmi5_defined};
 ghost use Rattle.cmi5_verdict.specs.Nodes.{activity_at, seen};
 ghost use Rattle.cmi5_verdict.specs.Places.{is_place};
 ghost use Rattle.lrs_json.specs.View.{view};
-ghost use Rattle.xapi_statement.specs.Statements.{is_that_id};
-ghost use Rattle.xapi_statement.specs.Statement.{activity_of, registration_of};
+ghost use Rattle.cmi5_session.specs.XapiStatementStatements.{is_that_id};
+ghost use Rattle.cmi5_session.specs.XapiStatementStatement.{activity_of, registration_of};
 
 use crate::Enrolment;
+use cmi5_session::xapi_statement::{StoredStatement, activity_of, registration_of};
 use cmi5_session::{is_cmi5_defined, is_that_id};
 use itoa::Buffer;
 use lrs_json::Tree;
 use lrs_names::Id;
-use xapi_statement::{StoredStatement, activity_of, registration_of};
 
 /// The number of the node that a statement is about, if it names that registration and cmi5 defines what it means.
 pub fn place_meant(enrolment: &Enrolment<'_>, statement: &StoredStatement) -> Option<usize>

@@ -5,7 +5,7 @@ ghost use Rattle.cmi5_verdict.specs.Marks.{is_owed_by};
 ghost use Rattle.cmi5_verdict.specs.Nodes.{SeenEnrolment, at_depth, deeper_first, depth_of, owed, places, seen};
 ghost use Rattle.cmi5_verdict.specs.Said.{said_in};
 ghost use Rattle.cmi5_verdict.specs.Statements.{all_of};
-ghost use Rattle.xapi_statement.specs.Stored.{StoredStatement as SpecStatement};
+ghost use Rattle.cmi5_session.specs.XapiStatementStored.{StoredStatement as SpecStatement};
 
 use crate::marking::{is_marked, satisfied_each};
 use crate::nodes::{depth_of, unit_in};

@@ -9,17 +9,17 @@ ghost use Rattle.cmi5_verdict.specs.Said.{said_with, unsaid};
 ghost use Rattle.cmi5_verdict.specs.Statements.{all_of};
 ghost use Rattle.cmi5_verdict.specs.Units.{moves_on};
 ghost use Rattle.lrs_json.specs.View.{view};
-ghost use Rattle.xapi_statement.specs.Statements.{is_voided};
-ghost use Rattle.xapi_statement.specs.Statement.{verb_of};
+ghost use Rattle.cmi5_session.specs.XapiStatementStatements.{is_voided};
+ghost use Rattle.cmi5_session.specs.XapiStatementStatement.{verb_of};
 
 use crate::names::place_meant;
 use crate::{Enrolment, Statements};
 use cmi5_course::MoveOn;
-use cmi5_launch::names::{COMPLETED, PASSED, SATISFIED, WAIVED};
+use cmi5_session::cmi5_launch::names::{COMPLETED, PASSED, SATISFIED, WAIVED};
+use cmi5_session::xapi_statement::{HeldStatement, StoredStatement, verb_of};
 use lrs_json::Memory;
 use std::alloc::Global;
-use xapi_statement::{HeldStatement, StoredStatement, verb_of};
-use xapi_statement_keys::Key;
+use xapi_index::xapi_statement_keys::Key;
 
 /// What was said of a node. A voided statement tells only that the node is satisfied.
 #[derive(Clone, Copy)]

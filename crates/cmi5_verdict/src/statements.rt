@@ -1,12 +1,12 @@
 // The statements over which is asked.
 ghost use Rattle.std.specs.Prelude.{◌≡◌};
 ghost use Rattle.cmi5_verdict.specs.Statements.{all_of};
-ghost use Rattle.xapi_statement.specs.Statements.{is_target, is_voided, voided_by, voids};
+ghost use Rattle.cmi5_session.specs.XapiStatementStatements.{is_target, is_voided, voided_by, voids};
 
 use cmi5_session::is_that_id;
+use cmi5_session::xapi_statement::StoredStatement;
 use lrs_names::Id;
 use xapi_index::Index;
-use xapi_statement::StoredStatement;
 
 /// Statements that are held, and those that come behind them.
 #[derive(Clone, Copy)]

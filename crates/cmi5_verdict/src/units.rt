@@ -1,6 +1,6 @@
 // Whether a unit was waived.
 ghost use Rattle.std.specs.Prelude.{◌≡◌, IfOk};
-ghost use Rattle.cmi5_launch.specs.Names.{waived};
+ghost use Rattle.cmi5_session.specs.Cmi5LaunchNames.{waived};
 ghost use Rattle.cmi5_verdict.specs.Nodes.{activity_at, seen};
 ghost use Rattle.cmi5_verdict.specs.Statements.{all_of};
 ghost use Rattle.cmi5_verdict.specs.Units.{stands};

@@ -12,12 +12,12 @@ use Rattle.lrs_command.specs.declared.who.Who.TheVariants as who
 use Rattle.lrs_generator.specs.Generated.{batch, batch_count, statement_json}
 use Rattle.lrs_generator.specs.declared.generator.TheConstants.{BATCH}
 use Rattle.lrs_generator.proofs.Lawful.{distinct_batch, each_of_batch, few_trees, no_context_activity, not_too_long, unbroken}
-use Rattle.lrs_history.specs.Effects.{effect}
-use Rattle.lrs_history.specs.History.{Answer, answer_of, end_place, need, next_entry, outcome_by, refused, state}
-use Rattle.lrs_history.specs.Occasions.{Occasion, occasion}
-use Rattle.lrs_history.specs.Refusals.{before_next, broken_in, forbidden, refused_batch, refused_in, refused_over, refused_under, refusal, told_forbidden}
-use Rattle.lrs_history.specs.Answers.{write_said}
-use Rattle.lrs_history.proofs.Room.{kept_answer, no_room}
+use Rattle.lrs_hall.specs.LrsHistoryEffects.{effect}
+use Rattle.lrs_hall.specs.LrsHistoryHistory.{Answer, answer_of, end_place, need, next_entry, outcome_by, refused, state}
+use Rattle.lrs_hall.specs.LrsHistoryOccasions.{Occasion, occasion}
+use Rattle.lrs_hall.specs.LrsHistoryRefusals.{before_next, broken_in, forbidden, refused_batch, refused_in, refused_over, refused_under, refusal, told_forbidden}
+use Rattle.lrs_hall.specs.LrsHistoryAnswers.{write_said}
+use Rattle.lrs_hall.specs.LrsHistoryRoomProofs.{kept_answer, no_room}
 use Rattle.lrs_ids.specs.Choices.{first_some, when}
 use Rattle.lrs_ids.specs.Ids.{Supply, are_distinct}
 use Rattle.lrs_json.specs.Fits.{IsReadable}

@@ -7,7 +7,7 @@ use Rattle.lrs_generator.specs.Generated.{batch, batch_count}
 use Rattle.lrs_hall.specs.Draws.{Draws, draw_at, next_draws}
 use Rattle.lrs_hall.specs.Serving.{AddsReadings}
 use Rattle.lrs_hall.proofs.Lines.{begins_more, entries_begin, sure_begins}
-use Rattle.lrs_history.specs.History.{Answer, state, with_entry}
+use Rattle.lrs_hall.specs.LrsHistoryHistory.{Answer, state, with_entry}
 use Rattle.lrs_json.specs.View.{view}
 use Rattle.lrs_json.specs.declared.tree.Tree.{Tree}
 use Rattle.lrs_hall.specs.LrsMachineActs.{Acts, Receipt}

@@ -8,7 +8,7 @@ use Rattle.lrs_generator.specs.Generated.{batch_count}
 use Rattle.lrs_hall.specs.Draws.{Draws}
 use Rattle.lrs_hall.specs.Serving.{AddsReadings}
 use Rattle.lrs_hall.proofs.Lines.{entries_begin}
-use Rattle.lrs_history.specs.History.{IsLegal}
+use Rattle.lrs_hall.specs.LrsHistoryHistory.{IsLegal}
 use Rattle.lrs_journal.specs.Journal.{IsSynced, TellsAlike}
 use Rattle.lrs_journal.specs.Store.{Stands}
 use Rattle.lrs_hall.specs.LrsMachineDesk.{Desk, HoldsPrefix, IsStoreOf, LeavesStore, OpensOnly, history}

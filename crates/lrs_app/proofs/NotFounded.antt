@@ -9,7 +9,7 @@ use Rattle.lrs_journal.specs.Journal.{IsSynced, TellsAlike}
 use Rattle.lrs_journal.specs.Store.{Stands}
 use Rattle.lrs_record.specs.Entries.{written_entry}
 use Rattle.lrs_record.specs.declared.entry.Entry.{Entry}
-use Rattle.lrs_history.specs.History.{IsLegal}
+use Rattle.lrs_hall.specs.LrsHistoryHistory.{IsLegal}
 use Rattle.lrs_hall.specs.LrsMachineDesk.{Desk, HoldsPrefix, IsNotFounded, LeavesStore, MakesOnly, history}
 use Rattle.lrs_hall.specs.LrsMachineLine.{entries, opened_line, sure}
 use Rattle.lrs_hall.specs.LrsMachineOpeningFoundRefused.{FoundRefused}

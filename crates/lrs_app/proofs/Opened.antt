@@ -9,7 +9,7 @@ use Rattle.lrs_journal.specs.Store.{Stands}
 use Rattle.lrs_json.specs.declared.tree.Tree.{Tree}
 use Rattle.lrs_record.specs.Entries.{written_entry}
 use Rattle.lrs_record.specs.declared.entry.Entry.{Entry}
-use Rattle.lrs_history.specs.History.{Answer, IsLegal, with_entry}
+use Rattle.lrs_hall.specs.LrsHistoryHistory.{Answer, IsLegal, with_entry}
 use Rattle.lrs_hall.specs.LrsMachineActs.{Acts, HasDiskCause, Receipt, line_behind, made_by, place_where, record_of}
 use Rattle.lrs_hall.specs.LrsMachineDesk.{Desk, HoldsPrefix, LeavesStore, history}
 use Rattle.lrs_hall.specs.LrsMachineLine.{BeginsWith, Record, entries, in_doubt, sure}

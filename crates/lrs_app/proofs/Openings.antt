@@ -8,7 +8,7 @@ use Rattle.lrs_disk.proofs.Moments.{started, then_run, weaker_run}
 use Rattle.lrs_journal.specs.Journal.{IsSynced, StandsForFrames, TellsAlike}
 use Rattle.lrs_record.specs.Entries.{written_entry}
 use Rattle.lrs_record.specs.declared.entry.Entry.{Entry}
-use Rattle.lrs_history.specs.History.{IsLegal}
+use Rattle.lrs_hall.specs.LrsHistoryHistory.{IsLegal}
 use Rattle.lrs_hall.specs.LrsMachineDesk.{Desk, HoldsPrefix, IsOnDisk, IsStoreOf, OpensOnly, history}
 use Rattle.lrs_hall.specs.LrsMachineLine.{BeginsWith, Record, entries, in_doubt, opened_line, sure}
 use Rattle.lrs_hall.specs.LrsMachineLinesProofs.{doubt_opened, entries_opened, none_some}

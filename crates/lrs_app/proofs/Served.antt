@@ -9,7 +9,7 @@ use Rattle.lrs_disk.specs.declared.disk.Disk as disks
 use Rattle.lrs_journal.specs.Journal.{IsSynced, TellsAlike}
 use Rattle.lrs_journal.specs.Store.{Stands}
 use Rattle.lrs_record.specs.Entries.{written_entry}
-use Rattle.lrs_history.specs.History.{IsLegal}
+use Rattle.lrs_hall.specs.LrsHistoryHistory.{IsLegal}
 use Rattle.lrs_record.specs.declared.entry.Entry.{Entry}
 use Rattle.lrs_hall.specs.LrsMachineActs.{Receipt}
 use Rattle.lrs_hall.specs.LrsMachineDesk.{Desk, HoldsPrefix, IsStoreOf, KeepsLine, LeavesStore, OpensOnly, history}

@@ -5,7 +5,7 @@ use Rattle.lrs_disk.specs.declared.disk.Disk as disks
 use Rattle.lrs_journal.specs.Journal.{TellsStore}
 use Rattle.lrs_record.specs.Entries.{written_entry}
 use Rattle.lrs_record.specs.declared.entry.Entry.{Entry}
-use Rattle.lrs_history.specs.History.{IsLegal}
+use Rattle.lrs_hall.specs.LrsHistoryHistory.{IsLegal}
 use Rattle.lrs_hall.specs.LrsMachineDesk.{HoldsPrefix, IsDeskRefused, IsSameStore, IsStoreOf}
 use Rattle.lrs_hall.specs.LrsMachineOpeningDeskRefused.{DeskRefused}
 use Rattle.lrs_hall.specs.LrsMachineOpeningDeskRefusedTheVariants as refused

@@ -5,7 +5,7 @@ use Rattle.lrs_console.specs.declared.ending.Ending.{Ending}
 use Rattle.lrs_console.specs.declared.ending.Ending.TheVariants as ending
 use Rattle.lrs_generator.specs.Generated.{batch}
 use Rattle.lrs_hall.specs.Draws.{Draws, draw_at, next_draws}
-use Rattle.lrs_history.specs.History.{Answer, answer, state, with_entry}
+use Rattle.lrs_hall.specs.LrsHistoryHistory.{Answer, answer, state, with_entry}
 use Rattle.lrs_json.specs.View.{view}
 use Rattle.lrs_json.specs.declared.tree.Tree.{Tree}
 use Rattle.lrs_names.specs.declared.draw.Draw.{Draw}

@@ -5,7 +5,7 @@ use Rattle.lrs_disk.specs.declared.disk.Disk as disks
 use Rattle.lrs_generator.specs.Generated.{batch, batch_count}
 use Rattle.lrs_hall.specs.Draws.{Draws, draw_at, next_draws}
 use Rattle.lrs_hall.specs.Serving.{AddsReadings}
-use Rattle.lrs_history.specs.History.{Answer, with_entry}
+use Rattle.lrs_hall.specs.LrsHistoryHistory.{Answer, with_entry}
 use Rattle.lrs_json.specs.View.{view}
 use Rattle.lrs_json.specs.declared.tree.Tree.{Tree}
 use Rattle.lrs_hall.specs.LrsMachineDesk.{Desk, history}

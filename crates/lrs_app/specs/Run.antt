@@ -13,7 +13,7 @@ use Rattle.lrs_names.specs.declared.draw.Draw.{Draw}
 use Rattle.lrs_journal.specs.Create.{IsStore, IsForeign, IsMade, IsOpenTo, need_of_first}
 use Rattle.lrs_record.specs.Entries.{written_entry}
 use Rattle.lrs_record.specs.declared.entry.Entry.{Entry}
-use Rattle.lrs_history.specs.History.{IsLegal, with_entry}
+use Rattle.lrs_hall.specs.LrsHistoryHistory.{IsLegal, with_entry}
 use Rattle.lrs_hall.specs.LrsFoldOwn.{founding_entry}
 use Rattle.lrs_hall.specs.LrsMachineDesk.{IsStoreOf}
 use Rattle.lrs_generator.specs.Generated.{batch_count}

@@ -10,7 +10,7 @@ use Rattle.lrs_disk.specs.Lobby.{DoorsAsked, CountsFaults}
 use Rattle.lrs_disk.specs.declared.disk.Disk as disks
 use Rattle.lrs_disk.specs.declared.lobby.Lobby as lobbies
 use Rattle.lrs_record.specs.declared.entry.Entry.{Entry}
-use Rattle.lrs_history.specs.History.{IsLegal}
+use Rattle.lrs_hall.specs.LrsHistoryHistory.{IsLegal}
 use Rattle.lrs_hall.specs.LrsMachineActs.{Receipt}
 use Rattle.lrs_hall.specs.LrsMachineDesk.{HoldsPrefix, IsStoreOf}
 use Rattle.lrs_hall.specs.LrsMachineLine.{Record, entries, in_doubt, opened_line, sure}

@@ -4,7 +4,7 @@ use Rattle.lrs_disk.specs.Faults.{Rises}
 use Rattle.lrs_disk.specs.declared.disk.Disk as disks
 use Rattle.lrs_journal.specs.Journal.{TellsAlike}
 use Rattle.lrs_record.specs.declared.entry.Entry.{Entry}
-use Rattle.lrs_history.specs.History.{Answer, IsLegal, with_entry}
+use Rattle.lrs_hall.specs.LrsHistoryHistory.{Answer, IsLegal, with_entry}
 use Rattle.lrs_hall.specs.LrsMachineDesk.{Desk, IsOnDisk, StopsWithin, history}
 use Rattle.lrs_hall.specs.LrsMachineLine.{BeginsWith, in_doubt, opened_line}
 use Rattle.lrs_hall.specs.LrsMachineOpeningFoundRefused.{FoundRefused}

@@ -4,8 +4,8 @@ use Rattle.std.proofs.Common.{ℕ, List, [], ◌∷◌, Option, Some, None, Bool
 use Rattle.std.specs.Prelude.{if◌then◌else◌, option_map}
 use Rattle.std.specs.Option.{option_or}
 use Rattle.std.specs.Str.{bytes_eq}
-use Rattle.cmi5_session.specs.Own.{is_cmi5_defined}
-use Rattle.cmi5_session.specs.Rules.{broken_outside}
+use Rattle.lrs_reads.specs.Cmi5SessionOwn.{is_cmi5_defined}
+use Rattle.lrs_reads.specs.Cmi5SessionRules.{broken_outside}
 use Rattle.lrs_command.specs.declared.command.Command.{Command}
 use Rattle.lrs_command.specs.declared.command.Command.TheVariants as command
 use Rattle.lrs_rules.specs.declared.rule.Rule.TheVariants as rule

@@ -6,7 +6,7 @@ use Rattle.std.specs.Prelude.{◌==◌, ◌||◌, if◌then◌else◌, slice_get
 use Rattle.std.proofs.lemmas.Bool.{cases_eq}
 use Rattle.std.proofs.lemmas.List.{take-append-drop}
 use prog.Atomic.{either}
-use Rattle.lrs_history.specs.History.{Answer, answer}
+use Rattle.lrs_machine.specs.LrsHistoryHistory.{Answer, answer}
 use Rattle.lrs_machine.specs.Line.{Record, entries, sure, with_made}
 use Rattle.lrs_machine.specs.Acts.{Receipt, Tells, changed, made_by, place_where, record_of}
 use Rattle.lrs_machine.specs.Desk.{KeepsLine, Tide}

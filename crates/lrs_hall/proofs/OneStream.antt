@@ -15,7 +15,7 @@ use Rattle.lrs_replies.specs.declared.reply.Trouble.{Trouble}
 use Rattle.lrs_replies.specs.declared.reply.Trouble.TheVariants.{Memory, Disk}
 use Rattle.lrs_machine.specs.Line.{BeginsWith, Record, entries, in_doubt}
 use Rattle.lrs_machine.specs.Acts.{Receipt, Tells, changed, line_behind, made_by, place_where, record_of}
-use Rattle.lrs_history.specs.History.{Answer, answer, with_entry}
+use Rattle.lrs_machine.specs.LrsHistoryHistory.{Answer, answer, with_entry}
 use Rattle.lrs_replies.specs.Replies.{Says, body_bytes}
 use Rattle.lrs_names.specs.declared.draw.Draw.{Draw}
 use Rattle.lrs_record.specs.declared.entry.Caller.{Caller}

@@ -4,7 +4,7 @@ use Rattle.std.specs.Prelude.{if◌then◌else◌}
 use Rattle.lrs_machine.specs.Line.{BeginsWith, Record, entries}
 use Rattle.lrs_machine.specs.Acts.{Acts, Receipt, changed, line_behind, made_by, record_of}
 use Rattle.lrs_machine.specs.Desk.{Tide}
-use Rattle.lrs_history.specs.History.{Answer, answer}
+use Rattle.lrs_machine.specs.LrsHistoryHistory.{Answer, answer}
 use Rattle.lrs_names.specs.declared.draw.Draw.{Draw}
 use Rattle.lrs_record.specs.declared.entry.Caller.{Caller}
 use Rattle.lrs_record.specs.declared.entry.Entry.{Entry}

@@ -6,7 +6,7 @@ use Rattle.lrs_disk.specs.Readings.{AddsReading}
 use Rattle.lrs_machine.specs.Line.{BeginsWith, Record, entries}
 use Rattle.lrs_machine.specs.Acts.{Acts, LineGoesOn, Receipt, changed}
 use Rattle.lrs_machine.specs.Desk.{Desk, Tide, history, marks_of, receipt_of, tide_of}
-use Rattle.lrs_history.specs.History.{answer}
+use Rattle.lrs_machine.specs.LrsHistoryHistory.{answer}
 use Rattle.lrs_names.specs.declared.draw.Draw.{Draw}
 use Rattle.lrs_record.specs.declared.entry.Caller.{Caller}
 use Rattle.lrs_command.specs.declared.command.Command.{Command}

@@ -5,11 +5,11 @@ use Rattle.lrs_record.specs.declared.entry.Area.{Area}
 use Rattle.lrs_command.specs.declared.command.Command.{Command}
 use Rattle.lrs_command.specs.declared.command.Command.TheVariants as command
 use Rattle.lrs_rules.specs.declared.rule.Rule.TheVariants as rule
-use Rattle.lrs_history.proofs.Strangers.{told_barred}
-use Rattle.lrs_history.specs.History.{Answer, answer, state}
-use Rattle.lrs_history.specs.Refusals.{barred}
+use Rattle.lrs_machine.specs.LrsHistoryStrangersProofs.{told_barred}
+use Rattle.lrs_machine.specs.LrsHistoryHistory.{Answer, answer, state}
+use Rattle.lrs_machine.specs.LrsHistoryRefusals.{barred}
 use Rattle.lrs_command.specs.Areas.{command_area}
-use Rattle.lrs_history.specs.Whose.{who_is}
+use Rattle.lrs_machine.specs.LrsHistoryWhose.{who_is}
 use Rattle.lrs_http.specs.declared.request.Request.{Request}
 use Rattle.lrs_machine.specs.Acts.{Acts, Receipt}
 use Rattle.lrs_machine.specs.Line.{Record, entries}

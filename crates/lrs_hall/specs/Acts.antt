@@ -4,7 +4,7 @@ use Rattle.lrs_disk.specs.Readings.{AddsReading}
 use Rattle.lrs_machine.specs.Line.{BeginsWith, Record, entries}
 use Rattle.lrs_machine.specs.Acts.{Acts, Receipt, changed}
 use Rattle.lrs_machine.specs.Desk.{Tide}
-use Rattle.lrs_history.specs.History.{answer}
+use Rattle.lrs_machine.specs.LrsHistoryHistory.{answer}
 use Rattle.lrs_replies.specs.Replies.{Says}
 use Rattle.lrs_replies.specs.declared.answered.Answered.{Answered}
 use Rattle.lrs_replies.specs.declared.reply.Reply.{Reply}

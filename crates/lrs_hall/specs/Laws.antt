@@ -4,7 +4,7 @@ use Rattle.std.specs.Prelude.{◌≡◌, ◌≢◌, ◌≤◌, ◌<◌, ◌+◌,
 use Rattle.std.specs.Prelude.{false, if◌then◌else◌, Option, Some, None, IsSome, Result, Ok}
 use Rattle.std.specs.List.{AllByRecursion}
 use Rattle.lrs_disk.specs.Door.{Returned}
-use Rattle.lrs_history.specs.History.{answer}
+use Rattle.lrs_machine.specs.LrsHistoryHistory.{answer}
 use Rattle.lrs_http.specs.declared.request.Request.{Request}
 use Rattle.lrs_machine.specs.Line.{BeginsWith, Record, entries}
 use Rattle.lrs_machine.specs.Acts.{Receipt}

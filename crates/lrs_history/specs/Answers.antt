@@ -26,14 +26,14 @@ use Rattle.xapi_keys.specs.declared.wanted.WantedDocuments.{WantedDocuments}
 use Rattle.xapi_keys.specs.declared.wanted.WantedDocuments.TheVariants.{One, Ids}
 use Rattle.xapi_format.specs.declared.format.Format.{Format}
 use Rattle.xapi_pages.specs.Listings.{page_behind, page_body}
-use Rattle.xapi_statement.specs.Statements.{held_under, is_voided}
-use Rattle.xapi_query.specs.Filters.{sees}
-use Rattle.xapi_query.specs.declared.query.Query.{Query}
-use Rattle.xapi_query.specs.declared.wanted.Wanted.{Wanted}
-use Rattle.xapi_query.specs.declared.wanted.Wanted.TheVariants as wanted
-use Rattle.xapi_query.specs.declared.wanted.Wanted.TheVariants.{Voided, Many}
-use Rattle.xapi_statement.specs.Stored.{StoredStatement}
-use Rattle.xapi_statement.specs.Shown.{shown_text}
+use Rattle.xapi_pages.specs.XapiStatementStatements.{held_under, is_voided}
+use Rattle.xapi_pages.specs.XapiQueryFilters.{sees}
+use Rattle.xapi_pages.specs.XapiQueryQueryQuery.{Query}
+use Rattle.xapi_pages.specs.XapiQueryWantedWanted.{Wanted}
+use Rattle.xapi_pages.specs.XapiQueryWantedWantedTheVariants as wanted
+use Rattle.xapi_pages.specs.XapiQueryWantedWantedTheVariants.{Voided, Many}
+use Rattle.xapi_pages.specs.XapiStatementStored.{StoredStatement}
+use Rattle.xapi_pages.specs.XapiStatementShown.{shown_text}
 
 -- ---- of a write, by what it changes
 

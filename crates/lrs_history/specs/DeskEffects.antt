@@ -3,7 +3,7 @@ use Rattle.std.specs.Prelude.{ℕ, Bool, true, false, List, [], ◌∷◌, ◌++
 use Rattle.cmi5_course.specs.Courses.{Course, course_key}
 use Rattle.cmi5_course.specs.declared.launch.Mode.{Mode}
 use Rattle.cmi5_course.specs.declared.reason.Reason.{Reason}
-use Rattle.cmi5_launch.specs.Names.{waived}
+use Rattle.cmi5_verdict.specs.Cmi5LaunchNames.{waived}
 use Rattle.cmi5_verdict.specs.Units.{stands}
 use Rattle.lrs_agents.specs.declared.agents.Agent.{Agent}
 use Rattle.lrs_history.specs.Endings.{abandoned_jsons, idle_ones, is_open, open_of, sessions_at}
@@ -26,7 +26,7 @@ use Rattle.lrs_register.specs.declared.change.Change.{Change}
 use Rattle.lrs_state.specs.declared.effect.Effect.{Effect}
 use Rattle.xapi_docs.specs.declared.changes.DocumentsChange.TheVariants.{Written}
 use Rattle.lrs_ids.specs.Ids.{rest_of}
-use Rattle.xapi_statement.specs.Stored.{StoredStatement}
+use Rattle.xapi_pages.specs.XapiStatementStored.{StoredStatement}
 use Rattle.lrs_history.specs.Occasions.{Occasion}
 
 -- ---- courses and registrations

@@ -26,10 +26,10 @@ use Rattle.xapi_docs.specs.Documents.{document_under, keys_in}
 use Rattle.xapi_docs.specs.declared.changes.DocumentsChange.TheVariants.{Dropped, Written}
 use Rattle.xapi_docs.specs.declared.documents.Document.{Document}
 use Rattle.xapi_keys.specs.declared.state_key.StateKey.{StateKey}
-use Rattle.xapi_index.specs.Batches.{WithId, ids_under, kept_by, supply_after, with_ids}
+use Rattle.xapi_pages.specs.XapiIndexBatches.{WithId, ids_under, kept_by, supply_after, with_ids}
 use Rattle.lrs_ids.specs.Ids.{Supply}
-use Rattle.xapi_statement.specs.Statements.{new_ones}
-use Rattle.xapi_statement.specs.Stored.{StoredStatement}
+use Rattle.xapi_pages.specs.XapiStatementStatements.{new_ones}
+use Rattle.xapi_pages.specs.XapiStatementStored.{StoredStatement}
 use Rattle.lrs_history.specs.Occasions.{Occasion, occasion}
 use Rattle.lrs_history.specs.DeskEffects.{taking, enrolling, waiving, abandoning_one, sweeping, launching, fetching}
 

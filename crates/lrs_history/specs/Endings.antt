@@ -5,14 +5,14 @@ use Rattle.std.specs.List.{range_with_len}
 use Rattle.std.specs.Option.{option_map_or}
 use Rattle.std.specs.Str.{bytes_eq}
 use Rattle.cmi5_course.specs.declared.launch.Launch.{Launch}
-use Rattle.cmi5_launch.specs.Made.{said_abandoned, saying_json}
-use Rattle.cmi5_session.specs.Moments.{began_at, last_own}
+use Rattle.cmi5_verdict.specs.Cmi5LaunchMade.{said_abandoned, saying_json}
+use Rattle.cmi5_verdict.specs.Cmi5SessionMoments.{began_at, last_own}
 use Rattle.lrs_history.specs.Launches.{Target, activity_at, target}
 use Rattle.lrs_history.specs.Sessions.{is_closed}
 use Rattle.lrs_json.specs.Json.{Json}
 use Rattle.lrs_state.specs.State.{State}
 use Rattle.lrs_state.specs.declared.sessions.HeldSession.{HeldSession}
-use Rattle.xapi_statement.specs.Stored.{StoredStatement}
+use Rattle.xapi_pages.specs.XapiStatementStored.{StoredStatement}
 
 -- ---- open sessions
 

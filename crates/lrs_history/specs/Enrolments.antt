@@ -7,7 +7,7 @@ use Rattle.lrs_state.specs.Registrations.{registration_under}
 use Rattle.lrs_state.specs.State.{State}
 use Rattle.lrs_state.specs.declared.founding.Founding.{Founding}
 use Rattle.lrs_state.specs.declared.registrations.HeldRegistration.{HeldRegistration}
-use Rattle.xapi_statement.specs.Stored.{StoredStatement}
+use Rattle.xapi_pages.specs.XapiStatementStored.{StoredStatement}
 
 -- a registration and its course
 pub record Enrolled : Type 0 where

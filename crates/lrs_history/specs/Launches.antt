@@ -4,11 +4,11 @@ use Rattle.cmi5_course.specs.Courses.{Course, place_of_unit, unit_at}
 use Rattle.cmi5_course.specs.Units.{AssignableUnit}
 use Rattle.cmi5_course.specs.declared.launch.Launch.{Launch}
 use Rattle.cmi5_course.specs.declared.launch.Mode.{Mode}
-use Rattle.cmi5_launch.specs.Activities.{activity_text}
-use Rattle.cmi5_launch.specs.Addresses.{launch_text}
-use Rattle.cmi5_launch.specs.Data.{launch_data}
-use Rattle.cmi5_launch.specs.Made.{launched_json}
-use Rattle.cmi5_launch.specs.Names.{launch_data_state}
+use Rattle.cmi5_verdict.specs.Cmi5LaunchActivities.{activity_text}
+use Rattle.cmi5_verdict.specs.Cmi5LaunchAddresses.{launch_text}
+use Rattle.cmi5_verdict.specs.Cmi5LaunchData.{launch_data}
+use Rattle.cmi5_verdict.specs.Cmi5LaunchMade.{launched_json}
+use Rattle.cmi5_verdict.specs.Cmi5LaunchNames.{launch_data_state}
 use Rattle.lrs_json.specs.Trees.{tree_of}
 use Rattle.lrs_state.specs.Registrations.{registration_under}
 use Rattle.lrs_state.specs.State.{State}
@@ -17,9 +17,9 @@ use Rattle.lrs_state.specs.declared.registrations.HeldRegistration.{HeldRegistra
 use Rattle.xapi_docs.specs.Changes.{document_of}
 use Rattle.xapi_docs.specs.declared.documents.Document.{Document}
 use Rattle.xapi_format.specs.declared.authority.Authority.TheVariants.{Desk}
-use Rattle.xapi_index.specs.Batches.{kept_by}
+use Rattle.xapi_pages.specs.XapiIndexBatches.{kept_by}
 use Rattle.xapi_keys.specs.declared.state_key.StateKey.{StateKey}
-use Rattle.xapi_statement.specs.Stored.{StoredStatement}
+use Rattle.xapi_pages.specs.XapiStatementStored.{StoredStatement}
 
 -- ---- the unit
 

@@ -1,3 +1,12 @@
+pub use Rattle.cmi5_verdict.specs.Cmi5LaunchActivities as Cmi5LaunchActivities
+pub use Rattle.cmi5_verdict.specs.Cmi5LaunchAddresses as Cmi5LaunchAddresses
+pub use Rattle.cmi5_verdict.specs.Cmi5LaunchMade as Cmi5LaunchMade
+pub use Rattle.cmi5_verdict.specs.Cmi5LaunchNames as Cmi5LaunchNames
+pub use Rattle.cmi5_verdict.specs.Cmi5SessionBehindProofs as Cmi5SessionBehindProofs
+pub use Rattle.cmi5_verdict.specs.Cmi5SessionMoments as Cmi5SessionMoments
+pub use Rattle.cmi5_verdict.specs.Cmi5SessionOwn as Cmi5SessionOwn
+pub use Rattle.cmi5_verdict.specs.Cmi5SessionRules as Cmi5SessionRules
+pub use Rattle.cmi5_verdict.specs.Cmi5SessionViews as Cmi5SessionViews
 pub use Rattle.cmi5_verdict.specs.Nodes as Cmi5VerdictNodes
 pub use Rattle.cmi5_verdict.specs.Units as Cmi5VerdictUnits
 pub use Rattle.lrs_state.specs.Courses as LrsStateCourses

@@ -4,7 +4,7 @@ use Rattle.std.specs.Prelude.{ℕ, List, [], ◌∷◌, Option, Some, None, filt
 use Rattle.cmi5_course.specs.Courses.{node_at}
 use Rattle.cmi5_course.specs.declared.course.Node.{Node}
 use Rattle.cmi5_course.specs.declared.reason.Reason.{Reason}
-use Rattle.cmi5_launch.specs.Made.{said_satisfied, said_waived, saying_json}
+use Rattle.cmi5_verdict.specs.Cmi5LaunchMade.{said_satisfied, said_waived, saying_json}
 use Rattle.cmi5_verdict.specs.Nodes.{activity_at as activity_of_node}
 use Rattle.lrs_history.specs.Enrolments.{Enrolled, enrolment_of, owed_behind}
 use Rattle.lrs_history.specs.Launches.{Target, activity_at}
@@ -13,8 +13,8 @@ use Rattle.lrs_json.specs.Json.{Json}
 use Rattle.lrs_json.specs.Trees.{tree_of}
 use Rattle.lrs_state.specs.State.{State}
 use Rattle.xapi_format.specs.declared.authority.Authority.TheVariants.{Desk}
-use Rattle.xapi_index.specs.Batches.{held_of}
-use Rattle.xapi_statement.specs.Stored.{StoredStatement}
+use Rattle.xapi_pages.specs.XapiIndexBatches.{held_of}
+use Rattle.xapi_pages.specs.XapiStatementStored.{StoredStatement}
 
 -- ---- under which ids
 

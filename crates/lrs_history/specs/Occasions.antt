@@ -8,7 +8,7 @@ use Rattle.lrs_record.specs.declared.entry.Entry.{Entry}
 use Rattle.lrs_record.specs.declared.entry.Write.{Write}
 use Rattle.lrs_record.specs.declared.entry.Write.TheVariants.{Put, Post}
 use Rattle.lrs_replies.specs.Texts.{token_text}
-use Rattle.xapi_index.specs.Batches.{given_ids}
+use Rattle.xapi_pages.specs.XapiIndexBatches.{given_ids}
 use Rattle.lrs_ids.specs.Ids.{Supply, supply_of}
 
 -- What an entry has beside its write: who asks, when, the token that it can give away, and the ids that it can make.

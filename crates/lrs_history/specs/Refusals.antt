@@ -13,9 +13,9 @@ use Rattle.std.specs.Str.{bytes_eq}
 use Rattle.cmi5_course.specs.Courses.{Course, course_key, course_of, same_course}
 use Rattle.cmi5_course.specs.Rules as course
 use Rattle.cmi5_course.specs.declared.launch.Launch.{Launch}
-use Rattle.cmi5_session.specs.Rules.{broken_outside}
-use Rattle.cmi5_session.specs.Rules as session
-use Rattle.cmi5_session.specs.Views.{view_of}
+use Rattle.cmi5_verdict.specs.Cmi5SessionRules.{broken_outside}
+use Rattle.cmi5_verdict.specs.Cmi5SessionRules as session
+use Rattle.cmi5_verdict.specs.Cmi5SessionViews.{view_of}
 use Rattle.lrs_record.specs.declared.entry.Area.{Area}
 use Rattle.lrs_record.specs.declared.entry.Area.TheVariants.{Free, Store, Desk}
 use Rattle.lrs_command.specs.Areas.{read_area}
@@ -60,13 +60,13 @@ use Rattle.xapi_docs.specs.Merging.{merge}
 use Rattle.xapi_docs.specs.declared.documents.Document.{Document}
 use Rattle.xapi_keys.specs.declared.wanted.WantedDocuments.{WantedDocuments}
 use Rattle.xapi_keys.specs.declared.wanted.WantedDocuments.TheVariants.{One, Ids}
-use Rattle.xapi_index.specs.Batches.{WithId, given_ids}
+use Rattle.xapi_pages.specs.XapiIndexBatches.{WithId, given_ids}
 use Rattle.lrs_ids.specs.Choices.{first_some, when}
 use Rattle.lrs_ids.specs.Ids.{are_distinct}
-use Rattle.xapi_statement.specs.Statements.{held_under}
+use Rattle.xapi_pages.specs.XapiStatementStatements.{held_under}
 use Rattle.xapi_rules.specs.Rules.{broken_rule}
-use Rattle.xapi_statement.specs.Stored.{StoredStatement}
-use Rattle.xapi_statement.specs.Statement.{is_too_long, own_id}
+use Rattle.xapi_pages.specs.XapiStatementStored.{StoredStatement}
+use Rattle.xapi_pages.specs.XapiStatementStatement.{is_too_long, own_id}
 
 -- ---- the caller
 

@@ -3,8 +3,8 @@ use Rattle.std.specs.Prelude.{ℕ, ◌&&◌, ◌||◌, Bool, true, false, not, L
 use Rattle.std.specs.Option.{option_map_or}
 use Rattle.std.specs.Str.{bytes_eq}
 use Rattle.cmi5_course.specs.declared.launch.Launch.{Launch}
-use Rattle.cmi5_launch.specs.Names.{launch_data_state, terminated}
-use Rattle.cmi5_session.specs.Own.{has_own}
+use Rattle.cmi5_verdict.specs.Cmi5LaunchNames.{launch_data_state, terminated}
+use Rattle.cmi5_verdict.specs.Cmi5SessionOwn.{has_own}
 use Rattle.lrs_agents.specs.Identifiers.{same_ifi}
 use Rattle.lrs_agents.specs.declared.identifiers.Ifi.{Ifi}
 use Rattle.lrs_ids.specs.Choices.{first_some, when}

@@ -11,8 +11,8 @@ use Rattle.lrs_record.specs.declared.entry.Caller.{Caller}
 use Rattle.lrs_record.specs.declared.entry.Caller.TheVariants.{Nobody, Operator, Token}
 use Rattle.xapi_format.specs.declared.authority.Authority.{Authority}
 use Rattle.xapi_format.specs.declared.authority.Authority.TheVariants.{Admin, Provider, Session}
-use Rattle.xapi_query.specs.declared.sight.Sight.{Sight}
-use Rattle.xapi_query.specs.declared.sight.Sight.TheVariants as sight
+use Rattle.xapi_pages.specs.XapiQuerySightSight.{Sight}
+use Rattle.xapi_pages.specs.XapiQuerySightSightTheVariants as sight
 
 -- the provider of that place, or the session of that launch
 abbrev pub known_as : Option ℕ → Option ℕ → Who

@@ -1,3 +1,7 @@
+pub use Rattle.lrs_decimal.proofs.Tests as LrsDecimalTestsProofs
+pub use Rattle.lrs_decimal.specs.Numbers as LrsDecimalNumbers
+pub use Rattle.lrs_decimal.specs.Range as LrsDecimalRange
+pub use Rattle.lrs_decimal.specs.Values as LrsDecimalValues
 pub mod formers
 pub mod Json
 pub mod View

@@ -1,6 +1,6 @@
 // What a launch brings.
 ghost use Rattle.std.specs.Prelude.{◌≡◌, ◌++◌, false, length, IfOk, OnOk, Some};
-ghost use Rattle.cmi5_launch.specs.Addresses.{IsAddress};
+ghost use Rattle.lrs_sessions.specs.Cmi5LaunchAddresses.{IsAddress};
 ghost use Rattle.lrs_command.specs.declared.who.Who.{Who as SpecWho};
 ghost use Rattle.lrs_sessions.specs.LrsHistoryDeskEffects.{session_begun, coming, launching};
 ghost use Rattle.lrs_sessions.specs.LrsHistoryLaunches.{activity_at, address_at, data_at, data_key, launch_at, launched_at, target};
@@ -18,13 +18,13 @@ ghost use Rattle.xapi_docs.specs.declared.changes.DocumentsChange.TheVariants.{W
 
 use crate::ids::supply_of;
 use cmi5_course::{Launch, Mode};
-use cmi5_launch::names::LAUNCH_DATA;
-use cmi5_launch::{Made, launch_address, launch_data};
 use lrs_ids::IdSupply;
 use lrs_json::{Items, Memory, Number, Text};
 use lrs_names::{Draw, Id, Iri};
 use lrs_record::Moment;
 use lrs_replies::token_text;
+use lrs_sessions::cmi5_launch::names::LAUNCH_DATA;
+use lrs_sessions::cmi5_launch::{Made, launch_address, launch_data};
 use lrs_sessions::lrs_made::{LentTarget, make_one, make_under, statement_of, target};
 use lrs_sessions::lrs_parts::{
     Acceptance, Effect, HeldKey, KeysChange, LaunchesChange, Parts, SessionsChange,

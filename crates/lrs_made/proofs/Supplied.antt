@@ -8,7 +8,7 @@ use Rattle.lrs_json.specs.View.{view}
 use Rattle.lrs_json.specs.declared.tree.Tree.{Tree}
 use Rattle.lrs_made.proofs.Same.{behind_same, made_same}
 use Rattle.lrs_made.proofs.Trees.{tree_seen}
-use Rattle.xapi_index.specs.Batches.{held_of}
+use Rattle.lrs_parts.specs.XapiIndexBatches.{held_of}
 use Rattle.xapi_statement.specs.declared.Authority.TheVariants.{Desk}
 use Rattle.xapi_statement.specs.declared.statement.Statement.{Statement}
 use Rattle.xapi_statement.specs.Stored.{StoredStatement}

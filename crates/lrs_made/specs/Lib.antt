@@ -1,6 +1,14 @@
 pub use Rattle.lrs_history.proofs.Outcomes as LrsHistoryOutcomesProofs
 pub use Rattle.lrs_history.proofs.Room as LrsHistoryRoomProofs
+pub use Rattle.lrs_history.proofs.Strangers as LrsHistoryStrangersProofs
 pub use Rattle.lrs_history.specs.Answers as LrsHistoryAnswers
+pub use Rattle.lrs_history.specs.Cmi5LaunchAddresses as Cmi5LaunchAddresses
+pub use Rattle.lrs_history.specs.Cmi5LaunchMade as Cmi5LaunchMade
+pub use Rattle.lrs_history.specs.Cmi5SessionBehindProofs as Cmi5SessionBehindProofs
+pub use Rattle.lrs_history.specs.Cmi5SessionMoments as Cmi5SessionMoments
+pub use Rattle.lrs_history.specs.Cmi5SessionOwn as Cmi5SessionOwn
+pub use Rattle.lrs_history.specs.Cmi5SessionRules as Cmi5SessionRules
+pub use Rattle.lrs_history.specs.Cmi5SessionViews as Cmi5SessionViews
 pub use Rattle.lrs_history.specs.DeskEffects as LrsHistoryDeskEffects
 pub use Rattle.lrs_history.specs.Effects as LrsHistoryEffects
 pub use Rattle.lrs_history.specs.Endings as LrsHistoryEndings

@@ -15,7 +15,7 @@ mod waivers;
 
 pub use enrolments::{LentEnrolled, enrolled, enrolled_as, verdicts_of};
 pub use lrs_history;
-pub use lrs_history::xapi_pages;
+pub use lrs_history::{cmi5_launch, cmi5_session, xapi_pages};
 pub use lrs_parts;
 pub use lrs_parts::cmi5_verdict;
 pub use making::{make_one, make_under};

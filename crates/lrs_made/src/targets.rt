@@ -1,13 +1,13 @@
 // The unit that a launch, a waiver or an abandoned session speaks of.
 ghost use Rattle.std.specs.Prelude.{◌≡◌, ◌<◌, length, option_map, IfOk, IfSome};
-ghost use Rattle.cmi5_launch.specs.Addresses.{IsAddress};
+ghost use Rattle.lrs_history.specs.Cmi5LaunchAddresses.{IsAddress};
 ghost use Rattle.lrs_history.specs.Launches.{activity_at, target, target_at, target_in};
 ghost use Rattle.lrs_made.specs.Lent.{IsTargetOf, enrolled_of, seen_target};
 ghost use Rattle.lrs_parts.specs.Parts.{state_of};
 
 use crate::enrolments::enrolled;
 use cmi5_course::{Course, Unit};
-use cmi5_launch::activity_id;
+use lrs_history::cmi5_launch::activity_id;
 use lrs_json::Memory;
 use lrs_names::{Id, Iri};
 use lrs_parts::{HeldRegistration, Parts};

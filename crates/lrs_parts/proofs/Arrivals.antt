@@ -9,8 +9,8 @@ use Rattle.lrs_ids.specs.Ids.{are_distinct}
 use Rattle.lrs_parts.specs.Progress.{is_at, place_behind}
 use Rattle.lrs_parts.proofs.Events.{bytes_same, next_added, passes_there, same_bytes, same_place, stands_there, take_next, within_front}
 use Rattle.xapi_statement.specs.Statements.{add_each, ids_of, is_held}
-use Rattle.xapi_index.proofs.Adding.{add-new, add-old}
-use Rattle.xapi_index.proofs.Found.{found_at}
+use Rattle.cmi5_running_verdicts.specs.XapiIndexAddingProofs.{add-new, add-old}
+use Rattle.cmi5_running_verdicts.specs.XapiIndexFoundProofs.{found_at}
 use Rattle.xapi_statement.specs.Stored.{StoredStatement}
 
 -- one of that id stands before a position

@@ -16,12 +16,12 @@ use Rattle.lrs_json.specs.View.{view}
 use Rattle.lrs_names.specs.Members.{is_one_of}
 use Rattle.lrs_parts.specs.Progress.{is_voided_anew, voided_anew}
 use Rattle.xapi_statement.specs.Statements.{add, add_each, ids_of, is_held, is_that_id, is_target, is_voided, position_referred, referred_at, voided_by, voids}
-use Rattle.xapi_index.proofs.Adding.{extends}
-use Rattle.xapi_index.proofs.Coming.{not_true}
-use Rattle.xapi_index.proofs.Firsts.{get_first, lt_yes, place_first}
-use Rattle.xapi_index.proofs.Found.{found_at, item_at}
-use Rattle.xapi_index.proofs.Rising.{left_true, right_true}
-use Rattle.xapi_index.proofs.Supplies.{used_held}
+use Rattle.cmi5_running_verdicts.specs.XapiIndexAddingProofs.{extends}
+use Rattle.cmi5_running_verdicts.specs.XapiIndexComingProofs.{not_true}
+use Rattle.cmi5_running_verdicts.specs.XapiIndexFirstsProofs.{get_first, lt_yes, place_first}
+use Rattle.cmi5_running_verdicts.specs.XapiIndexFoundProofs.{found_at, item_at}
+use Rattle.cmi5_running_verdicts.specs.XapiIndexRisingProofs.{left_true, right_true}
+use Rattle.cmi5_running_verdicts.specs.XapiIndexSuppliesProofs.{used_held}
 use Rattle.xapi_rules.specs.Rules.{is_voiding}
 use Rattle.xapi_statement.specs.Statement.{target_of}
 use Rattle.xapi_statement.specs.Stored.{StoredStatement}

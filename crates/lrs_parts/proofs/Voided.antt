@@ -11,8 +11,8 @@ use Rattle.lrs_parts.specs.Trees.{AreTargets, voided_in}
 use Rattle.lrs_parts.proofs.Events.{bytes_same, place_of_id, same_bytes}
 use Rattle.lrs_register.specs.Register.{with_new}
 use Rattle.xapi_statement.specs.Statements.{add, add_each, held_under, ids_of, is_held, is_that_id, voided_by, voids}
-use Rattle.xapi_index.proofs.Adding.{add-new, add-old}
-use Rattle.xapi_index.proofs.Found.{item_at}
+use Rattle.cmi5_running_verdicts.specs.XapiIndexAddingProofs.{add-new, add-old}
+use Rattle.cmi5_running_verdicts.specs.XapiIndexFoundProofs.{item_at}
 use Rattle.xapi_statement.specs.Stored.{StoredStatement}
 
 -- ---- lists

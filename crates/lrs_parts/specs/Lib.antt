@@ -1,3 +1,4 @@
+pub use Rattle.cmi5_running_verdicts.specs.XapiIndexBatches as XapiIndexBatches
 pub use Rattle.lrs_state.specs.Founding as Founding
 pub use Rattle.lrs_state.specs.Registrations as LrsStateRegistrations
 pub use Rattle.lrs_state.specs.Sessions as LrsStateSessions

@@ -20,7 +20,7 @@ use Rattle.cmi5_running_sessions.specs.Room as room
 use Rattle.lrs_register.specs.Register.{Registered}
 use Rattle.xapi_docs.specs.Docs as docs
 use Rattle.xapi_docs.specs.Docs.{HasRoomForDocuments, Places, documents_in, is_written}
-use Rattle.xapi_index.specs.Index.{HoldsNothingAhead, Indexed, IsIndexReadyFor}
+use Rattle.cmi5_running_verdicts.specs.XapiIndexIndex.{HoldsNothingAhead, Indexed, IsIndexReadyFor}
 use Rattle.xapi_statement.specs.Statements.{ids_of}
 
 -- what is seen of all parts together

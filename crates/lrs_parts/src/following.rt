@@ -17,7 +17,7 @@ ghost use Rattle.lrs_parts.specs.Trees.{AreTargets, voided_in};
 ghost use Rattle.lrs_state.specs.declared.founding.Founding.{Founding as SpecFounding};
 ghost use Rattle.lrs_state.specs.declared.registrations.HeldRegistration.{HeldRegistration as SpecRegistration};
 ghost use Rattle.lrs_register.specs.Register.{with_new};
-ghost use Rattle.xapi_index.specs.Index.{HoldsNothingAhead, IsIndexReadyFor};
+ghost use Rattle.cmi5_running_verdicts.specs.XapiIndexIndex.{HoldsNothingAhead, IsIndexReadyFor};
 ghost use Rattle.xapi_statement.specs.Statements.{add_each, ids_of, is_voided};
 ghost use Rattle.xapi_statement.specs.Stored.{StoredStatement as SpecStatement};
 
@@ -26,8 +26,8 @@ use crate::trees::{is_same_id, take_out, tree_voided_by};
 use cmi5_course::Course;
 use cmi5_running_verdicts::Running;
 use cmi5_running_verdicts::cmi5_verdict::Enrolment;
+use cmi5_running_verdicts::xapi_index::Index;
 use lrs_state::{Courses, Founding, HeldRegistration, Learning, Registrations};
-use xapi_index::Index;
 use xapi_statement::{StoredStatement, registration_of};
 
 // ---- registrations with their courses

@@ -1,7 +1,7 @@
 // All parts together.
 ghost use Rattle.std.specs.Prelude.{◌≡◌, ◌<◌, ◌^◌, OnOk};
 ghost use Rattle.std.specs.Vec.Iter.{into_iter_items};
-ghost use Rattle.xapi_index.specs.Ahead.{AreTextsOf};
+ghost use Rattle.cmi5_running_verdicts.specs.XapiIndexAhead.{AreTextsOf};
 ghost use Rattle.lrs_state.specs.Founding.{founding_after};
 ghost use Rattle.lrs_parts.specs.Parts.{state_of, used_with, AddsNoPlaces, HoldsNothingMore, IsReadyFor};
 ghost use Rattle.lrs_parts.specs.Parts.{MakesPlacesFor, SeenParts};
@@ -10,6 +10,7 @@ ghost use Rattle.lrs_state.specs.State.{apply, nothing};
 use crate::Progress;
 use crate::following::{enrol_new, take_in_each};
 use crate::readying::ready_each;
+use cmi5_running_verdicts::xapi_index::Index;
 use lrs_ids::UsedIds;
 use lrs_json::{Items, Memory};
 use lrs_names::Id;
@@ -19,7 +20,6 @@ use std::alloc::Global;
 use std::marker::Model;
 use std::vec::IntoIter;
 use xapi_docs::Docs;
-use xapi_index::Index;
 use xapi_statement::{ReceivedText, StoredStatement};
 
 /// All that a store holds. What is kept of progress follows the other parts.

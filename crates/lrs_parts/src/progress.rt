@@ -11,9 +11,9 @@ use crate::trees::{clear, read_targets};
 use cmi5_running_sessions::Sessions;
 use cmi5_running_verdicts::Running;
 use cmi5_running_verdicts::cmi5_verdict::Enrolment;
+use cmi5_running_verdicts::xapi_index::Index;
 use lrs_json::{Items, Memory};
 use std::alloc::Global;
-use xapi_index::Index;
 use xapi_statement::StoredStatement;
 
 /// What is kept from entry to entry, so that none goes through all statements again.

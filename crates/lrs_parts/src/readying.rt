@@ -13,19 +13,19 @@ ghost use Rattle.lrs_state.specs.declared.registrations.HeldRegistration.{HeldRe
 ghost use Rattle.xapi_docs.specs.Docs as docs;
 ghost use Rattle.xapi_docs.specs.Docs.{HasRoomForDocuments, documents_in, is_written};
 ghost use Rattle.std.specs.Vec.Iter.{into_iter_items};
-ghost use Rattle.xapi_index.specs.Ahead.{AreTextsOf};
-ghost use Rattle.xapi_index.specs.Index.{IsIndexReadyFor};
+ghost use Rattle.cmi5_running_verdicts.specs.XapiIndexAhead.{AreTextsOf};
+ghost use Rattle.cmi5_running_verdicts.specs.XapiIndexIndex.{IsIndexReadyFor};
 
 use crate::Progress;
 use crate::following::enrolment_in;
 use cmi5_running_verdicts::cmi5_verdict::Enrolment;
+use cmi5_running_verdicts::xapi_index::Index;
 use lrs_json::Memory;
 use lrs_state::{
     Courses, Effect, Founding, HeldRegistration, Learning, Providers, RegistrationsChange,
 };
 use std::vec::IntoIter;
 use xapi_docs::Docs;
-use xapi_index::Index;
 use xapi_statement::ReceivedText;
 
 // ---- what is kept of progress

@@ -7,10 +7,10 @@ ghost use Rattle.lrs_parts.specs.Trees.{AreTargets, voided_in};
 ghost use Rattle.lrs_register.specs.Register.{with_new};
 ghost use Rattle.xapi_statement.specs.Statements.{held_under, voided_by};
 
+use cmi5_running_verdicts::xapi_index::Index;
 use lrs_json::{Items, Memory};
 use lrs_names::Id;
 use std::mem;
-use xapi_index::Index;
 use xapi_statement::{HeldStatement, StoredStatement};
 
 // ---- read ahead

@@ -1,5 +1,7 @@
 pub use Rattle.lrs_refusals.proofs.Handed as LrsRefusalsHandedProofs
 pub use Rattle.lrs_refusals.proofs.Naming as LrsRefusalsNamingProofs
+pub use Rattle.lrs_refusals.specs.Cmi5SessionOwn as Cmi5SessionOwn
+pub use Rattle.lrs_refusals.specs.Cmi5SessionRules as Cmi5SessionRules
 pub use Rattle.lrs_refusals.specs.Judged as LrsRefusalsJudged
 pub use Rattle.lrs_refusals.specs.Known as LrsRefusalsKnown
 pub use Rattle.lrs_refusals.specs.LrsHistoryAnswers as LrsHistoryAnswers
@@ -13,6 +15,7 @@ pub use Rattle.lrs_refusals.specs.LrsHistoryOccasions as LrsHistoryOccasions
 pub use Rattle.lrs_refusals.specs.LrsHistoryOutcomesProofs as LrsHistoryOutcomesProofs
 pub use Rattle.lrs_refusals.specs.LrsHistoryRefusals as LrsHistoryRefusals
 pub use Rattle.lrs_refusals.specs.LrsHistoryRoomProofs as LrsHistoryRoomProofs
+pub use Rattle.lrs_refusals.specs.LrsHistoryStrangersProofs as LrsHistoryStrangersProofs
 pub use Rattle.lrs_refusals.specs.LrsHistoryWhose as LrsHistoryWhose
 pub use Rattle.lrs_refusals.specs.LrsMadeEnrolmentsLentEnrolled as LrsMadeEnrolmentsLentEnrolled
 pub use Rattle.lrs_refusals.specs.LrsMadeLent as LrsMadeLent
@@ -24,5 +27,5 @@ pub use Rattle.lrs_refusals.specs.declared.known.Batch as LrsRefusalsKnownBatch
 pub use Rattle.lrs_refusals.specs.declared.known.Known as LrsRefusalsKnownKnown
 pub use Rattle.lrs_refusals.specs.declared.known.Known.TheVariants as LrsRefusalsKnownKnownTheVariants
 pub use Rattle.lrs_refusals.specs.declared.submission.Form as LrsRefusalsSubmissionForm
-pub use Rattle.lrs_refusals.specs.declared.written.Written as LrsRefusalsWrittenWritten
 pub use Rattle.lrs_refusals.specs.declared.submission.Form.TheVariants as LrsRefusalsSubmissionFormTheVariants
+pub use Rattle.lrs_refusals.specs.declared.written.Written as LrsRefusalsWrittenWritten

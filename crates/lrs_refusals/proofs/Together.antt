@@ -4,9 +4,9 @@ use Rattle.std.proofs.Common.{◌≡◌, ℕ, List, [], ◌∷◌, ◌++◌, Boo
 use Rattle.std.specs.Prelude.{is_some, option_and_then, option_map, slice_get, if◌then◌else◌}
 use Rattle.std.specs.Option.{option_or}
 use Rattle.cmi5_course.specs.declared.launch.Launch.{Launch}
-use Rattle.cmi5_session.proofs.Behind.{one_more, same_target}
-use Rattle.cmi5_session.specs.Rules.{broken_rule}
-use Rattle.cmi5_session.specs.Views.{SeenSession, view_behind, view_of}
+use Rattle.lrs_made.specs.Cmi5SessionBehindProofs.{one_more, same_target}
+use Rattle.lrs_made.specs.Cmi5SessionRules.{broken_rule}
+use Rattle.lrs_made.specs.Cmi5SessionViews.{SeenSession, view_behind, view_of}
 use Rattle.lrs_command.specs.declared.who.Who.{Who}
 use Rattle.lrs_command.specs.declared.who.Who.TheVariants as who
 use Rattle.lrs_refusals.specs.Meeting.{refused_behind, refused_each, session_behind, was_abandoned}

@@ -1,3 +1,5 @@
+pub use Rattle.lrs_made.specs.Cmi5SessionOwn as Cmi5SessionOwn
+pub use Rattle.lrs_made.specs.Cmi5SessionRules as Cmi5SessionRules
 pub use Rattle.lrs_made.specs.Lent as LrsMadeLent
 pub use Rattle.lrs_made.specs.LrsHistoryAnswers as LrsHistoryAnswers
 pub use Rattle.lrs_made.specs.LrsHistoryDeskEffects as LrsHistoryDeskEffects
@@ -10,6 +12,7 @@ pub use Rattle.lrs_made.specs.LrsHistoryOccasions as LrsHistoryOccasions
 pub use Rattle.lrs_made.specs.LrsHistoryOutcomesProofs as LrsHistoryOutcomesProofs
 pub use Rattle.lrs_made.specs.LrsHistoryRefusals as LrsHistoryRefusals
 pub use Rattle.lrs_made.specs.LrsHistoryRoomProofs as LrsHistoryRoomProofs
+pub use Rattle.lrs_made.specs.LrsHistoryStrangersProofs as LrsHistoryStrangersProofs
 pub use Rattle.lrs_made.specs.LrsHistoryWhose as LrsHistoryWhose
 pub use Rattle.lrs_made.specs.LrsPartsParts as LrsPartsParts
 pub use Rattle.lrs_made.specs.XapiPagesListings as XapiPagesListings

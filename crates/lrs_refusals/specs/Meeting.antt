@@ -2,8 +2,8 @@
 -- those of its session before it.
 use Rattle.std.specs.Prelude.{ℕ, Bool, false, not, List, [], ◌∷◌, drop, Option, Some, None, if◌then◌else◌}
 use Rattle.std.specs.Option.{option_or}
-use Rattle.cmi5_session.specs.Rules.{broken_rule}
-use Rattle.cmi5_session.specs.Views.{SeenSession, view_behind}
+use Rattle.lrs_made.specs.Cmi5SessionRules.{broken_rule}
+use Rattle.lrs_made.specs.Cmi5SessionViews.{SeenSession, view_behind}
 use Rattle.lrs_command.specs.declared.who.Who.{Who}
 use Rattle.lrs_command.specs.declared.who.Who.TheVariants as who
 use Rattle.lrs_made.specs.LrsHistoryOccasions.{Occasion, supply_in}

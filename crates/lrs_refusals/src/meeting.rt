@@ -1,8 +1,8 @@
 // What the statements of a write meet in the store. What is found out about them on the way is noted.
 ghost use Rattle.std.specs.Prelude.{◌≡◌, ◌++◌, ◌∷◌, [], ℕ, List, length, not, true, IfOk, MatchResult, None, OnOk};
 ghost use Rattle.std.specs.Prelude.{Some};
-ghost use Rattle.cmi5_session.specs.Rules.{broken_outside, broken_rule};
-ghost use Rattle.cmi5_session.specs.Views.{seen, view_of};
+ghost use Rattle.lrs_made.specs.Cmi5SessionRules.{broken_outside, broken_rule};
+ghost use Rattle.lrs_made.specs.Cmi5SessionViews.{seen, view_of};
 ghost use Rattle.lrs_made.specs.LrsHistoryOccasions.{supply_in};
 ghost use Rattle.lrs_made.specs.LrsHistoryRefusals.{conflict, forbidden, refused_under, told_forbidden};
 ghost use Rattle.lrs_ids.specs.Choices.{when};
@@ -26,9 +26,9 @@ use crate::batch::batch_of;
 use crate::whose::{launch_of, was_abandoned};
 use crate::{Batch, Known};
 use cmi5_course::Launch;
-use cmi5_session::{Forbidden, SessionView, permitted, permitted_outside};
 use lrs_command::Who;
 use lrs_json::{Items, Memory, Tree};
+use lrs_made::cmi5_session::{Forbidden, SessionView, permitted, permitted_outside};
 use lrs_made::lrs_parts::Parts;
 use lrs_names::{Draw, Id};
 use lrs_replies::Refusal;

@@ -3,7 +3,7 @@ use Rattle.std.proofs.Common.{◌≡◌, ◌+◌, ◌*◌, ◌<◌, ℕ, max, Bo
 use Rattle.std.specs.Option.{option_map_or}
 use Rattle.std.proofs.lemmas.Bool.{and_left, and_right, leb-false, lt-leb}
 use Rattle.cmi5_course.specs.declared.launch.Launch.{Launch}
-use Rattle.cmi5_session.specs.Moments.{last_own}
+use Rattle.lrs_made.specs.Cmi5SessionMoments.{last_own}
 use Rattle.lrs_made.specs.LrsHistoryEndings.{desk_moment, is_idle, is_open}
 use Rattle.lrs_made.specs.LrsHistorySessions.{is_closed}
 use Rattle.lrs_made.specs.LrsStateState.{State}

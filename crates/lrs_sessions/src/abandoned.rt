@@ -8,8 +8,8 @@ ghost use Rattle.lrs_made.specs.Said.{json_given, jsons_of};
 ghost use Rattle.lrs_made.specs.LrsPartsParts.{state_of};
 
 use cmi5_course::Launch;
-use cmi5_launch::Made;
 use lrs_json::Memory;
+use lrs_made::cmi5_launch::Made;
 use lrs_made::lrs_parts::Parts;
 use lrs_made::{LentTarget, statement_of, target};
 use lrs_names::Id;

@@ -1,6 +1,6 @@
 // In which sessions nothing happened for so long.
 ghost use Rattle.std.specs.Prelude.{◌≡◌, ◌&&◌, ◌+◌, ◌*◌, max, nat_le, IfOk};
-ghost use Rattle.cmi5_session.specs.Moments.{last_own};
+ghost use Rattle.lrs_made.specs.Cmi5SessionMoments.{last_own};
 ghost use Rattle.lrs_made.specs.LrsHistoryEndings.{desk_moment, idle_ones, is_idle, is_open, last_event};
 ghost use Rattle.lrs_made.specs.LrsPartsParts.{state_of};
 

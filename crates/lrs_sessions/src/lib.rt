@@ -13,5 +13,5 @@ pub use abandoned::abandoned_statements;
 pub use closed::{is_closed, is_open, open_of};
 pub use idle::idle_ones;
 pub use lrs_made;
-pub use lrs_made::lrs_parts;
+pub use lrs_made::{cmi5_launch, lrs_parts};
 pub use numbers::{launch_count, sessions_at};

@@ -45,11 +45,6 @@ two_behind a b x y ms s m1 m2 e1 e2 =
     ∙ ap (λ t. s ++ t) (append_assoc (member_text true a x) (member_text true b y) (members_text true ms)
     ∙ sym (first_member true a x (member b y ms) ∙ ap (λ t. member_text true a x ++ t) (first_member true b y ms)))
 
--- two members, and the closing brace
-pub two_last : (a b : List ℕ) (x y : Json) (s m1 m2 m3 : List ℕ) → m1 ≡ s ++ member_text true a x → m2 ≡ m1 ++ member_text true b y → m3 ≡ m2 ++ (125 ∷ []) → m3 ≡ s ++ members_text true (members_of ((a, x) ∷ (b, y) ∷ []))
-two_last a b x y s m1 m2 m3 e1 e2 e3 =
-    member_behind true a x (members_of ((b, y) ∷ [])) s m1 m3 e1 (member_behind true b y (members_of []) m1 m2 m3 e2 e3)
-
 -- a name, the brace, and two members with both closing braces
 pub account_pieces : (n a b : List ℕ) (x y : Json) (s m1 m2 m3 : List ℕ) → m1 ≡ s ++ name_text true n → m2 ≡ m1 ++ (123 ∷ []) → m3 ≡ m2 ++ (member_text false a x ++ (member_text true b y ++ 125 ∷ 125 ∷ []))
     → m3 ≡ s ++ members_text true (members_of ((n, object (members_of ((a, x) ∷ (b, y) ∷ []))) ∷ []))

@@ -7,9 +7,9 @@ use Rattle.std.proofs.lemmas.Grind.{common_steps, flat_map-append}
 use Rattle.uuid.specs.Text.{by_index, digit_place, hex_digit, hyphen, is_hyphen_place, lower, nibble}
 use Rattle.uuid.proofs.TextLemmas.{nibble_small}
 use Rattle.lrs_json.specs.Written.{escaped, is_plain}
-use Rattle.lrs_names.specs.Ids.{id_text}
-use Rattle.lrs_time.specs.Digits.{two_digits}
-use Rattle.lrs_time.specs.Timestamp.{IsFraction, IsMomentText, Zone, stamp_text, utc}
+use Rattle.xapi_values.specs.LrsNamesIds.{id_text}
+use Rattle.xapi_values.specs.LrsTimeDigits.{two_digits}
+use Rattle.xapi_values.specs.LrsTimeTimestamp.{IsFraction, IsMomentText, Zone, stamp_text, utc}
 
 -- what stands for it in a string is the text itself
 abbrev pub IsPlain : List ℕ → Type 0

@@ -6,7 +6,7 @@ use Rattle.lrs_json.specs.Json.{Json, object, string}
 use Rattle.lrs_json.specs.Texts.{member_text}
 use Rattle.lrs_json.specs.View.{members_of}
 use Rattle.lrs_json.specs.Written.{members_text}
-use Rattle.lrs_names.specs.Ids.{id_text}
+use Rattle.xapi_values.specs.LrsNamesIds.{id_text}
 use Rattle.xapi_format.specs.declared.authority.Authority.{Authority}
 use Rattle.xapi_format.specs.declared.authority.Authority.TheVariants.{Admin, Provider, Session, Desk}
 

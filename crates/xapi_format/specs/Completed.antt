@@ -5,8 +5,8 @@ use Rattle.lrs_json.specs.Json.{Json, null, boolean, number, string, array, obje
 use Rattle.lrs_json.specs.Json.{no_members, member}
 use Rattle.lrs_json.specs.Find.{find}
 use Rattle.lrs_json.specs.View.{members_of}
-use Rattle.lrs_names.specs.Ids.{id_text}
-use Rattle.lrs_names.specs.Members.{is_one_of}
+use Rattle.xapi_values.specs.LrsNamesIds.{id_text}
+use Rattle.xapi_values.specs.LrsNamesMembers.{is_one_of}
 use Rattle.xapi_values.specs.Memberwise.{with_each_member}
 use Rattle.xapi_values.specs.Nested.{is_nested}
 

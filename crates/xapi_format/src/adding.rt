@@ -5,13 +5,13 @@ ghost use Rattle.lrs_json.specs.Json.{string};
 ghost use Rattle.lrs_json.specs.Texts.{member_text, name_text};
 ghost use Rattle.lrs_json.specs.View.{members_of};
 ghost use Rattle.lrs_json.specs.Written.{Extends, comma_if, members_text};
-ghost use Rattle.lrs_names.specs.Ids.{id_text};
-ghost use Rattle.lrs_time.specs.Moments.{moment_text};
+ghost use Rattle.xapi_values.specs.LrsNamesIds.{id_text};
+ghost use Rattle.xapi_values.specs.LrsTimeMoments.{moment_text};
 
 use lrs_json::Memory;
 use lrs_json::appending::put;
-use lrs_names::Id;
-use lrs_time::{Moment, moment_text};
+use xapi_values::lrs_names::Id;
+use xapi_values::lrs_time::{Moment, moment_text};
 
 /// Appends the member `id`, behind a comma if other members stand before.
 #[tactic(auto, using(lrs_json::proofs::Extending::extends_trans))]

@@ -5,16 +5,16 @@ ghost use Rattle.lrs_json.specs.View.{view, member_view, members_of};
 ghost use Rattle.xapi_format.specs.Authorities.{account_json, account_name, authority_json};
 ghost use Rattle.xapi_format.specs.Completed.{added, added_behind_id, completed, given_or, kept_before};
 ghost use Rattle.xapi_values.specs.Following.{HasOneMore, followed_by};
-ghost use Rattle.lrs_names.specs.Ids.{id_text};
-ghost use Rattle.lrs_time.specs.Moments.{moment_text};
+ghost use Rattle.xapi_values.specs.LrsNamesIds.{id_text};
+ghost use Rattle.xapi_values.specs.LrsTimeMoments.{moment_text};
 
 use crate::Authority;
 use crate::plural::{OfStatement, push_made};
 use crate::showing::is_added;
 use lrs_json::{Items, Member, Memory, Text, Tree, utf8_text};
-use lrs_names::Id;
-use lrs_time::{Moment, moment_text};
 use std::alloc::Global;
+use xapi_values::lrs_names::Id;
+use xapi_values::lrs_time::{Moment, moment_text};
 use xapi_values::whole;
 
 /// The completed form of a statement as a tree of its own: what was received, and after it what the store adds.

@@ -8,13 +8,13 @@ ghost use Rattle.lrs_json.specs.Written.{Extends, members_text};
 ghost use Rattle.std.specs.Fmt.{decimal};
 ghost use Rattle.xapi_format.specs.Authorities.{account_json, account_name, authority_name, home_page};
 ghost use Rattle.xapi_format.specs.Completed.{added_names};
-ghost use Rattle.lrs_names.specs.Ids.{id_text};
-ghost use Rattle.lrs_names.specs.Members.{is_one_of};
+ghost use Rattle.xapi_values.specs.LrsNamesIds.{id_text};
+ghost use Rattle.xapi_values.specs.LrsNamesMembers.{is_one_of};
 
 use crate::Authority;
 use lrs_json::appending::{put, put_name, put_quoted_parts, put_text};
 use lrs_json::{Memory, utf8_text};
-use lrs_names::Id;
+use xapi_values::lrs_names::Id;
 
 /// Whether the store writes the member of that name itself.
 pub fn is_added(name: &str) -> bool

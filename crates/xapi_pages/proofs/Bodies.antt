@@ -3,8 +3,8 @@ use Rattle.std.proofs.Common.{◌≡◌, ℕ, List, [], ◌∷◌, ◌++◌, ref
 use Rattle.lrs_json.specs.Json.{Elements, array, object, string}
 use Rattle.lrs_json.specs.View.{members_of}
 use Rattle.lrs_json.specs.Written.{elements_text, escaped, quoted, written}
-use Rattle.xapi_query.specs.declared.query.Query.{Query}
-use Rattle.xapi_statement.specs.Stored.{StoredStatement}
+use Rattle.xapi_search.specs.XapiQueryQueryQuery.{Query}
+use Rattle.xapi_search.specs.XapiStatementStored.{StoredStatement}
 use Rattle.xapi_pages.specs.Listings.{Page, items_text, more_text, page_body}
 
 regroup : (a e m q z : List ℕ) → a ++ e ++ m ++ q ++ z ≡ a ++ (e ++ (m ++ (q ++ z)))

@@ -5,11 +5,11 @@ use Rattle.std.specs.Prelude.{filter, reverse, slice_get, cond}
 use Rattle.std.specs.List.{list_any, range_with_len}
 use Rattle.std.specs.Option.{option_map_or}
 use Rattle.std.proofs.lemmas.List.{take_all}
-use Rattle.xapi_statement.specs.Statements.{is_voided}
+use Rattle.xapi_search.specs.XapiStatementStatements.{is_voided}
 use Rattle.xapi_pages.specs.Listings.{chain, chain_from, every, is_listed, is_listed_at, listed_of_all}
-use Rattle.xapi_query.specs.Filters.{direct, sees}
-use Rattle.xapi_query.specs.declared.sight.Sight.TheVariants.{All}
-use Rattle.xapi_statement.specs.Stored.{StoredStatement}
+use Rattle.xapi_search.specs.XapiQueryFilters.{direct, sees}
+use Rattle.xapi_search.specs.XapiQuerySightSightTheVariants.{All}
+use Rattle.xapi_search.specs.XapiStatementStored.{StoredStatement}
 use Rattle.xapi_pages.proofs.Fronts.{drop_at, position_up}
 
 -- ---- one statement

@@ -7,24 +7,24 @@ use Rattle.std.specs.Str.{bytes_eq}
 use Rattle.std.proofs.lemmas.Bool.{and_from, and_parts, and_right, cases_lt, le-leb, lt-ltb, or_cases, or_left, or_right}
 use Rattle.std.proofs.lemmas.List.{drop_all}
 use Rattle.lrs_json.specs.View.{view}
-use Rattle.xapi_index.specs.Index.{IsPosting}
-use Rattle.xapi_statement.specs.Statements.{is_voided, position_referred, referred_at}
-use Rattle.xapi_index.proofs.Firsts.{get_first}
-use Rattle.xapi_postings.specs.Ascending.{is_in}
-use Rattle.xapi_postings.proofs.Ascending.{is_in-below, is_in-positions}
-use Rattle.xapi_query.specs.Filters.{direct, in_time, sees}
-use Rattle.xapi_query.specs.declared.query.Query.{Query}
-use Rattle.xapi_query.specs.declared.sight.Sight.{Sight}
+use Rattle.xapi_search.specs.XapiIndexIndex.{IsPosting}
+use Rattle.xapi_search.specs.XapiStatementStatements.{is_voided, position_referred, referred_at}
+use Rattle.xapi_search.specs.XapiIndexFirstsProofs.{get_first}
+use Rattle.xapi_search.specs.XapiPostingsAscending.{is_in}
+use Rattle.xapi_search.specs.XapiPostingsAscendingProofs.{is_in-below, is_in-positions}
+use Rattle.xapi_search.specs.XapiQueryFilters.{direct, in_time, sees}
+use Rattle.xapi_search.specs.XapiQueryQueryQuery.{Query}
+use Rattle.xapi_search.specs.XapiQuerySightSight.{Sight}
 use Rattle.xapi_search.specs.Candidates.{Bounds, Reaches, is_candidate, stands_in}
 use Rattle.xapi_search.specs.Sought.{AreDirect, Tells, is_seen, passes}
 use Rattle.xapi_search.specs.declared.candidates.Candidates.{Candidates}
 use Rattle.xapi_search.specs.declared.candidates.Lists.{Lists}
 use Rattle.xapi_search.specs.declared.sought.Sought.{Sought}
-use Rattle.xapi_statement.specs.Stored.{StoredStatement}
-use Rattle.xapi_statement.specs.Statement.{target_of}
-use Rattle.xapi_statement_keys.specs.Keys.{has_key}
-use Rattle.xapi_statement_keys.specs.declared.key.Key.{Key}
-use Rattle.xapi_statement_keys.specs.declared.key.Key.TheVariants as key
+use Rattle.xapi_search.specs.XapiStatementStored.{StoredStatement}
+use Rattle.xapi_search.specs.XapiStatementStatement.{target_of}
+use Rattle.xapi_search.specs.XapiStatementKeysKeys.{has_key}
+use Rattle.xapi_search.specs.XapiStatementKeysKeyKey.{Key}
+use Rattle.xapi_search.specs.XapiStatementKeysKeyKeyTheVariants as key
 use Rattle.xapi_pages.specs.Chains.{chain_passes, is_direct_at, reaches}
 use Rattle.xapi_pages.specs.Listings.{chain_from, is_listed, is_listed_at, positions_of}
 use Rattle.xapi_pages.specs.Searching.{Covers, HasDirect, HaveAll, SkipsNone, may_be_listed}

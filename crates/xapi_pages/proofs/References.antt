@@ -9,16 +9,16 @@ use Rattle.std.proofs.lemmas.List.{length-take-le}
 use Rattle.std.proofs.lemmas.List.Folds.{find_at}
 use Rattle.std.proofs.lemmas.Option.{slice_get_past}
 use Rattle.lrs_json.specs.View.{view}
-use Rattle.xapi_query.specs.Filters.{direct, sees}
-use Rattle.xapi_query.specs.declared.query.Query.{Query}
-use Rattle.xapi_query.specs.declared.sight.Sight.{Sight}
+use Rattle.xapi_search.specs.XapiQueryFilters.{direct, sees}
+use Rattle.xapi_search.specs.XapiQueryQueryQuery.{Query}
+use Rattle.xapi_search.specs.XapiQuerySightSight.{Sight}
 use Rattle.xapi_search.specs.Sought.{Tells, passes}
 use Rattle.xapi_search.specs.declared.sought.Sought.{Sought}
-use Rattle.xapi_statement.specs.Stored.{StoredStatement}
-use Rattle.xapi_statement.specs.Statement.{target_of}
+use Rattle.xapi_search.specs.XapiStatementStored.{StoredStatement}
+use Rattle.xapi_search.specs.XapiStatementStatement.{target_of}
 use Rattle.xapi_pages.specs.Listings.{chain_from, referred}
-use Rattle.xapi_statement.specs.Statements.{held_under, position_referred, referred_at}
-use Rattle.xapi_index.proofs.Firsts.{get_first}
+use Rattle.xapi_search.specs.XapiStatementStatements.{held_under, position_referred, referred_at}
+use Rattle.xapi_search.specs.XapiIndexFirstsProofs.{get_first}
 use Rattle.xapi_pages.specs.Chains.{chain_passes, is_among, is_direct_at, reaches}
 use Rattle.xapi_pages.proofs.Walks.{alike, enough, none_reached, reach}
 

@@ -5,10 +5,10 @@ use Rattle.std.specs.BTreeMap.{is_at}
 use Rattle.std.specs.List.{list_any}
 use Rattle.std.specs.Map.{lookup}
 use Rattle.std.specs.Ordering.{nat_cmp}
-use Rattle.xapi_statement.specs.Statements.{referred_at}
+use Rattle.xapi_search.specs.XapiStatementStatements.{referred_at}
 pub use Rattle.xapi_search.specs.Sought.{is_direct_at}
 use Rattle.xapi_search.specs.declared.sought.Sought.{Sought}
-use Rattle.xapi_statement.specs.Stored.{StoredStatement}
+use Rattle.xapi_search.specs.XapiStatementStored.{StoredStatement}
 use Rattle.xapi_pages.specs.declared.chains.Mark.{Mark}
 use Rattle.xapi_pages.specs.declared.chains.Mark.TheVariants.{Unknown, Passes, Fails}
 

@@ -8,18 +8,18 @@ use Rattle.std.specs.Option.{option_map_or}
 use Rattle.lrs_json.specs.Json.{Json, array, object, string}
 use Rattle.lrs_json.specs.View.{elements_of, members_of, view}
 use Rattle.lrs_json.specs.Written.{elements_text, written}
-use Rattle.xapi_query.specs.Filters.{direct, in_time, sees}
-use Rattle.xapi_query.specs.Links.{link_text}
-use Rattle.xapi_query.specs.declared.query.Query.{Query}
-use Rattle.xapi_query.specs.declared.query.TheConstants.{MOST_OF_PAGE}
-use Rattle.xapi_query.specs.declared.sight.Sight.{Sight}
-use Rattle.xapi_query.specs.declared.sight.Sight.TheVariants.{All}
-use Rattle.xapi_statement.specs.Stored.{StoredStatement}
-use Rattle.xapi_statement.specs.Shown.{shown_form}
-use Rattle.xapi_statement.specs.Statement.{target_of}
+use Rattle.xapi_search.specs.XapiQueryFilters.{direct, in_time, sees}
+use Rattle.xapi_search.specs.XapiQueryLinks.{link_text}
+use Rattle.xapi_search.specs.XapiQueryQueryQuery.{Query}
+use Rattle.xapi_search.specs.XapiQueryQueryTheConstants.{MOST_OF_PAGE}
+use Rattle.xapi_search.specs.XapiQuerySightSight.{Sight}
+use Rattle.xapi_search.specs.XapiQuerySightSightTheVariants.{All}
+use Rattle.xapi_search.specs.XapiStatementStored.{StoredStatement}
+use Rattle.xapi_search.specs.XapiStatementShown.{shown_form}
+use Rattle.xapi_search.specs.XapiStatementStatement.{target_of}
 use Rattle.xapi_format.specs.declared.format.Format.{Format}
 use Rattle.xapi_format.specs.declared.format.Format.TheVariants.{Exact}
-use Rattle.xapi_statement.specs.Statements.{held_under, is_voided}
+use Rattle.xapi_search.specs.XapiStatementStatements.{held_under, is_voided}
 
 -- ---- references
 

@@ -1,17 +1,17 @@
 -- What a page is found to be, and where it is looked for: said of each sight of which the lists tell.
 use Rattle.std.specs.Prelude.{◌≡◌, ◌<◌, ◌≤◌, ◌&&◌, ℕ, Bool, true, false, not, List, slice_get, take, Option, Some}
 use Rattle.std.specs.Option.{option_map_or}
-use Rattle.xapi_statement.specs.Statements.{is_voided}
-use Rattle.xapi_postings.specs.Ascending.{is_in}
-use Rattle.xapi_query.specs.Filters.{in_time}
-use Rattle.xapi_query.specs.declared.query.Query.{Query}
-use Rattle.xapi_query.specs.declared.sight.Sight.{Sight}
+use Rattle.xapi_search.specs.XapiStatementStatements.{is_voided}
+use Rattle.xapi_search.specs.XapiPostingsAscending.{is_in}
+use Rattle.xapi_search.specs.XapiQueryFilters.{in_time}
+use Rattle.xapi_search.specs.XapiQueryQueryQuery.{Query}
+use Rattle.xapi_search.specs.XapiQuerySightSight.{Sight}
 use Rattle.xapi_search.specs.Candidates.{is_before, is_candidate, stands_in}
 use Rattle.xapi_search.specs.Sought.{Tells, is_direct_at, is_seen}
 use Rattle.xapi_search.specs.declared.candidates.Candidates.{Candidates}
 use Rattle.xapi_search.specs.declared.candidates.Lists.{Lists}
 use Rattle.xapi_search.specs.declared.sought.Sought.{Sought}
-use Rattle.xapi_statement.specs.Stored.{StoredStatement}
+use Rattle.xapi_search.specs.XapiStatementStored.{StoredStatement}
 use Rattle.xapi_pages.specs.Chains.{chain_passes}
 use Rattle.xapi_pages.specs.Listings.{Page, is_listed_at, page_behind, positions_of}
 use Rattle.xapi_pages.specs.declared.listing.Page.{Page as Found}

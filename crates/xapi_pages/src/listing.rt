@@ -2,7 +2,7 @@
 ghost use Rattle.std.specs.Prelude.{◌≡◌, ◌<◌, ◌≤◌, ◌+◌, ℕ, false, nat_le, IfNone, IfOk, IfSome, OnOk, Some, [], length};
 ghost use Rattle.std.specs.Prelude.{slice_get, take};
 ghost use Rattle.std.specs.Option.{option_map_or};
-ghost use Rattle.xapi_query.specs.Filters.{in_time};
+ghost use Rattle.xapi_search.specs.XapiQueryFilters.{in_time};
 ghost use Rattle.xapi_search.specs.Candidates.{ListsAscend};
 ghost use Rattle.xapi_search.specs.Sought.{AreAscending};
 ghost use Rattle.xapi_pages.specs.Chains.{AreTrue, chain_passes, unknown_below};
@@ -12,8 +12,8 @@ ghost use Rattle.xapi_pages.specs.Searching.{Covers, IsPage, SkipsNone, TellsLis
 use crate::chains::{Marks, chain_passes};
 use lrs_json::Memory;
 use std::alloc::Global;
-use xapi_index::Index;
-use xapi_query::{Query, in_time};
+use xapi_search::xapi_index::Index;
+use xapi_search::xapi_query::{Query, in_time};
 use xapi_search::{Candidates, Sought};
 
 /// The positions of a page, and the last one of them if something follows it.

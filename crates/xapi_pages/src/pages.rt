@@ -1,16 +1,16 @@
 // The bodies of pages.
 ghost use Rattle.std.specs.Prelude.{◌≡◌, ◌≤◌, ◌∷◌, ◌++◌, ℕ, List, false, codes, length, take, IfOk, OnOk};
 ghost use Rattle.lrs_json.specs.Written.{comma_if, quoted};
-ghost use Rattle.xapi_statement.specs.Shown.{shown_text};
+ghost use Rattle.xapi_search.specs.XapiStatementShown.{shown_text};
 ghost use Rattle.xapi_pages.specs.Listings.{Page as SpecPage, items_text, more_text, page_behind, page_body};
 
 use crate::listing::Page;
 use crate::searching::page_of;
 use lrs_json::{Memory, Tree, write};
 use std::alloc::Global;
-use xapi_index::Index;
-use xapi_query::{Query, Sight, link_text};
-use xapi_statement::{Format, HeldStatement};
+use xapi_search::xapi_index::Index;
+use xapi_search::xapi_query::{Query, Sight, link_text};
+use xapi_search::xapi_statement::{Format, HeldStatement};
 
 /// The body of the page after a position, in the list as of the first `asof` statements.
 pub fn page_text(

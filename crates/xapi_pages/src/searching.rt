@@ -1,7 +1,7 @@
 // Where a page is looked for: no further than a filter that few statements pass leads.
 ghost use Rattle.std.specs.Prelude.{◌≡◌, ◌<◌, ◌≤◌, ◌⊎◌, ℕ, true, IfNone, IfOk, IfSome, length, take};
-ghost use Rattle.xapi_index.specs.Index.{IsPosting};
-ghost use Rattle.xapi_postings.specs.Ascending.{IsAscending, is_in};
+ghost use Rattle.xapi_search.specs.XapiIndexIndex.{IsPosting};
+ghost use Rattle.xapi_search.specs.XapiPostingsAscending.{IsAscending, is_in};
 ghost use Rattle.xapi_search.specs.Candidates.{ListsAscend, stands_in};
 ghost use Rattle.xapi_search.specs.Sought.{AreAscending, SeenAscends, is_seen, passes};
 ghost use Rattle.xapi_pages.specs.Listings.{page_behind};
@@ -10,10 +10,10 @@ ghost use Rattle.xapi_pages.specs.Searching.{HasDirect, HaveAll, IsPage};
 use crate::listing::{Page, find_page};
 use lrs_json::Memory;
 use std::alloc::Global;
-use xapi_index::Index;
-use xapi_query::{Query, Sight};
+use xapi_search::xapi_index::Index;
+use xapi_search::xapi_postings::xapi_statement_keys::Key;
+use xapi_search::xapi_query::{Query, Sight};
 use xapi_search::{Candidates, Lists, Seen, Sought, bounds, direct_below, reaching};
-use xapi_statement_keys::Key;
 
 // So many candidates more than stand in a list, or in a part of it, may be looked at in vain, and so many steps along
 // references be walked, before another way to the page is gone.

@@ -8,4 +8,4 @@ mod searching;
 pub use postings::Postings;
 pub use searching::{contains, first_from, last_below};
 pub use xapi_statement_keys;
-pub use xapi_statement_keys::xapi_statement;
+pub use xapi_statement_keys::{xapi_query, xapi_statement};

@@ -12,3 +12,4 @@ pub use members::{
     scaled_spelling, target_of, verb_of,
 };
 pub use parties::{has_agent, is_actor};
+pub use xapi_rules;

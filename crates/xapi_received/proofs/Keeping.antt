@@ -13,7 +13,7 @@ use Rattle.lrs_json.specs.Texts.{member_text}
 use Rattle.lrs_json.specs.View.{view}
 use Rattle.lrs_json.specs.Written.{comma_if, members_text, quoted, written}
 use Rattle.lrs_json.specs.declared.tree.Member.{Member}
-use Rattle.lrs_names.specs.Members.{is_one_of}
+use Rattle.xapi_format.specs.LrsNamesMembers.{is_one_of}
 use Rattle.xapi_format.specs.Completed.{added_names, kept_before, plural_member}
 use Rattle.xapi_received.specs.Marking.{Adds, IsFirst, MarksMember, SoFar, shown_text}
 use Rattle.xapi_received.specs.Received.{IsWithin, bytes_at, place_after}

@@ -8,8 +8,8 @@ use Rattle.lrs_json.specs.Texts.{member_text, name_text}
 use Rattle.lrs_json.specs.View.{view, member_view, members_of}
 use Rattle.lrs_json.specs.Written.{members_text, written}
 use Rattle.lrs_json.specs.declared.tree.Member.{Member}
-use Rattle.xapi_values.specs.Memberwise.{each_member, with_each_member}
-use Rattle.xapi_values.specs.Nested.{is_nested}
+use Rattle.xapi_format.specs.XapiValuesMemberwise.{each_member, with_each_member}
+use Rattle.xapi_format.specs.XapiValuesNested.{is_nested}
 use Rattle.xapi_format.specs.Completed.{in_array, plural_nested_member, plural_object}
 use Rattle.xapi_received.specs.Marking.{Adds, IsSound, Marks, MarksMember, members_in, shown_text}
 use Rattle.xapi_received.specs.declared.draft.Draft.{Draft}

@@ -11,8 +11,8 @@ ghost use Rattle.xapi_received.specs.Received.{AreGiven, HasPlace, HasPlaces, Is
 
 use crate::marks::{Ending, Place};
 use lrs_json::Memory;
-use lrs_names::Id;
 use lrs_time::Moment;
+use xapi_format::lrs_names::Id;
 use xapi_format::{
     WrittenAuthority, put_given_times, put_given_version, put_id, put_own_times, put_own_version,
 };

@@ -13,3 +13,4 @@ mod received;
 
 pub use lrs_json::Memory;
 pub use received::ReceivedText;
+pub use xapi_format;

@@ -3,7 +3,7 @@ ghost use Rattle.std.specs.Prelude.{◌≡◌, false, map, true, IfOk, OnOk, Non
 ghost use Rattle.lrs_json.specs.Json.{Members, member, no_members, object};
 ghost use Rattle.lrs_json.specs.View.{view, member_view, members_of};
 ghost use Rattle.lrs_json.specs.Written.{comma_if};
-ghost use Rattle.lrs_names.specs.Members.{is_one_of};
+ghost use Rattle.xapi_format.specs.LrsNamesMembers.{is_one_of};
 ghost use Rattle.xapi_format.specs.Completed.{added_names, plural_member};
 ghost use Rattle.xapi_received.specs.Marking.{Adds, Completes, MarksMember, SoFar, members_in};
 ghost use Rattle.xapi_received.specs.declared.draft.Draft.{Draft as SpecDraft};

@@ -5,11 +5,11 @@ ghost use Rattle.lrs_json.specs.Json.{Json, object};
 ghost use Rattle.lrs_json.specs.View.{view, member_view, members_of};
 ghost use Rattle.xapi_format.specs.Completed.{in_array, plural_activities_member, plural_context_member, plural_member, plural_nested_member, plural_object};
 ghost use Rattle.xapi_received.specs.Marking.{Marks, MarksMember, members_in};
-ghost use Rattle.xapi_values.specs.Memberwise.{each_member, with_each_member};
+ghost use Rattle.xapi_format.specs.XapiValuesMemberwise.{each_member, with_each_member};
 
 use crate::draft::Draft;
 use lrs_json::{Member, Memory, Tree};
-use xapi_values::is_nested;
+use xapi_format::xapi_values::is_nested;
 
 /// What becomes of the value of a member, by its name.
 pub trait Plural {

@@ -5,7 +5,7 @@ use Rattle.std.specs.List.{list_any}
 use Rattle.std.specs.Str.{bytes_eq}
 use Rattle.lrs_json.specs.Json.{Json, null, boolean, number, string, array, object, Elements, no_elements, element}
 use Rattle.lrs_json.specs.Json.{Members, no_members, member}
-use Rattle.lrs_agents.specs.Agents.{identifiers}
+use Rattle.xapi_format.specs.LrsAgentsAgents.{identifiers}
 use Rattle.lrs_names.specs.Members.{has_member, is_one_of}
 use Rattle.xapi_values.specs.Kinds.{kind_of, same_kind}
 use Rattle.xapi_values.specs.declared.kinds.Kind.{Kind}

@@ -1,6 +1,6 @@
 // Which members of a value are kept.
 ghost use Rattle.std.specs.Prelude.{◌≡◌};
-ghost use Rattle.lrs_agents.specs.Agents.{identifiers};
+ghost use Rattle.xapi_format.specs.LrsAgentsAgents.{identifiers};
 ghost use Rattle.lrs_names.specs.Members.{is_one_of};
 
 use lrs_json_slices::WrittenText;

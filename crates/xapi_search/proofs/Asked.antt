@@ -3,15 +3,15 @@ use Rattle.std.proofs.Common.{◌≡◌, ℕ, List, sym, ◌∙◌, ap, Option, 
 use Rattle.std.specs.Option.{option_map_or}
 use Rattle.lrs_agents.specs.declared.identifiers.Ifi.{Ifi}
 use Rattle.lrs_json.specs.View.{view}
-use Rattle.xapi_query.specs.Filters.{is_registered, passes_activity, passes_agent, passes_registration, passes_verb}
-use Rattle.xapi_query.specs.declared.query.Given.{Given}
-use Rattle.xapi_query.specs.declared.query.Query.{Query}
+use Rattle.xapi_index.specs.XapiQueryFilters.{is_registered, passes_activity, passes_agent, passes_registration, passes_verb}
+use Rattle.xapi_index.specs.XapiQueryQueryGiven.{Given}
+use Rattle.xapi_index.specs.XapiQueryQueryQuery.{Query}
 use Rattle.xapi_search.specs.Narrowing.{AsksFor}
-use Rattle.xapi_statement.specs.Shown.{takes_part}
-use Rattle.xapi_statement.specs.Statement.{has_activity, verb_of}
-use Rattle.xapi_statement.specs.Stored.{StoredStatement}
-use Rattle.xapi_statement_keys.specs.declared.key.Key.{Key}
-use Rattle.xapi_statement_keys.specs.declared.key.Key.TheVariants as key
+use Rattle.xapi_index.specs.XapiStatementShown.{takes_part}
+use Rattle.xapi_index.specs.XapiStatementStatement.{has_activity, verb_of}
+use Rattle.xapi_index.specs.XapiStatementStored.{StoredStatement}
+use Rattle.xapi_index.specs.XapiStatementKeysKeyKey.{Key}
+use Rattle.xapi_index.specs.XapiStatementKeysKeyKeyTheVariants as key
 
 -- ---- an agent
 

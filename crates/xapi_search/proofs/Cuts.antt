@@ -2,10 +2,10 @@
 use Rattle.std.proofs.Common.{◌≡◌, ℤ, int_lt, not, ◌∙◌, ap, Option, Some, Bool, true, false}
 use Rattle.std.specs.Option.{option_map_or}
 use Rattle.std.proofs.lemmas.Bool.{and_left, and_right}
-use Rattle.xapi_query.specs.Filters.{in_time, stored_instant}
-use Rattle.xapi_query.specs.declared.query.Given.{Given}
-use Rattle.xapi_query.specs.declared.query.Query.{Query}
-use Rattle.xapi_statement.specs.Stored.{StoredStatement}
+use Rattle.xapi_index.specs.XapiQueryFilters.{in_time, stored_instant}
+use Rattle.xapi_index.specs.XapiQueryQueryGiven.{Given}
+use Rattle.xapi_index.specs.XapiQueryQueryQuery.{Query}
+use Rattle.xapi_index.specs.XapiStatementStored.{StoredStatement}
 
 abbrev is_late_enough : StoredStatement → Option (Given ℤ) → Bool
 is_late_enough s o = option_map_or (λ (first : Given ℤ). int_lt first.value (stored_instant s)) o true

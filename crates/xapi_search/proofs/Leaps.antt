@@ -4,9 +4,9 @@ use Rattle.std.specs.List.{AllByRecursion}
 use Rattle.std.proofs.lemmas.Bool.{and_from, and_left, and_parts, and_right, cases_lt, cases_order, eq-eqb, eqb-true, le-ltb, lt-ltb, ltb-true, or_right}
 use Rattle.std.proofs.lemmas.List.Folds.{list_any-append}
 use Rattle.std.proofs.lemmas.Option.{same_Some}
-use Rattle.xapi_postings.specs.Ascending.{is_in}
-use Rattle.xapi_postings.specs.Nearest.{IsLeastFrom, is_before}
-use Rattle.xapi_postings.proofs.Ascending.{ascending-append}
+use Rattle.xapi_index.specs.XapiPostingsAscending.{is_in}
+use Rattle.xapi_index.specs.XapiPostingsNearest.{IsLeastFrom, is_before}
+use Rattle.xapi_index.specs.XapiPostingsAscendingProofs.{ascending-append}
 use Rattle.xapi_search.specs.Narrowing.{is_in_each}
 use Rattle.xapi_search.specs.Sought.{AreDirect, is_direct_at, is_seen, passes}
 use Rattle.xapi_search.specs.declared.sought.Seen.{Seen}

@@ -7,14 +7,14 @@ use Rattle.std.proofs.lemmas.List.Elements.{All-from_recursion}
 use Rattle.std.proofs.lemmas.List.Folds.{list_all-append, list_all_at, list_all_more}
 use Rattle.std.proofs.lemmas.Option.{same_Some, slice_get-get_or, slice_get_within}
 use Rattle.xapi_index.specs.Index.{IsPosting}
-use Rattle.xapi_postings.specs.Ascending.{IsAscending, is_in}
-use Rattle.xapi_postings.proofs.Ascending.{is_in-below, is_in-positions}
-use Rattle.xapi_query.specs.Filters.{direct, passes_activity, passes_agent, passes_registration, passes_verb}
-use Rattle.xapi_query.specs.declared.query.Query.{Query}
+use Rattle.xapi_index.specs.XapiPostingsAscending.{IsAscending, is_in}
+use Rattle.xapi_index.specs.XapiPostingsAscendingProofs.{is_in-below, is_in-positions}
+use Rattle.xapi_index.specs.XapiQueryFilters.{direct, passes_activity, passes_agent, passes_registration, passes_verb}
+use Rattle.xapi_index.specs.XapiQueryQueryQuery.{Query}
 use Rattle.xapi_search.specs.Narrowing.{AsksFor, EachAscends, ListsThose, Narrows, is_in_each, passes_key}
-use Rattle.xapi_statement.specs.Stored.{StoredStatement}
-use Rattle.xapi_statement_keys.specs.Keys.{has_key}
-use Rattle.xapi_statement_keys.specs.declared.key.Key.{Key}
+use Rattle.xapi_index.specs.XapiStatementStored.{StoredStatement}
+use Rattle.xapi_index.specs.XapiStatementKeysKeys.{has_key}
+use Rattle.xapi_index.specs.XapiStatementKeysKeyKey.{Key}
 
 abbrev pub Lists : Type 0
 Lists = List (Bor (List ℕ))

@@ -14,16 +14,16 @@ use Rattle.std.proofs.lemmas.List.Quantifiers.{position-Some}
 use Rattle.std.proofs.lemmas.Option.{option_and_then_some, slice_get-get_or}
 use Rattle.lrs_json.specs.View.{view}
 use Rattle.xapi_index.specs.Index.{IsPosting}
-use Rattle.xapi_statement.specs.Statements.{position_referred, referred_at}
+use Rattle.xapi_index.specs.XapiStatementStatements.{position_referred, referred_at}
 use Rattle.xapi_index.proofs.Firsts.{get_first}
-use Rattle.xapi_postings.specs.Ascending.{IsAscending, is_in}
+use Rattle.xapi_index.specs.XapiPostingsAscending.{IsAscending, is_in}
 use Rattle.xapi_search.specs.Candidates.{Reaches}
 use Rattle.xapi_search.specs.Walks.{IsWalked, Notes}
 use Rattle.xapi_search.proofs.Narrowed.{in_posting}
-use Rattle.xapi_statement.specs.Statement.{target_of}
-use Rattle.xapi_statement.specs.Stored.{StoredStatement}
-use Rattle.xapi_statement_keys.specs.Keys.{refers_to}
-use Rattle.xapi_statement_keys.specs.declared.key.Key.TheVariants as key
+use Rattle.xapi_index.specs.XapiStatementStatement.{target_of}
+use Rattle.xapi_index.specs.XapiStatementStored.{StoredStatement}
+use Rattle.xapi_index.specs.XapiStatementKeysKeys.{refers_to}
+use Rattle.xapi_index.specs.XapiStatementKeysKeyKeyTheVariants as key
 
 -- ---- a set of positions
 

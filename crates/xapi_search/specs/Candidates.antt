@@ -1,12 +1,12 @@
 -- Positions that may be listed, and those from which references lead to given ones.
 use Rattle.std.specs.Prelude.{◌≡◌, ◌<◌, ◌≤◌, ◌&&◌, ◌||◌, ℕ, nat_le, nat_lt, Bool, true, false, List, slice_get, take}
 use Rattle.std.specs.Prelude.{Option, Some}
-use Rattle.xapi_statement.specs.Statements.{referred_at}
-use Rattle.xapi_postings.specs.Ascending.{IsAscending, is_in}
-pub use Rattle.xapi_postings.specs.Nearest.{is_after, is_before}
-use Rattle.xapi_query.specs.Filters.{in_time}
-use Rattle.xapi_query.specs.declared.query.Query.{Query}
-use Rattle.xapi_statement.specs.Stored.{StoredStatement}
+use Rattle.xapi_index.specs.XapiStatementStatements.{referred_at}
+use Rattle.xapi_index.specs.XapiPostingsAscending.{IsAscending, is_in}
+pub use Rattle.xapi_index.specs.XapiPostingsNearest.{is_after, is_before}
+use Rattle.xapi_index.specs.XapiQueryFilters.{in_time}
+use Rattle.xapi_index.specs.XapiQueryQueryQuery.{Query}
+use Rattle.xapi_index.specs.XapiStatementStored.{StoredStatement}
 use Rattle.xapi_search.specs.declared.candidates.Candidates.{Candidates}
 use Rattle.xapi_search.specs.declared.candidates.Lists.{Lists}
 use Rattle.xapi_search.specs.declared.candidates.Lists.TheVariants.{Each, Either}

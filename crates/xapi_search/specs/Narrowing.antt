@@ -2,10 +2,10 @@
 use Rattle.std.specs.Prelude.{◌≡◌, ◌&&◌, ℕ, Bool, true, List, slice_get, Option, Some, None}
 use Rattle.std.specs.List.{AllByRecursion, list_all}
 use denote.Ref.{Bor}
-use Rattle.xapi_postings.specs.Ascending.{IsAscending, is_in}
-use Rattle.xapi_statement.specs.Stored.{StoredStatement}
-use Rattle.xapi_statement_keys.specs.Keys.{has_key}
-use Rattle.xapi_statement_keys.specs.declared.key.Key.{Key}
+use Rattle.xapi_index.specs.XapiPostingsAscending.{IsAscending, is_in}
+use Rattle.xapi_index.specs.XapiStatementStored.{StoredStatement}
+use Rattle.xapi_index.specs.XapiStatementKeysKeys.{has_key}
+use Rattle.xapi_index.specs.XapiStatementKeysKeyKey.{Key}
 
 -- the statement has the key; where none is given, each passes
 abbrev pub passes_key : Option Key → StoredStatement → Bool

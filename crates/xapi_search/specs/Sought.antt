@@ -1,11 +1,11 @@
 -- What a query and a sight ask of the statements of an index, as lists of positions.
 use Rattle.std.specs.Prelude.{◌≡◌, ◌&&◌, ℕ, nat_lt, Bool, true, false, List, slice_get, Some}
 use Rattle.std.specs.List.{AllByRecursion, list_all}
-use Rattle.xapi_postings.specs.Ascending.{IsAscending, is_in}
-use Rattle.xapi_query.specs.Filters.{direct, sees}
-use Rattle.xapi_query.specs.declared.query.Query.{Query}
-use Rattle.xapi_query.specs.declared.sight.Sight.{Sight}
-use Rattle.xapi_statement.specs.Stored.{StoredStatement}
+use Rattle.xapi_index.specs.XapiPostingsAscending.{IsAscending, is_in}
+use Rattle.xapi_index.specs.XapiQueryFilters.{direct, sees}
+use Rattle.xapi_index.specs.XapiQueryQueryQuery.{Query}
+use Rattle.xapi_index.specs.XapiQuerySightSight.{Sight}
+use Rattle.xapi_index.specs.XapiStatementStored.{StoredStatement}
 use Rattle.xapi_search.specs.declared.sought.Seen.{Seen}
 use Rattle.xapi_search.specs.declared.sought.Seen.TheVariants.{Nothing, All, These}
 use Rattle.xapi_search.specs.declared.sought.Sought.{Sought}

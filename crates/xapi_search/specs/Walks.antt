@@ -1,8 +1,8 @@
 -- The walk along references backwards, from positions to those of the statements that refer to them.
 use Rattle.std.specs.Prelude.{◌≡◌, ◌<◌, ℕ, Bool, true, false, List, take, Some}
-use Rattle.xapi_statement.specs.Statements.{referred_at}
-use Rattle.xapi_postings.specs.Ascending.{is_in}
-use Rattle.xapi_statement.specs.Stored.{StoredStatement}
+use Rattle.xapi_index.specs.XapiStatementStatements.{referred_at}
+use Rattle.xapi_index.specs.XapiPostingsAscending.{is_in}
+use Rattle.xapi_index.specs.XapiStatementStored.{StoredStatement}
 
 -- From whichever of the first n statements one refers to one that was found and isn't left, that one was found, too.
 abbrev pub IsWalked : List StoredStatement → ℕ → List ℕ → List ℕ → Type 0

@@ -1,10 +1,10 @@
 // Positions of statements that may be listed, and which of them is the next one.
 ghost use Rattle.std.specs.Prelude.{◌≡◌};
-ghost use Rattle.xapi_postings.specs.Nearest.{IsGreatestBelow, IsLeastFrom};
+ghost use Rattle.xapi_index.specs.XapiPostingsNearest.{IsGreatestBelow, IsLeastFrom};
 ghost use Rattle.xapi_search.specs.Candidates.{IsFirstFrom, IsLastBefore, ListsAscend, stands_in};
 ghost use Rattle.xapi_search.specs.Nearer.{greater, if_below, if_from, lesser};
 
-use xapi_postings::{first_from, last_below};
+use xapi_index::xapi_postings::{first_from, last_below};
 
 /// The lists in which candidates stand.
 #[derive(Clone, Copy)]

@@ -1,14 +1,14 @@
 // The positions that are seen and pass each filter. They are found by leaps: each list leads past all that it hasn't.
 ghost use Rattle.std.specs.Prelude.{◌≡◌, ◌≤◌, ◌++◌, ◌∷◌, [], ℕ, true, false, IfOk, IfSome, OnOk};
 ghost use Rattle.std.specs.Prelude.{if◌then◌else◌};
-ghost use Rattle.xapi_postings.specs.Nearest.{IsLeastFrom, is_before};
+ghost use Rattle.xapi_index.specs.XapiPostingsNearest.{IsLeastFrom, is_before};
 ghost use Rattle.xapi_search.specs.Narrowing.{EachAscends, is_in_each};
 ghost use Rattle.xapi_search.specs.Sought.{AreAscending, AreDirect, SeenAscends, is_direct_at, is_seen};
 
 use crate::sought::{Seen, Sought};
 use lrs_json::Memory;
 use std::alloc::Global;
-use xapi_postings::first_from;
+use xapi_index::xapi_postings::first_from;
 
 /// The positions among the first n of the statements that are seen and pass the filters by themselves, in order.
 pub fn direct_below(alloc: Global, sought: &Sought<'_>, n: usize) -> Result<Vec<u32>, Memory>

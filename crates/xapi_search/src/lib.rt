@@ -13,3 +13,5 @@ pub use direct::{direct_below, is_direct_at};
 pub use references::reaching;
 pub use sought::{Seen, Sought};
 pub use times::bounds;
+pub use xapi_index;
+pub use xapi_index::{xapi_postings, xapi_query, xapi_statement};

@@ -1,6 +1,6 @@
 // From which statements references lead to given ones.
 ghost use Rattle.std.specs.Prelude.{◌≡◌, ◌++◌, ◌==◌, ◌&&◌, ◌≤◌, ℕ, [], nat_lt, true, length, IfOk, IfSome, OnOk};
-ghost use Rattle.xapi_postings.specs.Ascending.{IsAscending, is_in};
+ghost use Rattle.xapi_index.specs.XapiPostingsAscending.{IsAscending, is_in};
 ghost use Rattle.xapi_search.specs.Candidates.{Reaches};
 ghost use Rattle.xapi_search.specs.Walks.{IsWalked, Notes};
 

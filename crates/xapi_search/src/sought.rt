@@ -1,24 +1,24 @@
 // What a query and a sight ask of the statements of an index, as lists of positions.
 ghost use Rattle.std.specs.Prelude.{◌≡◌, ℕ, [], true, slice_get, IfNone, IfOk, IfSome, OnOk, Some};
 ghost use Rattle.lrs_json.specs.View.{view};
-ghost use Rattle.xapi_postings.specs.Ascending.{IsAscending, is_in};
-ghost use Rattle.xapi_query.specs.Filters.{direct, passes_activity, passes_agent, passes_registration, passes_verb};
-ghost use Rattle.xapi_query.specs.Filters.{sees};
+ghost use Rattle.xapi_index.specs.XapiPostingsAscending.{IsAscending, is_in};
+ghost use Rattle.xapi_index.specs.XapiQueryFilters.{direct, passes_activity, passes_agent, passes_registration, passes_verb};
+ghost use Rattle.xapi_index.specs.XapiQueryFilters.{sees};
 ghost use Rattle.xapi_search.specs.Narrowing.{AsksFor, EachAscends, ListsThose, Narrows, is_in_each, passes_key};
 ghost use Rattle.xapi_search.specs.Sought.{AreAscending, SeenAscends, Tells, is_seen, passes};
-ghost use Rattle.xapi_statement.specs.Shown.{takes_part};
-ghost use Rattle.xapi_statement.specs.Statement.{has_activity};
-ghost use Rattle.xapi_statement.specs.Stored.{StoredStatement as SpecStatement};
-ghost use Rattle.xapi_statement_keys.specs.Keys.{has_key};
+ghost use Rattle.xapi_index.specs.XapiStatementShown.{takes_part};
+ghost use Rattle.xapi_index.specs.XapiStatementStatement.{has_activity};
+ghost use Rattle.xapi_index.specs.XapiStatementStored.{StoredStatement as SpecStatement};
+ghost use Rattle.xapi_index.specs.XapiStatementKeysKeys.{has_key};
 
 use lrs_agents::Ifi;
 use lrs_json::{Memory, Text};
 use lrs_names::Id;
 use std::alloc::Global;
 use xapi_index::Index;
-use xapi_postings::contains;
-use xapi_query::{Query, Sight};
-use xapi_statement_keys::Key;
+use xapi_index::xapi_postings::contains;
+use xapi_index::xapi_postings::xapi_statement_keys::Key;
+use xapi_index::xapi_query::{Query, Sight};
 
 /// The positions of the statements that a caller sees.
 #[derive(Clone, Copy)]

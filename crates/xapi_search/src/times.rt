@@ -1,12 +1,12 @@
 // Between which positions the statements are that were stored within the times that a query gives.
 ghost use Rattle.std.specs.Prelude.{◌≡◌, ◌<◌, ◌≤◌, ℕ, true, false, int_lt, length, slice_get, Some};
-ghost use Rattle.xapi_query.specs.Filters.{in_time, stored_instant};
+ghost use Rattle.xapi_index.specs.XapiQueryFilters.{in_time, stored_instant};
 ghost use Rattle.xapi_search.specs.Candidates.{Bounds};
-ghost use Rattle.xapi_statement.specs.Stored.{StoredStatement as SpecStatement};
+ghost use Rattle.xapi_index.specs.XapiStatementStored.{StoredStatement as SpecStatement};
 
 use lrs_time::Instant;
 use xapi_index::Index;
-use xapi_query::Query;
+use xapi_index::xapi_query::Query;
 
 /// The first of these positions among the first n, and the end of them. They are found by halving; where moments fell,
 /// they are 0 and n.

@@ -1,7 +1,7 @@
 -- A statement that is held is its four parts.
 use Rattle.std.proofs.Common.{◌≡◌, ℕ, List, refl}
 use Rattle.lrs_json.specs.declared.tree.Tree.{Tree}
-use Rattle.xapi_format.specs.declared.authority.Authority.{Authority}
+use Rattle.xapi_received.specs.XapiFormatAuthorityAuthority.{Authority}
 use Rattle.xapi_statement.specs.Stored.{StoredStatement}
 
 abbrev pub of_parts : Tree → List ℕ → ℕ → Authority → StoredStatement

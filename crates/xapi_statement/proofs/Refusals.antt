@@ -2,7 +2,7 @@
 use Rattle.std.proofs.Common.{◌≡◌, ℕ, Bool, true, false, Option, Some, None, option_map, refl}
 use Rattle.std.specs.Prelude.{IsTrue, is_none, if◌then◌else◌}
 use Rattle.lrs_json.specs.Json.{Json}
-use Rattle.xapi_rules.specs.Rules.{broken_rule}
+use Rattle.xapi_properties.specs.XapiRulesRules.{broken_rule}
 use Rattle.xapi_statement.specs.Statement.{is_statement, is_too_long, refusal}
 use Rattle.xapi_statement.specs.declared.refused.StatementRefused.TheVariants.{TooLong, Broken}
 

@@ -2,7 +2,7 @@
 use Rattle.std.specs.Prelude.{◌≡◌, ℕ, Bool, List, Option, Some, None, IsTrue}
 use Rattle.lrs_json.specs.View.{view}
 use Rattle.lrs_json.specs.declared.tree.Tree.{Tree}
-use Rattle.xapi_rules.specs.Rules.{is_voiding}
+use Rattle.xapi_properties.specs.XapiRulesRules.{is_voiding}
 use Rattle.xapi_statement.specs.Statement.{is_statement, registration_of, target_of}
 
 -- the statement to which it refers, the registration that it names, and whether it voids; that it breaks no rule

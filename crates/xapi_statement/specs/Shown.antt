@@ -4,12 +4,12 @@ use Rattle.lrs_json.specs.Json.{Json}
 use Rattle.lrs_json.specs.View.{view}
 use Rattle.lrs_json.specs.Written.{written}
 use Rattle.lrs_names.specs.Members.{has_member_that}
-use Rattle.xapi_rules.specs.LrsAgentsIdentifiersIfi.{Ifi}
-use Rattle.xapi_format.specs.Authorities.{authority_json}
-use Rattle.xapi_format.specs.Party.{is_party}
+use Rattle.xapi_properties.specs.LrsAgentsIdentifiersIfi.{Ifi}
+use Rattle.xapi_received.specs.XapiFormatAuthorities.{authority_json}
+use Rattle.xapi_received.specs.XapiFormatParty.{is_party}
 use Rattle.xapi_reduced.specs.Reduced.{reduced}
-use Rattle.xapi_format.specs.declared.format.Format.{Format}
-use Rattle.xapi_format.specs.declared.format.Format.TheVariants.{Exact, Ids}
+use Rattle.xapi_received.specs.XapiFormatFormatFormat.{Format}
+use Rattle.xapi_received.specs.XapiFormatFormatFormatTheVariants.{Exact, Ids}
 use Rattle.xapi_statement.specs.Stored.{StoredStatement, completed_form}
 use Rattle.xapi_statement.specs.Parties.{has_context_agent, has_direct_agent, nested_has_agent}
 

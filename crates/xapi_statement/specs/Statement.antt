@@ -2,7 +2,7 @@
 use Rattle.std.specs.Prelude.{nat_lt, length, Bool, Option, Some, is_none, option_map, if◌then◌else◌}
 use Rattle.lrs_json.specs.Json.{Json}
 use Rattle.lrs_json.specs.Written.{written}
-use Rattle.xapi_rules.specs.Rules.{broken_rule}
+use Rattle.xapi_properties.specs.XapiRulesRules.{broken_rule}
 use Rattle.xapi_statement.specs.declared.refused.StatementRefused.{StatementRefused}
 use Rattle.xapi_statement.specs.declared.refused.StatementRefused.TheVariants.{TooLong, Broken}
 use Rattle.xapi_statement.specs.declared.length.TheConstants.{LONGEST_STATEMENT}

@@ -5,7 +5,7 @@ use Rattle.std.specs.Prelude.{Some, None, is_some, option_and_then, if◌then◌
 use Rattle.std.specs.List.{list_any}
 use Rattle.std.specs.Str.{bytes_eq}
 use Rattle.lrs_json.specs.View.{view}
-use Rattle.xapi_rules.specs.Rules.{is_voiding}
+use Rattle.xapi_properties.specs.XapiRulesRules.{is_voiding}
 use Rattle.xapi_statement.specs.Stored.{StoredStatement}
 use Rattle.xapi_statement.specs.Statement.{target_of}
 

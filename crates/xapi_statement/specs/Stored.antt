@@ -3,10 +3,10 @@ use Rattle.std.specs.Prelude.{ℕ, List}
 use Rattle.lrs_json.specs.Json.{Json}
 use Rattle.lrs_json.specs.View.{view}
 use Rattle.lrs_json.specs.declared.tree.Tree.{Tree}
-use Rattle.xapi_format.specs.Authorities.{authority_json}
-use Rattle.xapi_format.specs.Completed.{completed}
+use Rattle.xapi_received.specs.XapiFormatAuthorities.{authority_json}
+use Rattle.xapi_received.specs.XapiFormatCompleted.{completed}
 use Rattle.lrs_time.specs.Moments.{moment_text}
-use Rattle.xapi_format.specs.declared.authority.Authority.{Authority}
+use Rattle.xapi_received.specs.XapiFormatAuthorityAuthority.{Authority}
 
 -- A statement as it was received, and what the store adds: its id, the moment at which it was accepted, and under whose
 -- authority it stands.

@@ -2,7 +2,7 @@
 ghost use Rattle.std.specs.Prelude.{◌≡◌, ◌↔◌, ◌++◌, IsTrue, IfOk, OnOk, OnErr};
 ghost use Rattle.lrs_json.specs.View.{view};
 ghost use Rattle.lrs_json.specs.Written.{Extends};
-ghost use Rattle.xapi_rules.specs.Rules.{is_voiding};
+ghost use Rattle.xapi_properties.specs.XapiRulesRules.{is_voiding};
 ghost use Rattle.xapi_statement.specs.Held.{IsTextOf};
 ghost use Rattle.xapi_statement.specs.Shown.{shown_text};
 ghost use Rattle.xapi_statement.specs.Statement.{is_statement, registration_of, target_of};

@@ -5,7 +5,7 @@ use lrs_json::Memory;
 use std::alloc::Global;
 use std::marker::Model;
 use std::sync::Arc;
-use xapi_format::WrittenAuthority;
+use xapi_received::xapi_format::WrittenAuthority;
 
 /// An authority that statements share, seen as the authority: many stand under one, whose name is then kept once, and
 /// the text that each shows of it.
@@ -16,7 +16,7 @@ pub struct SharedAuthority {
 
 impl Model for SharedAuthority {
     ghost use Rattle.std.specs.Arc.{arc_value};
-    ghost use Rattle.xapi_format.specs.declared.authority.Authority.{Authority as SpecAuthority};
+    ghost use Rattle.xapi_received.specs.XapiFormatAuthorityAuthority.{Authority as SpecAuthority};
 
     ghost Value = { SpecAuthority };
 

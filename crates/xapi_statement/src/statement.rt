@@ -2,7 +2,7 @@ ghost use Rattle.std.specs.Prelude.{◌≡◌, ◌⊎◌, ◌↔◌, None, Some,
 ghost use Rattle.lrs_decimal.specs.Values.{HasValue};
 ghost use Rattle.lrs_json.specs.View.{view};
 ghost use Rattle.lrs_decimal.specs.Range.{is_decimal};
-ghost use Rattle.xapi_rules.specs.Rules.{is_voiding};
+ghost use Rattle.xapi_properties.specs.XapiRulesRules.{is_voiding};
 ghost use Rattle.xapi_statement.specs.Parties.{has_agent, actor_of};
 ghost use Rattle.xapi_statement.specs.Statement.{is_too_long, refusal, is_statement, own_id, verb_of, registration_of, target_of, activity_of, has_context_activity, has_activity, extension_of, result_boolean, scaled_of, has_duration};
 
@@ -11,7 +11,7 @@ use lrs_decimal::Decimal;
 use lrs_json::{Text, Tree};
 use lrs_names::Id;
 use std::alloc::Global;
-use xapi_rules::lrs_agents::Ifi;
+use xapi_properties::xapi_rules::lrs_agents::Ifi;
 
 /// A value that breaks none of the rules on statements. One that was read isn't too long either; one that the store
 /// makes may be longer.
@@ -76,7 +76,7 @@ impl Statement {
     pub fn is_voiding(&self) -> bool
         ensures { result ≡ is_voiding (view self.now.tree) }
     {
-        xapi_rules::is_voiding(&self.tree)
+        xapi_properties::xapi_rules::is_voiding(&self.tree)
     }
 
     /// The statement to which its object refers.

@@ -1,6 +1,6 @@
 ghost use Rattle.std.specs.Prelude.{◌≡◌, IsTrue, IfOk};
 ghost use Rattle.lrs_json.specs.View.{view};
-ghost use Rattle.xapi_rules.specs.Rules.{is_voiding};
+ghost use Rattle.xapi_properties.specs.XapiRulesRules.{is_voiding};
 ghost use Rattle.xapi_statement.specs.Shown.{shown_form};
 ghost use Rattle.xapi_statement.specs.Statement.{is_statement, registration_of, target_of, verb_of};
 
@@ -10,7 +10,7 @@ use lrs_names::Id;
 use lrs_time::Moment;
 use std::alloc::Global;
 use std::marker::Model;
-use xapi_format::completed;
+use xapi_received::xapi_format::completed;
 use xapi_reduced::reduced;
 
 /// A statement as the store keeps it, with its tree: as it was received, under its id, with the moment at which it was

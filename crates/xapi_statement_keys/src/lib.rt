@@ -13,4 +13,5 @@ mod reading;
 
 pub use key::Key;
 pub use keys::{Keys, law_of_keys};
+pub use xapi_query;
 pub use xapi_query::xapi_statement;

@@ -5,11 +5,11 @@ use Rattle.lrs_json.specs.Json.{Json, null, boolean, number, string, array, obje
 use Rattle.lrs_time.specs.Duration.{Span, IsDurationOf}
 use Rattle.lrs_time.specs.Timestamp.{IsTimestampOf}
 use Rattle.lrs_time.specs.declared.timestamps.TimeRefused.{TimeRefused}
-use Rattle.lrs_decimal.specs.Range.{is_decimal}
+use Rattle.lrs_json.specs.LrsDecimalRange.{is_decimal}
 use Rattle.lrs_names.specs.Members.{spelling_of}
 use Rattle.xapi_values.specs.Numbers.{IsNumberInRange}
 use Rattle.xapi_values.specs.Shapes.{IsTimestamp, IsDuration}
-use Rattle.lrs_decimal.proofs.Tests.{decimal-is, decimal-back}
+use Rattle.lrs_json.specs.LrsDecimalTestsProofs.{decimal-is, decimal-back}
 
 false_true : false ≡ true → ⊥
 false_true e = cc

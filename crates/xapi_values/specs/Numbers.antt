@@ -4,9 +4,9 @@ use Rattle.std.specs.Prelude.{codes, if◌then◌else◌}
 use Rattle.std.specs.Option.{option_map_or}
 use Rattle.std.specs.Ordering.{is_eq, is_lt, is_le}
 use Rattle.std.specs.declared.cmp.Ordering.{Ordering}
-use Rattle.lrs_decimal.specs.Numbers.{IsNumber}
-use Rattle.lrs_decimal.specs.Range.{is_decimal, is_in_range, is_whole}
-use Rattle.lrs_decimal.specs.Values.{order}
+use Rattle.lrs_json.specs.LrsDecimalNumbers.{IsNumber}
+use Rattle.lrs_json.specs.LrsDecimalRange.{is_decimal, is_in_range, is_whole}
+use Rattle.lrs_json.specs.LrsDecimalValues.{order}
 use Rattle.lrs_json.specs.Json.{Json, number}
 use Rattle.lrs_names.specs.Members.{has_only, if_member, spelling_of, spelling_under}
 

@@ -12,6 +12,8 @@ mod objects;
 pub mod shapes;
 
 pub use kinds::Kind;
+pub use lrs_names;
+pub use lrs_time;
 pub use members::{broken_extensions_of, broken_iri_at, broken_map_at};
 pub use nested::is_nested;
 pub use objects::{push, whole};

@@ -1,11 +1,11 @@
 // Numbers, by their exact values.
 ghost use Rattle.std.specs.Prelude.{◌≡◌, ◌↔◌, IsTrue, option_map};
-ghost use Rattle.lrs_decimal.specs.Range.{is_decimal};
+ghost use Rattle.lrs_json.specs.LrsDecimalRange.{is_decimal};
 ghost use Rattle.lrs_json.specs.View.{view};
 ghost use Rattle.xapi_values.specs.Numbers.{IsNumberInRange, are_equal, is_number, compared, is_below, is_not_above, is_natural, is_count, are_numbers, are_in_order, is_score};
 ghost use Rattle.lrs_names.specs.Members.{if_member, spelling_of, spelling_under};
 
-use lrs_decimal::{Decimal, is_whole};
+use lrs_json::lrs_decimal::{Decimal, is_whole};
 use lrs_json::{Text, Tree};
 use lrs_names::has_only;
 use std::cmp::Ordering;

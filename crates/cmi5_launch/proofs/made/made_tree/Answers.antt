@@ -1,7 +1,7 @@
 -- The value is that of a made statement, which breaks no rule.
 use Rattle.std.proofs.Common.{◌≡◌, rules, ap, ◌∙◌}
 use Rattle.lrs_json.specs.View.{view}
-use Rattle.xapi_rules.specs.Rules.{broken_rule}
+use Rattle.xapi_statement.specs.XapiRulesRules.{broken_rule}
 use Rattle.cmi5_launch.specs.Made.{made_json}
 use Rattle.cmi5_launch.proofs.Unbroken.{made_unbroken}
 use Rattle.cmi5_launch.proofs.made.made_tree.Goals as goal

@@ -1,7 +1,7 @@
 use Rattle.std.proofs.Common.{◌≡◌, ◌∙◌, ℕ, ◌&&◌, Bool, true, false, List, Option, Some, refl, sym, ap, option_map}
 use Rattle.lrs_json.specs.View.{view}
-use Rattle.xapi_statement.specs.Statements.{is_that_id}
-use Rattle.xapi_statement.specs.Statement.{activity_of, registration_of}
+use Rattle.cmi5_session.specs.XapiStatementStatements.{is_that_id}
+use Rattle.cmi5_session.specs.XapiStatementStatement.{activity_of, registration_of}
 use Rattle.cmi5_running_sessions.proofs.told.unit_named.Goals as goal
 
 pub returns-in-Some-activity_of : goal.returns-in-Some-activity_of

@@ -3,8 +3,8 @@ use Rattle.cmi5_session.specs.Cmi5LaunchNames.{completed, passed}
 use Rattle.cmi5_session.specs.Own.{says}
 use Rattle.lrs_json.specs.View.{view}
 use Rattle.lrs_json.specs.declared.tree.Tree.{Tree}
-use Rattle.xapi_statement.specs.Statements.{is_that_id}
-use Rattle.xapi_statement.specs.Statement.{activity_of, registration_of}
+use Rattle.cmi5_session.specs.XapiStatementStatements.{is_that_id}
+use Rattle.cmi5_session.specs.XapiStatementStatement.{activity_of, registration_of}
 use Rattle.cmi5_running_sessions.proofs.Counting.{unit_counted, unit_uncounted}
 use Rattle.cmi5_running_sessions.proofs.told.unit_told.Goals as goal
 

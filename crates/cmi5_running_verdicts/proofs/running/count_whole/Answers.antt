@@ -2,7 +2,7 @@ use Rattle.std.proofs.Common.{◌++◌, [], ◌∷◌, subst}
 use Rattle.cmi5_running_verdicts.specs.Tallies.{AreTallies}
 use Rattle.cmi5_verdict.specs.Cmi5SessionMarked.{mark}
 use Rattle.cmi5_verdict.specs.Nodes.{seen}
-use Rattle.xapi_statement.specs.Stored.{StoredStatement}
+use Rattle.cmi5_verdict.specs.XapiStatementStored.{StoredStatement}
 use Rattle.cmi5_running_verdicts.proofs.running.count_whole.Goals as goal
 
 pub returns-clause-counted : goal.returns-clause-counted

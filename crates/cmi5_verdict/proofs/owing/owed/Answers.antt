@@ -4,7 +4,7 @@ use Rattle.cmi5_verdict.specs.Nodes.{SeenEnrolment, owed, places, seen}
 use Rattle.cmi5_verdict.specs.Said.{said_in}
 use Rattle.cmi5_verdict.specs.Statements.{all_of}
 use Rattle.cmi5_verdict.proofs.owing.owed.Goals as goal
-use Rattle.xapi_statement.specs.Stored.{StoredStatement}
+use Rattle.cmi5_session.specs.XapiStatementStored.{StoredStatement}
 
 pub returns : goal.returns
 returns c =

@@ -2,7 +2,7 @@ use Rattle.std.proofs.Common.{◌∙◌, ◌+◌, ap}
 use Rattle.cmi5_verdict.specs.Nodes.{seen}
 use Rattle.cmi5_verdict.specs.Said.{either, said_by, said_of}
 use Rattle.cmi5_verdict.specs.Statements.{all_of}
-use Rattle.xapi_statement.specs.Stored.{StoredStatement}
+use Rattle.cmi5_session.specs.XapiStatementStored.{StoredStatement}
 use Rattle.cmi5_verdict.proofs.said.note_whole.Goals as goal
 
 pub returns-clause-noted : goal.returns-clause-noted

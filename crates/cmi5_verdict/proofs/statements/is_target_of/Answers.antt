@@ -1,7 +1,7 @@
 use Rattle.std.proofs.Common.{◌+◌, ◌∙◌, drop, sym, arith, true}
 use Rattle.std.specs.List.{list_any}
 use Rattle.lrs_ids.proofs.Turns.{any_fails, any_passes, next_found, next_passed, none_found, turn}
-use Rattle.xapi_statement.specs.Statements.{voids}
+use Rattle.cmi5_session.specs.XapiStatementStatements.{voids}
 use Rattle.cmi5_verdict.proofs.statements.is_target_of.Goals as goal
 
 pub loop-statement-preserved : goal.loop-statement-preserved

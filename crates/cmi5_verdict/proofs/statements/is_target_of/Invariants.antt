@@ -1,5 +1,5 @@
 use Rattle.std.proofs.Common.{◌≡◌, drop}
-use Rattle.xapi_statement.specs.Statements.{is_target}
+use Rattle.cmi5_session.specs.XapiStatementStatements.{is_target}
 use Rattle.cmi5_verdict.proofs.statements.is_target_of.Given as goal
 
 abbrev pub invariant-loop-statement : goal.invariant-loop-statement

@@ -1,6 +1,6 @@
 -- What is pushed is the launched statement, under the next id.
 use Rattle.std.proofs.Common.{◌≡◌, ◌++◌, ◌∷◌, [], ◌∙◌, ℕ, List, OnOk, ap, subst}
-use Rattle.cmi5_launch.specs.Made.{said_launched, saying_json}
+use Rattle.lrs_sessions.specs.Cmi5LaunchMade.{said_launched, saying_json}
 use Rattle.lrs_sessions.specs.LrsHistoryMade.{made_under}
 use Rattle.lrs_ids.specs.IdSupply.{left_of}
 use Rattle.lrs_json.specs.Json.{Json}

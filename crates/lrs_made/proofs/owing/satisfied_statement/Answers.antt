@@ -1,7 +1,7 @@
 -- The node is known by its number.
 use Rattle.std.proofs.Common.{◌≡◌, ◌∙◌, ℕ, List, IfOk, ap, subst}
-use Rattle.cmi5_launch.specs.Activities.{activity_text}
-use Rattle.cmi5_launch.specs.Made.{said_satisfied, saying_json}
+use Rattle.lrs_history.specs.Cmi5LaunchActivities.{activity_text}
+use Rattle.lrs_history.specs.Cmi5LaunchMade.{said_satisfied, saying_json}
 use Rattle.lrs_json.specs.View.{view}
 use Rattle.lrs_made.proofs.owing.satisfied_statement.Goals as goal
 

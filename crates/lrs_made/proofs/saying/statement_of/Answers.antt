@@ -1,6 +1,6 @@
 -- The learner is lent as the Agent.
 use Rattle.std.proofs.Common.{◌≡◌, IfOk, subst}
-use Rattle.cmi5_launch.specs.Made.{said, saying_json}
+use Rattle.lrs_history.specs.Cmi5LaunchMade.{said, saying_json}
 use Rattle.lrs_agents.specs.declared.agents.Agent.{Agent}
 use Rattle.lrs_json.specs.View.{view}
 use Rattle.lrs_made.proofs.saying.statement_of.Goals as goal

@@ -1,6 +1,6 @@
 -- The parts find the unit's registration with its course.
 use Rattle.std.proofs.Common.{◌≡◌, ◌<◌, IfOk, length, subst, sym}
-use Rattle.cmi5_launch.specs.Names.{waived}
+use Rattle.lrs_history.specs.Cmi5LaunchNames.{waived}
 use Rattle.lrs_history.specs.Cmi5VerdictNodes.{SeenEnrolment, activity_at, seen}
 use Rattle.lrs_history.specs.Cmi5VerdictUnits.{stands}
 use Rattle.lrs_made.proofs.Lent.{enrolment_lent}

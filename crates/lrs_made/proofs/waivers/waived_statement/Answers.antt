@@ -1,5 +1,5 @@
 use Rattle.std.proofs.Common.{◌≡◌, ℕ, List, IfOk, subst}
-use Rattle.cmi5_launch.specs.Made.{said_waived, saying_json}
+use Rattle.lrs_history.specs.Cmi5LaunchMade.{said_waived, saying_json}
 use Rattle.lrs_json.specs.View.{view}
 use Rattle.lrs_made.specs.Lent.{seen_target}
 use Rattle.lrs_made.proofs.waivers.waived_statement.Goals as goal

@@ -1,7 +1,7 @@
 use Rattle.std.proofs.Common.{ℕ, List, Option, sym, ap, ◌∙◌}
 use Rattle.std.specs.Prelude.{unwrap_or}
-use Rattle.cmi5_session.specs.Rules.{broken_rule}
-use Rattle.cmi5_session.specs.Views.{seen}
+use Rattle.lrs_made.specs.Cmi5SessionRules.{broken_rule}
+use Rattle.lrs_made.specs.Cmi5SessionViews.{seen}
 use Rattle.lrs_made.specs.LrsHistoryRefusals.{told_forbidden}
 use Rattle.lrs_json.specs.View.{view}
 use Rattle.lrs_made.specs.LrsPartsParts.{state_of}

@@ -1,6 +1,6 @@
 use Rattle.std.proofs.Common.{◌≡◌, ◌≤◌, ◌<◌, ◌+◌, ◌++◌, List, None, Some, length, refl, sym, ap, ◌∙◌, arith}
 use Rattle.std.proofs.lemmas.Option.{slice_get_read}
-use Rattle.cmi5_session.specs.Views.{seen}
+use Rattle.lrs_made.specs.Cmi5SessionViews.{seen}
 use Rattle.lrs_ids.proofs.Turns.{turn}
 use Rattle.lrs_refusals.proofs.Handed.{held_all, held_more, told_at}
 use Rattle.lrs_refusals.proofs.Naming.{lawful_at, no_trees_left}

@@ -1,5 +1,5 @@
 use Rattle.std.proofs.Common.{◌≡◌, ◌++◌, drop}
-use Rattle.cmi5_session.specs.Views.{seen}
+use Rattle.lrs_made.specs.Cmi5SessionViews.{seen}
 use Rattle.lrs_refusals.specs.Known.{own_held}
 use Rattle.lrs_refusals.specs.Meeting.{refused_behind, refused_from}
 use Rattle.lrs_refusals.specs.Naming.{with_these_ids}

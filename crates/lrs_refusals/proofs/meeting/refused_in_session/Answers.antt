@@ -1,5 +1,5 @@
 use Rattle.std.proofs.Common.{ℕ, List, true, ◌∙◌, subst, sym}
-use Rattle.cmi5_session.specs.Views.{seen, view_of}
+use Rattle.lrs_made.specs.Cmi5SessionViews.{seen, view_of}
 use Rattle.lrs_made.specs.LrsHistoryOccasions.{supply_in}
 use Rattle.lrs_made.specs.LrsPartsParts.{state_of}
 use Rattle.lrs_record.specs.declared.entry.Write.TheVariants.{Post}

@@ -1,5 +1,5 @@
 use Rattle.std.proofs.Common.{Bool, true, ap, ◌∙◌}
-use Rattle.cmi5_session.specs.Views.{view_of}
+use Rattle.lrs_made.specs.Cmi5SessionViews.{view_of}
 use Rattle.lrs_refusals.proofs.meeting.session_of.Goals as goal
 
 pub returns : goal.returns

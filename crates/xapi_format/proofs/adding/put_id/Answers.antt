@@ -1,6 +1,6 @@
 use Rattle.std.proofs.Common.{[], ◌∷◌, ◌++◌, ap, ◌∙◌}
 use Rattle.std.proofs.lemmas.Result.{on_ok_weaker}
-use Rattle.lrs_names.specs.Ids.{id_text}
+use Rattle.xapi_values.specs.LrsNamesIds.{id_text}
 use Rattle.xapi_format.proofs.Added.{id_member}
 use Rattle.xapi_format.proofs.Appending.{three_pieces}
 use Rattle.xapi_format.proofs.Plain.{plain_id}

@@ -1,7 +1,7 @@
 use Rattle.std.proofs.Common.{List, map, sym, ap, ◌∙◌}
 use Rattle.lrs_json.specs.View.{view, member_view, members_of}
 use Rattle.lrs_json.specs.declared.tree.Member.{Member}
-use Rattle.lrs_time.specs.Moments.{moment_text}
+use Rattle.xapi_values.specs.LrsTimeMoments.{moment_text}
 use Rattle.xapi_format.specs.Authorities.{authority_json}
 use Rattle.xapi_format.specs.Completed.{added}
 use Rattle.xapi_values.specs.Following.{followed_by}

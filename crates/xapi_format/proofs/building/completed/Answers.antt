@@ -1,7 +1,7 @@
 use Rattle.std.proofs.Common.{◌≡◌, IfOk, subst}
 use Rattle.lrs_json.specs.View.{view}
 use Rattle.lrs_json.specs.declared.tree.Tree.{Tree}
-use Rattle.lrs_time.specs.Moments.{moment_text}
+use Rattle.xapi_values.specs.LrsTimeMoments.{moment_text}
 use Rattle.xapi_format.specs.Authorities.{authority_json}
 use Rattle.xapi_format.specs.Completed.{completed}
 use Rattle.xapi_format.proofs.building.completed.Goals as goal

@@ -1,4 +1,4 @@
-use Rattle.lrs_time.specs.Moments.{moment_text}
+use Rattle.xapi_values.specs.LrsTimeMoments.{moment_text}
 use Rattle.xapi_format.specs.Authorities.{authority_json}
 use Rattle.xapi_format.proofs.building.into_completed.Goals as goal
 

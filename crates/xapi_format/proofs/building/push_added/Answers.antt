@@ -2,8 +2,8 @@ use Rattle.std.proofs.Common.{◌≡◌, map, codes, ap, ◌∙◌}
 use Rattle.std.proofs.lemmas.Result.{on_ok_weaker}
 use Rattle.lrs_json.specs.Json.{member, string}
 use Rattle.lrs_json.specs.View.{view, member_view, members_of}
-use Rattle.lrs_names.specs.Ids.{id_text}
-use Rattle.lrs_time.specs.Moments.{moment_text}
+use Rattle.xapi_values.specs.LrsNamesIds.{id_text}
+use Rattle.xapi_values.specs.LrsTimeMoments.{moment_text}
 use Rattle.xapi_format.specs.Authorities.{authority_json}
 use Rattle.xapi_format.specs.Completed.{added_behind_id}
 use Rattle.xapi_values.specs.Following.{followed_by}

@@ -3,7 +3,7 @@ use Rattle.std.proofs.Common.{◌≡◌, Bool, true, false, map, sym, ap, ◌∙
 use Rattle.std.proofs.lemmas.Result.{on_ok_weaker}
 use Rattle.lrs_json.specs.Json.{member}
 use Rattle.lrs_json.specs.View.{member_view, members_of}
-use Rattle.lrs_names.specs.Members.{is_one_of}
+use Rattle.xapi_values.specs.LrsNamesMembers.{is_one_of}
 use Rattle.xapi_format.specs.Completed.{added_names, kept_before, plural_member}
 use Rattle.xapi_values.specs.Following.{followed_by}
 use Rattle.xapi_format.proofs.Joined.{seen_name}

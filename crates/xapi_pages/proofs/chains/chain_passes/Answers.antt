@@ -1,6 +1,6 @@
 use Rattle.std.proofs.Common.{◌≡◌, ◌≤◌, ◌∙◌, sym, take}
 use Rattle.std.proofs.lemmas.Result.{IfOk-weaker}
-use Rattle.xapi_statement.specs.Statements.{referred_at}
+use Rattle.xapi_search.specs.XapiStatementStatements.{referred_at}
 use Rattle.xapi_pages.specs.Chains.{chain_passes, is_direct_at, mark_at}
 use Rattle.xapi_pages.proofs.References.{passing_first}
 use Rattle.xapi_pages.proofs.Ways.{known_now, unknown}

@@ -1,6 +1,6 @@
 use Rattle.std.proofs.Common.{◌≡◌, ◌∙◌, arith, true, take, sym, subst}
 use Rattle.xapi_pages.specs.Chains.{AreTrue, chain_passes, is_among, is_direct_at}
-use Rattle.xapi_statement.specs.Statements.{referred_at}
+use Rattle.xapi_search.specs.XapiStatementStatements.{referred_at}
 use Rattle.xapi_pages.proofs.References.{passing_first}
 use Rattle.xapi_pages.proofs.Ways.{IsOnWay, alike_more, doubt, fewer, step_counted, way_begun, way_ends, way_known, way_on}
 use Rattle.xapi_pages.proofs.chains.walk.Goals as goal

@@ -1,6 +1,6 @@
 use Rattle.std.proofs.Common.{◌≤◌, ◌+◌, take}
 use Rattle.xapi_pages.specs.Chains.{chain_passes, is_direct_at, unknown_below}
-use Rattle.xapi_statement.specs.Statements.{referred_at}
+use Rattle.xapi_search.specs.XapiStatementStatements.{referred_at}
 use Rattle.xapi_pages.proofs.Ways.{IsOnWay}
 use Rattle.xapi_pages.proofs.chains.walk.Given as goal
 

@@ -4,7 +4,7 @@ use Rattle.std.specs.List.{range_with_len}
 use Rattle.std.proofs.lemmas.List.{drop_all}
 use Rattle.std.proofs.lemmas.List.FromFn.{length-range_with_len}
 use Rattle.xapi_pages.specs.Listings.{every, is_listed_at}
-use Rattle.xapi_query.specs.declared.sight.Sight.TheVariants.{All}
+use Rattle.xapi_search.specs.XapiQuerySightSightTheVariants.{All}
 use Rattle.xapi_pages.proofs.Counts.{listed_all, passing, passing_at}
 use Rattle.xapi_pages.proofs.count.count_listed.Goals as goal
 use Rattle.xapi_pages.proofs.count.count_listed.Goals.{then-is_counted, else-is_counted}

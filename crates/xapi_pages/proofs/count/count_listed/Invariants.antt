@@ -1,7 +1,7 @@
 use Rattle.std.proofs.Common.{◌≡◌, ◌≤◌, ◌+◌, drop, length}
 use Rattle.std.specs.List.{range_with_len}
 use Rattle.xapi_pages.specs.Listings.{every, is_listed_at, listed_of_all}
-use Rattle.xapi_query.specs.declared.sight.Sight.TheVariants.{All}
+use Rattle.xapi_search.specs.XapiQuerySightSightTheVariants.{All}
 use Rattle.xapi_pages.proofs.Counts.{passing}
 use Rattle.xapi_pages.proofs.count.count_listed.Given as goal
 

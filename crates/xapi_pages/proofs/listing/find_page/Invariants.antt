@@ -1,6 +1,6 @@
 use Rattle.std.proofs.Common.{◌≡◌, ◌≤◌, ◌+◌, ◌-◌, ◌++◌, [], drop, take, length}
 use Rattle.std.specs.Prelude.{filter}
-use Rattle.xapi_query.specs.declared.sight.Sight.{Sight}
+use Rattle.xapi_search.specs.XapiQuerySightSight.{Sight}
 use Rattle.xapi_search.specs.Sought.{Tells}
 use Rattle.xapi_pages.specs.Listings.{is_behind, is_listed_at, listing_behind, positions_of}
 use Rattle.xapi_pages.specs.Chains.{AreTrue, chain_passes, unknown_below}

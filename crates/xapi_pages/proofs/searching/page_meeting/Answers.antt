@@ -1,5 +1,5 @@
 use Rattle.std.proofs.Common.{List, ℕ, subst, sym}
-use Rattle.xapi_postings.specs.Ascending.{IsAscending}
+use Rattle.xapi_search.specs.XapiPostingsAscending.{IsAscending}
 use Rattle.xapi_pages.specs.Searching.{HasDirect}
 use Rattle.xapi_pages.proofs.Covering.{has_direct}
 use Rattle.xapi_pages.proofs.searching.page_meeting.Goals as goal

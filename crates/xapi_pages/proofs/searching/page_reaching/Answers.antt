@@ -1,5 +1,5 @@
 use Rattle.std.proofs.Common.{◌∙◌, ap}
-use Rattle.xapi_postings.specs.Ascending.{is_in}
+use Rattle.xapi_search.specs.XapiPostingsAscending.{is_in}
 use Rattle.xapi_search.specs.Candidates.{Reaches}
 use Rattle.xapi_pages.proofs.Covering.{at_some, led_from}
 use Rattle.xapi_pages.proofs.searching.page_reaching.Goals as goal

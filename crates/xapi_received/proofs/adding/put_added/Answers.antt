@@ -1,7 +1,7 @@
 use Rattle.std.proofs.Common.{codes}
 use Rattle.std.proofs.lemmas.Result.{on_ok_weaker}
 use Rattle.lrs_json.specs.Json.{string}
-use Rattle.lrs_names.specs.Ids.{id_text}
+use Rattle.xapi_format.specs.LrsNamesIds.{id_text}
 use Rattle.lrs_time.specs.Moments.{moment_text}
 use Rattle.xapi_format.specs.Authorities.{authority_json}
 use Rattle.xapi_format.specs.Completed.{added_behind_id}

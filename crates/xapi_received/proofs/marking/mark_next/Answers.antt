@@ -1,5 +1,5 @@
 use Rattle.std.proofs.Common.{sym, ap, ◌∙◌}
-use Rattle.lrs_names.specs.Members.{is_one_of}
+use Rattle.xapi_format.specs.LrsNamesMembers.{is_one_of}
 use Rattle.xapi_format.specs.Completed.{added_names}
 use Rattle.xapi_received.proofs.marking.mark_next.Goals as goal
 

@@ -1,7 +1,7 @@
 use Rattle.std.proofs.Common.{map, sym}
 use Rattle.std.proofs.lemmas.Result.{on_ok_weaker}
 use Rattle.lrs_json.specs.View.{view, member_view, members_of}
-use Rattle.xapi_values.specs.Memberwise.{with_each_member}
+use Rattle.xapi_format.specs.XapiValuesMemberwise.{with_each_member}
 use Rattle.xapi_received.proofs.Memberwise.{not_changed, marks_as, marks_object}
 use Rattle.xapi_received.proofs.plural.mark_each.Goals as goal
 

@@ -1,7 +1,7 @@
 use Rattle.std.proofs.Common.{true, false, refl, sym, ◌∙◌}
 use Rattle.std.proofs.lemmas.Result.{on_ok_weaker}
 use Rattle.lrs_json.specs.View.{view}
-use Rattle.xapi_values.specs.Memberwise.{with_each_member}
+use Rattle.xapi_format.specs.XapiValuesMemberwise.{with_each_member}
 use Rattle.xapi_format.specs.Completed.{plural_nested_member}
 use Rattle.xapi_received.proofs.Memberwise.{marks_nested}
 use Rattle.xapi_received.proofs.plural.mark_object.Goals as goal

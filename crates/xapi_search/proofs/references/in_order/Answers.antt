@@ -1,5 +1,5 @@
 use Rattle.std.proofs.Common.{◌++◌, ◌∙◌, ℕ, List, sym, ap, subst}
-use Rattle.xapi_postings.specs.Ascending.{IsAscending}
+use Rattle.xapi_index.specs.XapiPostingsAscending.{IsAscending}
 use Rattle.xapi_search.proofs.Walked.{ascending_keys}
 use Rattle.xapi_search.proofs.references.in_order.Goals as goal
 

@@ -1,5 +1,5 @@
 use Rattle.std.proofs.Common.{◌&&◌, ◌+◌, ◌==◌, nat_lt, take, get_or}
-use Rattle.xapi_postings.specs.Ascending.{is_in}
+use Rattle.xapi_index.specs.XapiPostingsAscending.{is_in}
 use Rattle.xapi_search.proofs.Walked.{notes_both, notes_none, notes_so, wanted_all, wanted_next, wanted_none, wanted_past}
 use Rattle.xapi_search.proofs.references.note_each.Goals as goal
 

@@ -1,5 +1,5 @@
 use Rattle.std.proofs.Common.{◌&&◌, nat_lt, take}
-use Rattle.xapi_postings.specs.Ascending.{is_in}
+use Rattle.xapi_index.specs.XapiPostingsAscending.{is_in}
 use Rattle.xapi_search.specs.Walks.{Notes}
 use Rattle.xapi_search.proofs.references.note_each.Given as goal
 

@@ -1,5 +1,5 @@
 use Rattle.std.proofs.Common.{◌&&◌, nat_lt}
-use Rattle.xapi_postings.specs.Ascending.{is_in}
+use Rattle.xapi_index.specs.XapiPostingsAscending.{is_in}
 use Rattle.xapi_search.proofs.Walked.{reached, walk_begun}
 use Rattle.xapi_search.proofs.references.reaching.Goals as goal
 

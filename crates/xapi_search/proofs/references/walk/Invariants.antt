@@ -1,5 +1,5 @@
 use Rattle.std.proofs.Common.{◌≡◌, ℕ, true}
-use Rattle.xapi_postings.specs.Ascending.{is_in}
+use Rattle.xapi_index.specs.XapiPostingsAscending.{is_in}
 use Rattle.xapi_search.specs.Walks.{IsWalked}
 use Rattle.xapi_search.proofs.references.walk.Given as goal
 

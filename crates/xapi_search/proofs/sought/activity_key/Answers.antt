@@ -1,6 +1,6 @@
 use Rattle.std.proofs.Common.{sym, ap, Bool}
 use Rattle.lrs_json.specs.View.{view}
-use Rattle.xapi_statement.specs.Statement.{has_activity}
+use Rattle.xapi_index.specs.XapiStatementStatement.{has_activity}
 use Rattle.xapi_search.proofs.sought.activity_key.Goals as goal
 
 pub returns-then-related : goal.returns-then-related

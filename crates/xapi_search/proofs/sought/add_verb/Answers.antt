@@ -1,5 +1,5 @@
 use Rattle.std.proofs.lemmas.Result.{on_ok_weaker}
-use Rattle.xapi_query.specs.Filters.{passes_verb}
+use Rattle.xapi_index.specs.XapiQueryFilters.{passes_verb}
 use Rattle.xapi_search.proofs.Narrowed.{narrowed_so}
 use Rattle.xapi_search.proofs.sought.add_verb.Goals as goal
 

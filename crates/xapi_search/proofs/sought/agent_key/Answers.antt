@@ -1,5 +1,5 @@
 use Rattle.std.proofs.Common.{sym, ap, Bool}
-use Rattle.xapi_statement.specs.Shown.{takes_part}
+use Rattle.xapi_index.specs.XapiStatementShown.{takes_part}
 use Rattle.xapi_search.proofs.sought.agent_key.Goals as goal
 
 pub returns-then-related : goal.returns-then-related

@@ -1,6 +1,6 @@
 use Rattle.std.proofs.Common.{sym, ◌∙◌, ap}
-use Rattle.xapi_query.specs.Filters.{sees}
-use Rattle.xapi_query.specs.declared.sight.Sight.{Sight}
+use Rattle.xapi_index.specs.XapiQueryFilters.{sees}
+use Rattle.xapi_index.specs.XapiQuerySightSight.{Sight}
 use Rattle.xapi_search.proofs.sought.seen_of.Goals as goal
 
 pub returns-in-Nothing-clause-those : goal.returns-in-Nothing-clause-those

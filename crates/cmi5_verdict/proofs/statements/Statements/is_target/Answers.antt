@@ -1,7 +1,7 @@
 use Rattle.std.proofs.Common.{◌∙◌, ◌||◌, sym, ap}
 use Rattle.std.specs.List.{list_any}
 use Rattle.std.proofs.lemmas.List.Folds.{list_any-append}
-use Rattle.xapi_statement.specs.Statements.{voids}
+use Rattle.cmi5_session.specs.XapiStatementStatements.{voids}
 use Rattle.cmi5_verdict.proofs.statements.Statements.is_target.Goals as goal
 
 pub returns-then-is_target : goal.returns-then-is_target

@@ -14,7 +14,7 @@ use Rattle.lrs_parts.proofs.Enrolling.{ready_on}
 use Rattle.lrs_parts.proofs.Kept.{kept_enrolled, same_states}
 use Rattle.xapi_docs.specs.Changes.{documents_after}
 use Rattle.xapi_docs.specs.Docs.{documents_in}
-use Rattle.xapi_index.specs.Index.{IsIndexReadyFor}
+use Rattle.cmi5_running_verdicts.specs.XapiIndexIndex.{IsIndexReadyFor}
 use Rattle.xapi_statement.specs.Statements.{add_each}
 use Rattle.xapi_statement.specs.Stored.{StoredStatement}
 use Rattle.lrs_parts.proofs.parts.Parts.install.Goals as goal

@@ -1,5 +1,5 @@
 use Rattle.std.proofs.Common.{◌≡◌, ℕ, List, [], true, sym, subst, IfNone, IfSome, Bor}
-use Rattle.xapi_postings.specs.Ascending.{is_in}
+use Rattle.xapi_index.specs.XapiPostingsAscending.{is_in}
 use Rattle.xapi_search.specs.Narrowing.{EachAscends, is_in_each}
 use Rattle.xapi_search.proofs.Narrowed.{Lists}
 use Rattle.xapi_search.proofs.sought.Sought.shortest.Goals as goal

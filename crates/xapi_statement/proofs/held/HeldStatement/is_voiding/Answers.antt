@@ -1,6 +1,6 @@
 use Rattle.std.proofs.Common.{◌∙◌, ap}
 use Rattle.lrs_json.specs.View.{view}
-use Rattle.xapi_rules.specs.Rules.{is_voiding}
+use Rattle.xapi_properties.specs.XapiRulesRules.{is_voiding}
 use Rattle.xapi_statement.specs.Stored.{StoredStatement}
 use Rattle.xapi_statement.proofs.held.HeldStatement.is_voiding.Goals as goal
 

@@ -3,10 +3,10 @@ use Rattle.std.proofs.lemmas.Result.{on_ok_weaker}
 use Rattle.lrs_json.specs.View.{view}
 use Rattle.lrs_json.specs.Written.{written}
 use Rattle.lrs_time.specs.Moments.{moment_text}
-use Rattle.xapi_format.specs.Authorities.{authority_json}
-use Rattle.xapi_format.specs.Completed.{completed}
-use Rattle.xapi_format.specs.declared.authority.Authority.{Authority}
-use Rattle.xapi_format.specs.declared.format.Format.TheVariants.{Exact}
+use Rattle.xapi_received.specs.XapiFormatAuthorities.{authority_json}
+use Rattle.xapi_received.specs.XapiFormatCompleted.{completed}
+use Rattle.xapi_received.specs.XapiFormatAuthorityAuthority.{Authority}
+use Rattle.xapi_received.specs.XapiFormatFormatFormatTheVariants.{Exact}
 use Rattle.xapi_statement.specs.Shown.{shown_text}
 use Rattle.xapi_statement.specs.Stored.{StoredStatement}
 use Rattle.xapi_statement.proofs.held.HeldStatement.put_exact.Goals as goal

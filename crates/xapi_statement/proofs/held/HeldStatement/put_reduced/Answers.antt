@@ -4,10 +4,10 @@ use Rattle.lrs_json.specs.Json.{Json}
 use Rattle.lrs_json.specs.View.{view}
 use Rattle.lrs_json.specs.Written.{written}
 use Rattle.lrs_time.specs.Moments.{moment_text}
-use Rattle.xapi_format.specs.Authorities.{authority_json}
-use Rattle.xapi_format.specs.Completed.{completed}
-use Rattle.xapi_format.specs.declared.authority.Authority.{Authority}
-use Rattle.xapi_format.specs.declared.format.Format.TheVariants.{Ids}
+use Rattle.xapi_received.specs.XapiFormatAuthorities.{authority_json}
+use Rattle.xapi_received.specs.XapiFormatCompleted.{completed}
+use Rattle.xapi_received.specs.XapiFormatAuthorityAuthority.{Authority}
+use Rattle.xapi_received.specs.XapiFormatFormatFormatTheVariants.{Ids}
 use Rattle.xapi_reduced.specs.Reduced.{reduced}
 use Rattle.xapi_statement.specs.Shown.{shown_text}
 use Rattle.xapi_statement.specs.Stored.{StoredStatement}
