@@ -1,8 +1,9 @@
 // A server that looks at nothing: between reading a request and answering it, it makes the six calls of an append, and no more.
-// What it reaches is what any server of so many workers could reach here, whatever it does with a request. Several workers
-// take turns at the file, each twice for a request, as the store does for the first of a connection: once to look who asks, once to append.
+// What it reaches is what any server of so many workers could reach here that appends one entry after the other. Several
+// workers take turns at the file as the store does: once to append, and for the first request of a connection once more
+// before, to look who asks.
 //
-//   cc -O2 -pthread -o bare_server bare_server.c && ./bare_server FILE PORT CONNECTIONS BYTES [WORKERS]
+//   cc -O2 -D_GNU_SOURCE -pthread -o bare_server bare_server.c && ./bare_server FILE PORT CONNECTIONS BYTES [WORKERS]
 //
 // CONNECTIONS is for each worker.
 #include "six_calls.h"
@@ -29,6 +30,7 @@ static void serve(int link) {
   static __thread char come[ROOM];
   static const char answer[] = "HTTP/1.1 204 No Content\r\nX-Experience-API-Version: 1.0.3\r\n\r\n";
   size_t held = 0;
+  int is_known = 0;
   for (;;) {
     come[held] = 0;
     char *behind = strstr(come, "\r\n\r\n");
@@ -42,8 +44,11 @@ static void serve(int link) {
       held += (size_t)more;
       continue;
     }
-    pthread_mutex_lock(&turn);
-    pthread_mutex_unlock(&turn);
+    if (!is_known) {
+      pthread_mutex_lock(&turn);
+      pthread_mutex_unlock(&turn);
+      is_known = 1;
+    }
     pthread_mutex_lock(&turn);
     end = append(file, end, payload, length);
     pthread_mutex_unlock(&turn);

@@ -2,7 +2,7 @@
 // statements in batches of 100, GETs of those by their ids, or GETs of a file from another server, to hold the others
 // against. Of batches it prints how many statements are answered a second.
 //
-//   cc -O2 -o requests requests.c
+//   cc -O2 -D_GNU_SOURCE -o requests requests.c
 //   ./requests PORT put FIRST N TOKEN AHEAD [CLIENTS]    statements FIRST .. FIRST + N - 1, wants 204
 //   ./requests PORT post FIRST N TOKEN AHEAD [CLIENTS]   N batches, statements FIRST .. FIRST + 100 * N - 1, wants 200
 //   ./requests PORT get HELD N TOKEN AHEAD [CLIENTS]     N statements, their numbers below HELD by turns, wants 200
