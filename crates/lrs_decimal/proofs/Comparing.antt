@@ -7,6 +7,7 @@ use Rattle.std.specs.Ordering.{nat_cmp, ordering_then, ordering_reverse}
 use Rattle.lrs_decimal.specs.Parts.{is_negative, all_digits, digits_value, point_right, point_left}
 use Rattle.lrs_decimal.specs.Values.{Signed, signed, signed_cmp, scaled, order, units, HasValue}
 use Rattle.lrs_decimal.specs.declared.decimal.Decimal.{Decimal}
+use Rattle.lrs_decimal.specs.declared.limits.TheConstants.{LARGEST_EXPONENT, MOST_SIGNIFICANT_DIGITS}
 
 cmp_less : (x y : ℕ) → x < y → nat_cmp x y ≡ Less
 cmp_less x y l = grind (arith, common_steps)
@@ -20,8 +21,8 @@ cmp_more x y l = grind (arith, common_steps)
 pub ten_pos : (k : ℕ) → 0 < 10 ^ k
 ten_pos k = let h = one-le-pow k 10 (omega arith) in omega (arith, h)
 
-pub number_below : (number power : ℕ) → number < 10 ^ 34 → 34 < power → number < 10 ^ power
-number_below number power l m = let h = pow-le-pow_right {n = 10} (omega arith) {i = 34} {j = power} (omega (arith, m)) in omega (arith, l, h)
+pub number_below : (number power : ℕ) → number < 10 ^ MOST_SIGNIFICANT_DIGITS → MOST_SIGNIFICANT_DIGITS < power → number < 10 ^ power
+number_below number power l m = let h = pow-le-pow_right {n = 10} (omega arith) {i = MOST_SIGNIFICANT_DIGITS} {j = power} (omega (arith, m)) in omega (arith, l, h)
 
 -- ---- the quotient, and then the remainder, decide
 
@@ -135,17 +136,17 @@ pub signed_steps : (b : Bool) (n i j k : ℕ) → i + j ≡ k → times (signed 
 signed_steps b n i j k e = sym (signed_times b (n * 10 ^ i) (10 ^ j)) ∙ ap (signed b) (power_steps n i j k e)
 
 -- what a decimal means, times a further power of ten
-means_more : (d : Decimal) (s : List ℕ) (k : ℕ) → HasValue d s → times (units d) (10 ^ (point_left s + k)) ≡ scaled s (point_right s + 999 + k)
+means_more : (d : Decimal) (s : List ℕ) (k : ℕ) → HasValue d s → times (units d) (10 ^ (point_left s + k)) ≡ scaled s (point_right s + LARGEST_EXPONENT + k)
 means_more d s k m =
     let d_all : d.scale + (point_left s + k) ≡ d.scale + point_left s + k = omega arith in
     signed_steps d.negative d.coefficient d.scale (point_left s + k) (d.scale + point_left s + k) d_all
     ∙ sym (signed_steps d.negative d.coefficient (d.scale + point_left s) k (d.scale + point_left s + k) refl)
     ∙ ap (λ z. times z (10 ^ k)) m
-    ∙ signed_steps (is_negative s) (digits_value (all_digits s)) (point_right s + 999) k (point_right s + 999 + k) refl
+    ∙ signed_steps (is_negative s) (digits_value (all_digits s)) (point_right s + LARGEST_EXPONENT) k (point_right s + LARGEST_EXPONENT + k) refl
 
--- a spelling's number, times 10^999 more
-scaled_more : (s : List ℕ) (k : ℕ) → times (scaled s (point_right s + k)) (10 ^ 999) ≡ scaled s (point_right s + 999 + k)
-scaled_more s k = signed_steps (is_negative s) (digits_value (all_digits s)) (point_right s + k) 999 (point_right s + 999 + k) (omega arith)
+-- a spelling's number, times a further power of ten
+scaled_more : (s : List ℕ) (k : ℕ) → times (scaled s (point_right s + k)) (10 ^ LARGEST_EXPONENT) ≡ scaled s (point_right s + LARGEST_EXPONENT + k)
+scaled_more s k = signed_steps (is_negative s) (digits_value (all_digits s)) (point_right s + k) LARGEST_EXPONENT (point_right s + LARGEST_EXPONENT + k) (omega arith)
 
 pub spelled_order : (d e : Decimal) (s t : List ℕ) → HasValue d s → HasValue e t → signed_cmp (units d) (units e) ≡ order s t
 spelled_order d e s t m n =
@@ -153,7 +154,7 @@ spelled_order d e s t m n =
     let swap : point_left t + point_left s ≡ both = omega arith in
     sym (signed_cmp_times (units d) (units e) (10 ^ both) (ten_pos both))
     ∙ ap (λ z. signed_cmp z (times (units e) (10 ^ both))) (means_more d s (point_left t) m)
-    ∙ ap (λ z. signed_cmp (scaled s (point_right s + 999 + point_left t)) z) (ap (λ k. times (units e) (10 ^ k)) (sym swap) ∙ means_more e t (point_left s) n)
-    ∙ ap (λ z. signed_cmp z (scaled t (point_right t + 999 + point_left s))) (sym (scaled_more s (point_left t)))
-    ∙ ap (λ z. signed_cmp (times (scaled s (point_right s + point_left t)) (10 ^ 999)) z) (sym (scaled_more t (point_left s)))
-    ∙ signed_cmp_times (scaled s (point_right s + point_left t)) (scaled t (point_right t + point_left s)) (10 ^ 999) (ten_pos 999)
+    ∙ ap (λ z. signed_cmp (scaled s (point_right s + LARGEST_EXPONENT + point_left t)) z) (ap (λ k. times (units e) (10 ^ k)) (sym swap) ∙ means_more e t (point_left s) n)
+    ∙ ap (λ z. signed_cmp z (scaled t (point_right t + LARGEST_EXPONENT + point_left s))) (sym (scaled_more s (point_left t)))
+    ∙ ap (λ z. signed_cmp (times (scaled s (point_right s + point_left t)) (10 ^ LARGEST_EXPONENT)) z) (sym (scaled_more t (point_left s)))
+    ∙ signed_cmp_times (scaled s (point_right s + point_left t)) (scaled t (point_right t + point_left s)) (10 ^ LARGEST_EXPONENT) (ten_pos LARGEST_EXPONENT)

@@ -13,6 +13,7 @@ use Rattle.std.proofs.Math.Nat.{pow-le-pow_right, pow-suc}
 use Rattle.std.specs.List.{filter}
 use Rattle.lrs_decimal.specs.Numbers.{is_digit, Each}
 use Rattle.lrs_decimal.specs.Parts.{digits_behind, digits_value}
+use Rattle.lrs_decimal.specs.declared.limits.TheConstants.{MOST_SIGNIFICANT_DIGITS}
 
 -- more digits make no smaller number
 pub behind_grows : (n : ℕ) (ds : List ℕ) → n ≤ digits_behind n ds
@@ -152,8 +153,8 @@ core_below a each l =
     let one : (0 + 1) * 10 ^ length rest ≡ 10 ^ (length a - leading_zeros a) = one-mul (10 ^ length rest) ∙ ap (λ k. 10 ^ k) size in
     omega (arith, value, below, one)
 
--- at most 34 significant digits spell a number below 10^34
-pub window_small : (ds : List ℕ) → Each is_digit ds → leading_zeros ds ≢ length ds → significant_digits ds ≤ 34 → digits_value (take (length ds - trailing_zeros ds) ds) < 10 ^ 34
+-- so many significant digits at most spell a number below that power of ten
+pub window_small : (ds : List ℕ) → Each is_digit ds → leading_zeros ds ≢ length ds → significant_digits ds ≤ MOST_SIGNIFICANT_DIGITS → digits_value (take (length ds - trailing_zeros ds) ds) < 10 ^ MOST_SIGNIFICANT_DIGITS
 window_small ds each some few =
     let a = core ds in
     let b = ending ds in
@@ -161,5 +162,5 @@ window_small ds each some few =
     let lead : leading_zeros ds ≡ leading_zeros a = ap leading_zeros split ∙ core_leads a b (ending_zeros ds) (subst (λ z. leading_zeros z ≢ length z) split some) in
     let size : length ds ≡ length a + trailing_zeros ds = ap length split ∙ length-append a b ∙ ap (λ k. length a + k) (ending_length ds) in
     let below = core_below a (Each-left is_digit a b (subst (Each is_digit) split each)) (prefix_len-le-length is_zero_digit a) in
-    let power = pow-le-pow_right {n = 10} (omega arith) {i = length a - leading_zeros a} {j = 34} (omega (arith, few, lead, size)) in
+    let power = pow-le-pow_right {n = 10} (omega arith) {i = length a - leading_zeros a} {j = MOST_SIGNIFICANT_DIGITS} (omega (arith, few, lead, size)) in
     rw (core_taken ds) (omega (arith, below, power))

@@ -4,6 +4,8 @@ use Rattle.std.specs.Prelude.{Option, Some, None}
 use Rattle.std.specs.List.{prefix_len}
 use Rattle.lrs_decimal.specs.Numbers.{number_end}
 use Rattle.lrs_decimal.specs.Parts.{all_digits, exponent_digits, point_right, point_left}
+use Rattle.lrs_decimal.specs.declared.limits.TheConstants.{LARGEST_EXPONENT, LONGEST_SPELLING}
+use Rattle.lrs_decimal.specs.declared.limits.TheConstants.{MOST_EXPONENT_DIGITS, MOST_SIGNIFICANT_DIGITS}
 
 abbrev pub is_zero_digit : ℕ → Bool
 is_zero_digit d = d == 48
@@ -22,19 +24,19 @@ significant_digits ds = length ds - (leading_zeros ds + trailing_zeros ds)
 abbrev pub is_zero : List ℕ → Bool
 is_zero ds = leading_zeros ds == length ds
 
--- With the zeros at the end of the digits taken into it, the exponent is from -999 to 999.
+-- With the zeros at the end of the digits taken into it, the exponent is at most `LARGEST_EXPONENT` from zero.
 abbrev pub has_small_exponent : List ℕ → Bool
 has_small_exponent spelling =
     let right = point_right spelling + trailing_zeros (all_digits spelling) in
-    nat_le (point_left spelling) (right + 999) && nat_le right (point_left spelling + 999)
+    nat_le (point_left spelling) (right + LARGEST_EXPONENT) && nat_le right (point_left spelling + LARGEST_EXPONENT)
 
--- Of a number's spelling: at most 64 bytes, at most four digits in the exponent, and zero, or at most 34 significant
--- digits and a small exponent.
+-- Of a number's spelling: it isn't too long, its exponent hasn't too many digits, and it is zero, or it hasn't too many
+-- significant digits and has a small exponent.
 abbrev pub is_in_range : List ℕ → Bool
 is_in_range spelling =
-    nat_le (length spelling) 64 && nat_le (length (exponent_digits spelling)) 4
+    nat_le (length spelling) LONGEST_SPELLING && nat_le (length (exponent_digits spelling)) MOST_EXPONENT_DIGITS
     && (is_zero (all_digits spelling)
-    || (nat_le (significant_digits (all_digits spelling)) 34 && has_small_exponent spelling))
+    || (nat_le (significant_digits (all_digits spelling)) MOST_SIGNIFICANT_DIGITS && has_small_exponent spelling))
 
 -- Once the exponent has moved the point, nothing but zeros stands after it.
 abbrev pub has_no_fraction : List ℕ → Bool
@@ -43,7 +45,8 @@ has_no_fraction spelling = is_zero (all_digits spelling)
 
 -- Of a number's spelling in range: it is a whole number.
 unfoldable pub is_whole : List ℕ → Bool
-is_whole spelling = nat_le (length spelling) 64 && nat_le (length (exponent_digits spelling)) 4
+is_whole spelling =
+    nat_le (length spelling) LONGEST_SPELLING && nat_le (length (exponent_digits spelling)) MOST_EXPONENT_DIGITS
     && has_no_fraction spelling
 
 -- nothing is left after the number

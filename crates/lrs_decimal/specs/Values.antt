@@ -4,6 +4,7 @@ use Rattle.std.specs.declared.cmp.Ordering.{Ordering}
 use Rattle.std.specs.Ordering.{nat_cmp}
 use Rattle.lrs_decimal.specs.Parts.{is_negative, all_digits, digits_value, point_right, point_left}
 use Rattle.lrs_decimal.specs.declared.decimal.Decimal.{Decimal}
+use Rattle.lrs_decimal.specs.declared.limits.TheConstants.{LARGEST_EXPONENT}
 
 -- a signed whole number, as the difference of two
 pub record Signed : Type 0 where
@@ -25,11 +26,11 @@ scaled spelling power = signed (is_negative spelling) (digits_value (all_digits 
 abbrev pub order : List ℕ → List ℕ → Ordering
 order s t = signed_cmp (scaled s (point_right s + point_left t)) (scaled t (point_right t + point_left s))
 
--- the decimal's value, in units of 10^-999
+-- the decimal's value, in units of ten to the power of -`LARGEST_EXPONENT`
 abbrev pub units : Decimal → Signed
 units d = signed d.negative (d.coefficient * 10 ^ d.scale)
 
 -- the decimal has the spelling's value: with the point moved out they are the same
 abbrev pub HasValue : Decimal → List ℕ → Type 0
 HasValue d spelling = signed d.negative (d.coefficient * 10 ^ (d.scale + point_left spelling))
-    ≡ scaled spelling (point_right spelling + 999)
+    ≡ scaled spelling (point_right spelling + LARGEST_EXPONENT)

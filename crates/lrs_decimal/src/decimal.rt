@@ -4,7 +4,9 @@ ghost use Rattle.std.specs.Ordering.{nat_cmp};
 ghost use Rattle.lrs_decimal.specs.Numbers.{IsNumber, is_digit};
 ghost use Rattle.lrs_decimal.specs.Parts.{is_negative, digits_value};
 ghost use Rattle.lrs_decimal.specs.Range.{is_decimal, is_in_range};
+ghost use Rattle.lrs_decimal.specs.declared.limits.TheConstants.{LARGEST_EXPONENT, MOST_SIGNIFICANT_DIGITS};
 
+use crate::limits::{LARGEST_EXPONENT, MOST_SIGNIFICANT_DIGITS};
 use crate::numbers::number_len;
 use crate::parts::{
     coefficient, count, is_negative, leading_zeros, mantissa, point_left, point_right,
@@ -18,10 +20,10 @@ use std::cmp::Ordering;
 pub struct Decimal {
     negative: bool,
     coefficient: u128,
-    // The power of ten, 999 more than it is.
+    // The power of ten, `LARGEST_EXPONENT` more than it is.
     scale: u16,
-    ghost few_digits: { coefficient < 10 ^ 34 },
-    ghost small_scale: { scale ≤ 1998 },
+    ghost few_digits: { coefficient < 10 ^ MOST_SIGNIFICANT_DIGITS },
+    ghost small_scale: { scale ≤ 2 * LARGEST_EXPONENT },
 }
 
 impl Decimal {
@@ -61,7 +63,8 @@ impl Decimal {
             };
         }
         let zeros = trailing_zeros(mantissa);
-        let scale = (point_right(spelling) + zeros + 999).saturating_sub(point_left(spelling));
+        let left = point_left(spelling);
+        let scale = (point_right(spelling) + zeros + LARGEST_EXPONENT).saturating_sub(left);
         Decimal {
             negative: is_negative(spelling),
             coefficient: coefficient(mantissa, digits.saturating_sub(zeros)),
@@ -121,7 +124,7 @@ fn are_zero(a: u128, b: u128) -> bool
 
 // Compares a number, times a power of ten, with another. Nothing is multiplied, so nothing grows out of 128 bits.
 fn cmp_raised(number: u128, power: u16, other: u128) -> Ordering
-    requires { other < 10 ^ 34 }
+    requires { other < 10 ^ MOST_SIGNIFICANT_DIGITS }
     ensures { result ≡ nat_cmp (number * 10 ^ power) other }
 {
     let (whole, rest) = parts_of(other, power);
@@ -130,11 +133,11 @@ fn cmp_raised(number: u128, power: u16, other: u128) -> Ordering
 
 // The quotient and the remainder by a power of ten.
 fn parts_of(number: u128, power: u16) -> (u128, u128)
-    requires { number < 10 ^ 34 }
+    requires { number < 10 ^ MOST_SIGNIFICANT_DIGITS }
     ensures whole { number ≡ result.0 * 10 ^ power + result.1 }
     ensures rest { result.1 < 10 ^ power }
 {
-    if power > 34 {
+    if power as usize > MOST_SIGNIFICANT_DIGITS {
         return (0, number);
     }
     let divisor = power_of_ten(power);
@@ -142,7 +145,7 @@ fn parts_of(number: u128, power: u16) -> (u128, u128)
 }
 
 fn power_of_ten(power: u16) -> u128
-    requires { power ≤ 34 }
+    requires { power ≤ MOST_SIGNIFICANT_DIGITS }
     ensures { result ≡ 10 ^ power }
 {
     let mut result = 1;

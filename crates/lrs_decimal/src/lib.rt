@@ -3,6 +3,7 @@
 #![tactic(auto)]
 
 mod decimal;
+mod limits;
 mod numbers;
 mod numerals;
 mod parts;

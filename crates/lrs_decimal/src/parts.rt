@@ -3,6 +3,7 @@ ghost use Rattle.std.specs.List.{prefix_len, filter};
 ghost use Rattle.lrs_decimal.specs.Numbers.{is_digit};
 ghost use Rattle.lrs_decimal.specs.Parts.{is_point, is_e, before, behind, behind_first, exponent_digits, has_negative_exponent, is_negative, digits_value, point_right, point_left};
 ghost use Rattle.lrs_decimal.specs.Range.{leading_zeros, trailing_zeros};
+ghost use Rattle.lrs_decimal.specs.declared.limits.TheConstants.{LONGEST_SPELLING, MOST_EXPONENT_DIGITS, MOST_SIGNIFICANT_DIGITS};
 
 use crate::numbers::unsigned;
 
@@ -79,7 +80,7 @@ fn fraction(mantissa: &[u8]) -> &[u8]
 }
 
 fn value_of(digits: &[u8]) -> usize
-    requires { length digits.now ≤ 4 }
+    requires { length digits.now ≤ MOST_EXPONENT_DIGITS }
     ensures value { result ≡ digits_value digits.now }
     ensures small { result ≤ 230_000 }
 {
@@ -135,7 +136,7 @@ pub fn trailing_zeros(mantissa: &[u8]) -> usize
 }
 
 pub fn point_right(spelling: &[u8]) -> usize
-    requires { length (exponent_digits spelling.now) ≤ 4 }
+    requires { length (exponent_digits spelling.now) ≤ MOST_EXPONENT_DIGITS }
     ensures value { result ≡ point_right spelling.now }
     ensures small { result ≤ 230_000 }
 {
@@ -147,8 +148,8 @@ pub fn point_right(spelling: &[u8]) -> usize
 }
 
 pub fn point_left(spelling: &[u8]) -> usize
-    requires short { length spelling.now ≤ 64 }
-    requires few { length (exponent_digits spelling.now) ≤ 4 }
+    requires short { length spelling.now ≤ LONGEST_SPELLING }
+    requires few { length (exponent_digits spelling.now) ≤ MOST_EXPONENT_DIGITS }
     ensures value { result ≡ point_left spelling.now }
     ensures small { result ≤ 240_000 }
 {
@@ -171,7 +172,7 @@ pub fn is_negative(spelling: &[u8]) -> bool
 
 /// The whole number of that many digits.
 pub fn coefficient(mantissa: &[u8], digits: usize) -> u128
-    requires { digits_value (take digits (filter is_digit mantissa.now)) < 10 ^ 34 }
+    requires { digits_value (take digits (filter is_digit mantissa.now)) < 10 ^ MOST_SIGNIFICANT_DIGITS }
     ensures { result ≡ digits_value (take digits (filter is_digit mantissa.now)) }
 {
     let mut value = 0;

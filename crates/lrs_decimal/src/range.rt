@@ -2,6 +2,9 @@ ghost use Rattle.std.specs.Prelude.{◌≡◌, ◌≤◌, length};
 ghost use Rattle.lrs_decimal.specs.Parts.{exponent_digits};
 ghost use Rattle.lrs_decimal.specs.Range.{has_small_exponent, is_in_range, has_no_fraction, is_whole};
 
+use crate::limits::{
+    LARGEST_EXPONENT, LONGEST_SPELLING, MOST_EXPONENT_DIGITS, MOST_SIGNIFICANT_DIGITS,
+};
 use crate::parts::{
     count, exponent_digits, leading_zeros, mantissa, point_left, point_right, trailing_zeros,
 };
@@ -10,7 +13,7 @@ use crate::parts::{
 pub fn is_in_range(spelling: &[u8]) -> bool
     ensures { result ≡ is_in_range spelling.now }
 {
-    if spelling.len() > 64 || exponent_digits(spelling).len() > 4 {
+    if spelling.len() > LONGEST_SPELLING || exponent_digits(spelling).len() > MOST_EXPONENT_DIGITS {
         return false;
     }
     let mantissa = mantissa(spelling);
@@ -20,17 +23,17 @@ pub fn is_in_range(spelling: &[u8]) -> bool
         return true;
     }
     let significant = digits.saturating_sub(leading + trailing_zeros(mantissa));
-    significant <= 34 && has_small_exponent(spelling)
+    significant <= MOST_SIGNIFICANT_DIGITS && has_small_exponent(spelling)
 }
 
 fn has_small_exponent(spelling: &[u8]) -> bool
-    requires short { length spelling.now ≤ 64 }
-    requires few { length (exponent_digits spelling.now) ≤ 4 }
+    requires short { length spelling.now ≤ LONGEST_SPELLING }
+    requires few { length (exponent_digits spelling.now) ≤ MOST_EXPONENT_DIGITS }
     ensures { result ≡ has_small_exponent spelling.now }
 {
     let right = point_right(spelling) + trailing_zeros(mantissa(spelling));
     let left = point_left(spelling);
-    left <= right + 999 && right <= left + 999
+    left <= right + LARGEST_EXPONENT && right <= left + LARGEST_EXPONENT
 }
 
 /// Whether a number's spelling in range is a whole number, however it is spelled: `2`, `2.0`, `20e-1`.
@@ -38,12 +41,14 @@ fn has_small_exponent(spelling: &[u8]) -> bool
 pub fn is_whole(spelling: &[u8]) -> bool
     ensures { result ≡ is_whole spelling.now }
 {
-    spelling.len() <= 64 && exponent_digits(spelling).len() <= 4 && has_no_fraction(spelling)
+    spelling.len() <= LONGEST_SPELLING
+        && exponent_digits(spelling).len() <= MOST_EXPONENT_DIGITS
+        && has_no_fraction(spelling)
 }
 
 fn has_no_fraction(spelling: &[u8]) -> bool
-    requires short { length spelling.now ≤ 64 }
-    requires few { length (exponent_digits spelling.now) ≤ 4 }
+    requires short { length spelling.now ≤ LONGEST_SPELLING }
+    requires few { length (exponent_digits spelling.now) ≤ MOST_EXPONENT_DIGITS }
     ensures { result ≡ has_no_fraction spelling.now }
 {
     let mantissa = mantissa(spelling);

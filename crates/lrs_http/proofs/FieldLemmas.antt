@@ -13,6 +13,7 @@ use Rattle.std.proofs.lemmas.Bool.Decides.{nat_tests}
 use Rattle.httparse.specs.declared.spans.HeaderSpan.{HeaderSpan}
 use Rattle.httparse.specs.Spans.{header_bytes}
 use Rattle.httparse.specs.Grammar.{skip_ows, is_ows}
+use Rattle.lrs_http.specs.declared.fields.TheConstants.{MOST_LENGTH_DIGITS}
 use Rattle.lrs_http.specs.declared.request.RequestRefused.{RequestRefused}
 use Rattle.lrs_http.specs.declared.request.RequestRefused.TheVariants as refused
 use Rattle.lrs_http.specs.Fields.{NameAndValue, is_named, first_value, count_named, is_length, is_close, is_comma, asks_to_close}
@@ -80,12 +81,12 @@ digits_from_test (d ∷ ds) all =
     let parts = and_parts (is_ascii_digit d) (list_all is_ascii_digit ds) all in
     (test_digit d parts.0, digits_from_test ds parts.1)
 
-pub length_parts : (value : List ℕ) → is_length value ≡ true → (length value ≤ 10) × AllDigits 10 value
+pub length_parts : (value : List ℕ) → is_length value ≡ true → (length value ≤ MOST_LENGTH_DIGITS) × AllDigits 10 value
 unfolding is_length
 length_parts value is =
-    let one = and_parts (nat_lt 0 (length value)) (nat_le (length value) 10 && list_all is_ascii_digit value) is in
-    let two = and_parts (nat_le (length value) 10) (list_all is_ascii_digit value) one.1 in
-    let few : length value ≤ 10 = grind (arith, nat_tests, two.0) in
+    let one = and_parts (nat_lt 0 (length value)) (nat_le (length value) MOST_LENGTH_DIGITS && list_all is_ascii_digit value) is in
+    let two = and_parts (nat_le (length value) MOST_LENGTH_DIGITS) (list_all is_ascii_digit value) one.1 in
+    let few : length value ≤ MOST_LENGTH_DIGITS = grind (arith, nat_tests, two.0) in
     (few, digits_from_test value two.1)
 
 -- ---- what a head announces

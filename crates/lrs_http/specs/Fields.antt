@@ -5,6 +5,7 @@ use Rattle.std.specs.Prelude.{Option, Some, None, option_map, codes}
 use Rattle.std.specs.List.{list_all, list_any, slice_split}
 use Rattle.std.specs.Char.{is_ascii_digit}
 use Rattle.std.specs.Str.{str_eq_ignore_ascii_case, is_utf8}
+use Rattle.lrs_http.specs.declared.fields.TheConstants.{MOST_LENGTH_DIGITS}
 use Rattle.lrs_media.specs.Media.{trims_to}
 
 -- a name and its value
@@ -33,9 +34,9 @@ is_comma b = b == 44
 unfoldable pub asks_to_close : List ℕ → Bool
 asks_to_close value = list_any is_close (slice_split is_comma value)
 
--- the value is 1 to 10 digits
+-- the value is digits, at least one and at most `MOST_LENGTH_DIGITS`
 unfoldable pub is_length : List ℕ → Bool
-is_length value = nat_lt 0 (length value) && (nat_le (length value) 10 && list_all is_ascii_digit value)
+is_length value = nat_lt 0 (length value) && (nat_le (length value) MOST_LENGTH_DIGITS && list_all is_ascii_digit value)
 
 -- a value that isn't there, or is UTF-8
 unfoldable pub is_text : Option (List ℕ) → Bool

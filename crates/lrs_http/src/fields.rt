@@ -19,6 +19,9 @@ use std::alloc::Global;
 /// The most bytes that a body may have.
 const LONGEST_BODY: u64 = 4_194_304;
 
+/// The most digits of a Content-Length.
+const MOST_LENGTH_DIGITS: usize = 10;
+
 fn first_value<'b>(bytes: &'b [u8], fields: &[HeaderSpan], name: &[u8]) -> Option<&'b [u8]>
     requires { All (IsHeaderWithin (length bytes.now)) fields.now }
     ensures { option_copied result ≡ first_value name.now (map (header_bytes bytes.now) fields.now) }
@@ -122,7 +125,7 @@ fn all_digits(bytes: &[u8]) -> bool
 fn is_length(value: &[u8]) -> bool
     ensures { result ≡ is_length value.now }
 {
-    0 < value.len() && value.len() <= 10 && all_digits(value)
+    0 < value.len() && value.len() <= MOST_LENGTH_DIGITS && all_digits(value)
 }
 
 #[tactic(auto, unfolding(crate::specs::Head::stated_length))]

@@ -89,7 +89,7 @@ fn spells_however_cut(alloc: Global, bytes: &[u8], list: &str) -> Result<bool, F
     spells(alloc, bytes, Vec::new(alloc), list)
 }
 
-const STREAMS: [(&str, &str); 27] = [
+const STREAMS: [(&str, &str); 28] = [
     ("", "End"),
     ("\r\n\n\r\n", "End"),
     ("\r\r", "End"),
@@ -132,6 +132,10 @@ const STREAMS: [(&str, &str); 27] = [
     ),
     ("PUT /a HTTP/1.1\r\nContent-Length: 3\r\n\r\nab", "Cut"),
     ("PUT /a HTTP/1.1\r\nContent-Length: 4194304\r\n\r\n", "Cut"),
+    (
+        "PUT /a HTTP/1.1\r\nContent-Length: 0000000003\r\n\r\nab",
+        "Cut",
+    ),
     (
         "PUT /a HTTP/1.1\r\nContent-Length: 4194305\r\n\r\n",
         "BodyTooLong",

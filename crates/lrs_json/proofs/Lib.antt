@@ -2,6 +2,7 @@ pub mod Extending
 pub mod Pieces
 pub mod Escaping
 pub mod Views
+pub mod SeenTrees
 pub mod Back
 pub mod Sets
 pub mod Behind

@@ -95,7 +95,8 @@ fn behind_comma<'a>(later: bool, bytes: &'a [u8]) -> Option<&'a [u8]>
     }
 }
 
-fn behind_quoted<'a>(text: &[u8], bytes: &'a [u8]) -> Option<&'a [u8]>
+/// Behind the text as a written string.
+pub fn behind_quoted<'a>(text: &[u8], bytes: &'a [u8]) -> Option<&'a [u8]>
     ensures { option_copied result ≡ left_behind (quoted text.now) bytes.now }
 {
     let inside = behind(b"\"", bytes)?;

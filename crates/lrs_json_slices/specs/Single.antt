@@ -1,4 +1,5 @@
--- Bytes are the written form of one value at most: what fields of `Written` and its kin cite (`by`).
+-- Bytes are the written form of one value at most. The lemmas stand here since fields of `Written` and its kin cite
+-- them (`by`), and code can't cite the proofs of its own crate.
 use Rattle.std.proofs.Common.{◌≡◌, ℕ, List, [], ◌++◌, false, sym, ◌∙◌}
 use Rattle.std.proofs.lemmas.List.{append-nil}
 use Rattle.std.proofs.Math.Logic.{∥∥₁_elim}
@@ -7,8 +8,8 @@ use mathlib.Core.HLevel.{Σ_prop_path}
 use Rattle.lrs_json.specs.Json.{Json, Elements, Members}
 use Rattle.lrs_json.specs.Spellable.{AreSpellableElements, AreSpellableMembers}
 use Rattle.lrs_json.specs.Written.{elements_text, members_text, quoted, written}
+use Rattle.lrs_json_reader.proofs.Alike.{alike, alike_elements, alike_members}
 use Rattle.lrs_json_reader.proofs.Escapes.{same_quoted}
-use Rattle.lrs_json_slices.specs.Alike.{alike, alike_elements, alike_members}
 use Rattle.lrs_json_slices.specs.Codes.{elements_code, json_code, members_code}
 use Rattle.lrs_json_slices.specs.Spelled.{IsSpelled, ItemsFrom, MembersFrom, TextFrom, WrittenFrom}
 

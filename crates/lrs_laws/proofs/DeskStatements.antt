@@ -22,13 +22,13 @@ use Rattle.lrs_history.specs.Launches.{Target, activity_at, launched_at, target}
 use Rattle.lrs_history.specs.Made.{left_behind, made_under, owed_jsons, owed_made, satisfied_at, satisfied_json, waived_at, waived_json}
 use Rattle.lrs_history.specs.Occasions.{Occasion}
 use Rattle.lrs_ids.specs.Ids.{Supply, rest_of}
+use Rattle.lrs_json.proofs.SeenTrees.{seen_tree}
 use Rattle.lrs_json.specs.Json.{Json}
 use Rattle.lrs_json.specs.View.{view}
 use Rattle.lrs_laws.proofs.DeskKinds.{launched_by, of_ending, of_enrolment, of_fetch, of_launch, of_waiver, waived_by}
 use Rattle.lrs_laws.proofs.Lists.{all_mapped, all_then, each_append, each_given}
 use Rattle.lrs_laws.proofs.NewIds.{differs}
 use Rattle.lrs_laws.proofs.Registered.{AreIds, IsEnrolled, MakesIds, is_enrolled, is_enrolled_as, target_id}
-use Rattle.lrs_laws.proofs.SeenTrees.{seen_tree}
 use Rattle.lrs_names.specs.Members.{is_one_of}
 use Rattle.lrs_state.specs.State.{State, no_change}
 use Rattle.lrs_state.specs.declared.effect.Effect.{Effect}

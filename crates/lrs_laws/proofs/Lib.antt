@@ -24,7 +24,6 @@ pub mod LaunchLaws
 pub mod Permitted
 pub mod MayFollow
 pub mod Registered
-pub mod SeenTrees
 pub mod DeskStatements
 pub mod Walking
 pub mod SpokenInOrder

@@ -22,6 +22,7 @@ use Rattle.lrs_history.specs.Made.{made_under, owed_jsons, owed_made, satisfied_
 use Rattle.lrs_history.specs.Occasions.{Occasion, occasion}
 use Rattle.lrs_history.specs.Refusals.{forbidden}
 use Rattle.lrs_ids.specs.Ids.{Supply, rest_of}
+use Rattle.lrs_json.proofs.SeenTrees.{seen_tree}
 use Rattle.lrs_json.specs.Json.{Json}
 use Rattle.lrs_json.specs.Trees.{tree_of}
 use Rattle.lrs_json.specs.View.{view}
@@ -34,7 +35,6 @@ use Rattle.lrs_laws.proofs.Lists.{each_at, each_weaker}
 use Rattle.lrs_laws.proofs.OwedOnce.{is_that_node, owed_once}
 use Rattle.lrs_laws.proofs.Permitted.{permitted}
 use Rattle.lrs_laws.proofs.Registered.{IsEnrolled, all_ids, makes_ids}
-use Rattle.lrs_laws.proofs.SeenTrees.{seen_tree}
 use Rattle.lrs_laws.proofs.Walking.{KeptByDesk, KeptByOwed, KeptByWrites, NonePass, SpeaksIn, by_speaker, its_rule, kept_by_entry, none_pass, over_entries, undefined_outside, unopposed}
 use Rattle.lrs_laws.specs.Verdicts.{SatisfiedOnce}
 use Rattle.lrs_names.proofs.IdTexts.{id_of-id_text}

@@ -5,7 +5,7 @@ use Rattle.lrs_json.specs.Json.{Json, object, string}
 use Rattle.lrs_json.specs.Texts.{member_text, name_text}
 use Rattle.lrs_json.specs.View.{members_of}
 use Rattle.lrs_json.specs.Written.{comma_if, escaped, members_text, written}
-use Rattle.xapi_format.specs.Authorities.{IsWritten, account_end, account_json, account_name, agent_front, authority_json, authority_name}
+use Rattle.xapi_format.specs.Authorities.{IsMemberText, account_end, account_json, account_name, agent_front, authority_json, authority_name}
 use Rattle.xapi_format.specs.declared.authority.Authority.{Authority}
 use Rattle.xapi_format.proofs.Appending.{three_members}
 use Rattle.xapi_format.proofs.Plain.{IsPlain}
@@ -71,7 +71,7 @@ seam_within : (xs ys : List ℕ) → length xs ≤ length (xs ++ ys)
 seam_within xs ys = rw (length-append xs ys) (omega arith)
 
 -- the text that is made of both, with the place between them
-pub written_both : (a : Authority) (s m1 m2 m3 : List ℕ) (at : ℕ) → s ≡ [] → m1 ≡ s ++ agent_front a → at ≡ length m1 → m2 ≡ m1 ++ account_end a → m3 ≡ m2 → IsWritten a m3 at
+pub written_both : (a : Authority) (s m1 m2 m3 : List ℕ) (at : ℕ) → s ≡ [] → m1 ≡ s ++ agent_front a → at ≡ length m1 → m2 ≡ m1 ++ account_end a → m3 ≡ m2 → IsMemberText a m3 at
 written_both a s m1 m2 m3 at e0 e1 length_is e2 e3 =
     let front : m1 ≡ agent_front a = e1 ∙ ap (λ t. t ++ agent_front a) e0 in
     let whole : m3 ≡ m1 ++ account_end a = e3 ∙ e2 in

@@ -58,8 +58,8 @@ agent_front authority =
 abbrev pub account_end : Authority → List ℕ
 account_end authority = members_text true (members_of ((codes "account", account_json (account_name authority)) ∷ []))
 
--- the text is the member, of which the account begins at that place
-pub record IsWritten (authority : Authority) (text : List ℕ) (account : ℕ) : Type 0 where
+-- the text is the member `authority`, and its account begins at that place
+pub record IsMemberText (authority : Authority) (text : List ℕ) (account : ℕ) : Type 0 where
   pub member : text ≡ member_text true (codes "authority") (authority_json authority)
   pub within : account ≤ length text
   pub ends : drop account text ≡ account_end authority

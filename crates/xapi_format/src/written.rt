@@ -1,7 +1,7 @@
 ghost use Rattle.std.specs.Prelude.{◌≡◌, ◌≤◌, ◌++◌, drop, length, true, IfOk, OnOk, codes};
 ghost use Rattle.lrs_json.specs.Texts.{member_text};
 ghost use Rattle.lrs_json.specs.Written.{Extends};
-ghost use Rattle.xapi_format.specs.Authorities.{IsWritten, account_agent, account_name, agent_front, authority_json};
+ghost use Rattle.xapi_format.specs.Authorities.{IsMemberText, account_agent, account_name, agent_front, authority_json};
 
 use crate::Authority;
 use crate::showing::{put_account, put_agent_names};
@@ -27,14 +27,14 @@ struct MemberText {
 }
 
 impl Model for WrittenAuthority {
-    ghost use Rattle.xapi_format.specs.Authorities.{IsWritten};
+    ghost use Rattle.xapi_format.specs.Authorities.{IsMemberText};
     ghost use Rattle.xapi_format.specs.declared.authority.Authority.{Authority as SpecAuthority};
 
     ghost Value = { SpecAuthority };
 
     ghost view = { λ w. w.authority };
 
-    ghost invariant = { λ w. IsWritten w.authority w.text.bytes.items w.text.account };
+    ghost invariant = { λ w. IsMemberText w.authority w.text.bytes.items w.text.account };
 }
 
 impl WrittenAuthority {
@@ -85,7 +85,7 @@ impl WrittenAuthority {
 const ROOM: usize = 256;
 
 fn text_of(alloc: Global, authority: &Authority) -> Result<MemberText, Memory>
-    ensures { IfOk result (λ text. IsWritten authority.now text.bytes.items text.account) }
+    ensures { IfOk result (λ text. IsMemberText authority.now text.bytes.items text.account) }
 {
     let mut bytes = Vec::with_capacity(alloc, ROOM)?;
     put_front(authority, &mut bytes)?;

@@ -27,6 +27,8 @@ use Rattle.xapi_parameters.specs.Pairs.{AreTexts, IsText, pair_of, pairs_of}
 use Rattle.xapi_parameters.specs.Parameters.{LeastOfLink, Passes, are_among, are_distinct, given, has_ids, has_iris, has_link_numbers, has_timestamps, has_truths, link_names, passes}
 use Rattle.xapi_parameters.specs.Queries.{AreFilters, IsActorGiven, IsQuery, capped, format_named, instant_in}
 use Rattle.xapi_parameters.specs.Values.{IsActor, IsActorOf, is_format, is_id, is_limit, is_link_number, is_timestamp, is_truth}
+use Rattle.xapi_parameters.specs.declared.asked.TheConstants.{MOST_LINK_DIGITS}
+use Rattle.xapi_parameters.specs.declared.values.TheConstants.{MOST_LIMIT_DIGITS}
 use Rattle.xapi_query.specs.declared.link.MoreLink.{MoreLink}
 use Rattle.xapi_parameters.specs.declared.pair.Pair.{Pair}
 use Rattle.xapi_query.specs.declared.query.Given.{Given}
@@ -376,7 +378,7 @@ limit_passes : (P : List Pair) (link : MoreLink) → Shown P link → Holds link
 limit_passes P link s h =
     let high = h.high in
     ap (λ (o : Option (List ℕ)). option_map_or is_limit o true) s.limit
-    ∙ limit_passes_at (decimal link.query.page) (link.query.page == MOST_OF_PAGE) (digits_pass 9 link.query.page (omega arith) (omega arith) (omega arith))
+    ∙ limit_passes_at (decimal link.query.page) (link.query.page == MOST_OF_PAGE) (digits_pass MOST_LIMIT_DIGITS link.query.page (omega arith) (omega arith) (omega arith))
 
 format_passes_at : (format : Format) → option_map_or is_format (format_given format) true ≡ true
 format_passes_at Exact = refl
@@ -385,17 +387,17 @@ format_passes_at Ids = refl
 format_passes : (P : List Pair) (link : MoreLink) → Shown P link → passes is_format (codes "format") P ≡ true
 format_passes P link s = ap (λ (o : Option (List ℕ)). option_map_or is_format o true) s.format ∙ format_passes_at link.query.format
 
-places_pass : (P : List Pair) (link : MoreLink) → Shown P link → link.after < link.asof → link.asof < 10 ^ 18 → has_link_numbers P ≡ true
+places_pass : (P : List Pair) (link : MoreLink) → Shown P link → link.after < link.asof → link.asof < 10 ^ MOST_LINK_DIGITS → has_link_numbers P ≡ true
 places_pass P link s within short =
-    let one = digits_pass 18 link.asof (omega arith) short (omega arith) in
-    let other = digits_pass 18 link.after (omega arith) (omega arith) (omega arith) in
+    let one = digits_pass MOST_LINK_DIGITS link.asof (omega arith) short (omega arith) in
+    let other = digits_pass MOST_LINK_DIGITS link.after (omega arith) (omega arith) (omega arith) in
     let asof : digits_value 10 (decimal link.asof) ≡ link.asof = (decimal_is_IsNumeral link.asof (omega arith)).1 in
     let after : digits_value 10 (decimal link.after) ≡ link.after = (decimal_is_IsNumeral link.after (omega arith)).1 in
     let less : nat_lt link.after link.asof ≡ true = grind (arith, nat_tests) in
     (λ i. option_map_or is_link_number (s.asof i) false && option_map_or is_link_number (s.after i) false && nat_lt (option_map_or (digits_value 10) (s.after i) 0) (option_map_or (digits_value 10) (s.asof i) 0))
     ∙ (λ i. one i && other i && nat_lt (after i) (asof i)) ∙ less
 
-unbroken : (P : List Pair) (link : MoreLink) → Shown P link → Holds link.query → link.after < link.asof → link.asof < 10 ^ 18 → LeastOfLink None P
+unbroken : (P : List Pair) (link : MoreLink) → Shown P link → Holds link.query → link.after < link.asof → link.asof < 10 ^ MOST_LINK_DIGITS → LeastOfLink None P
 unbroken P link s h within short = (
   s.among,
   (

@@ -7,6 +7,8 @@ use Rattle.std.specs.Option.{option_map_or}
 use Rattle.std.proofs.lemmas.Bool.{and_parts}
 use Rattle.std.proofs.lemmas.Bool.Decides.{nat_tests}
 use Rattle.xapi_parameters.specs.Values.{is_limit, is_link_number}
+use Rattle.xapi_parameters.specs.declared.asked.TheConstants.{MOST_LINK_DIGITS}
+use Rattle.xapi_parameters.specs.declared.values.TheConstants.{MOST_LIMIT_DIGITS}
 use Rattle.lrs_time.proofs.DigitLemmas.{test_digit}
 
 digits_from_test : (ds : List ℕ) → list_all is_ascii_digit ds ≡ true → AllDigits 10 ds
@@ -30,7 +32,7 @@ place_digits None text bytes is lent test = absurd (cc is)
 place_digits (Some t) text bytes is lent test =
     let same : bytes ≡ t = lent ∙ cc is in
     let passed : is_link_number bytes ≡ true = ap is_link_number same ∙ test in
-    let few = few_digits 18 bytes passed in
+    let few = few_digits MOST_LINK_DIGITS bytes passed in
     (few.0, omega (arith, few.1))
 
 pub limit_digits : (value : Option (List ℕ)) (text bytes : List ℕ) → Some text ≡ value → bytes ≡ text → option_map_or is_limit value true ≡ true → AllDigits 10 bytes × (length bytes ≤ 19)
@@ -38,5 +40,5 @@ limit_digits None text bytes is lent test = absurd (cc is)
 limit_digits (Some t) text bytes is lent test =
     let same : bytes ≡ t = lent ∙ cc is in
     let passed : is_limit bytes ≡ true = ap is_limit same ∙ test in
-    let few = few_digits 9 bytes passed in
+    let few = few_digits MOST_LIMIT_DIGITS bytes passed in
     (few.0, omega (arith, few.1))

@@ -5,6 +5,7 @@ use Rattle.xapi_query.specs.declared.link.MoreLink.{MoreLink}
 use Rattle.xapi_parameters.specs.Pairs.{AreTexts, pairs_of}
 use Rattle.xapi_parameters.specs.Parameters.{LeastOfGet, LeastOfLink, number_under}
 use Rattle.xapi_parameters.specs.Queries.{IsQuery}
+use Rattle.xapi_parameters.specs.declared.asked.TheConstants.{MOST_LINK_DIGITS}
 use Rattle.xapi_parameters.specs.declared.pair.Pair.{Pair}
 
 -- the link that parameters ask for
@@ -23,7 +24,7 @@ pub record IsWritable (link : MoreLink) : Type 0 where
   pub unbroken : LeastOfGet None pairs ⊎ LeastOfLink None pairs
   pub asked : IsQuery pairs link.query
   pub within : link.after < link.asof
-  pub short : link.asof < 10 ^ 18
+  pub short : link.asof < 10 ^ MOST_LINK_DIGITS
 
 -- a written link is read as itself
 abbrev pub LinksAreReadBack : Type 0

@@ -12,6 +12,8 @@ use Rattle.lrs_agents.specs.declared.identifiers.Ifi.{Ifi}
 use Rattle.lrs_names.specs.Ids.{id_of}
 use Rattle.lrs_names.specs.Rules.{least}
 use Rattle.lrs_time.specs.Reading.{timestamp_at}
+use Rattle.xapi_parameters.specs.declared.asked.TheConstants.{MOST_LINK_DIGITS}
+use Rattle.xapi_parameters.specs.declared.values.TheConstants.{MOST_LIMIT_DIGITS}
 
 -- the hyphenated form of a UUID (RFC 4122, section 3)
 abbrev pub is_id : List ℕ → Bool
@@ -32,9 +34,9 @@ is_truth text = bytes_eq text (codes "true") || bytes_eq text (codes "false")
 abbrev pub is_timestamp : List ℕ → Bool
 is_timestamp text = is_ok (timestamp_at text)
 
--- one to nine digits
+-- digits, at least one and at most `MOST_LIMIT_DIGITS`
 abbrev pub is_limit : List ℕ → Bool
-is_limit text = nat_le 1 (length text) && nat_le (length text) 9 && list_all is_ascii_digit text
+is_limit text = nat_le 1 (length text) && nat_le (length text) MOST_LIMIT_DIGITS && list_all is_ascii_digit text
 
 abbrev pub is_format : List ℕ → Bool
 is_format text = bytes_eq text (codes "exact") || bytes_eq text (codes "ids")
@@ -42,6 +44,6 @@ is_format text = bytes_eq text (codes "exact") || bytes_eq text (codes "ids")
 abbrev pub is_no : List ℕ → Bool
 is_no text = bytes_eq text (codes "false")
 
--- a number in a more link, asof or after: one to eighteen digits
+-- a number in a more link, `asof` or `after`: digits, at least one and at most `MOST_LINK_DIGITS`
 abbrev pub is_link_number : List ℕ → Bool
-is_link_number text = nat_le 1 (length text) && nat_le (length text) 18 && list_all is_ascii_digit text
+is_link_number text = nat_le 1 (length text) && nat_le (length text) MOST_LINK_DIGITS && list_all is_ascii_digit text

@@ -16,6 +16,9 @@ use lrs_time::{Instant, read_timestamp};
 use std::alloc::Global;
 use xapi_query::{Format, Given, MOST_OF_PAGE};
 
+/// The most digits of a number in a link.
+const MOST_LINK_DIGITS: usize = 18;
+
 pub fn id_under(pairs: &[Pair], name: &str) -> Option<Id>
     ensures { result ≡ id_under name.now pairs.now }
 {
@@ -149,7 +152,7 @@ fn has_link_number(pairs: &[Pair], name: &str) -> bool
 fn is_link_number(digits: &[u8]) -> bool
     ensures { result ≡ is_link_number digits.now }
 {
-    1 <= digits.len() && digits.len() <= 18 && are_digits(digits)
+    1 <= digits.len() && digits.len() <= MOST_LINK_DIGITS && are_digits(digits)
 }
 
 /// The number of that name in a link.

@@ -19,6 +19,9 @@ use lrs_names::{Id, Iri};
 use lrs_time::read_timestamp;
 use std::alloc::Global;
 
+/// The most digits of a limit.
+const MOST_LIMIT_DIGITS: usize = 9;
+
 /// P5
 pub fn has_ids(pairs: &[Pair]) -> bool
     ensures { result ≡ has_ids pairs.now }
@@ -139,7 +142,7 @@ pub fn has_limit(pairs: &[Pair]) -> bool
 fn is_limit(digits: &[u8]) -> bool
     ensures { result ≡ is_limit digits.now }
 {
-    1 <= digits.len() && digits.len() <= 9 && are_digits(digits)
+    1 <= digits.len() && digits.len() <= MOST_LIMIT_DIGITS && are_digits(digits)
 }
 
 pub fn are_digits(digits: &[u8]) -> bool

@@ -15,7 +15,7 @@ use Rattle.lrs_json.specs.declared.tree.Tree.{Tree}
 use Rattle.xapi_format.specs.Completed.{added, completed, given_or, kept_before}
 use Rattle.xapi_received.specs.Marking.{Adds, Completes, IsFirst, IsSound, Marks, SoFar, members_in, shown_text}
 use Rattle.xapi_received.specs.Excerpts.{listed}
-use Rattle.xapi_received.specs.Received.{AreWithin, EndsAs, HasEnding, IsGiven, IsReceived, bytes_at, ending_text, excerpts_text, value_at}
+use Rattle.xapi_received.specs.Received.{AreWithin, EndsAs, HasEnding, IsGiven, IsReceived, bytes_at, ending_text, excerpts_text}
 use Rattle.xapi_received.specs.declared.draft.Draft.{Draft}
 use Rattle.xapi_received.specs.declared.marks.Ending.{Ending}
 use Rattle.xapi_received.specs.declared.marks.Excerpt.{Excerpt}
@@ -36,6 +36,10 @@ given_last : (text after more name : List ℕ) (place : Option Place) (ms : Memb
 given_last text after more name place ms is f =
     subst (λ (t : List ℕ). IsGiven t name (object ms) place) (sym is)
     (has_grown text more place f.0, given_grown text more place f.0 ∙ sym (f.1 ∙ nothing_after (option_map (bytes_at text) place)))
+
+-- the bytes at the place, else this text as a string
+abbrev pub value_at : List ℕ → Option Place → List ℕ → List ℕ
+value_at text place otherwise = unwrap_or (option_map (bytes_at text) place) (quoted otherwise)
 
 written_or : (o : Option Json) (otherwise : List ℕ) → unwrap_or (option_map written o) (quoted otherwise) ≡ written (unwrap_or o (string otherwise))
 written_or None otherwise = refl

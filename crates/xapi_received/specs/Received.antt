@@ -8,7 +8,7 @@ use Rattle.lrs_json.specs.Find.{find}
 use Rattle.lrs_json.specs.Json.{Json, Members}
 use Rattle.lrs_json.specs.Spellable.{IsSpellable}
 use Rattle.lrs_json.specs.View.{view}
-use Rattle.lrs_json.specs.Written.{members_text, quoted, written, written_tree}
+use Rattle.lrs_json.specs.Written.{members_text, written, written_tree}
 use Rattle.lrs_json.specs.declared.tree.Tree.{Tree, Null}
 use Rattle.xapi_format.specs.Completed.{added, completed}
 use Rattle.xapi_received.specs.declared.marks.Bracket.{Bracket}
@@ -58,10 +58,6 @@ place_after wanted name place before = if bytes_eq name wanted then Some (unwrap
 abbrev pub IsGiven : List ℕ → List ℕ → Json → Option Place → Type 0
 IsGiven text name received place =
     HasPlace (length text) place × (option_map (bytes_at text) place ≡ option_map written (find name received))
-
--- the bytes at the place, else this text as a string
-abbrev pub value_at : List ℕ → Option Place → List ℕ → List ℕ
-value_at text place otherwise = unwrap_or (option_map (bytes_at text) place) (quoted otherwise)
 
 -- the places lie in a text of that length
 abbrev pub HasPlaces : ℕ → Ending → Type 0

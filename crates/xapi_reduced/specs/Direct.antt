@@ -7,15 +7,15 @@ use Rattle.xapi_format.specs.Completed.{added_names, in_array}
 use Rattle.xapi_values.specs.Memberwise.{with_each_member}
 use Rattle.xapi_values.specs.Nested.{is_nested}
 use Rattle.xapi_reduced.specs.Reduced.{activity_names, agent_names, group_names, reduced_activity, reduced_party, reduced_plain_object, reduced_verb, with_each_item}
-use Rattle.xapi_reduced.specs.declared.names.Kept.{Kept}
-use Rattle.xapi_reduced.specs.declared.names.Kept.TheVariants.{OfVerb, OfActivity, OfGroup, OfAgent}
+use Rattle.xapi_reduced.specs.declared.names.KeptNames.{KeptNames}
+use Rattle.xapi_reduced.specs.declared.names.KeptNames.TheVariants.{OfVerb, OfActivity, OfGroup, OfAgent}
 
--- the names of the members that are kept
-abbrev pub names_kept : Kept → List (List ℕ)
-names_kept OfVerb = codes "id" ∷ []
-names_kept OfActivity = activity_names
-names_kept OfGroup = group_names
-names_kept OfAgent = agent_names
+-- the names of the members that are kept, of each kind of value
+abbrev pub kept_names : KeptNames → List (List ℕ)
+kept_names OfVerb = codes "id" ∷ []
+kept_names OfActivity = activity_names
+kept_names OfGroup = group_names
+kept_names OfAgent = agent_names
 
 -- context activities of one name
 abbrev pub direct_activities : List ℕ → Json → Json

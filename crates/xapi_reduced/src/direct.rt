@@ -8,12 +8,12 @@ ghost use Rattle.lrs_time.specs.Moments.{moment_text};
 ghost use Rattle.xapi_format.specs.Authorities.{account_agent, account_name, authority_json};
 ghost use Rattle.xapi_format.specs.Completed.{added, completed, in_array};
 ghost use Rattle.xapi_values.specs.Memberwise.{each_member, with_each_member};
-ghost use Rattle.xapi_reduced.specs.Direct.{direct_activities, direct_before, direct_context_member, direct_member, direct_nested_member, direct_object, direct_part, names_kept};
+ghost use Rattle.xapi_reduced.specs.Direct.{direct_activities, direct_before, direct_context_member, direct_member, direct_nested_member, direct_object, direct_part, kept_names};
 ghost use Rattle.xapi_reduced.specs.Reduced.{each_item, only, reduced, reduced_activity, reduced_group_member, reduced_party, reduced_plain_object, with_each_item, with_only};
 
 use crate::adding::put_added;
-use crate::kinds::{is_added, is_anonymous, is_nested, kind_of};
-use crate::names::Kept;
+use crate::kinds::{is_anonymous, is_nested, kind_of};
+use crate::names::{KeptNames, is_added};
 use lrs_json::Memory;
 use lrs_json::appending::{put, put_comma};
 use lrs_json_slices::{Written, WrittenItems, WrittenMember, WrittenMembers, WrittenText};
@@ -165,9 +165,13 @@ fn put_members<P: Part>(members: WrittenMembers<'_>, into: &mut Vec<u8>) -> Resu
 // ---- the members of some names
 
 // Of an object the members of these names, each as it becomes.
-fn put_only<P: Part>(names: Kept, value: &Written<'_>, into: &mut Vec<u8>) -> Result<(), Memory>
+fn put_only<P: Part>(
+    names: KeptNames,
+    value: &Written<'_>,
+    into: &mut Vec<u8>,
+) -> Result<(), Memory>
     ensures ok { OnOk result (into.new.items ≡ into.old.items
-        ++ written (with_each_member P.change (with_only (names_kept names) value.now))) }
+        ++ written (with_each_member P.change (with_only (kept_names names) value.now))) }
     ensures kept { Extends into.old.items into.new.items }
 {
     match value.members() {
@@ -178,12 +182,12 @@ fn put_only<P: Part>(names: Kept, value: &Written<'_>, into: &mut Vec<u8>) -> Re
 
 #[tactic(auto, using(lrs_json::proofs::Extending::extends_trans))]
 fn put_only_object<P: Part>(
-    names: Kept,
+    names: KeptNames,
     members: WrittenMembers<'_>,
     into: &mut Vec<u8>,
 ) -> Result<(), Memory>
     ensures ok { OnOk result (into.new.items ≡ into.old.items
-        ++ written (object (each_member P.change (only (names_kept names) members.entry)))) }
+        ++ written (object (each_member P.change (only (kept_names names) members.entry)))) }
     ensures kept { Extends into.old.items into.new.items }
 {
     put(b"{", into)?;
@@ -193,12 +197,12 @@ fn put_only_object<P: Part>(
 // These members and the closing brace.
 #[tactic(auto, using(lrs_json::proofs::Extending::extends_trans))]
 fn put_only_members<P: Part>(
-    names: Kept,
+    names: KeptNames,
     members: WrittenMembers<'_>,
     into: &mut Vec<u8>,
 ) -> Result<(), Memory>
     ensures ok { OnOk result (into.new.items ≡ into.old.items
-        ++ members_text false (each_member P.change (only (names_kept names) members.entry))) }
+        ++ members_text false (each_member P.change (only (kept_names names) members.entry))) }
     ensures kept { Extends into.old.items into.new.items }
 {
     let mut left = members;
@@ -210,15 +214,15 @@ fn put_only_members<P: Part>(
 }
 
 fn put_if_named<P: Part>(
-    names: Kept,
+    names: KeptNames,
     later: bool,
     part: &WrittenMember<'_>,
     into: &mut Vec<u8>,
 ) -> Result<bool, Memory>
     ensures ok { IfOk result (λ put. (ms : Members) →
-        into.new.items ++ members_text put (each_member P.change (only (names_kept names) ms))
+        into.new.items ++ members_text put (each_member P.change (only (kept_names names) ms))
         ≡ into.old.items ++ members_text later (each_member P.change
-        (only (names_kept names) (member part.now.name part.now.value ms)))) }
+        (only (kept_names names) (member part.now.name part.now.value ms)))) }
     ensures kept { Extends into.old.items into.new.items }
 {
     if names.has(&part.name) {
@@ -240,18 +244,22 @@ impl Part for AsItIs {
 }
 
 // Of an object the members of these names as they are.
-fn put_with_only(names: Kept, value: &Written<'_>, into: &mut Vec<u8>) -> Result<(), Memory>
+fn put_with_only(names: KeptNames, value: &Written<'_>, into: &mut Vec<u8>) -> Result<(), Memory>
     ensures ok { OnOk result (into.new.items ≡ into.old.items
-        ++ written (with_only (names_kept names) value.now)) }
+        ++ written (with_only (kept_names names) value.now)) }
     ensures kept { Extends into.old.items into.new.items }
 {
     put_only::<AsItIs>(names, value, into)
 }
 
 // Of each object in an array the members of these names.
-fn put_with_only_in_each(names: Kept, value: &Written<'_>, into: &mut Vec<u8>) -> Result<(), Memory>
+fn put_with_only_in_each(
+    names: KeptNames,
+    value: &Written<'_>,
+    into: &mut Vec<u8>,
+) -> Result<(), Memory>
     ensures ok { OnOk result (into.new.items ≡ into.old.items
-        ++ written (with_each_item (with_only (names_kept names)) value.now)) }
+        ++ written (with_each_item (with_only (kept_names names)) value.now)) }
     ensures kept { Extends into.old.items into.new.items }
 {
     match value.items() {
@@ -261,9 +269,9 @@ fn put_with_only_in_each(names: Kept, value: &Written<'_>, into: &mut Vec<u8>) -
 }
 
 #[tactic(auto, using(lrs_json::proofs::Extending::extends_trans))]
-fn put_list(names: Kept, items: WrittenItems<'_>, into: &mut Vec<u8>) -> Result<(), Memory>
+fn put_list(names: KeptNames, items: WrittenItems<'_>, into: &mut Vec<u8>) -> Result<(), Memory>
     ensures ok { OnOk result (into.new.items ≡ into.old.items
-        ++ written (array (each_item (with_only (names_kept names)) items.entry))) }
+        ++ written (array (each_item (with_only (kept_names names)) items.entry))) }
     ensures kept { Extends into.old.items into.new.items }
 {
     put(b"[", into)?;
@@ -272,9 +280,9 @@ fn put_list(names: Kept, items: WrittenItems<'_>, into: &mut Vec<u8>) -> Result<
 
 // The items and the closing bracket.
 #[tactic(auto, using(lrs_json::proofs::Extending::extends_trans))]
-fn put_items(names: Kept, items: WrittenItems<'_>, into: &mut Vec<u8>) -> Result<(), Memory>
+fn put_items(names: KeptNames, items: WrittenItems<'_>, into: &mut Vec<u8>) -> Result<(), Memory>
     ensures ok { OnOk result (into.new.items ≡ into.old.items
-        ++ elements_text false (each_item (with_only (names_kept names)) items.entry)) }
+        ++ elements_text false (each_item (with_only (kept_names names)) items.entry)) }
     ensures kept { Extends into.old.items into.new.items }
 {
     let mut left = items;
@@ -287,9 +295,14 @@ fn put_items(names: Kept, items: WrittenItems<'_>, into: &mut Vec<u8>) -> Result
 }
 
 #[tactic(auto, using(lrs_json::proofs::Extending::extends_trans))]
-fn put_item(names: Kept, later: bool, item: &Written<'_>, into: &mut Vec<u8>) -> Result<(), Memory>
+fn put_item(
+    names: KeptNames,
+    later: bool,
+    item: &Written<'_>,
+    into: &mut Vec<u8>,
+) -> Result<(), Memory>
     ensures ok { OnOk result (into.new.items ≡ into.old.items ++ (comma_if later
-        ++ written (with_only (names_kept names) item.now))) }
+        ++ written (with_only (kept_names names) item.now))) }
     ensures kept { Extends into.old.items into.new.items }
 {
     put_comma(later, into)?;
@@ -320,7 +333,7 @@ fn put_part(name: &WrittenText<'_>, value: &Written<'_>, into: &mut Vec<u8>) -> 
     if name.is("actor") {
         put_party(value, into)
     } else if name.is("verb") {
-        put_with_only(Kept::OfVerb, value, into)
+        put_with_only(KeptNames::OfVerb, value, into)
     } else if name.is("context") {
         put_each::<OfContext>(value, into)
     } else {
@@ -362,7 +375,7 @@ fn put_plain_object(value: &Written<'_>, into: &mut Vec<u8>) -> Result<(), Memor
     ensures kept { Extends into.old.items into.new.items }
 {
     match kind_of(value) {
-        Kind::Unstated | Kind::Activity => put_with_only(Kept::OfActivity, value, into),
+        Kind::Unstated | Kind::Activity => put_with_only(KeptNames::OfActivity, value, into),
         Kind::Agent | Kind::Group => put_party(value, into),
         Kind::StatementRef | Kind::SubStatement | Kind::Other => value.put(into),
     }
@@ -404,7 +417,7 @@ fn put_activities(value: &Written<'_>, into: &mut Vec<u8>) -> Result<(), Memory>
 {
     match value.members() {
         Some(_) => put_alone(value, into),
-        None => put_with_only_in_each(Kept::OfActivity, value, into),
+        None => put_with_only_in_each(KeptNames::OfActivity, value, into),
     }
 }
 
@@ -415,7 +428,7 @@ fn put_alone(value: &Written<'_>, into: &mut Vec<u8>) -> Result<(), Memory>
     ensures kept { Extends into.old.items into.new.items }
 {
     put(b"[", into)?;
-    put_with_only(Kept::OfActivity, value, into)?;
+    put_with_only(KeptNames::OfActivity, value, into)?;
     put(b"]", into)
 }
 
@@ -427,9 +440,9 @@ fn put_party(party: &Written<'_>, into: &mut Vec<u8>) -> Result<(), Memory>
     ensures kept { Extends into.old.items into.new.items }
 {
     if is_anonymous(party) {
-        put_only::<OfGroup>(Kept::OfGroup, party, into)
+        put_only::<OfGroup>(KeptNames::OfGroup, party, into)
     } else {
-        put_with_only(Kept::OfAgent, party, into)
+        put_with_only(KeptNames::OfAgent, party, into)
     }
 }
 
@@ -440,7 +453,7 @@ impl Part for OfGroup {
 
     fn put(name: &WrittenText<'_>, value: &Written<'_>, into: &mut Vec<u8>) -> Result<(), Memory> {
         if name.is("member") {
-            put_with_only_in_each(Kept::OfAgent, value, into)
+            put_with_only_in_each(KeptNames::OfAgent, value, into)
         } else {
             value.put(into)
         }

@@ -3,25 +3,13 @@ ghost use Rattle.std.specs.Prelude.{◌≡◌, IsTrue};
 ghost use Rattle.std.specs.List.{list_all};
 ghost use Rattle.lrs_json.specs.Json.{string};
 ghost use Rattle.lrs_json.specs.Written.{is_plain};
-ghost use Rattle.lrs_names.specs.Members.{has_member, is_one_of};
-ghost use Rattle.xapi_format.specs.Completed.{added_names};
+ghost use Rattle.lrs_names.specs.Members.{has_member};
 ghost use Rattle.xapi_values.specs.Kinds.{kind_named, kind_of};
 ghost use Rattle.xapi_values.specs.Nested.{is_nested};
 ghost use Rattle.xapi_reduced.specs.Reduced.{has_identifier, is_anonymous};
 
 use lrs_json_slices::{Written, WrittenText};
 use xapi_values::Kind;
-
-/// Whether the store writes the member of that name itself.
-pub fn is_added(name: &WrittenText<'_>) -> bool
-    ensures { result ≡ is_one_of added_names name.now }
-{
-    name.is("id")
-        || name.is("timestamp")
-        || name.is("stored")
-        || name.is("authority")
-        || name.is("version")
-}
 
 /// What the value says that it is.
 #[tactic(auto, unfolding(xapi_values::specs::Kinds::kind_of))]

@@ -1,13 +1,25 @@
-// Which members of a value are kept.
+// Members by their names: those that the store writes itself, and those that are kept.
 ghost use Rattle.std.specs.Prelude.{◌≡◌};
+ghost use Rattle.xapi_format.specs.Completed.{added_names};
 ghost use Rattle.xapi_format.specs.LrsAgentsAgents.{identifiers};
 ghost use Rattle.lrs_names.specs.Members.{is_one_of};
 
 use lrs_json_slices::WrittenText;
 
-/// Whose members are kept: those that tell which one it is.
+/// Whether the store writes the member of that name itself.
+pub fn is_added(name: &WrittenText<'_>) -> bool
+    ensures { result ≡ is_one_of added_names name.now }
+{
+    name.is("id")
+        || name.is("timestamp")
+        || name.is("stored")
+        || name.is("authority")
+        || name.is("version")
+}
+
+/// The names of the members that are kept of a value: those that identify it.
 #[derive(Clone, Copy, Debug, PartialEq)]
-pub enum Kept {
+pub enum KeptNames {
     OfVerb,
     OfActivity,
     /// Of a Group that is known by its members alone.
@@ -16,18 +28,18 @@ pub enum Kept {
     OfAgent,
 }
 
-impl Kept {
-    ghost use Rattle.xapi_reduced.specs.Direct.{names_kept};
+impl KeptNames {
+    ghost use Rattle.xapi_reduced.specs.Direct.{kept_names};
 
-    /// Whether a member of that name is kept.
+    /// Whether that name is one of them.
     pub fn has(self, name: &WrittenText<'_>) -> bool
-        ensures { result ≡ is_one_of (names_kept self) name.now }
+        ensures { result ≡ is_one_of (kept_names self) name.now }
     {
         match self {
-            Kept::OfVerb => name.is("id"),
-            Kept::OfActivity => name.is("objectType") || name.is("id"),
-            Kept::OfGroup => name.is("objectType") || name.is("member"),
-            Kept::OfAgent => name.is("objectType") || is_identifier(name),
+            KeptNames::OfVerb => name.is("id"),
+            KeptNames::OfActivity => name.is("objectType") || name.is("id"),
+            KeptNames::OfGroup => name.is("objectType") || name.is("member"),
+            KeptNames::OfAgent => name.is("objectType") || is_identifier(name),
         }
     }
 }

@@ -2,8 +2,8 @@ use Rattle.std.proofs.Math.Nat.{mod-lt}
 use Rattle.lrs_decimal.proofs.Comparing.{ten_pos, number_below}
 use Rattle.lrs_decimal.proofs.decimal.parts_of.Goals as goal
 
-pub returns-then-power-gt34-clause-rest : goal.returns-then-power-gt34-clause-rest
-returns-then-power-gt34-clause-rest c = number_below c.args.number c.args.power c.requires c.if-power-gt34.true
+pub returns-then-power-gt-MOST_SIGNIFICANT_DIGITS-clause-rest : goal.returns-then-power-gt-MOST_SIGNIFICANT_DIGITS-clause-rest
+returns-then-power-gt-MOST_SIGNIFICANT_DIGITS-clause-rest c = number_below c.args.number c.args.power c.requires c.if-power-gt-MOST_SIGNIFICANT_DIGITS.true
 
 pub nonzero_div-result : goal.nonzero_div-result
 nonzero_div-result c = rw c.power_of_ten-divisor.ensures (ten_pos c.args.power)

@@ -1,7 +1,7 @@
 use Rattle.std.proofs.Common.{◌≡◌, ◌++◌, false}
 use Rattle.lrs_json.specs.Written.{Extends, elements_text}
 use Rattle.lrs_json_slices.specs.Parts.{count_items}
-use Rattle.xapi_reduced.specs.Direct.{names_kept}
+use Rattle.xapi_reduced.specs.Direct.{kept_names}
 use Rattle.xapi_reduced.specs.Reduced.{each_item, with_only}
 use Rattle.xapi_reduced.proofs.direct.put_items.Given as goal
 
@@ -9,8 +9,8 @@ use Rattle.xapi_reduced.proofs.direct.put_items.Given as goal
 abbrev pub invariant-loop-item : goal.invariant-loop-item
 invariant-loop-item l = record {
   kept : Extends l.fn.into.items l.into.items;
-  whole : l.into.items ++ elements_text l.later (each_item (with_only (names_kept l.names)) l.left)
-      ≡ l.fn.into.items ++ elements_text false (each_item (with_only (names_kept l.names)) l.fn.items);
+  whole : l.into.items ++ elements_text l.later (each_item (with_only (kept_names l.names)) l.left)
+      ≡ l.fn.into.items ++ elements_text false (each_item (with_only (kept_names l.names)) l.fn.items);
 }
 
 abbrev pub decreases-loop-item : goal.decreases-loop-item

@@ -29,7 +29,7 @@ invariant_of-result-2 c =
     let h = coefficient_small c.args.spelling.now r some in
     let k = kept _ _ _ _ _ _ counted c.trailing_zeros-zeros.ensures.value c.saturating_sub.ensures in
     let zeros = c.trailing_zeros-zeros.ensures.value ∙ ap (λ m. trailing_zeros (filter is_digit m)) c.mantissa-mantissa.ensures.value in
-    let scale = small_scale c.args.spelling.now _ _ _ _ r some c.point_right.ensures.value c.point_left.ensures.value zeros c.saturating_sub-scale.ensures in
+    let scale = small_scale c.args.spelling.now _ _ _ _ r some c.point_right.ensures.value c.point_left-left.ensures.value zeros c.saturating_sub-scale.ensures in
     record { few_digits = omega (arith, c.coefficient.ensures, h, k); small_scale = scale.1 }
 
 pub returns : goal.returns
@@ -40,5 +40,5 @@ returns c =
     let r = in_range c.args.spelling.now c.requires in
     let k = kept _ _ _ _ _ _ counted c.trailing_zeros-zeros.ensures.value c.saturating_sub.ensures in
     let zeros = c.trailing_zeros-zeros.ensures.value ∙ ap (λ m. trailing_zeros (filter is_digit m)) c.mantissa-mantissa.ensures.value in
-    let scale = small_scale c.args.spelling.now _ _ _ _ r some c.point_right.ensures.value c.point_left.ensures.value zeros c.saturating_sub-scale.ensures in
+    let scale = small_scale c.args.spelling.now _ _ _ _ r some c.point_right.ensures.value c.point_left-left.ensures.value zeros c.saturating_sub-scale.ensures in
     exact_means c.args.spelling.now _ _ _ c.is_negative.ensures (c.coefficient.ensures ∙ k) scale.0 (r.above some)

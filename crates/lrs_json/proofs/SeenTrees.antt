@@ -1,11 +1,11 @@
 -- What is seen of the tree of a value is the value.
 use Rattle.std.proofs.Common.{◌≡◌, ℕ, List, map, refl, ap, ◌∙◌, rules}
-use Rattle.lrs_json.proofs.Views.{view-Bool, view-List, view-Null, view-Number, view-Object, view-Words}
 use Rattle.lrs_json.specs.Json.{Json, null, boolean, number, string, array, object, Elements, no_elements, element, Members, no_members, member}
 use Rattle.lrs_json.specs.Trees.{named_of, tree_of, trees_of}
 use Rattle.lrs_json.specs.View.{elements_of, member_view, members_of, view}
 use Rattle.lrs_json.specs.declared.tree.Tree.{Tree, the_lemmas}
 use Rattle.lrs_json.specs.declared.tree.Tree.TheViews.{roll-Member}
+use Rattle.lrs_json.proofs.Views.{view-Bool, view-List, view-Null, view-Number, view-Object, view-Words}
 
 seen_member : (k : List ℕ) (t : Tree) → member_view (roll-Member (record { name = k; value = t })) ≡ (k, view t)
 seen_member k t = search (rules, the_lemmas)
