@@ -1,13 +1,11 @@
--- The text of an agent, and what is read of it.
-use Rattle.std.proofs.Common.{◌≡◌, ◌≤◌, ℕ, List, [], ◌∷◌, ◌++◌, Option, Some, None, IfSome, IsUtf8, codes, true, false, append_assoc, arith, refl, subst}
+-- The text of an agent, which is such as reading takes it.
+use Rattle.std.proofs.Common.{◌≡◌, ℕ, List, [], ◌∷◌, ◌++◌, Option, Some, None, IfSome, IsUtf8, codes, true, false, append_assoc, refl, subst}
 use Rattle.std.specs.List.{flat_map}
 use Rattle.lrs_agents.specs.Identifiers.{identifier_json}
 use Rattle.lrs_agent_texts.specs.Texts.{agent_json, agent_of, identifier_member, text_given}
 use Rattle.lrs_agents.specs.declared.agents.Agent.{Agent}
 use Rattle.lrs_agents.specs.declared.identifiers.Ifi.{Ifi}
 use Rattle.lrs_agents.specs.declared.identifiers.Ifi.TheVariants.{Mbox, MboxSha1, OpenId, Account}
-use Rattle.lrs_agent_texts.proofs.AgentTexts.{agent_json-IsAgentOf}
-use Rattle.lrs_json.specs.Depth.{depth}
 use Rattle.lrs_json.specs.Fits.{Fits, FitMembers}
 use Rattle.lrs_json.specs.Json.{Json, object, string}
 use Rattle.lrs_json.specs.Names.{is_among}
@@ -15,7 +13,6 @@ use Rattle.lrs_json.specs.Texts.{member_text}
 use Rattle.lrs_json.specs.View.{members_of}
 use Rattle.lrs_json.specs.Written.{written}
 use Rattle.lrs_fields.specs.Values.{HoldsActor, HoldsAgent}
-use Rattle.lrs_fields.specs.Reading.{actor_in}
 use Rattle.lrs_fields.proofs.Words.{IsUtf8-small}
 
 -- ---- its parts, one after the other
@@ -86,21 +83,3 @@ fit_actor (Some name) ifi holds named = (
 
 pub Fits-actor : (actor : Agent) → HoldsActor actor → Fits (agent_json actor)
 Fits-actor actor holds = fit_actor actor.name actor.ifi holds.0 holds.1
-
-shallow : (name : Option (List ℕ)) (ifi : Ifi) → depth (agent_of ifi name) ≤ 2
-shallow None (Mbox text) = omega arith
-shallow None (MboxSha1 text) = omega arith
-shallow None (OpenId text) = omega arith
-shallow None (Account home own) = omega arith
-shallow (Some name) (Mbox text) = omega arith
-shallow (Some name) (MboxSha1 text) = omega arith
-shallow (Some name) (OpenId text) = omega arith
-shallow (Some name) (Account home own) = omega arith
-
-pub shallow_actor : (actor : Agent) → depth (agent_json actor) ≤ 2
-shallow_actor actor = shallow actor.name actor.ifi
-
--- ---- what is read of it
-
-pub read_actor : (actor : Agent) → actor_in (agent_json actor) ≡ Some actor
-read_actor actor = let is = agent_json-IsAgentOf actor in rw (is.ifi, is.name) refl

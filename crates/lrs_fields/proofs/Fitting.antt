@@ -1,20 +1,19 @@
--- What fields are kept as is such as reading takes it, and nests at most 65 levels deep.
-use Rattle.std.proofs.Common.{◌≡◌, ◌≤◌, ℕ, List, [], ◌∷◌, Bool, true, false, ◌&&◌, not, codes, arith, refl}
+-- What fields are kept as is such as reading takes it.
+use Rattle.std.proofs.Common.{◌≡◌, ℕ, List, [], ◌∷◌, Bool, true, false, ◌&&◌, not, codes, arith, refl}
 use Rattle.std.specs.List.{AllByRecursion}
 use Rattle.std.proofs.lemmas.Bool.{false≢true}
 use Rattle.lrs_agents.specs.Identifiers.{identifier_json}
 use Rattle.lrs_agents.specs.declared.identifiers.Ifi.{Ifi}
 use Rattle.lrs_agents.specs.declared.identifiers.Ifi.TheVariants.{Mbox, MboxSha1, OpenId, Account}
-use Rattle.lrs_json.specs.Depth.{depth, depth_of_members}
 use Rattle.lrs_json.specs.Fits.{Fits, FitMembers}
 use Rattle.lrs_json.specs.Names.{is_among}
 use Rattle.lrs_json.specs.View.{members_of}
 use Rattle.lrs_names.proofs.IdTexts.{IsUtf8-id_text}
 use Rattle.lrs_fields.specs.Values.{HoldsAgent, HoldsValue, IsLawfulValue, Value, text_value, id_value, tree_value, trees_value, iri_value, agent_value, bytes_value, actor_value, number_value, members_for, value_json}
-use Rattle.lrs_fields.proofs.Actors.{Fits-actor, shallow_actor}
+use Rattle.lrs_fields.proofs.Actors.{Fits-actor}
 use Rattle.lrs_fields.proofs.Apart.{are_apart}
 use Rattle.lrs_fields.proofs.Decimals.{Fits-decimal}
-use Rattle.lrs_fields.proofs.ManyTrees.{Fits-trees, shallow_trees}
+use Rattle.lrs_fields.proofs.ManyTrees.{Fits-trees}
 use Rattle.lrs_fields.proofs.Words.{IsUtf8-digits, IsUtf8-small, are_small, both}
 
 no : (b : Bool) → not b ≡ true → b ≡ false
@@ -50,25 +49,3 @@ Fits-fields before (f ∷ fs) apart lawful holds =
     let first = both (are_small f.0) (not (is_among f.0 before) && are_apart (f.0 ∷ before) fs) apart in
     let second = both (not (is_among f.0 before)) (are_apart (f.0 ∷ before) fs) first.1 in
     (IsUtf8-small f.0 first.0, no (is_among f.0 before) second.0, Fits-value f.1 lawful.0 holds.0, Fits-fields (f.0 ∷ before) fs second.1 lawful.1 holds.1)
-
-shallow_agent : (ifi : Ifi) → depth (identifier_json ifi) ≤ 2
-shallow_agent (Mbox text) = omega arith
-shallow_agent (MboxSha1 text) = omega arith
-shallow_agent (OpenId text) = omega arith
-shallow_agent (Account home name) = omega arith
-
--- an array stands above a statement, or none does
-shallow_value : (v : Value) → IsLawfulValue v → depth (value_json v) ≤ 65
-shallow_value (text_value t) lawful = omega arith
-shallow_value (id_value i) lawful = omega arith
-shallow_value (tree_value t) lawful = omega (arith, lawful.1)
-shallow_value (trees_value ts) lawful = omega (arith, shallow_trees ts lawful)
-shallow_value (iri_value t) lawful = omega arith
-shallow_value (agent_value ifi) lawful = omega (arith, shallow_agent ifi)
-shallow_value (bytes_value bytes) lawful = omega arith
-shallow_value (actor_value actor) lawful = omega (arith, shallow_actor actor)
-shallow_value (number_value n) lawful = omega arith
-
-pub shallow_fields : (fs : List (List ℕ × Value)) → AllByRecursion (λ f. IsLawfulValue f.1) fs → depth_of_members (members_of (members_for fs)) ≤ 65
-shallow_fields [] lawful = omega arith
-shallow_fields (f ∷ fs) lawful = omega (arith, shallow_value f.1 lawful.0, shallow_fields fs lawful.1)

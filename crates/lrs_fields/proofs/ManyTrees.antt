@@ -14,8 +14,3 @@ Fits-trees (tree ∷ trees) lawful = (lawful.0.0, Fits-trees trees lawful.1)
 pub shallow_trees : (trees : List Tree) → AreLawfulTrees trees → depth_of_elements (elements_of (map view trees)) ≤ DEPTH
 shallow_trees [] lawful = omega arith
 shallow_trees (tree ∷ trees) lawful = omega (arith, lawful.0.1, shallow_trees trees lawful.1)
-
--- the trees of an array that reading gives, where each nests no deeper than a statement may
-pub lawful_trees : (trees : List Tree) → FitElements (elements_of (map view trees)) → depth_of_elements (elements_of (map view trees)) ≤ DEPTH → AreLawfulTrees trees
-lawful_trees [] fit shallow = tt
-lawful_trees (tree ∷ trees) fit shallow = ((fit.0, omega (arith, shallow)), lawful_trees trees fit.1 (omega (arith, shallow)))

@@ -1,9 +1,7 @@
 -- Two objects that are the same have the same members, one by one.
 use Rattle.std.proofs.Common.{◌≡◌, ℕ, List, [], ◌∷◌, refl, ap, sym, ◌∙◌}
-use Rattle.lrs_json.specs.Json.{Json, Members, no_members, member, number, object, string}
-use Rattle.lrs_json.specs.View.{members_of, view}
-use Rattle.lrs_json.specs.declared.tree.Tree.{Tree, Number, Words}
-use Rattle.lrs_json.proofs.Views.{view-Number, view-Words}
+use Rattle.lrs_json.specs.Json.{Json, Members, no_members, member, object}
+use Rattle.lrs_json.specs.View.{members_of}
 
 same_pair : (a p : List ℕ × Json) → a.0 ≡ p.0 → a.1 ≡ p.1 → a ≡ p
 same_pair a p names values = ap (λ name. (name, a.1)) names ∙ ap (λ value. (p.0, value)) values
@@ -43,14 +41,3 @@ four_parts seen a b c d p q r s x y =
     let third = first_member c r (members_of (d ∷ [])) (members_of (s ∷ [])) second.1 in
     let fourth = first_member d s no_members no_members third.1 in
     (first.0, second.0, third.0, fourth.0)
-
--- the value of a member
-pub value_of_member : (seen : List ℕ × Json) (name : List ℕ) (a b : Json) → seen ≡ (name, a) → seen ≡ (name, b) → a ≡ b
-value_of_member seen name a b x y = ap (λ pair. pair.1) (sym x ∙ y)
-
-pub text_of_member : (seen : List ℕ × Json) (name : List ℕ) (value : Tree) (text : List ℕ) → seen ≡ (name, view value) → value ≡ Words text → seen ≡ (name, string text)
-text_of_member seen name value text is kind = is ∙ ap (λ (j : Json). (name, j)) (ap view kind ∙ view-Words text)
-
-pub spelling_of_member : (seen : List ℕ × Json) (name : List ℕ) (value : Tree) (a b : List ℕ) → seen ≡ (name, view value) → value ≡ Number a → seen ≡ (name, number b) → a ≡ b
-spelling_of_member seen name value a b x is y =
-    let same : number a ≡ number b = sym (view-Number a) ∙ ap view (sym is) ∙ value_of_member seen name (view value) (number b) x y in cc same

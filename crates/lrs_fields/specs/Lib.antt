@@ -1,4 +1,4 @@
 pub mod Values
 pub mod Reading
 pub mod Digits
-pub mod Widths
+pub use Rattle.lrs_decimal.specs.Numbers as LrsDecimalNumbers

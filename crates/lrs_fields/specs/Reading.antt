@@ -1,104 +1,58 @@
--- What is read of fields, one after the other, as each is of one kind.
-use Rattle.std.specs.Prelude.{ℕ, ◌^◌, List, [], ◌∷◌, map, drop, codes, nat_le, nat_lt, Bool, false, ◌&&◌}
-use Rattle.std.specs.Prelude.{Option, Some, None, option_and_then, option_map, if◌then◌else◌}
-use Rattle.std.specs.Fmt.{decimal}
-use Rattle.std.specs.Result.{result_ok}
-use Rattle.std.specs.Str.{bytes_eq}
-use Rattle.std.specs.Str.Parse.{digits_value}
-use Rattle.std.specs.VecDeque.{deque_items}
-use Rattle.hex.specs.Hex.{decode_of}
-use Rattle.lrs_agents.specs.Identifiers.{identifier_of}
-use Rattle.lrs_agents.specs.declared.agents.Agent.{Agent}
-use Rattle.lrs_fields.specs.declared.fields.Fields.{Fields}
-use Rattle.lrs_json.specs.Depth.{depth, depth_of_elements}
-use Rattle.lrs_json.specs.Json.{Json, number, array}
-use Rattle.lrs_json.specs.Trees.{tree_of, trees_of}
-use Rattle.lrs_json.specs.View.{member_view}
-use Rattle.lrs_json.specs.declared.limits.TheConstants.{DEPTH}
-use Rattle.lrs_json.specs.declared.tree.Tree.{Tree}
-use Rattle.lrs_names.specs.Ids.{id_of}
-use Rattle.lrs_names.specs.Iris.{is_iri}
-use Rattle.lrs_names.specs.Members.{text_of, text_under}
+-- How a part of a text is read, from the bytes that are left.
+use Rattle.std.specs.Prelude.{◌≡◌, ℕ, List, [], ◌∷◌, ◌++◌, false, Option, Some, None, IfOk, Result, IfSome}
+use Rattle.lrs_agent_texts.specs.Texts.{identifier_member}
+use Rattle.lrs_agents.specs.declared.identifiers.Ifi.{Ifi}
+use Rattle.lrs_decimal.specs.Numbers.{Ends}
+use Rattle.lrs_fields.specs.Values.{HoldsValue, IsLawfulValue, Value, value_json}
+use Rattle.lrs_json.specs.Texts.{member_text}
+use Rattle.lrs_json.specs.Written.{written}
+use Rattle.lrs_json_reader.specs.Steps.{Finds}
+use Rattle.lrs_json_reader.specs.declared.cursor.Stop.{Stop}
 
-abbrev pub values_in : List (List ℕ × Json) → List Json
-values_in members = map (λ member. member.1) members
+-- What was read is the one that may stand there whose text comes next, if what follows it may follow it. If no such text
+-- comes next, nothing is read.
+pub record Reads {A : Type 0} (text : A → List ℕ) (MayStand : A → Type 0) (MayFollow : List ℕ → Type 0) (old : List ℕ)
+    (r : Result A Stop) (new : List ℕ) : Type 0 where
+  pub found : IfOk r (λ a. MayStand a × (old ≡ text a ++ new))
+  pub all : (a : A) (rest : List ℕ) → MayStand a → MayFollow rest → old ≡ text a ++ rest
+      → Finds r (λ b. (b ≡ a) × (new ≡ rest))
 
--- the fields that are still to be read, and their values
-abbrev pub members_left : Fields → List (List ℕ × Json)
-members_left fields = map member_view (deque_items fields.left)
+-- What was read is the one that may stand there whose spelling the text is. If it is the spelling of none, nothing is.
+pub record ReadsSpelling {A : Type 0} (spelling : A → List ℕ) (MayStand : A → Type 0) (text : List ℕ) (r : Result A Stop)
+    : Type 0 where
+  pub found : IfOk r (λ a. MayStand a × (text ≡ spelling a))
+  pub all : (a : A) → MayStand a → text ≡ spelling a → Finds r (λ b. b ≡ a)
 
-abbrev pub values_left : Fields → List Json
-values_left fields = values_in (members_left fields)
+-- ---- fields
 
--- ---- what a value is, as it is of one kind
+-- a value that may be kept in a field
+abbrev pub IsKept : {A : Type 0} → (A → Value) → A → Type 0
+IsKept value a = HoldsValue (value a) × IsLawfulValue (value a)
 
-abbrev pub id_in : Json → Option (List ℕ)
-id_in value = option_and_then id_of (text_of value)
+-- the value, behind the name of its field and what else stands before it
+abbrev pub field_text : {A : Type 0} → List ℕ → (A → Value) → A → List ℕ
+field_text front value a = front ++ written (value_json (value a))
 
--- with at most `DEPTH` levels
-abbrev pub tree_in : Json → Option Tree
-tree_in value = if nat_le (depth value) DEPTH then Some (tree_of value) else None
+abbrev pub ReadsField : {A : Type 0} → List ℕ → (A → Value) → List ℕ → Result A Stop → List ℕ → Type 0
+ReadsField front value old r new = Reads (field_text front value) (IsKept value) Ends old r new
 
--- each with at most `DEPTH` levels
-abbrev pub trees_in : Json → Option (List Tree)
-trees_in (array items) = if nat_le (depth_of_elements items) DEPTH then Some (trees_of items) else None
-trees_in other = None
+-- nothing, where there is no value
+abbrev pub optional_text : {A : Type 0} → List ℕ → (A → Value) → Option A → List ℕ
+optional_text front value None = []
+optional_text front value (Some a) = field_text front value a
 
-abbrev pub iri_of : List ℕ → Option (List ℕ)
-iri_of text = if is_iri text then Some text else None
+-- What follows such a field may not look like it.
+abbrev pub MayFollow : List ℕ → List ℕ → Type 0
+MayFollow front rest = Ends rest × ((more : List ℕ) → rest ≡ front ++ more → ⊥)
 
-abbrev pub iri_in : Json → Option (List ℕ)
-iri_in value = option_and_then iri_of (text_of value)
+abbrev pub ReadsOptional : {A : Type 0} → List ℕ → (A → Value) → List ℕ → Result (Option A) Stop → List ℕ → Type 0
+ReadsOptional front value old r new =
+    Reads (optional_text front value) (λ o. IfSome o (IsKept value)) (MayFollow front) old r new
 
--- the bytes that digits spell, in either case
-abbrev pub bytes_in : Json → Option (List ℕ)
-bytes_in value = option_and_then (λ digits. result_ok (decode_of digits)) (text_of value)
+-- the member that identifies, the first of its object
+abbrev pub identifier_text : Ifi → List ℕ
+identifier_text ifi = member_text false (identifier_member ifi).0 (identifier_member ifi).1
 
--- the number below 2 ^ 32 whose decimal digits the spelling is
-unfoldable pub number_of : List ℕ → Option ℕ
-number_of spelling =
-    let n = digits_value 10 spelling in
-    if bytes_eq spelling (decimal n) && nat_lt n (2 ^ 32) then Some n else None
-
-abbrev pub number_in : Json → Option ℕ
-number_in (number spelling) = number_of spelling
-number_in other = None
-
--- its identifier, and the text under `name`
-abbrev pub actor_in : Json → Option Agent
-actor_in value =
-    option_map (λ ifi. record { ifi = ifi; name = text_under (codes "name") value }) (identifier_of value)
-
--- ---- one field after the other
-
-abbrev pub value_first : List Json → Option Json
-value_first [] = None
-value_first (value ∷ values) = Some value
-
--- what the first of the values is
-abbrev pub read_first : {A : Type 0} → (Json → Option A) → List Json → Option A
-read_first read values = option_and_then read (value_first values)
-
--- the first of the members has that name
-abbrev pub is_next : List ℕ → List (List ℕ × Json) → Bool
-is_next name [] = false
-is_next name (member ∷ members) = bytes_eq member.0 name
-
--- what is made of the first of the members and of those after it
-abbrev pub from_next : {A B : Type 0} → (Json → Option A) → List (List ℕ × Json)
-    → (A → List (List ℕ × Json) → Option B) → Option B
-from_next read members make = option_and_then (λ a. make a (drop 1 members)) (read_first read (values_in members))
-
--- what a member of that name is, which may be missing: no value then; None where it is of another kind
-abbrev pub optional_in : {A : Type 0} → List ℕ → (Json → Option A) → List (List ℕ × Json) → Option (Option A)
-optional_in name read members =
-    if is_next name members then option_map Some (read_first read (values_in members)) else Some None
-
-abbrev pub behind_optional : List ℕ → List (List ℕ × Json) → List (List ℕ × Json)
-behind_optional name members = if is_next name members then drop 1 members else members
-
--- what is made of such a member and of those after it
-abbrev pub from_optional : {A B : Type 0} → List ℕ → (Json → Option A) → List (List ℕ × Json)
-    → (Option A → List (List ℕ × Json) → Option B) → Option B
-from_optional name read members make =
-    option_and_then (λ found. make found (behind_optional name members)) (optional_in name read members)
+-- behind these bytes, and the last
+abbrev pub enclosed_text : List ℕ → Ifi → List ℕ
+enclosed_text front ifi = front ++ (identifier_text ifi ++ 125 ∷ [])

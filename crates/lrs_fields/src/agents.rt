@@ -1,20 +1,20 @@
-// An agent's text: of its identifier alone, and of a learner with a name. What is read of the latter.
-ghost use Rattle.std.specs.Prelude.{◌≡◌, ◌++◌, true, OnOk, IfOk, IfSome, IsUtf8, codes};
+// An agent's text: of its identifier alone, and of a learner with a name, written and read.
+ghost use Rattle.std.specs.Prelude.{◌≡◌, ◌++◌, true, OnOk, IfSome, IsUtf8, codes};
 ghost use Rattle.std.specs.List.{flat_map};
 ghost use Rattle.lrs_agents.specs.Identifiers.{account_json, identifier_json};
 ghost use Rattle.lrs_agent_texts.specs.Texts.{agent_json, identifier_member, text_given};
-ghost use Rattle.lrs_fields.specs.Reading.{actor_in};
+ghost use Rattle.lrs_decimal.specs.Numbers.{Ends};
+ghost use Rattle.lrs_fields.specs.Reading.{Reads, enclosed_text, identifier_text};
 ghost use Rattle.lrs_fields.specs.Values.{HoldsActor, HoldsAgent};
 ghost use Rattle.lrs_json.specs.Texts.{member_text};
-ghost use Rattle.lrs_json.specs.View.{view};
 ghost use Rattle.lrs_json.specs.Written.{Extends, written};
-ghost use Rattle.lrs_names.specs.Members.{text_under};
 
+use crate::fields::{optional_text_behind, text_behind};
 use lrs_agents::{Agent, Ifi};
 use lrs_json::appending::{put, put_name, put_text};
-use lrs_json::{Memory, Text, Tree};
-use lrs_names::text_under;
-use std::alloc::Global;
+use lrs_json::{Memory, Text};
+use lrs_json_reader::Stop;
+use lrs_json_written::{Cursor, read_text};
 
 /// An object with the identifier alone.
 pub fn put_agent(agent: &Ifi, into: &mut Vec<u8>) -> Result<(), Memory>
@@ -91,22 +91,50 @@ fn put_home(home: &Text, name: &Text, into: &mut Vec<u8>) -> Result<(), Memory>
     put(b"}", into)
 }
 
-/// The agent that the tree tells of.
-pub fn actor_of(alloc: Global, tree: &Tree) -> Result<Option<Agent>, Memory>
-    ensures { IfOk result (λ actor. actor ≡ actor_in (view tree.now)) }
+/// An object with what an agent is, its name, if it has one, and its identifier.
+pub fn actor(cursor: &mut Cursor<'_>) -> Result<Agent, Stop>
+    ensures { Reads (λ actor. written (agent_json actor)) HoldsActor Ends cursor.old result cursor.new }
 {
-    let name = name_of(alloc, tree)?;
-    match Ifi::of(alloc, tree)? {
-        Some(ifi) => Ok(Some(Agent { ifi, name })),
-        None => Ok(None),
-    }
+    cursor.word(b"{\"objectType\":\"Agent\"")?;
+    let name = optional_text_behind(b",\"name\":", cursor)?;
+    let ifi = enclosed(b",", cursor)?;
+    Ok(Agent { ifi, name })
 }
 
-fn name_of(alloc: Global, tree: &Tree) -> Result<Option<Text>, Memory>
-    ensures { IfOk result (λ name. name ≡ text_under (codes "name") (view tree.now)) }
+/// The member that identifies, behind these bytes, and a closing brace.
+pub fn enclosed(front: &[u8], cursor: &mut Cursor<'_>) -> Result<Ifi, Stop>
+    ensures { Reads (enclosed_text front.now) HoldsAgent Ends cursor.old result cursor.new }
 {
-    match text_under(tree, "name") {
-        Some(name) => Ok(Some(Text::of(alloc, name.as_str())?)),
-        None => Ok(None),
+    cursor.word(front)?;
+    let ifi = identifier(cursor)?;
+    cursor.word(b"}")?;
+    Ok(ifi)
+}
+
+fn identifier(cursor: &mut Cursor<'_>) -> Result<Ifi, Stop>
+    ensures { Reads identifier_text HoldsAgent Ends cursor.old result cursor.new }
+{
+    if cursor.take(b"\"account\":") {
+        let (home, name) = account(cursor)?;
+        return Ok(Ifi::Account { home, name });
     }
+    if cursor.take(b"\"mbox\":") {
+        return Ok(Ifi::Mbox(read_text(cursor)?));
+    }
+    if cursor.take(b"\"mbox_sha1sum\":") {
+        return Ok(Ifi::MboxSha1(read_text(cursor)?));
+    }
+    cursor.word(b"\"openid\":")?;
+    Ok(Ifi::OpenId(read_text(cursor)?))
+}
+
+// A home page and a name.
+fn account(cursor: &mut Cursor<'_>) -> Result<(Text, Text), Stop>
+    ensures { Reads (λ own. written (account_json own.0 own.1)) (λ own. IsUtf8 own.0 × IsUtf8 own.1) Ends
+        cursor.old result cursor.new }
+{
+    let home = text_behind(b"{\"homePage\":", cursor)?;
+    let name = text_behind(b",\"name\":", cursor)?;
+    cursor.word(b"}")?;
+    Ok((home, name))
 }

@@ -1,13 +1,18 @@
-// The digits of draws, of words and of numbers.
-ghost use Rattle.std.specs.Prelude.{◌≡◌, length};
+// The digits of draws, of words, of ids, of bytes and of numbers.
+ghost use Rattle.std.specs.Prelude.{◌≡◌, ◌↔◌, length, IfOk, IsTrue};
 ghost use Rattle.std.specs.Fmt.{decimal};
-ghost use Rattle.std.specs.Str.{bytes_eq};
+ghost use Rattle.hex.specs.Hex.{IsBytes, encode_lower};
 ghost use Rattle.lrs_fields.specs.Digits.{HoldsDraw, draw_of, draw_text, word_of, word_text};
-ghost use Rattle.lrs_fields.specs.Reading.{number_of};
+ghost use Rattle.lrs_fields.specs.Reading.{IsKept, ReadsSpelling};
+ghost use Rattle.lrs_fields.specs.Values.{number_value};
+ghost use Rattle.lrs_names.specs.Ids.{IsId, id_text};
 
-use hex::{decode_to_slice, encode_to_slice};
+use hex::{FromHexError, decode, decode_to_slice, encode, encode_to_slice};
 use itoa::Buffer;
-use lrs_names::Draw;
+use lrs_json::{Items, Memory};
+use lrs_json_reader::Stop;
+use lrs_names::{Draw, Id};
+use std::alloc::Global;
 
 /// The draw as 64 lower-case hexadecimal digits.
 pub fn draw_digits(draw: Draw) -> [u8; 64]
@@ -33,8 +38,22 @@ pub fn put_word(word: u128, digits: &mut [u8])
     }
 }
 
-/// The draw of 64 hexadecimal digits, in either case.
-pub fn draw_of(digits: &[u8]) -> Option<Draw>
+/// The draw of 64 lower-case hexadecimal digits.
+pub fn draw_of(digits: &[u8]) -> Result<Draw, Stop>
+    ensures { ReadsSpelling draw_text HoldsDraw digits.now result }
+{
+    match decoded(digits) {
+        Some(draw) => if are_same(digits, &draw_digits(draw)) {
+            Ok(draw)
+        } else {
+            Err(Stop::Bad)
+        },
+        None => Err(Stop::Bad),
+    }
+}
+
+// The draw of 64 hexadecimal digits, in either case.
+fn decoded(digits: &[u8]) -> Option<Draw>
     ensures { result ≡ draw_of digits.now }
 {
     if digits.len() != 64 {
@@ -57,23 +76,79 @@ fn word_of(digits: &[u8]) -> Option<u128>
     }
 }
 
+/// The id of that text, in lower case.
+pub fn id_of(text: &[u8]) -> Result<Id, Stop>
+    ensures { ReadsSpelling id_text IsId text.now result }
+{
+    match Id::read(text) {
+        Some(id) => if are_same(text, &id.text()) {
+            Ok(id)
+        } else {
+            Err(Stop::Bad)
+        },
+        None => Err(Stop::Bad),
+    }
+}
+
+/// The bytes of lower-case hexadecimal digits.
+pub fn bytes_of(alloc: Global, digits: &[u8]) -> Result<Items<u8>, Stop>
+    ensures { ReadsSpelling encode_lower IsBytes digits.now result }
+{
+    match decode(alloc, digits) {
+        Ok(bytes) => match are_digits_of(alloc, bytes.as_slice(), digits) {
+            Ok(true) => Ok(Items::from_vec(bytes)),
+            Ok(false) => {
+                drop(bytes);
+                Err(Stop::Bad)
+            }
+            Err(refused) => {
+                drop(bytes);
+                Err(Stop::from(refused))
+            }
+        },
+        Err(error) => Err(stop_of(error)),
+    }
+}
+
+fn stop_of(error: FromHexError) -> Stop
+    ensures { error ≡ FromHexError.OutOfMemory → result ≡ Stop.Memory }
+{
+    match error {
+        FromHexError::OutOfMemory => Stop::Memory,
+        _ => Stop::Bad,
+    }
+}
+
+fn are_digits_of(alloc: Global, bytes: &[u8], digits: &[u8]) -> Result<bool, Memory>
+    ensures { IfOk result (λ are. IsTrue are ↔ (digits.now ≡ encode_lower bytes.now)) }
+{
+    let own = encode(alloc, bytes)?;
+    Ok(are_same(digits, own.as_bytes()))
+}
+
+fn are_same(one: &[u8], other: &[u8]) -> bool
+    ensures { IsTrue result ↔ (one.now ≡ other.now) }
+{
+    one == other
+}
+
 /// The number whose decimal digits these are.
-pub fn number_of(spelling: &str) -> Option<u32>
-    ensures { result ≡ number_of spelling.now }
+pub fn number_of(spelling: &str) -> Result<u32, Stop>
+    ensures { ReadsSpelling decimal (IsKept number_value) spelling.now result }
 {
     match spelling.parse::<u32>() {
         Ok(number) => if is_printed(number, spelling) {
-            Some(number)
+            Ok(number)
         } else {
-            None
+            Err(Stop::Bad)
         },
-        Err(_) => None,
+        Err(_) => Err(Stop::Bad),
     }
 }
 
 // Whether these are the digits of the number, without zeros or a sign before them.
 fn is_printed(number: u32, spelling: &str) -> bool
-    ensures { result ≡ bytes_eq spelling.now (decimal number) }
+    ensures { IsTrue result ↔ (spelling.now ≡ decimal number) }
 {
     let mut buffer = Buffer::new();
     spelling == buffer.format(number)

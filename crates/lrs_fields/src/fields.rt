@@ -1,233 +1,123 @@
-//! How the fields of a write are read, one after the other.
-ghost use Rattle.std.specs.Prelude.{◌≡◌, ℕ, List, drop, option_map, IfOk, IfSome, MatchOption};
-ghost use Rattle.std.specs.List.{AllByRecursion};
-ghost use Rattle.lrs_agents.specs.Identifiers.{identifier_of};
-ghost use Rattle.lrs_fields.specs.Reading.{actor_in, behind_optional, bytes_in, id_in, iri_in, is_next, members_left, number_in, optional_in, read_first, tree_in, trees_in, value_first, values_left};
-ghost use Rattle.lrs_fields.specs.Values.{AreLawfulTrees, IsLawfulTree};
-ghost use Rattle.lrs_json.specs.Fits.{Fits};
-ghost use Rattle.lrs_json.specs.Json.{Json, object};
-ghost use Rattle.lrs_json.specs.View.{members_of, view};
-ghost use Rattle.lrs_names.specs.Members.{text_of};
+//! How the values of fields are read, each behind the bytes that stand before it. Bytes that aren't the text of a value
+//! are refused at the first that differs.
+ghost use Rattle.std.specs.Prelude.{IsTrue};
+ghost use Rattle.lrs_fields.specs.Reading.{ReadsField, ReadsOptional, ReadsSpelling};
+ghost use Rattle.lrs_fields.specs.Values.{actor_value, agent_value, bytes_value, id_value, iri_value, number_value, text_value, tree_value, trees_value};
+ghost use Rattle.lrs_names.specs.Iris.{is_iri};
 
-use crate::agents::actor_of;
-use crate::depth::{are_within, is_within};
-use crate::digits::number_of;
-use crate::members::members;
-use hex::{FromHexError, decode};
+use crate::agents::{actor, enclosed};
+use crate::digits::{bytes_of, id_of, number_of};
 use lrs_agents::{Agent, Ifi};
-use lrs_json::{DEPTH, Items, Member, Memory, Text, Tree};
+use lrs_json::{DEPTH, Items, Text, Tree};
+use lrs_json_reader::Stop;
+use lrs_json_written::{Cursor, read_text, read_tree, read_trees};
 use lrs_names::{Id, Iri};
-use std::alloc::Global;
-use std::collections::VecDeque;
 
-/// The fields of a write that are still to be read. Their names aren't looked at: the bytes are compared with the text
-/// of the entry that is read.
-#[derive(Drop)]
-pub struct Fields {
-    left: VecDeque<Member>,
+pub fn text_behind(front: &[u8], cursor: &mut Cursor<'_>) -> Result<Text, Stop>
+    ensures { ReadsField front.now text_value cursor.old result cursor.new }
+{
+    cursor.word(front)?;
+    read_text(cursor)
 }
 
-// A method named by a kind takes the next field, and gives its value if it is of that kind. One for a name that may be
-// missing takes the next field only if it has that name.
-impl Fields {
-    /// The members of the tree, if it is an object.
-    pub fn of(tree: Tree) -> Option<Fields>
-        requires { Fits (view tree) }
-        ensures fit { IfSome result (λ left. AllByRecursion Fits (values_left left)) }
-        ensures found { IfSome result (λ left. view tree ≡ object (members_of (members_left left))) }
-        ensures all { (fields : List (List ℕ × Json)) → view tree ≡ object (members_of fields)
-            → MatchOption result ⊥ (λ left. members_left left ≡ fields) }
-    {
-        let left = VecDeque::from(members(tree)?);
-        Some(Fields { left })
-    }
+pub fn id_behind(front: &[u8], cursor: &mut Cursor<'_>) -> Result<Id, Stop>
+    ensures { ReadsField front.now id_value cursor.old result cursor.new }
+{
+    let text = text_behind(front, cursor)?;
+    id_of(text.as_bytes())
+}
 
-    // The value of the next field, whatever it is.
-    fn next(&mut self) -> Option<Tree>
-        requires { AllByRecursion Fits (values_left self.old) }
-        ensures first { option_map view result ≡ value_first (values_left self.old) }
-        ensures rest { members_left self.new ≡ drop 1 (members_left self.old) }
-        ensures fits { IfSome result (λ tree. Fits (view tree)) }
-        ensures fit { AllByRecursion Fits (values_left self.new) }
-    {
-        let Member { name: _, value } = self.left.pop_front()?;
-        Some(value)
-    }
+pub fn iri_behind(front: &[u8], cursor: &mut Cursor<'_>) -> Result<Iri, Stop>
+    ensures { ReadsField front.now iri_value cursor.old result cursor.new }
+{
+    let text = text_behind(front, cursor)?;
+    iri_of(text)
+}
 
-    pub fn text(&mut self) -> Option<Text>
-        requires { AllByRecursion Fits (values_left self.old) }
-        ensures is { result ≡ read_first text_of (values_left self.old) }
-        ensures rest { members_left self.new ≡ drop 1 (members_left self.old) }
-        ensures fit { AllByRecursion Fits (values_left self.new) }
-    {
-        match self.next()? {
-            Tree::Words(text) => Some(text),
-            _ => None,
+/// Bytes, spelled in lower-case hexadecimal digits.
+pub fn bytes_behind(front: &[u8], cursor: &mut Cursor<'_>) -> Result<Items<u8>, Stop>
+    ensures { ReadsField front.now bytes_value cursor.old result cursor.new }
+{
+    let digits = text_behind(front, cursor)?;
+    bytes_of(cursor.allocator(), digits.as_bytes())
+}
+
+/// A number, spelled in decimal digits alone.
+pub fn number_behind(front: &[u8], cursor: &mut Cursor<'_>) -> Result<u32, Stop>
+    ensures { ReadsField front.now number_value cursor.old result cursor.new }
+{
+    cursor.word(front)?;
+    let spelling = cursor.number()?;
+    number_of(spelling.as_str())
+}
+
+pub fn tree_behind(front: &[u8], cursor: &mut Cursor<'_>) -> Result<Tree, Stop>
+    ensures { ReadsField front.now tree_value cursor.old result cursor.new }
+{
+    cursor.word(front)?;
+    read_tree(cursor, DEPTH)
+}
+
+pub fn trees_behind(front: &[u8], cursor: &mut Cursor<'_>) -> Result<Items<Tree>, Stop>
+    ensures { ReadsField front.now trees_value cursor.old result cursor.new }
+{
+    cursor.word(front)?;
+    read_trees(cursor, DEPTH)
+}
+
+/// The identifier of an object with the identifier alone.
+pub fn agent_behind(front: &[u8], cursor: &mut Cursor<'_>) -> Result<Ifi, Stop>
+    ensures { ReadsField front.now agent_value cursor.old result cursor.new }
+{
+    cursor.word(front)?;
+    enclosed(b"{", cursor)
+}
+
+pub fn actor_behind(front: &[u8], cursor: &mut Cursor<'_>) -> Result<Agent, Stop>
+    ensures { ReadsField front.now actor_value cursor.old result cursor.new }
+{
+    cursor.word(front)?;
+    actor(cursor)
+}
+
+/// The id, if the bytes before it come next.
+pub fn optional_id_behind(front: &[u8], cursor: &mut Cursor<'_>) -> Result<Option<Id>, Stop>
+    ensures { ReadsOptional front.now id_value cursor.old result cursor.new }
+{
+    if cursor.take(front) {
+        return Ok(Some(id_behind(b"", cursor)?));
+    }
+    Ok(None)
+}
+
+/// The text, if the bytes before it come next.
+pub fn optional_text_behind(front: &[u8], cursor: &mut Cursor<'_>) -> Result<Option<Text>, Stop>
+    ensures { ReadsOptional front.now text_value cursor.old result cursor.new }
+{
+    if cursor.take(front) {
+        return Ok(Some(text_behind(b"", cursor)?));
+    }
+    Ok(None)
+}
+
+/// The IRI, if the bytes before it come next.
+pub fn optional_iri_behind(front: &[u8], cursor: &mut Cursor<'_>) -> Result<Option<Iri>, Stop>
+    ensures { ReadsOptional front.now iri_value cursor.old result cursor.new }
+{
+    if cursor.take(front) {
+        return Ok(Some(iri_behind(b"", cursor)?));
+    }
+    Ok(None)
+}
+
+fn iri_of(text: Text) -> Result<Iri, Stop>
+    ensures { ReadsSpelling (λ iri. iri) (λ iri. IsTrue (is_iri iri)) text result }
+{
+    match Iri::read(text) {
+        Ok(iri) => Ok(iri),
+        Err(text) => {
+            drop(text);
+            Err(Stop::Bad)
         }
-    }
-
-    pub fn id(&mut self) -> Option<Id>
-        requires { AllByRecursion Fits (values_left self.old) }
-        ensures is { result ≡ read_first id_in (values_left self.old) }
-        ensures rest { members_left self.new ≡ drop 1 (members_left self.old) }
-        ensures fit { AllByRecursion Fits (values_left self.new) }
-    {
-        Id::read(self.text()?.as_bytes())
-    }
-
-    pub fn tree(&mut self) -> Option<Tree>
-        requires { AllByRecursion Fits (values_left self.old) }
-        ensures is { result ≡ read_first tree_in (values_left self.old) }
-        ensures rest { members_left self.new ≡ drop 1 (members_left self.old) }
-        ensures fit { AllByRecursion Fits (values_left self.new) }
-        ensures lawful { IfSome result (λ tree. IsLawfulTree (view tree)) }
-    {
-        let tree = self.next()?;
-        if is_within(&tree, DEPTH) {
-            Some(tree)
-        } else {
-            None
-        }
-    }
-
-    pub fn trees(&mut self) -> Option<Items<Tree>>
-        requires { AllByRecursion Fits (values_left self.old) }
-        ensures is { result ≡ read_first trees_in (values_left self.old) }
-        ensures rest { members_left self.new ≡ drop 1 (members_left self.old) }
-        ensures fit { AllByRecursion Fits (values_left self.new) }
-        ensures lawful { IfSome result AreLawfulTrees }
-    {
-        match self.next()? {
-            Tree::List(trees) => {
-                if are_within(trees.as_slice(), DEPTH) {
-                    Some(trees)
-                } else {
-                    None
-                }
-            }
-            _ => None,
-        }
-    }
-
-    // Whether the next field has that name.
-    fn is_next(&self, name: &str) -> bool
-        ensures { result ≡ is_next name.now (members_left self.now) }
-    {
-        match self.left.front() {
-            Some(member) => member.name.as_str() == name,
-            None => false,
-        }
-    }
-
-    pub fn iri(&mut self) -> Option<Iri>
-        requires { AllByRecursion Fits (values_left self.old) }
-        ensures is { result ≡ read_first iri_in (values_left self.old) }
-        ensures rest { members_left self.new ≡ drop 1 (members_left self.old) }
-        ensures fit { AllByRecursion Fits (values_left self.new) }
-    {
-        Iri::read(self.text()?).ok()
-    }
-
-    /// The identifier of an object with the identifier alone.
-    pub fn agent(&mut self, alloc: Global) -> Result<Option<Ifi>, Memory>
-        requires { AllByRecursion Fits (values_left self.old) }
-        ensures is { IfOk result (λ agent. agent ≡ read_first identifier_of (values_left self.old)) }
-        ensures rest { members_left self.new ≡ drop 1 (members_left self.old) }
-        ensures fit { AllByRecursion Fits (values_left self.new) }
-    {
-        match self.next() {
-            Some(tree) => {
-                let agent = Ifi::of(alloc, &tree);
-                drop(tree);
-                agent
-            }
-            None => Ok(None),
-        }
-    }
-
-    /// The identifier and the name of an agent, whatever else stands there.
-    pub fn actor(&mut self, alloc: Global) -> Result<Option<Agent>, Memory>
-        requires { AllByRecursion Fits (values_left self.old) }
-        ensures is { IfOk result (λ actor. actor ≡ read_first actor_in (values_left self.old)) }
-        ensures rest { members_left self.new ≡ drop 1 (members_left self.old) }
-        ensures fit { AllByRecursion Fits (values_left self.new) }
-    {
-        match self.next() {
-            Some(tree) => {
-                let actor = actor_of(alloc, &tree);
-                drop(tree);
-                actor
-            }
-            None => Ok(None),
-        }
-    }
-
-    /// The bytes that hexadecimal digits spell.
-    pub fn bytes(&mut self, alloc: Global) -> Result<Option<Items<u8>>, Memory>
-        requires { AllByRecursion Fits (values_left self.old) }
-        ensures is { IfOk result (λ bytes. bytes ≡ read_first bytes_in (values_left self.old)) }
-        ensures rest { members_left self.new ≡ drop 1 (members_left self.old) }
-        ensures fit { AllByRecursion Fits (values_left self.new) }
-    {
-        let Some(digits) = self.text() else {
-            return Ok(None);
-        };
-        match decode(alloc, digits.as_bytes()) {
-            Ok(bytes) => Ok(Some(Items::from_vec(bytes))),
-            Err(FromHexError::OutOfMemory) => Err(Memory),
-            Err(_) => Ok(None),
-        }
-    }
-
-    /// The number that its decimal digits alone spell.
-    pub fn number(&mut self) -> Option<u32>
-        requires { AllByRecursion Fits (values_left self.old) }
-        ensures is { result ≡ read_first number_in (values_left self.old) }
-        ensures rest { members_left self.new ≡ drop 1 (members_left self.old) }
-        ensures fit { AllByRecursion Fits (values_left self.new) }
-    {
-        match self.next()? {
-            Tree::Number(spelling) => number_of(spelling.as_str()),
-            _ => None,
-        }
-    }
-
-    /// The id under a name that may be missing; None where it is no id.
-    pub fn optional_id(&mut self, name: &str) -> Option<Option<Id>>
-        requires { AllByRecursion Fits (values_left self.old) }
-        ensures is { result ≡ optional_in name.now id_in (members_left self.old) }
-        ensures rest { members_left self.new ≡ behind_optional name.now (members_left self.old) }
-        ensures fit { AllByRecursion Fits (values_left self.new) }
-    {
-        if !self.is_next(name) {
-            return Some(None);
-        }
-        Some(Some(self.id()?))
-    }
-
-    /// The text under a name that may be missing; None where it is no text.
-    pub fn optional_text(&mut self, name: &str) -> Option<Option<Text>>
-        requires { AllByRecursion Fits (values_left self.old) }
-        ensures is { result ≡ optional_in name.now text_of (members_left self.old) }
-        ensures rest { members_left self.new ≡ behind_optional name.now (members_left self.old) }
-        ensures fit { AllByRecursion Fits (values_left self.new) }
-    {
-        if !self.is_next(name) {
-            return Some(None);
-        }
-        Some(Some(self.text()?))
-    }
-
-    /// The IRI under a name that may be missing; None where it is no IRI.
-    pub fn optional_iri(&mut self, name: &str) -> Option<Option<Iri>>
-        requires { AllByRecursion Fits (values_left self.old) }
-        ensures is { result ≡ optional_in name.now iri_in (members_left self.old) }
-        ensures rest { members_left self.new ≡ behind_optional name.now (members_left self.old) }
-        ensures fit { AllByRecursion Fits (values_left self.new) }
-    {
-        if !self.is_next(name) {
-            return Some(None);
-        }
-        Some(Some(self.iri()?))
     }
 }

@@ -33,7 +33,7 @@ pub Paired-Ends : (ms : Members) (bs rest : List ℕ) → Paired true ms bs rest
 Paired-Ends no_members bs rest l = Spaces-Ends bs rest 125 refl l
 Paired-Ends (member left k p ms) bs rest l = Spaces-Ends bs l.0 44 refl l.6
 
-digit_not : (b c : ℕ) → IsTrue (begins_number b) → begins_number c ≡ false → b ≢ c
+pub digit_not : (b c : ℕ) → IsTrue (begins_number b) → begins_number c ≡ false → b ≢ c
 digit_not b c d f e = true≢false (sym d ∙ ap begins_number e ∙ f)
 
 starts_not_93 : (p : Placed) (b : ℕ) → Starts p b → b ≢ 93

@@ -7,7 +7,6 @@ pub mod FirstBytes
 pub mod Readings
 pub mod Ends
 pub mod Noting
-pub mod Fitted
 pub mod Lists
 pub mod Objects
 pub mod Names
@@ -17,3 +16,4 @@ pub mod Escapes
 pub mod WrittenLemmas
 pub mod Judgement
 pub mod Rereads
+pub mod Alike

@@ -85,7 +85,7 @@ elements-done : (js : List Json) → before_elements js no_elements ≡ elements
 elements-done [] = refl
 elements-done (j ∷ js) = ap (element j) (elements-done js)
 
-elements_Ends : (more : Elements) (rest : List ℕ) → Ends (elements_text true more ++ rest)
+pub elements_Ends : (more : Elements) (rest : List ℕ) → Ends (elements_text true more ++ rest)
 elements_Ends no_elements rest = refl
 elements_Ends (element j js) rest = refl
 
@@ -130,7 +130,7 @@ list_some : (all : Elements) (here rest : List ℕ) → AreSpellableElements all
 list_some no_elements here rest ok none e = absurd (none rest e)
 list_some (element j js) here rest ok none e = (j, js, refl, (ok.0, e ∙ append_assoc (written j) (elements_text true js) rest), ok.1)
 
-tail_same : (b : ℕ) (xs ys : List ℕ) → b ∷ xs ≡ b ∷ ys → xs ≡ ys
+pub tail_same : (b : ℕ) (xs ys : List ℕ) → b ∷ xs ≡ b ∷ ys → xs ≡ ys
 tail_same b xs ys e = cc e
 
 pub list_begun : (start more mid here : List ℕ) (comes : Bool) → start ≡ 91 ∷ more → mid ≡ drop 1 start → MatchBool comes (mid ≡ (93 ∷ []) ++ here) ((here ≡ mid) × ((rest : List ℕ) → mid ≡ (93 ∷ []) ++ rest → ⊥)) → ListAgain start (not comes) [] here
@@ -169,7 +169,7 @@ members-done : (ms : List (List ℕ × Json)) → before_members ms no_members �
 members-done [] = refl
 members-done (m ∷ ms) = ap (member m.0 m.1) (members-done ms)
 
-members_Ends : (more : Members) (rest : List ℕ) → Ends (members_text true more ++ rest)
+pub members_Ends : (more : Members) (rest : List ℕ) → Ends (members_text true more ++ rest)
 members_Ends no_members rest = refl
 members_Ends (member k j ms) rest = refl
 

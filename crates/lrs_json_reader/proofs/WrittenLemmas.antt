@@ -1,4 +1,4 @@
--- What is written from a value that fits is a text of it, and what some text spells fits.
+-- What is written from a value that fits is a text of it, and what some text spells fits. What fits can be spelled.
 use Rattle.std.proofs.Common.{◌≡◌, ℕ, length, if◌then◌else◌, IsUtf8, List, [], ◌∷◌, ◌++◌, Bool, true, false, refl, sym, ap, subst, append_assoc}
 use Rattle.std.proofs.lemmas.List.{append-nil}
 use Rattle.std.specs.List.{flat_map}
@@ -136,7 +136,7 @@ mutual
 
 -- what can be read can be spelled
 mutual
-  Fits-IsSpellable : (j : Json) → Fits j → IsSpellable j
+  pub Fits-IsSpellable : (j : Json) → Fits j → IsSpellable j
   Fits-IsSpellable null f = tt
   Fits-IsSpellable (boolean b) f = tt
   Fits-IsSpellable (number s) f = f.0

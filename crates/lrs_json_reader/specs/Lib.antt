@@ -3,7 +3,6 @@ pub mod Placed
 pub mod Grammar
 pub mod Brackets
 pub mod Flaws
-pub mod Fitting
 pub mod Refusals
 pub mod Steps
 pub mod Reading

@@ -55,7 +55,7 @@ impl From<AllocError> for Stop {
     }
 }
 
-/// The bytes that are left to read. Contracts see them as a list.
+/// The bytes that are left to read. Contracts see them as a list. After an `Err` it may stand anywhere.
 #[derive(Drop)]
 pub struct Cursor<'a> {
     left: &'a [u8],
@@ -71,6 +71,7 @@ impl<'a> Model for Cursor<'a> {
 }
 
 impl<'a> Cursor<'a> {
+    /// Before all of these bytes. The texts that it reads are copied with that allocator.
     pub fn new(alloc: Global, bytes: &'a [u8]) -> Cursor<'a>
         ensures { result ≡ bytes.now }
     {
@@ -79,22 +80,26 @@ impl<'a> Cursor<'a> {
 }
 
 impl Cursor<'_> {
+    /// The one that it was made with.
     pub fn allocator(&self) -> Global {
         self.alloc
     }
 
+    /// How many bytes are left.
     pub fn len(&self) -> usize
         ensures { result ≡ length self.now }
     {
         self.left.len()
     }
 
+    /// Whether none is left.
     pub fn is_empty(&self) -> bool
         ensures { IsTrue result ↔ (self.now ≡ []) }
     {
         self.left.is_empty()
     }
 
+    /// The byte that comes next.
     pub fn first(&self) -> Option<u8>
         ensures { MatchOption result (self.now ≡ []) (λ b. (rest : List ℕ) × (self.now ≡ b ∷ rest)) }
     {
@@ -109,6 +114,7 @@ impl Cursor<'_> {
         self.left = &self.left[by..];
     }
 
+    /// Steps over white space (RFC 8259, section 2).
     pub fn skip_spaces(&mut self)
         ensures { self.new ≡ drop (prefix_len is_space self.old) self.old }
     {
@@ -127,6 +133,7 @@ impl Cursor<'_> {
         comes
     }
 
+    /// Steps over the word, which must come next.
     pub fn word(&mut self, word: &[u8]) -> Result<(), Stop>
         ensures found { OnOk result (self.old ≡ word.now ++ self.new) }
         ensures all { (rest : List ℕ) → self.old ≡ word.now ++ rest → Finds result (λ _. self.new ≡ rest) }
@@ -178,6 +185,7 @@ impl Cursor<'_> {
         number_len(self.left)
     }
 
+    /// Reads a number (RFC 8259, section 6) as it is spelled.
     pub fn number(&mut self) -> Result<Text, Stop>
         ensures found { IfOk result (λ t. (self.old ≡ t ++ self.new) × IsNumber t) }
         ensures all { (s rest : List ℕ) → self.old ≡ s ++ rest → IsNumber s → Ends rest
@@ -189,6 +197,7 @@ impl Cursor<'_> {
         self.text(n)
     }
 
+    /// Reads a string (RFC 8259, section 7): the text that it stands for.
     pub fn quoted(&mut self) -> Result<Text, Stop>
         ensures found { IfOk result (λ t. Quoted t self.old self.new) }
         ensures all { (text rest : List ℕ) → Quoted text self.old rest

@@ -3,14 +3,14 @@
 
 mod cursor;
 mod depth;
-mod fitting;
 mod naming;
 mod reader;
 mod reading;
 mod rereading;
 mod strings;
 
+pub use cursor::{Cursor, Stop};
 pub use depth::is_too_deep;
-pub use fitting::fits;
+pub use naming::{FEW_MEMBERS, is_named};
 pub use reading::{ReadRefused, read, read_to};
 pub use rereading::reread;

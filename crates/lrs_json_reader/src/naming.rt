@@ -6,10 +6,10 @@ ghost use Rattle.lrs_json.specs.View.{member_view};
 use lrs_json::Member;
 
 /// A set of the names pays only where an object has more members than so many.
-pub(crate) const FEW: usize = 16;
+pub const FEW_MEMBERS: usize = 16;
 
 /// Whether one of the members has the name.
-pub(crate) fn is_named(members: &[Member], name: &str) -> bool
+pub fn is_named(members: &[Member], name: &str) -> bool
     ensures { result ≡ is_among name.now (map (λ m. (member_view m).0) members.now) }
 {
     for member in members {

@@ -5,7 +5,7 @@ ghost use Rattle.lrs_json_reader.specs.Placed.{number};
 ghost use Rattle.lrs_json_reader.specs.Reading.{no_places, noted, ReadsWord, ReadsString, ReadsNumber, ReadsValue, ReadsMember, repeated_among};
 
 use crate::cursor::{Cursor, Stop};
-use crate::naming::{FEW, is_named};
+use crate::naming::{FEW_MEMBERS, is_named};
 use lrs_decimal::is_in_range;
 use lrs_json::{Items, Member, Memory, Number, Text, Tree};
 use std::alloc::Global;
@@ -183,7 +183,7 @@ fn earliest_repeated(
 ) -> Result<Option<usize>, Memory>
     ensures { IfOk result (λ r. r ≡ earliest (repeated_among [] (map (λ m. (member_view m).0) members.now) lefts.now)) }
 {
-    if members.len() <= FEW {
+    if members.len() <= FEW_MEMBERS {
         Ok(earliest_of_few(members, lefts))
     } else {
         earliest_of_many(alloc, members, lefts)

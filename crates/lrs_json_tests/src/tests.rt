@@ -2,7 +2,8 @@ ghost use Rattle.std.specs.Prelude.{◌≤◌};
 
 use lrs_json::{Items, Memory, Text, Tree, is_written, write};
 use lrs_json_equal::same_value;
-use lrs_json_reader::{ReadRefused, fits, read, read_to, reread};
+use lrs_json_reader::{ReadRefused, Stop, read, read_to, reread};
+use lrs_json_written::{Cursor, read_tree};
 use std::alloc::Global;
 
 // Whether the written form of what is read is that text.
@@ -213,18 +214,75 @@ fn of_what_is_no_written_form_some_tree_is_read(rt: HostRuntime) {
     assert_eq!(rt; unread(rt.alloc()), None);
 }
 
-// Trees, how deep they may nest, and whether they fit. Behind 16 members their names are compared otherwise.
-const FITTING: [(&str, u32, bool); 13] = [
-    ("1", 0, true),
+// Texts, how deep they may nest, and whether the whole text is read as the written form of a tree. Behind 16 members
+// their names are compared otherwise.
+const READ_BACK: [(&str, u32, bool); 63] = [
+    ("null", 0, true),
+    ("true", 0, true),
+    ("false", 0, true),
+    ("-1.50e+7", 0, true),
+    ("\"\"", 0, true),
+    ("\"\u{e9}\u{20ac}\u{1F600}\u{7f}/\"", 0, true),
+    ("\"a\\\"b\\\\c\\b\\f\\n\\r\\td\"", 0, true),
+    ("\"\\u0000\\u001f\"", 0, true),
+    ("[]", 1, true),
+    ("{}", 1, true),
+    ("[[1],{}]", 2, true),
+    ("[null,true,\"\",[],{\"\":{}}]", 3, true),
+    ("{\"b\":1,\"a\":{\"b\":2}}", 2, true),
+    ("{\"\\n\":1,\"n\":1}", 1, true),
+    // one level too deep
     ("[]", 0, false),
     ("{}", 0, false),
-    ("[[1],{}]", 2, true),
     ("[[1],{}]", 1, false),
-    ("{\"a\":{\"b\":[]}}", 3, true),
     ("{\"a\":{\"b\":[]}}", 2, false),
-    ("{\"a\":1,\"b\":{\"a\":2}}", 2, true),
+    ("{\"a\":{\"b\":[]}}", 3, true),
+    // white space at each place
+    (" 1", 2, false),
+    ("1 ", 2, false),
+    ("\t[]", 2, false),
+    ("[ ]", 2, false),
+    ("[ 1]", 2, false),
+    ("[1 ]", 2, false),
+    ("[1 ,2]", 2, false),
+    ("[1, 2]", 2, false),
+    ("[1]\n", 2, false),
+    ("{ }", 2, false),
+    ("{ \"a\":1}", 2, false),
+    ("{\"a\" :1}", 2, false),
+    ("{\"a\": 1}", 2, false),
+    ("{\"a\":1 }", 2, false),
+    ("{\"a\":1, \"b\":2}", 2, false),
+    // other escapes than those that are written
+    ("\"\\u0041\"", 0, false),
+    ("\"\\/\"", 0, false),
+    ("\"\\u001F\"", 0, false),
+    ("\"\\u0008\"", 0, false),
+    ("\"\\u000a\"", 0, false),
+    ("\"\\u0022\"", 0, false),
+    ("\"\\ud83d\\ude00\"", 0, false),
+    ("{\"\\u0061\":1}", 1, false),
+    // no text of JSON
+    ("", 0, false),
+    ("\"\n\"", 0, false),
+    ("\"\u{1f}\"", 0, false),
+    ("\"a", 0, false),
+    ("\"\\", 0, false),
+    ("nul", 0, false),
+    ("01", 0, false),
+    ("[1,]", 1, false),
+    ("[,1]", 1, false),
+    ("[1", 1, false),
+    ("{\"a\":1,}", 1, false),
+    ("{\"a\"}", 1, false),
+    ("{1:1}", 1, false),
+    // a tail
+    ("1,", 0, false),
+    ("[]]", 1, false),
+    // repeated names and numbers that are out of range
     ("{\"a\":1,\"a\":2}", 2, false),
     ("[{\"a\":{\"b\":1,\"b\":1}}]", 64, false),
+    ("1e1000", 0, false),
     ("[1e1000]", 64, false),
     (
         "{\"a\":0,\"b\":0,\"c\":0,\"d\":0,\"e\":0,\"f\":0,\"g\":0,\"h\":0,\"i\":0,\"j\":0,\"k\":0,\"l\":0,\"m\":0,\"n\":0,\"o\":0,\"p\":0,\"q\":0}",
@@ -238,17 +296,21 @@ const FITTING: [(&str, u32, bool); 13] = [
     ),
 ];
 
-// Reading back refuses nothing, so that such trees come to be.
-fn fits_at(alloc: Global, text: &str, depth: u32) -> Result<bool, Memory> {
-    let tree = reread(alloc, text.as_bytes())?;
-    let fitting = fits(alloc, &tree, depth);
-    drop(tree);
-    fitting
+fn is_all_read_back(alloc: Global, text: &[u8], depth: u32) -> Result<bool, Stop> {
+    let mut cursor = Cursor::new(alloc, text);
+    match read_tree(&mut cursor, depth) {
+        Ok(tree) => {
+            drop(tree);
+            Ok(cursor.is_empty())
+        }
+        Err(Stop::Bad) => Ok(false),
+        Err(Stop::Memory) => Err(Stop::Memory),
+    }
 }
 
-fn wrong_fitting(alloc: Global) -> Option<usize> {
-    for (i, (text, depth, wanted)) in FITTING.iter().enumerate() {
-        if fits_at(alloc, text, *depth) != Ok(*wanted) {
+fn wrongly_read_back(alloc: Global) -> Option<usize> {
+    for (i, (text, depth, wanted)) in READ_BACK.iter().enumerate() {
+        if is_all_read_back(alloc, text.as_bytes(), *depth) != Ok(*wanted) {
             return Some(i);
         }
     }
@@ -256,8 +318,14 @@ fn wrong_fitting(alloc: Global) -> Option<usize> {
 }
 
 #[test]
-fn a_tree_fits_where_reading_gives_it(rt: HostRuntime) {
-    assert_eq!(rt; wrong_fitting(rt.alloc()), None);
+fn just_the_written_form_is_read_back(rt: HostRuntime) {
+    assert_eq!(rt; wrongly_read_back(rt.alloc()), None);
+}
+
+#[test]
+fn no_bytes_but_utf8_are_read_back(rt: HostRuntime) {
+    assert_eq!(rt; is_all_read_back(rt.alloc(), b"\"\xff\"", 0), Ok(false));
+    assert_eq!(rt; is_all_read_back(rt.alloc(), b"\"\\n\xff\"", 0), Ok(false));
 }
 
 // The escape of each control character, as it may be read, and as it is written.

@@ -9,16 +9,17 @@ use Rattle.cmi5_course.specs.declared.reason.Reason.TheVariants.{TestedOut, Equi
 use Rattle.lrs_agents.specs.declared.agents.Agent.{Agent}
 use Rattle.lrs_record.specs.Entries.{HoldsWrite, IsLawfulWrite}
 use Rattle.lrs_fields.specs.Values.{members_for}
-use Rattle.lrs_record.specs.Writes.{enrol_in, launch_in, waive_in, write_fields}
+use Rattle.lrs_record.specs.Writes.{write_fields}
+use Rattle.lrs_record.proofs.Decoding.{enrol_in, launch_in, waive_in}
 use Rattle.lrs_record.specs.declared.entry.Write.TheVariants.{Enrol, Launch, Waive}
-use Rattle.lrs_fields.proofs.Actors.{read_actor}
+use Rattle.lrs_fields.proofs.Decoded.{read_actor}
 use Rattle.lrs_fields.proofs.Apart.{are_apart}
-use Rattle.lrs_fields.proofs.Values.{read_id, read_iri}
+use Rattle.lrs_fields.proofs.Decoded.{read_id, read_iri}
 
 pub enrol_again : (course : List ℕ) (actor : Agent) → HoldsWrite (Enrol course actor) → enrol_in (members_for (write_fields (Enrol course actor))) ≡ Some (Enrol course actor)
 enrol_again course actor holds = rw (read_iri course holds.0.1, read_actor actor) refl
 
-read_mode : (mode : Mode) → mode_of (mode_text mode) ≡ Some mode
+pub read_mode : (mode : Mode) → mode_of (mode_text mode) ≡ Some mode
 unfolding mode_of
 read_mode Normal = refl
 read_mode Browse = refl
@@ -39,7 +40,7 @@ pub apart_launch : (registration unit : List ℕ) (mode : Mode) (return_url : Op
 apart_launch registration unit mode None = refl
 apart_launch registration unit mode (Some address) = refl
 
-read_reason : (reason : Reason) → reason_of (reason_text reason) ≡ Some reason
+pub read_reason : (reason : Reason) → reason_of (reason_text reason) ≡ Some reason
 unfolding reason_of
 read_reason TestedOut = refl
 read_reason EquivalentAu = refl

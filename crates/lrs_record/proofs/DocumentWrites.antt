@@ -4,14 +4,15 @@ use Rattle.std.specs.List.{AllByRecursion}
 use Rattle.lrs_agents.specs.declared.identifiers.Ifi.{Ifi}
 use Rattle.lrs_fields.specs.Values.{HoldsValue, Value, text_value, id_value, iri_value, agent_value, bytes_value, members_for, optional_field}
 use Rattle.lrs_fields.proofs.Apart.{are_apart}
-use Rattle.lrs_fields.proofs.Values.{read_agent, read_bytes, read_id, read_iri}
+use Rattle.lrs_fields.proofs.Decoded.{read_agent, read_bytes, read_id, read_iri}
 use Rattle.lrs_record.specs.Entries.{IsLawfulWrite}
-use Rattle.lrs_record.specs.Writes.{chosen_in, content_in, drop_in, how_of, how_text, state_in}
+use Rattle.lrs_record.specs.Writes.{how_of, how_text}
+use Rattle.lrs_record.proofs.Decoding.{chosen_in, content_in, drop_in, state_in}
 use Rattle.lrs_record.specs.declared.entry.How.{How}
 use Rattle.lrs_record.specs.declared.entry.How.TheVariants as how
 use Rattle.lrs_record.specs.declared.entry.Write.TheVariants.{State, Drop}
 
-read_how : (h : How) → how_of (how_text h) ≡ Some h
+pub read_how : (h : How) → how_of (how_text h) ≡ Some h
 read_how how.Put = refl
 read_how how.Post = refl
 

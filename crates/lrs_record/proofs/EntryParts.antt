@@ -1,5 +1,5 @@
 -- The four members of an entry's text, and what stands before and behind the fields of its write.
-use Rattle.std.proofs.Common.{◌≡◌, ℕ, List, [], ◌∷◌, ◌++◌, Some, true, false, codes, ap}
+use Rattle.std.proofs.Common.{◌≡◌, ℕ, List, [], ◌∷◌, ◌++◌, true, false, codes}
 use Rattle.std.specs.Fmt.{decimal}
 use Rattle.lrs_json.specs.Json.{Json, number, object, string}
 use Rattle.lrs_json.specs.Texts.{member_text}
@@ -10,7 +10,6 @@ use Rattle.lrs_fields.specs.Values.{members_for}
 use Rattle.lrs_record.specs.Entries.{caller_text, closing_text, entry_json, heading_text, write_json, written_entry}
 use Rattle.lrs_record.specs.Writes.{write_fields, write_name}
 use Rattle.lrs_record.specs.declared.entry.Entry.{Entry}
-use Rattle.lrs_fields.specs.Widths.{width}
 use Rattle.lrs_fields.proofs.SameParts.{four_parts}
 use Rattle.lrs_record.proofs.Joined.{in_parts}
 
@@ -27,10 +26,6 @@ member_texts seen a b c d entry x y =
     let parts = four_parts seen a b c d (codes "caller", string (caller_text entry.caller)) (codes "moment", number (decimal entry.moment))
     (codes "draw", string (draw_text entry.draw)) (codes "command", write_json entry.write) x y in
     record { caller = parts.0; moment = parts.1; draw = parts.2; command = parts.3 }
-
-pub four_wide : (seen : Json) (entry : Entry) → seen ≡ entry_json entry → width seen ≡ Some 4
-unfolding entry_json
-four_wide seen entry is = ap width is
 
 pub entry_parts : (entry : Entry) → written_entry entry ≡ heading_text entry ++ closing_text entry.write
 unfolding written_entry entry_json heading_text

@@ -1,5 +1,5 @@
 -- `BadEntry` comes exactly where the bytes are the text of no lawful entry.
-use Rattle.std.proofs.Common.{◌≡◌, ◌⊎◌, ℕ, List, Result, Ok, Err, IfOk, IsErrAnd, MatchResult, inl, inr, refl, ◌∙◌}
+use Rattle.std.proofs.Common.{◌≡◌, ◌⊎◌, ℕ, List, Result, Ok, Err, IfOk, MatchResult, inl, inr, refl}
 use Rattle.lrs_record.specs.Entries.{IsEntryText, IsLawful, written_entry}
 use Rattle.lrs_record.specs.declared.entry.Entry.{Entry}
 use Rattle.lrs_record.specs.declared.refused.EntryRefused.{EntryRefused}
@@ -20,8 +20,3 @@ pub bad_always : (bytes : List ℕ) (result : Result Entry EntryRefused) → IfO
 bad_always bytes (Ok entry) found none = absurd (none (entry, found.0, found.1))
 bad_always bytes (Err BadEntry) found none = inl refl
 bad_always bytes (Err Memory) found none = inr refl
-
--- Where the text is read again, a refusal says that memory ran out.
-pub refused_for_memory : (P : Entry → Type 0) (refused : EntryRefused) (result : Result Entry EntryRefused) → IsErrAnd result (λ e. e ≡ refused) → refused ≡ Memory → MatchResult result P (λ e. e ≡ Memory)
-refused_for_memory P refused (Ok entry) is memory = absurd is
-refused_for_memory P refused (Err e) is memory = is ∙ memory

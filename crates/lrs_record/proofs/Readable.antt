@@ -1,26 +1,23 @@
--- The text of a lawful entry is written from a value that can be read.
-use Rattle.std.proofs.Common.{◌≡◌, ◌≤◌, ℕ, List, [], IsUtf8, codes, arith, refl}
+-- The text of a lawful entry is written from a value such as reading takes it.
+use Rattle.std.proofs.Common.{◌≤◌, ℕ, [], IsUtf8, codes, arith, refl}
 use Rattle.std.specs.Fmt.{decimal}
 use Rattle.std.proofs.lemmas.Str.{IsUtf8-nil}
 use Rattle.lrs_fields.proofs.Apart.{are_apart}
 use Rattle.lrs_fields.proofs.Decimals.{Fits-decimal}
-use Rattle.lrs_fields.proofs.Fitting.{Fits-fields, shallow_fields}
+use Rattle.lrs_fields.proofs.Fitting.{Fits-fields}
 use Rattle.lrs_fields.proofs.Words.{IsUtf8-draw_text, IsUtf8-small, are_small, both}
-use Rattle.lrs_json.specs.Depth.{depth}
-use Rattle.lrs_json.specs.Fits.{Fits, IsReadable}
+use Rattle.lrs_json.specs.Fits.{Fits}
 use Rattle.lrs_json.specs.Json.{number}
-use Rattle.lrs_json.specs.Written.{written}
-use Rattle.lrs_record.specs.Entries.{HoldsCaller, HoldsWrite, IsLawful, IsLawfulWrite, caller_text, write_json, entry_json, written_entry}
+use Rattle.lrs_record.specs.Entries.{HoldsCaller, HoldsWrite, IsLawful, IsLawfulWrite, caller_text, write_json, entry_json}
 use Rattle.lrs_record.specs.Writes.{write_fields, write_name}
 use Rattle.lrs_record.specs.declared.entry.Caller.{Caller}
 use Rattle.lrs_record.specs.declared.entry.Caller.TheVariants.{Nobody, Operator, Token}
 use Rattle.lrs_record.specs.declared.entry.Write.{Write}
 use Rattle.lrs_record.specs.declared.entry.Entry.{Entry}
 use Rattle.lrs_record.proofs.Writes.{well_named}
-use Rattle.lrs_record.specs.declared.reading.TheConstants.{ENTRY_DEPTH}
 use Rattle.lrs_time.specs.declared.moments.TheConstants.{LATEST}
 
-IsUtf8-caller_text : (caller : Caller) → HoldsCaller caller → IsUtf8 (caller_text caller)
+pub IsUtf8-caller_text : (caller : Caller) → HoldsCaller caller → IsUtf8 (caller_text caller)
 IsUtf8-caller_text Nobody holds = IsUtf8-nil
 IsUtf8-caller_text Operator holds = IsUtf8-small (codes "*") refl
 IsUtf8-caller_text (Token token) holds = holds
@@ -30,36 +27,25 @@ Fits-write write lawful holds =
     let named = both (are_small (write_name write)) (are_apart [] (write_fields write)) (well_named write) in
     (IsUtf8-small (write_name write) named.0, refl, Fits-fields [] (write_fields write) named.1 lawful holds, tt)
 
--- at most three levels above a statement
-shallow_write : (write : Write) → IsLawfulWrite write → depth (write_json write) ≤ 67
-shallow_write write lawful = omega (arith, shallow_fields (write_fields write) lawful)
-
 Fits-moment : (moment : ℕ) → moment ≤ LATEST → Fits (number (decimal moment))
 Fits-moment moment small = Fits-decimal moment (omega (arith, small))
 
-pub readable : (entry : Entry) → IsLawful entry → IsReadable ENTRY_DEPTH (entry_json entry)
+pub readable : (entry : Entry) → IsLawful entry → Fits (entry_json entry)
 unfolding entry_json
 readable entry lawful =
     let values = lawful.values in (
+      IsUtf8-small (codes "caller") refl,
+      refl,
+      IsUtf8-caller_text entry.caller values.caller,
       (
-        IsUtf8-small (codes "caller") refl,
+        IsUtf8-small (codes "moment") refl,
         refl,
-        IsUtf8-caller_text entry.caller values.caller,
+        Fits-moment entry.moment values.moment,
         (
-          IsUtf8-small (codes "moment") refl,
+          IsUtf8-small (codes "draw") refl,
           refl,
-          Fits-moment entry.moment values.moment,
-          (
-            IsUtf8-small (codes "draw") refl,
-            refl,
-            IsUtf8-draw_text entry.draw,
-            (IsUtf8-small (codes "command") refl, refl, Fits-write entry.write lawful.write values.write, tt),
-          ),
+          IsUtf8-draw_text entry.draw,
+          (IsUtf8-small (codes "command") refl, refl, Fits-write entry.write lawful.write values.write, tt),
         ),
       ),
-      omega (arith, shallow_write entry.write lawful.write),
     )
-
-pub entry_is_written : (entry : Entry) (bytes : List ℕ) → written_entry entry ≡ bytes → written (entry_json entry) ≡ bytes
-unfolding written_entry
-entry_is_written entry bytes is = is

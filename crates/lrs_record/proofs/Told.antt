@@ -7,9 +7,11 @@ use Rattle.lrs_fields.specs.Values.{members_for}
 use Rattle.lrs_fields.proofs.SameParts.{all_parts, one_part}
 use Rattle.lrs_fields.proofs.Words.{told_draw}
 use Rattle.lrs_json.specs.Json.{number, string}
+use Rattle.lrs_json_reader.proofs.WrittenLemmas.{Fits-IsSpellable}
 use Rattle.lrs_json_slices.specs.Single.{same_json}
 use Rattle.lrs_record.specs.Entries.{HoldsWrite, IsLawful, IsLawfulCaller, IsLawfulWrite, caller_text, write_json, entry_json, fields, written_entry}
-use Rattle.lrs_record.specs.Writes.{write_fields, write_in, write_name}
+use Rattle.lrs_record.specs.Writes.{write_fields, write_name}
+use Rattle.lrs_record.proofs.Decoding.{write_in}
 use Rattle.lrs_record.specs.declared.entry.Caller.{Caller}
 use Rattle.lrs_record.specs.declared.entry.Caller.TheVariants.{Nobody, Operator, Token}
 use Rattle.lrs_record.specs.declared.entry.Write.{Write}
@@ -17,7 +19,6 @@ use Rattle.lrs_record.specs.declared.entry.Entry.{Entry}
 use Rattle.lrs_record.proofs.Writes.{made_again}
 use Rattle.lrs_record.proofs.EntryParts.{member_texts}
 use Rattle.lrs_record.proofs.Readable.{readable}
-use Rattle.lrs_record.proofs.Reread.{spellable}
 
 same_caller : (a b : Caller) → IsLawfulCaller a → IsLawfulCaller b → caller_text a ≡ caller_text b → a ≡ b
 same_caller Nobody Nobody x y e = refl
@@ -65,4 +66,4 @@ told_by_json a b x y e =
 
 pub written_entry_injective : (a b : Entry) → IsLawful a → IsLawful b → written_entry a ≡ written_entry b → a ≡ b
 unfolding written_entry
-written_entry_injective a b x y e = told_by_json a b x y (same_json (entry_json a) (entry_json b) ∣ spellable (entry_json a) (readable a x).0 ∣₁ ∣ spellable (entry_json b) (readable b y).0 ∣₁ e)
+written_entry_injective a b x y e = told_by_json a b x y (same_json (entry_json a) (entry_json b) ∣ Fits-IsSpellable (entry_json a) (readable a x) ∣₁ ∣ Fits-IsSpellable (entry_json b) (readable b y) ∣₁ e)

@@ -2,7 +2,8 @@
 use Rattle.std.proofs.Common.{◌≡◌, [], Some, true, ◌&&◌, refl}
 use Rattle.lrs_record.specs.Entries.{HoldsWrite, IsLawfulWrite}
 use Rattle.lrs_fields.specs.Values.{members_for}
-use Rattle.lrs_record.specs.Writes.{write_fields, write_in, write_name}
+use Rattle.lrs_record.specs.Writes.{write_fields, write_name}
+use Rattle.lrs_record.proofs.Decoding.{write_in}
 use Rattle.lrs_record.specs.declared.entry.Write.{Write}
 use Rattle.lrs_record.specs.declared.entry.Write.TheVariants.{Found, Provider, Put, Post, State, Drop}
 use Rattle.lrs_record.specs.declared.entry.Write.TheVariants.{Course, Enrol, Launch, Fetch, Waive, Abandon, Sweep}
@@ -10,8 +11,8 @@ use Rattle.lrs_fields.proofs.Apart.{are_apart}
 use Rattle.lrs_record.proofs.DeskWrites.{apart_launch, enrol_again, launch_again, waive_again}
 use Rattle.lrs_record.proofs.DocumentWrites.{apart_drop, apart_state, drop_again, state_again}
 use Rattle.lrs_fields.proofs.ManyTrees.{shallow_trees}
-use Rattle.lrs_fields.proofs.Numbers.{read_number}
-use Rattle.lrs_fields.proofs.Values.{read_id, read_tree, read_trees}
+use Rattle.lrs_fields.proofs.Decoded.{read_number}
+use Rattle.lrs_fields.proofs.Decoded.{read_id, read_tree, read_trees}
 use Rattle.lrs_fields.proofs.Words.{are_small}
 
 pub made_again : (w : Write) → IsLawfulWrite w → HoldsWrite w → write_in (write_name w) (members_for (write_fields w)) ≡ Some w

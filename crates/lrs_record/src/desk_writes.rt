@@ -1,21 +1,26 @@
 // The writes of the desk: how their fields are lent, and read back.
-ghost use Rattle.std.specs.Prelude.{◌≡◌, ◌++◌, drop, false, IfOk, IfSome, OnOk};
-ghost use Rattle.std.specs.List.{AllByRecursion};
-ghost use Rattle.lrs_fields.specs.Reading.{members_left, read_first, values_left};
-ghost use Rattle.lrs_fields.specs.Values.{members_for};
-ghost use Rattle.lrs_json.specs.Fits.{Fits};
+ghost use Rattle.std.specs.Prelude.{◌≡◌, ◌++◌, codes, false, OnOk};
+ghost use Rattle.cmi5_course.specs.Reasons.{reason_text};
+ghost use Rattle.cmi5_course.specs.Words.{mode_text};
+ghost use Rattle.lrs_fields.specs.Reading.{ReadsField};
+ghost use Rattle.lrs_fields.specs.Values.{members_for, text_value};
 ghost use Rattle.lrs_json.specs.View.{members_of};
 ghost use Rattle.lrs_json.specs.Written.{Extends, members_text};
-ghost use Rattle.lrs_record.specs.Entries.{HoldsWrite, IsLawfulWrite};
-ghost use Rattle.lrs_record.specs.Writes.{abandon_in, course_in, enrol_in, fetch_in, found_in, launch_in, mode_in, provider_in, reason_in, sweep_in, waive_in, write_fields};
+ghost use Rattle.lrs_record.specs.Entries.{HoldsWrite};
+ghost use Rattle.lrs_record.specs.Reading.{ReadsWrite};
+ghost use Rattle.lrs_record.specs.Writes.{write_fields};
 ghost use Rattle.lrs_record.specs.declared.entry.Write.TheVariants as write;
 
 use crate::Write;
 use cmi5_course::{Mode, Reason};
-use lrs_fields::{Fields, Lent, put_fields};
+use lrs_fields::{
+    Lent, actor_behind, id_behind, iri_behind, number_behind, optional_iri_behind, put_fields,
+    text_behind, tree_behind,
+};
 use lrs_json::Memory;
+use lrs_json_reader::Stop;
+use lrs_json_written::Cursor;
 use lrs_names::{Id, Iri};
-use std::alloc::Global;
 
 /// Appends the fields of a launch, and the closing brace.
 pub fn put_launch(
@@ -64,71 +69,51 @@ pub fn put_waive(
     )
 }
 
+// Each of the following reads the fields of a write, up to the brace that closes them.
+
 /// A store that is founded.
-pub fn found_in(fields: &mut Fields) -> Option<Write>
-    requires { AllByRecursion Fits (values_left fields.old) }
-    ensures is { result ≡ found_in (members_left fields.old) }
-    ensures lawful { IfSome result IsLawfulWrite }
+pub fn read_found(cursor: &mut Cursor<'_>) -> Result<Write, Stop>
+    ensures { ReadsWrite (codes "found") cursor.old result cursor.new }
 {
-    let admin = fields.text()?;
-    let base = fields.text()?;
-    Some(Write::Found { admin, base })
+    let admin = text_behind(b"\"admin\":", cursor)?;
+    let base = text_behind(b",\"base\":", cursor)?;
+    Ok(Write::Found { admin, base })
 }
 
 /// A provider that is made.
-pub fn provider_in(fields: &mut Fields) -> Option<Write>
-    requires { AllByRecursion Fits (values_left fields.old) }
-    ensures is { result ≡ provider_in (members_left fields.old) }
-    ensures lawful { IfSome result IsLawfulWrite }
+pub fn read_provider(cursor: &mut Cursor<'_>) -> Result<Write, Stop>
+    ensures { ReadsWrite (codes "provider") cursor.old result cursor.new }
 {
-    let name = fields.text()?;
-    Some(Write::Provider { name })
+    let name = text_behind(b"\"name\":", cursor)?;
+    Ok(Write::Provider { name })
 }
 
 /// A course that is taken up.
-pub fn course_in(fields: &mut Fields) -> Option<Write>
-    requires { AllByRecursion Fits (values_left fields.old) }
-    ensures is { result ≡ course_in (members_left fields.old) }
-    ensures lawful { IfSome result IsLawfulWrite }
+pub fn read_course(cursor: &mut Cursor<'_>) -> Result<Write, Stop>
+    ensures { ReadsWrite (codes "course") cursor.old result cursor.new }
 {
-    let tree = fields.tree()?;
-    Some(Write::Course { tree })
+    let tree = tree_behind(b"\"tree\":", cursor)?;
+    Ok(Write::Course { tree })
 }
 
 /// A learner who is enrolled.
-pub fn enrol_in(alloc: Global, fields: &mut Fields) -> Result<Option<Write>, Memory>
-    requires { AllByRecursion Fits (values_left fields.old) }
-    ensures is { IfOk result (λ found. found ≡ enrol_in (members_left fields.old)) }
-    ensures lawful { IfOk result (λ found. IfSome found IsLawfulWrite) }
+pub fn read_enrol(cursor: &mut Cursor<'_>) -> Result<Write, Stop>
+    ensures { ReadsWrite (codes "enrol") cursor.old result cursor.new }
 {
-    let Some(course) = fields.iri() else {
-        return Ok(None);
-    };
-    match fields.actor(alloc) {
-        Ok(Some(actor)) => Ok(Some(Write::Enrol { course, actor })),
-        Ok(None) => {
-            drop(course);
-            Ok(None)
-        }
-        Err(refused) => {
-            drop(course);
-            Err(refused)
-        }
-    }
+    let course = iri_behind(b"\"course\":", cursor)?;
+    let actor = actor_behind(b",\"actor\":", cursor)?;
+    Ok(Write::Enrol { course, actor })
 }
 
 /// A unit that is launched.
-#[tactic(auto, using(crate::proofs::DeskWrites::lawful_launch))]
-pub fn launch_in(fields: &mut Fields) -> Option<Write>
-    requires { AllByRecursion Fits (values_left fields.old) }
-    ensures is { result ≡ launch_in (members_left fields.old) }
-    ensures lawful { IfSome result IsLawfulWrite }
+pub fn read_launch(cursor: &mut Cursor<'_>) -> Result<Write, Stop>
+    ensures { ReadsWrite (codes "launch") cursor.old result cursor.new }
 {
-    let registration = fields.id()?;
-    let unit = fields.iri()?;
-    let mode = mode(fields)?;
-    let return_url = fields.optional_iri("returnURL")?;
-    Some(Write::Launch {
+    let registration = id_behind(b"\"registration\":", cursor)?;
+    let unit = iri_behind(b",\"unit\":", cursor)?;
+    let mode = mode_behind(b",\"mode\":", cursor)?;
+    let return_url = optional_iri_behind(b",\"returnURL\":", cursor)?;
+    Ok(Write::Launch {
         registration,
         unit,
         mode,
@@ -136,64 +121,54 @@ pub fn launch_in(fields: &mut Fields) -> Option<Write>
     })
 }
 
-fn mode(fields: &mut Fields) -> Option<Mode>
-    requires { AllByRecursion Fits (values_left fields.old) }
-    ensures is { result ≡ read_first mode_in (values_left fields.old) }
-    ensures rest { members_left fields.new ≡ drop 1 (members_left fields.old) }
-    ensures fit { AllByRecursion Fits (values_left fields.new) }
+fn mode_behind(front: &[u8], cursor: &mut Cursor<'_>) -> Result<Mode, Stop>
+    ensures { ReadsField front.now (λ mode. text_value (mode_text mode)) cursor.old result cursor.new }
 {
-    Mode::of(fields.text()?.as_str())
+    let text = text_behind(front, cursor)?;
+    Mode::of(text.as_str()).ok_or(Stop::Bad)
 }
 
 /// A token that is given away.
-pub fn fetch_in(fields: &mut Fields) -> Option<Write>
-    requires { AllByRecursion Fits (values_left fields.old) }
-    ensures is { result ≡ fetch_in (members_left fields.old) }
-    ensures lawful { IfSome result IsLawfulWrite }
+pub fn read_fetch(cursor: &mut Cursor<'_>) -> Result<Write, Stop>
+    ensures { ReadsWrite (codes "fetch") cursor.old result cursor.new }
 {
-    let key = fields.text()?;
-    Some(Write::Fetch { key })
+    let key = text_behind(b"\"key\":", cursor)?;
+    Ok(Write::Fetch { key })
 }
 
 /// A unit that is waived.
-pub fn waive_in(fields: &mut Fields) -> Option<Write>
-    requires { AllByRecursion Fits (values_left fields.old) }
-    ensures is { result ≡ waive_in (members_left fields.old) }
-    ensures lawful { IfSome result IsLawfulWrite }
+pub fn read_waive(cursor: &mut Cursor<'_>) -> Result<Write, Stop>
+    ensures { ReadsWrite (codes "waive") cursor.old result cursor.new }
 {
-    let registration = fields.id()?;
-    let unit = fields.iri()?;
-    let reason = reason(fields)?;
-    Some(Write::Waive {
+    let registration = id_behind(b"\"registration\":", cursor)?;
+    let unit = iri_behind(b",\"unit\":", cursor)?;
+    let reason = reason_behind(b",\"reason\":", cursor)?;
+    Ok(Write::Waive {
         registration,
         unit,
         reason,
     })
 }
 
-fn reason(fields: &mut Fields) -> Option<Reason>
-    requires { AllByRecursion Fits (values_left fields.old) }
-    ensures { result ≡ read_first reason_in (values_left fields.old) }
+fn reason_behind(front: &[u8], cursor: &mut Cursor<'_>) -> Result<Reason, Stop>
+    ensures { ReadsField front.now (λ reason. text_value (reason_text reason)) cursor.old result cursor.new }
 {
-    Reason::of(fields.text()?.as_str())
+    let text = text_behind(front, cursor)?;
+    Reason::of(text.as_str()).ok_or(Stop::Bad)
 }
 
 /// A session that is abandoned.
-pub fn abandon_in(fields: &mut Fields) -> Option<Write>
-    requires { AllByRecursion Fits (values_left fields.old) }
-    ensures is { result ≡ abandon_in (members_left fields.old) }
-    ensures lawful { IfSome result IsLawfulWrite }
+pub fn read_abandon(cursor: &mut Cursor<'_>) -> Result<Write, Stop>
+    ensures { ReadsWrite (codes "abandon") cursor.old result cursor.new }
 {
-    let session = fields.id()?;
-    Some(Write::Abandon { session })
+    let session = id_behind(b"\"session\":", cursor)?;
+    Ok(Write::Abandon { session })
 }
 
 /// Idle sessions that are abandoned.
-pub fn sweep_in(fields: &mut Fields) -> Option<Write>
-    requires { AllByRecursion Fits (values_left fields.old) }
-    ensures is { result ≡ sweep_in (members_left fields.old) }
-    ensures lawful { IfSome result IsLawfulWrite }
+pub fn read_sweep(cursor: &mut Cursor<'_>) -> Result<Write, Stop>
+    ensures { ReadsWrite (codes "sweep") cursor.old result cursor.new }
 {
-    let idle = fields.number()?;
-    Some(Write::Sweep { idle })
+    let idle = number_behind(b"\"idle\":", cursor)?;
+    Ok(Write::Sweep { idle })
 }

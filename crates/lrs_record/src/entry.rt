@@ -1,25 +1,24 @@
-ghost use Rattle.std.specs.Prelude.{◌≡◌, ◌↔◌, ◌++◌, false, IfOk, IfSome, IsTrue, OnOk};
-ghost use Rattle.std.specs.List.{AllByRecursion};
-ghost use Rattle.lrs_fields.specs.Reading.{members_left, values_left};
+ghost use Rattle.std.specs.Prelude.{◌≡◌, ◌↔◌, ◌++◌, false, IfOk, IsTrue, OnOk};
 ghost use Rattle.lrs_fields.specs.Values.{members_for};
-ghost use Rattle.lrs_json.specs.Fits.{Fits};
 ghost use Rattle.lrs_json.specs.View.{members_of};
 ghost use Rattle.lrs_json.specs.Written.{Extends, members_text};
-ghost use Rattle.lrs_record.specs.Entries.{HoldsCaller, HoldsWrite, IsLawfulWrite, caller_text};
-ghost use Rattle.lrs_record.specs.Writes.{how_of, how_text, write_area, write_fields, write_in, write_name, write_of};
+ghost use Rattle.lrs_record.specs.Entries.{HoldsCaller, HoldsWrite, caller_text};
+ghost use Rattle.lrs_record.specs.Reading.{ReadsWrite};
+ghost use Rattle.lrs_record.specs.Writes.{how_of, how_text, write_area, write_fields, write_name};
 
 use crate::Moment;
 use crate::desk_writes::{
-    abandon_in, course_in, enrol_in, fetch_in, found_in, launch_in, provider_in, put_launch,
-    put_waive, sweep_in, waive_in,
+    put_launch, put_waive, read_abandon, read_course, read_enrol, read_fetch, read_found,
+    read_launch, read_provider, read_sweep, read_waive,
 };
-use crate::store_writes::{drop_in, post_in, put_drop, put_in, put_state, state_in};
+use crate::store_writes::{put_drop, put_state, read_drop, read_post, read_put, read_state};
 use cmi5_course::{Mode, Reason};
 use lrs_agents::{Agent, Ifi};
-use lrs_fields::{Fields, Lent, put_fields};
+use lrs_fields::{Lent, put_fields};
 use lrs_json::{Items, Memory, Text, Tree};
+use lrs_json_reader::Stop;
+use lrs_json_written::Cursor;
 use lrs_names::{Draw, Id, Iri};
-use std::alloc::Global;
 use xapi_keys::StateKey;
 
 /// What is presented for a command.
@@ -261,42 +260,25 @@ impl Write {
         }
     }
 
-    // The write of that name and of these fields. Only agents and bytes take memory.
-    pub(crate) fn of(
-        alloc: Global,
-        name: &str,
-        fields: &mut Fields,
-    ) -> Result<Option<Write>, Memory>
-        requires { AllByRecursion Fits (values_left fields.old) }
-        ensures is { IfOk result (λ found. found ≡ write_in name.now (members_left fields.old)) }
-        ensures lawful { IfOk result (λ found. IfSome found IsLawfulWrite) }
+    // Reads the fields of a write of that name, up to the brace that closes them.
+    pub(crate) fn read(name: &str, cursor: &mut Cursor<'_>) -> Result<Write, Stop>
+        ensures { ReadsWrite name.now cursor.old result cursor.new }
     {
         match name {
-            "state" => state_in(alloc, fields),
-            "drop" => drop_in(alloc, fields),
-            "enrol" => enrol_in(alloc, fields),
-            "launch" => Ok(launch_in(fields)),
-            _ => Ok(Write::of_values(name, fields)),
-        }
-    }
-
-    // The write of that name and of these fields, of those whose fields are all there and are no agents and no bytes.
-    fn of_values(name: &str, fields: &mut Fields) -> Option<Write>
-        requires { AllByRecursion Fits (values_left fields.old) }
-        ensures is { result ≡ write_of name.now (members_left fields.old) }
-        ensures lawful { IfSome result IsLawfulWrite }
-    {
-        match name {
-            "found" => found_in(fields),
-            "provider" => provider_in(fields),
-            "put" => put_in(fields),
-            "post" => post_in(fields),
-            "course" => course_in(fields),
-            "fetch" => fetch_in(fields),
-            "waive" => waive_in(fields),
-            "abandon" => abandon_in(fields),
-            "sweep" => sweep_in(fields),
-            _ => None,
+            "found" => read_found(cursor),
+            "provider" => read_provider(cursor),
+            "put" => read_put(cursor),
+            "post" => read_post(cursor),
+            "state" => read_state(cursor),
+            "drop" => read_drop(cursor),
+            "course" => read_course(cursor),
+            "enrol" => read_enrol(cursor),
+            "launch" => read_launch(cursor),
+            "fetch" => read_fetch(cursor),
+            "waive" => read_waive(cursor),
+            "abandon" => read_abandon(cursor),
+            "sweep" => read_sweep(cursor),
+            _ => Err(Stop::Bad),
         }
     }
 }

@@ -5,8 +5,7 @@
 
 mod desk_writes;
 mod entry;
-mod matching;
-mod pieces;
+mod headings;
 mod reading;
 mod refused;
 mod store_writes;

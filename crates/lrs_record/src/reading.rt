@@ -1,20 +1,15 @@
-ghost use Rattle.std.specs.Prelude.{◌≡◌, ◌↔◌, ◌⊎◌, IfOk, IsTrue, MatchResult};
-ghost use Rattle.lrs_json.specs.Fits.{Fits, IsReadable};
-ghost use Rattle.lrs_json.specs.Json.{Json};
-ghost use Rattle.lrs_json.specs.View.{view};
-ghost use Rattle.lrs_json.specs.Written.{written};
-ghost use Rattle.lrs_record.specs.Entries.{IsEntryText, IsLawful, IsLawfulCaller, IsLawfulWrite, written_entry};
+ghost use Rattle.std.specs.Prelude.{◌≡◌, ◌⊎◌, IfOk, MatchResult};
+ghost use Rattle.lrs_fields.specs.LrsDecimalNumbers.{Ends};
+ghost use Rattle.lrs_fields.specs.Reading.{Reads};
+ghost use Rattle.lrs_record.specs.Entries.{IsEntryText, IsLawful, written_entry};
+ghost use Rattle.lrs_record.specs.Reading.{IsKeptWrite, command_text};
 ghost use Rattle.lrs_record.specs.declared.entry.Entry.{Entry as SpecEntry};
 
-use crate::matching::entry_behind;
-use crate::pieces::entry_of;
-use crate::{Entry, EntryRefused};
-use lrs_json::{DEPTH, Memory, Tree};
-use lrs_json_reader::{fits, is_too_deep, reread};
+use crate::headings::{read_caller, read_draw, read_moment, read_opening};
+use crate::{Entry, EntryRefused, Write};
+use lrs_json_reader::Stop;
+use lrs_json_written::Cursor;
 use std::alloc::Global;
-
-/// How deep an entry's text may nest: a statement may stand four levels down, as those of a `post` do.
-const ENTRY_DEPTH: u32 = DEPTH + 4;
 
 /// The entry whose text the bytes are, with nothing before, between or after its parts.
 pub fn read_entry(alloc: Global, bytes: &[u8]) -> Result<Entry, EntryRefused>
@@ -36,59 +31,48 @@ fn read_lawful(alloc: Global, bytes: &[u8]) -> Result<Entry, EntryRefused>
     ensures again { (entry : SpecEntry) → IsLawful entry → written_entry entry ≡ bytes.now → MatchResult result
         (λ read. read ≡ entry) (λ refused. refused ≡ EntryRefused.Memory) }
 {
-    let tree = read_tree(alloc, bytes)?;
-    match entry_of(alloc, tree)? {
-        Some(entry) => match has_text(alloc, &entry, bytes) {
-            Ok(true) => Ok(entry),
-            Ok(false) => {
-                drop(entry);
-                Err(EntryRefused::BadEntry)
-            }
-            Err(refused) => {
-                drop(entry);
-                Err(EntryRefused::from(refused))
+    let mut cursor = Cursor::new(alloc, bytes);
+    match read_next(&mut cursor) {
+        Ok(entry) => if cursor.is_empty() {
+            Ok(entry)
+        } else {
+            drop(entry);
+            Err(EntryRefused::BadEntry)
+        },
+        Err(Stop::Memory) => Err(EntryRefused::Memory),
+        Err(Stop::Bad) => Err(EntryRefused::BadEntry),
+    }
+}
+
+// The entry whose text comes next.
+fn read_next(cursor: &mut Cursor<'_>) -> Result<Entry, Stop>
+    ensures { Reads written_entry IsLawful Ends cursor.old result cursor.new }
+{
+    let caller = read_caller(cursor)?;
+    let moment = read_moment(cursor)?;
+    let draw = read_draw(cursor)?;
+    let write = read_command(cursor)?;
+    Ok(Entry {
+        caller,
+        write,
+        moment,
+        draw,
+    })
+}
+
+// The write of a command, and what closes its fields, the command and the entry.
+fn read_command(cursor: &mut Cursor<'_>) -> Result<Write, Stop>
+    ensures { Reads command_text IsKeptWrite Ends cursor.old result cursor.new }
+{
+    let name = read_opening(cursor)?;
+    match Write::read(name.as_str(), cursor) {
+        Ok(write) => match cursor.word(b"}}}") {
+            Ok(()) => Ok(write),
+            Err(stop) => {
+                drop(write);
+                Err(stop)
             }
         },
-        None => Err(EntryRefused::BadEntry),
-    }
-}
-
-// The tree that was written as these bytes. Bytes that are no written form may give some tree as well. A file that
-// isn't ours may nest as deep as it likes, and `reread` recurses as deep as the bytes nest.
-fn read_tree(alloc: Global, bytes: &[u8]) -> Result<Tree, EntryRefused>
-    ensures fit { IfOk result (λ tree. Fits (view tree)) }
-    ensures all { (j : Json) → IsReadable ENTRY_DEPTH j → written j ≡ bytes.now → MatchResult result
-        (λ tree. view tree ≡ j) (λ refused. refused ≡ EntryRefused.Memory) }
-{
-    if is_too_deep(bytes, ENTRY_DEPTH) {
-        return Err(EntryRefused::BadEntry);
-    }
-    let tree = reread(alloc, bytes)?;
-    match fits(alloc, &tree, ENTRY_DEPTH) {
-        Ok(true) => Ok(tree),
-        Ok(false) => {
-            drop(tree);
-            Err(EntryRefused::BadEntry)
-        }
-        Err(refused) => {
-            drop(tree);
-            Err(EntryRefused::from(refused))
-        }
-    }
-}
-
-// Most headings and small writes are shorter.
-const SCRATCH_ROOM: usize = 256;
-
-fn has_text(alloc: Global, entry: &Entry, bytes: &[u8]) -> Result<bool, Memory>
-    requires caller { IsLawfulCaller entry.now.caller }
-    requires write { IsLawfulWrite entry.now.write }
-    ensures same { IfOk result (λ same. IsTrue same ↔ (written_entry entry.now ≡ bytes.now)) }
-    ensures lawful { IfOk result (λ same. IsTrue same → IsLawful entry.now) }
-{
-    let mut scratch = Vec::with_capacity(alloc, SCRATCH_ROOM)?;
-    match entry_behind(entry, bytes, &mut scratch)? {
-        Some(left) => Ok(left.is_empty()),
-        None => Ok(false),
+        Err(stop) => Err(stop),
     }
 }

@@ -1,21 +1,25 @@
 // The writes of statements and of documents: how their fields are lent, and read back.
-ghost use Rattle.std.specs.Prelude.{◌≡◌, ◌∷◌, ◌++◌, [], drop, false, IfOk, IfSome, None, OnOk, Some};
-ghost use Rattle.std.specs.List.{AllByRecursion};
-ghost use Rattle.lrs_fields.specs.Reading.{members_left, read_first, values_left};
-ghost use Rattle.lrs_fields.specs.Values.{members_for};
-ghost use Rattle.lrs_json.specs.Fits.{Fits};
+ghost use Rattle.std.specs.Prelude.{◌≡◌, ◌∷◌, ◌++◌, [], codes, false, None, OnOk, Some};
+ghost use Rattle.lrs_fields.specs.LrsDecimalNumbers.{Ends};
+ghost use Rattle.lrs_fields.specs.Reading.{Reads, ReadsField};
+ghost use Rattle.lrs_fields.specs.Values.{members_for, text_value};
 ghost use Rattle.lrs_json.specs.View.{members_of};
 ghost use Rattle.lrs_json.specs.Written.{Extends, members_text};
-ghost use Rattle.lrs_record.specs.Entries.{HoldsWrite, IsLawfulWrite};
-ghost use Rattle.lrs_record.specs.Writes.{chosen_in, content_in, drop_behind, drop_in, how_in, owner_in, post_in, put_in, state_behind, state_in, write_fields};
+ghost use Rattle.lrs_record.specs.Entries.{HoldsWrite};
+ghost use Rattle.lrs_record.specs.Reading.{IsKeptKey, ReadsWrite, key_text};
+ghost use Rattle.lrs_record.specs.Writes.{how_text, write_fields};
 ghost use Rattle.lrs_record.specs.declared.entry.Write.TheVariants as write;
 
 use crate::{How, Write};
 use lrs_agents::Ifi;
-use lrs_fields::{Fields, Lent, ReceivedText, put_fields};
+use lrs_fields::{
+    Lent, ReceivedText, agent_behind, bytes_behind, id_behind, iri_behind, optional_id_behind,
+    optional_text_behind, put_fields, text_behind, tree_behind, trees_behind,
+};
 use lrs_json::{Items, Memory, Text, Tree};
+use lrs_json_reader::Stop;
+use lrs_json_written::Cursor;
 use lrs_names::{Id, Iri};
-use std::alloc::Global;
 use xapi_keys::StateKey;
 
 /// Appends the fields of a statement that is kept, copied from the one text, and the closing brace.
@@ -161,176 +165,76 @@ fn put_drop_anywhere(
     }
 }
 
+// Each of the following reads fields of a write, up to the brace that closes them all.
+
 /// A statement that is kept.
-pub fn put_in(fields: &mut Fields) -> Option<Write>
-    requires { AllByRecursion Fits (values_left fields.old) }
-    ensures is { result ≡ put_in (members_left fields.old) }
-    ensures lawful { IfSome result IsLawfulWrite }
+pub fn read_put(cursor: &mut Cursor<'_>) -> Result<Write, Stop>
+    ensures { ReadsWrite (codes "put") cursor.old result cursor.new }
 {
-    let id = fields.id()?;
-    let statement = fields.tree()?;
-    Some(Write::Put { id, statement })
+    let id = id_behind(b"\"id\":", cursor)?;
+    let statement = tree_behind(b",\"statement\":", cursor)?;
+    Ok(Write::Put { id, statement })
 }
 
 /// Statements that are kept together.
-pub fn post_in(fields: &mut Fields) -> Option<Write>
-    requires { AllByRecursion Fits (values_left fields.old) }
-    ensures is { result ≡ post_in (members_left fields.old) }
-    ensures lawful { IfSome result IsLawfulWrite }
+pub fn read_post(cursor: &mut Cursor<'_>) -> Result<Write, Stop>
+    ensures { ReadsWrite (codes "post") cursor.old result cursor.new }
 {
-    let statements = fields.trees()?;
-    Some(Write::Post { statements })
+    let statements = trees_behind(b"\"statements\":", cursor)?;
+    Ok(Write::Post { statements })
 }
 
 /// A document that is written.
-pub fn state_in(alloc: Global, fields: &mut Fields) -> Result<Option<Write>, Memory>
-    requires { AllByRecursion Fits (values_left fields.old) }
-    ensures is { IfOk result (λ found. found ≡ state_in (members_left fields.old)) }
-    ensures lawful { IfOk result (λ found. IfSome found IsLawfulWrite) }
+pub fn read_state(cursor: &mut Cursor<'_>) -> Result<Write, Stop>
+    ensures { ReadsWrite (codes "state") cursor.old result cursor.new }
 {
-    let Some(how) = how(fields) else {
-        return Ok(None);
-    };
-    match owner_in(alloc, fields)? {
-        Some((activity, agent)) => state_behind(alloc, how, activity, agent, fields),
-        None => Ok(None),
-    }
+    let how = how_behind(b"\"how\":", cursor)?;
+    let key = read_key(cursor)?;
+    let media = text_behind(b",\"type\":", cursor)?;
+    let bytes = bytes_behind(b",\"bytes\":", cursor)?;
+    Ok(Write::State {
+        how,
+        key,
+        media,
+        bytes,
+    })
 }
 
-fn how(fields: &mut Fields) -> Option<How>
-    requires { AllByRecursion Fits (values_left fields.old) }
-    ensures is { result ≡ read_first how_in (values_left fields.old) }
-    ensures rest { members_left fields.new ≡ drop 1 (members_left fields.old) }
-    ensures fit { AllByRecursion Fits (values_left fields.new) }
+fn how_behind(front: &[u8], cursor: &mut Cursor<'_>) -> Result<How, Stop>
+    ensures { ReadsField front.now (λ how. text_value (how_text how)) cursor.old result cursor.new }
 {
-    How::of(fields.text()?.as_str())
+    let text = text_behind(front, cursor)?;
+    How::of(text.as_str()).ok_or(Stop::Bad)
 }
 
-// The activity and the agent of documents.
-fn owner_in(alloc: Global, fields: &mut Fields) -> Result<Option<(Iri, Ifi)>, Memory>
-    requires { AllByRecursion Fits (values_left fields.old) }
-    ensures is { IfOk result (λ found. found ≡ owner_in (members_left fields.old)) }
-    ensures rest { IfOk result (λ found. IfSome found
-        (λ _. members_left fields.new ≡ drop 1 (drop 1 (members_left fields.old)))) }
-    ensures fit { AllByRecursion Fits (values_left fields.new) }
+// What the document stands under.
+fn read_key(cursor: &mut Cursor<'_>) -> Result<StateKey, Stop>
+    ensures { Reads key_text IsKeptKey Ends cursor.old result cursor.new }
 {
-    let Some(activity) = fields.iri() else {
-        return Ok(None);
-    };
-    match fields.agent(alloc) {
-        Ok(Some(agent)) => Ok(Some((activity, agent))),
-        Ok(None) => {
-            drop(activity);
-            Ok(None)
-        }
-        Err(refused) => {
-            drop(activity);
-            Err(refused)
-        }
-    }
-}
-
-// A document that is written so, about that activity and that agent.
-#[tactic(auto, using(crate::proofs::DocumentWrites::lawful_state))]
-fn state_behind(
-    alloc: Global,
-    how: How,
-    activity: Iri,
-    agent: Ifi,
-    fields: &mut Fields,
-) -> Result<Option<Write>, Memory>
-    requires { AllByRecursion Fits (values_left fields.old) }
-    ensures is { IfOk result (λ found. found ≡ state_behind how activity agent (members_left fields.old)) }
-    ensures lawful { IfOk result (λ found. IfSome found IsLawfulWrite) }
-{
-    match content_in(alloc, fields) {
-        Ok(Some((registration, state, media, bytes))) => Ok(Some(Write::State {
-            how,
-            key: StateKey {
-                activity,
-                agent,
-                registration,
-                state,
-            },
-            media,
-            bytes,
-        })),
-        Ok(None) => {
-            drop(activity);
-            drop(agent);
-            Ok(None)
-        }
-        Err(refused) => {
-            drop(activity);
-            drop(agent);
-            Err(refused)
-        }
-    }
-}
-
-// The registration, the state id, the media type and the bytes of a document.
-fn content_in(
-    alloc: Global,
-    fields: &mut Fields,
-) -> Result<Option<(Option<Id>, Text, Text, Items<u8>)>, Memory>
-    requires { AllByRecursion Fits (values_left fields.old) }
-    ensures { IfOk result (λ found. found ≡ content_in (members_left fields.old)) }
-{
-    let Some(registration) = fields.optional_id("registration") else {
-        return Ok(None);
-    };
-    let Some(state) = fields.text() else {
-        return Ok(None);
-    };
-    let Some(media) = fields.text() else {
-        return Ok(None);
-    };
-    match fields.bytes(alloc)? {
-        Some(bytes) => Ok(Some((registration, state, media, bytes))),
-        None => Ok(None),
-    }
+    let activity = iri_behind(b",\"activity\":", cursor)?;
+    let agent = agent_behind(b",\"agent\":", cursor)?;
+    let registration = optional_id_behind(b",\"registration\":", cursor)?;
+    let state = text_behind(b",\"state\":", cursor)?;
+    Ok(StateKey {
+        activity,
+        agent,
+        registration,
+        state,
+    })
 }
 
 /// Documents that are dropped.
-pub fn drop_in(alloc: Global, fields: &mut Fields) -> Result<Option<Write>, Memory>
-    requires { AllByRecursion Fits (values_left fields.old) }
-    ensures is { IfOk result (λ found. found ≡ drop_in (members_left fields.old)) }
-    ensures lawful { IfOk result (λ found. IfSome found IsLawfulWrite) }
+pub fn read_drop(cursor: &mut Cursor<'_>) -> Result<Write, Stop>
+    ensures { ReadsWrite (codes "drop") cursor.old result cursor.new }
 {
-    match owner_in(alloc, fields)? {
-        Some((activity, agent)) => Ok(drop_behind(activity, agent, fields)),
-        None => Ok(None),
-    }
-}
-
-// Documents that are dropped, of that activity and that agent.
-#[tactic(auto, using(crate::proofs::DocumentWrites::lawful_drop))]
-fn drop_behind(activity: Iri, agent: Ifi, fields: &mut Fields) -> Option<Write>
-    requires { AllByRecursion Fits (values_left fields.old) }
-    ensures is { result ≡ drop_behind activity agent (members_left fields.old) }
-    ensures lawful { IfSome result IsLawfulWrite }
-{
-    match chosen_in(fields) {
-        Some((registration, state)) => Some(Write::Drop {
-            activity,
-            agent,
-            registration,
-            state,
-        }),
-        None => {
-            drop(activity);
-            drop(agent);
-            None
-        }
-    }
-}
-
-// The registration and the state id of documents that are dropped.
-fn chosen_in(fields: &mut Fields) -> Option<(Option<Id>, Option<Text>)>
-    requires { AllByRecursion Fits (values_left fields.old) }
-    ensures { result ≡ chosen_in (members_left fields.old) }
-{
-    let registration = fields.optional_id("registration")?;
-    let state = fields.optional_text("state")?;
-    Some((registration, state))
+    let activity = iri_behind(b"\"activity\":", cursor)?;
+    let agent = agent_behind(b",\"agent\":", cursor)?;
+    let registration = optional_id_behind(b",\"registration\":", cursor)?;
+    let state = optional_text_behind(b",\"state\":", cursor)?;
+    Ok(Write::Drop {
+        activity,
+        agent,
+        registration,
+        state,
+    })
 }

@@ -249,7 +249,7 @@ fn read(alloc: Global, text: &str) -> Result<(), EntryRefused> {
 }
 
 // What is changed in the founding entry, so that it is none.
-const CHANGES: [(&str, &str); 19] = [
+const CHANGES: [(&str, &str); 25] = [
     ("{\"caller\"", "{ \"caller\""),
     ("\"base\":", "\"base\": "),
     ("}}}", "}}} "),
@@ -278,6 +278,15 @@ const CHANGES: [(&str, &str); 19] = [
     ("\"0000", "\"000A"),
     ("\"0000", "\"000"),
     ("\"adminadmin\"", "5"),
+    ("adminadmin", "\\u0061dminadmin"),
+    ("http://", "http:\\/\\/"),
+    (",\"moment\"", " ,\"moment\""),
+    ("1700000000000,", "1700000000000 ,"),
+    ("{\"found\":{", "{\"found\":{ "),
+    (
+        "\"adminadmin\",",
+        "\"adminadmin\",\"admin\":\"adminadmin\",",
+    ),
 ];
 
 fn first_let_through(alloc: Global) -> Result<Option<usize>, Fail> {

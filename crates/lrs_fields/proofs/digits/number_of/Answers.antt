@@ -1,17 +1,33 @@
-use Rattle.std.proofs.Common.{◌≡◌, ◌∙◌, false, sym, subst, arith}
+use Rattle.std.proofs.Common.{◌≡◌, Ok, arith, sym, ap, ◌∙◌}
 use Rattle.std.specs.Fmt.{decimal}
-use Rattle.std.specs.Str.{bytes_eq}
-use Rattle.lrs_fields.proofs.Numbers.{not_printed, printed}
+use Rattle.std.proofs.lemmas.Bool.{false≢true}
+use Rattle.std.proofs.lemmas.Fmt.{decimal_injective, parse-decimal}
 use Rattle.lrs_fields.proofs.digits.number_of.Goals as goal
 
 pub returns-then-is_printed : goal.returns-then-is_printed
-returns-then-is_printed c = printed c.args.spelling.now c.in-Ok.number (omega arith) (sym c.is_printed.ensures ∙ c.if-is_printed.true)
+returns-then-is_printed c =
+    let n = c.in-Ok.number in
+    let own : c.args.spelling.now ≡ decimal n = c.is_printed.ensures.0 c.if-is_printed.true in
+    record {
+      found = ((omega arith, tt), own);
+      all = λ m may same. decimal_injective n m (omega arith) (omega (arith, may.0)) (sym own ∙ same);
+    }
 
 pub returns-else-is_printed : goal.returns-else-is_printed
 returns-else-is_printed c =
-    not_printed c.args.spelling.now c.parse.result c.parse.ensures.value.0
-    (λ found is. let same : c.in-Ok.number ≡ found = cc (sym c.in-Ok.is ∙ is) in
-    subst (λ n. bytes_eq c.args.spelling.now (decimal n) ≡ false) same (sym c.is_printed.ensures ∙ c.if-is_printed.false))
+    record {
+      found = tt;
+      all = λ m may same.
+          let parsed : c.parse.result ≡ Ok m = parse-decimal 32 m _ c.parse.result may.0 (omega (arith, may.0)) same c.parse.ensures.value.0 in
+          let number : c.in-Ok.number ≡ m = cc (sym c.in-Ok.is ∙ parsed) in
+          absurd (false≢true (sym c.if-is_printed.false ∙ c.is_printed.ensures.1 (same ∙ ap decimal (sym number))));
+    }
 
 pub returns-in-Err : goal.returns-in-Err
-returns-in-Err c = not_printed c.args.spelling.now c.parse.result c.parse.ensures.value.0 (λ found is. absurd (cc (sym c.in-Err.is ∙ is)))
+returns-in-Err c =
+    record {
+      found = tt;
+      all = λ m may same.
+          let parsed : c.parse.result ≡ Ok m = parse-decimal 32 m _ c.parse.result may.0 (omega (arith, may.0)) same c.parse.ensures.value.0 in
+          absurd (cc (sym c.in-Err.is ∙ parsed));
+    }

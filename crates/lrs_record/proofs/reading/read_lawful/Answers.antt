@@ -1,29 +1,20 @@
-use Rattle.std.proofs.Common.{◌≡◌, ap, sym, ◌∙◌}
+use Rattle.std.proofs.Common.{◌≡◌, sym, ◌∙◌}
 use Rattle.std.proofs.lemmas.Bool.{false≢true}
-use Rattle.lrs_record.specs.Entries.{entry_json, written_entry}
-use Rattle.lrs_record.proofs.Exactly.{refused_for_memory}
-use Rattle.lrs_record.proofs.Readable.{entry_is_written, readable}
+use Rattle.lrs_json_reader.specs.declared.cursor.Stop.TheVariants as stop
+use Rattle.lrs_record.proofs.EntryReading.{whole_again, whole_fault, whole_found}
 use Rattle.lrs_record.proofs.reading.read_lawful.Goals as goal
 
-pub returns-in_err-tree-clause-again : goal.returns-in_err-tree-clause-again
-returns-in_err-tree-clause-again c = λ entry lawful is.
-    refused_for_memory _ _ c.from_residual.result c.from_residual.ensures.1 (c.in_err-tree.ensures.all (entry_json entry) (readable entry lawful) (entry_is_written entry _ is))
+pub returns-then-is_empty-clause-found : goal.returns-then-is_empty-clause-found
+returns-then-is_empty-clause-found c = whole_found c.args.bytes.now c.new-cursor.result _ c.in-Ok.entry c.new-cursor.ensures c.in-Ok.ensures (c.is_empty.ensures.0 c.if-is_empty.true)
 
-pub returns-in-None-clause-again : goal.returns-in-None-clause-again
-returns-in-None-clause-again c = λ entry lawful is.
-    let seen = c.in_ok-tree.ensures.all (entry_json entry) (readable entry lawful) (entry_is_written entry _ is) in
-    absurd (cc (sym c.in-None.is ∙ c.in_ok-entry.ensures.all entry lawful seen))
+pub returns-then-is_empty-clause-again : goal.returns-then-is_empty-clause-again
+returns-then-is_empty-clause-again c = λ entry lawful is. (whole_again c.args.bytes.now c.new-cursor.result _ c.in-Ok.entry entry c.new-cursor.ensures c.in-Ok.ensures lawful is).0
 
-pub returns-in-Ok-true-clause-found : goal.returns-in-Ok-true-clause-found
-returns-in-Ok-true-clause-found c = (c.in-Ok-true.ensures.lawful c.in-Ok-true.field-0-test, c.in-Ok-true.ensures.same.0 c.in-Ok-true.field-0-test)
+pub returns-else-is_empty-clause-again : goal.returns-else-is_empty-clause-again
+returns-else-is_empty-clause-again c = λ entry lawful is.
+    absurd (false≢true (sym c.if-is_empty.false ∙ c.is_empty.ensures.1 (whole_again c.args.bytes.now c.new-cursor.result _ c.in-Ok.entry entry c.new-cursor.ensures c.in-Ok.ensures lawful is).1))
 
-pub returns-in-Ok-true-clause-again : goal.returns-in-Ok-true-clause-again
-returns-in-Ok-true-clause-again c = λ entry lawful is.
-    let seen = c.in_ok-tree.ensures.all (entry_json entry) (readable entry lawful) (entry_is_written entry _ is) in
-    cc (sym c.in-Some.is ∙ c.in_ok-entry.ensures.all entry lawful seen)
-
-pub returns-in-Ok-false-clause-again : goal.returns-in-Ok-false-clause-again
-returns-in-Ok-false-clause-again c = λ entry lawful is.
-    let seen = c.in_ok-tree.ensures.all (entry_json entry) (readable entry lawful) (entry_is_written entry _ is) in
-    let same : c.in-Some.entry ≡ entry = cc (sym c.in-Some.is ∙ c.in_ok-entry.ensures.all entry lawful seen) in
-    absurd (false≢true (sym c.in-Ok-false.field-0-test ∙ c.in-Ok-false.ensures.same.1 (ap written_entry same ∙ is)))
+pub returns-in-Err-Bad-clause-again : goal.returns-in-Err-Bad-clause-again
+returns-in-Err-Bad-clause-again c = λ entry lawful is.
+    let bad : stop.Bad ≡ stop.Memory → ⊥ = λ e. cc e in
+    absurd (bad (sym c.in-Err-Bad.field-0-is ∙ whole_fault c.args.bytes.now c.new-cursor.result _ _ entry c.new-cursor.ensures c.in-Err-Bad.ensures lawful is))
