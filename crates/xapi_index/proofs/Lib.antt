@@ -4,6 +4,7 @@ pub mod Firsts
 pub mod Found
 pub mod Keyed
 pub mod Changing
+pub mod Posting
 pub mod Standing
 pub mod Coming
 pub mod Rising

@@ -11,7 +11,7 @@ use Rattle.xapi_index.proofs.Firsts.{lt_no}
 use Rattle.xapi_index.proofs.Found.{each_still}
 use Rattle.xapi_index.proofs.Keyed.{coming_push}
 use Rattle.xapi_postings.specs.Ascending.{below, positions_with}
-use Rattle.xapi_postings.specs.Postings.{posted, posting_of}
+use Rattle.xapi_postings.specs.Postings.{SamePostings, posted, posting_of}
 use Rattle.xapi_postings.proofs.Ascending.{ascending-append, positions-append, positions-ascending, positions-below, positions-bounded}
 use Rattle.xapi_postings.specs.XapiStatementStored.{StoredStatement}
 use Rattle.xapi_postings.specs.XapiStatementKeysKeys.{has_key, is_among}
@@ -78,6 +78,17 @@ stand_start held ahead postings coming are none_ahead nothing = record {
   where
     alone : held ++ ahead ≡ held
     alone = ap (λ (xs : List StoredStatement). held ++ xs) none_ahead ∙ append-nil held
+
+-- no posting changes
+pub stand_same : (held ahead : List StoredStatement) (old new : List (Key × List ℕ)) (coming : List (List Key)) → SamePostings old new → StandAhead held ahead old coming → StandAhead held ahead new coming
+stand_same held ahead old new coming same stand = record { posted = λ key. same key ∙ stand.posted key; long = stand.long; others = stand.others }
+
+-- the positions under a key come before the next one
+pub stand_behind : (held ahead : List StoredStatement) (postings : List (Key × List ℕ)) (coming : List (List Key)) (position : ℕ) → position ≡ length held + length ahead → StandAhead held ahead postings coming
+    → (key : Key) → AllByRecursion (λ k. k < position) (posting_of key postings)
+stand_behind held ahead postings coming position at stand key =
+    subst (λ ks. AllByRecursion (λ k. k < position) ks) (sym (stand.posted key))
+    (subst (λ n. AllByRecursion (λ k. k < n) (positions_with (has_key key) (held ++ ahead))) (length-append held ahead ∙ sym at) (positions-bounded (has_key key) (held ++ ahead)))
 
 -- one more that is to come, of which all keys are kept, and its position under each
 pub stand_more : (held ahead : List StoredStatement) (old new : List (Key × List ℕ)) (coming : List (List Key)) (keys : List Key) (s : StoredStatement) (position : ℕ) → position ≡ length held + length coming

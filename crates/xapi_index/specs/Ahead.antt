@@ -1,11 +1,11 @@
 -- How positions are written ahead for statements that are to come, and taken back.
-use Rattle.std.specs.Prelude.{◌≡◌, ◌⊎◌, ◌++◌, ℕ, Bool, true, false, List, [], ◌∷◌, length, if◌then◌else◌}
+use Rattle.std.specs.Prelude.{◌≡◌, ◌⊎◌, ◌++◌, ◌&&◌, not, ℕ, Bool, true, false, List, [], ◌∷◌, length, if◌then◌else◌}
 use Rattle.lrs_json.specs.declared.tree.Tree.{Tree}
 use Rattle.xapi_index.specs.Index.{ArePosted, is_coming}
 use Rattle.xapi_postings.specs.Ascending.{positions_with}
 use Rattle.xapi_postings.specs.Postings.{posting_of}
 use Rattle.xapi_postings.specs.XapiStatementStored.{StoredStatement}
-use Rattle.xapi_postings.specs.XapiStatementKeysKeys.{has_key}
+use Rattle.xapi_postings.specs.XapiStatementKeysKeys.{has_key, is_among, is_same_key}
 use Rattle.xapi_postings.specs.XapiStatementKeysKeyKey.{Key}
 
 -- ---- changes of many postings
@@ -19,6 +19,10 @@ ChangesEach passes change old new = (key : Key) → posting_of key new ≡
 abbrev pub ChangesSome : (Key → Bool) → (List ℕ → List ℕ) → List (Key × List ℕ) → List (Key × List ℕ) → Type 0
 ChangesSome passes change old new = (key : Key) → (posting_of key new ≡ posting_of key old)
     ⊎ ((passes key ≡ true) × (posting_of key new ≡ change (posting_of key old)))
+
+-- it is one of the keys, and not that one
+abbrev pub is_other : Key → List Key → Key → Bool
+is_other own keys k = is_among k keys && not (is_same_key own k)
 
 -- ---- statements that are to come
 

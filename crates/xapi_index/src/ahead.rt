@@ -1,19 +1,19 @@
 // Statements that are to come: their held forms are made and their positions written ahead, where memory may run out.
 // The positions are taken back here where the statements don't come.
-ghost use Rattle.std.specs.Prelude.{◌≡◌, ◌<◌, ◌≤◌, ◌+◌, ◌-◌, [], ◌∷◌, ◌++◌, false, length, drop, List, IfOk, OnOk};
+ghost use Rattle.std.specs.Prelude.{◌≡◌, ◌<◌, ◌≤◌, ◌+◌, ◌-◌, ◌&&◌, [], ◌∷◌, ◌++◌, true, false, length, drop, IfOk, OnOk};
+ghost use Rattle.std.specs.Prelude.{not, if◌then◌else◌, is_some, slice_get};
 ghost use Rattle.std.specs.Prelude.{vec_len, vec_capacity};
+ghost use Rattle.std.specs.List.{AllByRecursion};
 ghost use Rattle.std.specs.Vec.Iter.{into_iter_items};
-ghost use Rattle.xapi_index.specs.Ahead.{AreTextsOf, ChangesEach, ChangesSome, IsNextTextOf, StandAhead};
+ghost use Rattle.xapi_index.specs.Ahead.{AreTextsOf, ChangesEach, ChangesSome, IsNextTextOf, StandAhead, is_other};
 ghost use Rattle.xapi_index.specs.Index.{ArePosted, IsIndex, is_coming, lists_of};
-ghost use Rattle.xapi_postings.specs.XapiStatementStatements.{add, add_each};
+ghost use Rattle.xapi_postings.specs.XapiStatementStatements.{add, add_each, is_held};
 ghost use Rattle.xapi_postings.specs.Ascending.{below};
-ghost use Rattle.xapi_postings.specs.Postings.{posted};
+ghost use Rattle.xapi_postings.specs.Postings.{posted, posting_of};
 ghost use Rattle.xapi_postings.specs.XapiStatementHeld.{IsTextOf};
-ghost use Rattle.xapi_postings.specs.XapiStatementStored.{StoredStatement as SpecStatement};
 ghost use Rattle.xapi_postings.specs.XapiStatementKeysKeys.{is_among};
 
 use crate::authorities::Authorities;
-use crate::positions::first_under;
 use lrs_json::Memory;
 use std::vec::IntoIter;
 use xapi_postings::Postings;
@@ -131,38 +131,20 @@ fn write_one(
     ensures capacity { vec_capacity coming.new ≡ vec_capacity coming.old }
     ensures longer { vec_len coming.new ≤ vec_len coming.old + 1 }
 {
-    match first_under(postings, statement.id()) {
-        Some(_) => {
+    match write_new(held, ahead.as_slice(), postings, coming, statement) {
+        Ok(true) => push_ahead(ahead, authorities, text, statement),
+        Ok(false) => {
             drop(text);
             Ok(())
         }
-        None => keep_new(held, postings, coming, ahead, authorities, text, statement),
+        Err(refused) => {
+            drop(text);
+            Err(refused)
+        }
     }
 }
 
-// Makes the held form of a statement, and writes its position.
-fn keep_new(
-    held: &[HeldStatement],
-    postings: &mut Postings,
-    coming: &mut Vec<Keys>,
-    ahead: &mut Vec<HeldStatement>,
-    authorities: &mut Authorities,
-    text: Option<ReceivedText>,
-    statement: &StoredStatement,
-) -> Result<(), Memory>
-    requires room { vec_len coming.old < vec_capacity coming.old }
-    requires text { IsTextOf text statement.now.received }
-    requires stands { StandAhead held.now ahead.old.items postings.old (lists_of coming.old.items) }
-    ensures stands { OnOk result (StandAhead held.now ahead.new.items postings.new (lists_of coming.new.items)) }
-    ensures ahead { OnOk result (ahead.new.items ≡ ahead.old.items ++ statement.now ∷ []) }
-    ensures index { IsIndex held.now postings.new (lists_of coming.new.items) false }
-    ensures capacity { vec_capacity coming.new ≡ vec_capacity coming.old }
-    ensures longer { vec_len coming.new ≤ vec_len coming.old + 1 }
-{
-    push_ahead(ahead, authorities, text, statement)?;
-    write_new(held, postings, coming, statement)
-}
-
+// Makes the held form of a statement.
 fn push_ahead(
     ahead: &mut Vec<HeldStatement>,
     authorities: &mut Authorities,
@@ -196,27 +178,43 @@ fn push_under(
     Ok(())
 }
 
-// Writes the position behind all others under each key of a statement. Its keys are kept also if some fail.
+// If no statement stands under its id, writes the position behind all others under each key of a statement. Tells whether
+// it did. Its keys are kept also if some fail.
 fn write_new(
     held: &[HeldStatement],
+    ahead: &[HeldStatement],
     postings: &mut Postings,
     coming: &mut Vec<Keys>,
     statement: &StoredStatement,
-) -> Result<(), Memory>
-    requires { vec_len coming.old < vec_capacity coming.old }
-    ensures stands { OnOk result ((ahead : List SpecStatement)
-        → StandAhead held.now ahead postings.old (lists_of coming.old.items)
-        → StandAhead held.now (ahead ++ statement.now ∷ []) postings.new (lists_of coming.new.items)) }
-    ensures index { (ahead : List SpecStatement) → StandAhead held.now ahead postings.old (lists_of coming.old.items)
-        → IsIndex held.now postings.new (lists_of coming.new.items) false }
+) -> Result<bool, Memory>
+    requires room { vec_len coming.old < vec_capacity coming.old }
+    requires stands { StandAhead held.now ahead.now postings.old (lists_of coming.old.items) }
+    ensures new { IfOk result (λ is_new. is_new ≡ not (is_held statement.now.id (held.now ++ ahead.now))) }
+    ensures stands { IfOk result (λ is_new. StandAhead held.now
+        (if is_new then ahead.now ++ statement.now ∷ [] else ahead.now) postings.new (lists_of coming.new.items)) }
+    ensures index { IsIndex held.now postings.new (lists_of coming.new.items) false }
     ensures capacity { vec_capacity coming.new ≡ vec_capacity coming.old }
     ensures longer { vec_len coming.new ≤ vec_len coming.old + 1 }
 {
-    let position = next_position(held.len(), coming.len())?;
+    let position = next_position(held.len(), ahead.len())?;
     let keys = Keys::of(*coming.allocator(), statement)?;
-    let written = post_each(postings, keys.items.as_slice(), position);
-    coming.push_reserved(keys);
-    written
+    let own = Key::Statement(statement.id());
+    let told = post_new(postings, &own, keys.items.as_slice(), position);
+    drop(own);
+    match told {
+        Ok(true) => {
+            coming.push_reserved(keys);
+            Ok(true)
+        }
+        Ok(false) => {
+            drop(keys);
+            Ok(false)
+        }
+        Err(refused) => {
+            coming.push_reserved(keys);
+            Err(refused)
+        }
+    }
 }
 
 // The position behind so many that are held and so many that are to come. None has more than 32 bits.
@@ -232,13 +230,38 @@ fn next_position(held: usize, coming: usize) -> Result<u32, Memory>
     }
 }
 
-fn post_each(postings: &mut Postings, keys: &[Key], position: u32) -> Result<(), Memory>
+// Writes the position under each of the keys, if none stands under that one of them. Tells whether it did.
+fn post_new(postings: &mut Postings, own: &Key, keys: &[Key], position: u32) -> Result<bool, Memory>
+    requires own { is_among own.now keys.now ≡ true }
+    requires behind { AllByRecursion (λ k. k < position) (posting_of own.now postings.old) }
+    ensures new { IfOk result (λ is_new. is_new ≡ not (is_some (slice_get (posting_of own.now postings.old) 0))) }
     ensures some { ChangesSome (λ k. is_among k keys.now) (posted position) postings.old postings.new }
-    ensures each { OnOk result (ChangesEach (λ k. is_among k keys.now) (posted position)
+    ensures each { IfOk result (λ is_new. ChangesEach (λ k. is_new && is_among k keys.now) (posted position)
+        postings.old postings.new) }
+{
+    let first = postings.post_if_none(own, position)?;
+    if first != position {
+        return Ok(false);
+    }
+    post_others(postings, own, keys, position)?;
+    Ok(true)
+}
+
+// Writes the position under each of the keys but that one.
+fn post_others(
+    postings: &mut Postings,
+    own: &Key,
+    keys: &[Key],
+    position: u32,
+) -> Result<(), Memory>
+    ensures some { ChangesSome (is_other own.now keys.now) (posted position) postings.old postings.new }
+    ensures each { OnOk result (ChangesEach (is_other own.now keys.now) (posted position)
         postings.old postings.new) }
 {
     for key in keys {
-        postings.post(key, position)?;
+        if key != own {
+            postings.post(key, position)?;
+        }
     }
     Ok(())
 }

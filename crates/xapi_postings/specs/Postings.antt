@@ -18,6 +18,11 @@ is_last k ks = option_map_or (λ last. last == k) (slice_get ks (length ks - 1))
 abbrev pub posted : ℕ → List ℕ → List ℕ
 posted k ks = if is_last k ks then ks else ks ++ k ∷ []
 
+-- a position is put where none stands
+abbrev pub posted_if_none : ℕ → List ℕ → List ℕ
+posted_if_none k [] = k ∷ []
+posted_if_none k (j ∷ ks) = j ∷ ks
+
 -- the posting of a key is changed by a function, and no other
 abbrev pub Changes : Key → (List ℕ → List ℕ) → List (Key × List ℕ) → List (Key × List ℕ) → Type 0
 Changes key change old new = (k : Key) → posting_of k new ≡

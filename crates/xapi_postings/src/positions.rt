@@ -1,5 +1,5 @@
 // The positions under one key.
-ghost use Rattle.std.specs.Prelude.{◌≡◌, [], ◌∷◌, nat_lt, true, IfOk, OnOk, OnErr};
+ghost use Rattle.std.specs.Prelude.{◌≡◌, [], ◌∷◌, nat_lt, true, slice_get, IfOk, OnOk, OnErr, Some};
 ghost use Rattle.std.specs.List.{list_any};
 ghost use Rattle.xapi_postings.specs.Ascending.{below};
 ghost use Rattle.xapi_postings.specs.Postings.{is_last, posted};
@@ -37,6 +37,12 @@ impl Positions {
         ensures { result.now ≡ self.now }
     {
         self.list.as_slice()
+    }
+
+    pub fn first(&self) -> u32
+        ensures { Some result ≡ slice_get self.now 0 }
+    {
+        self.list[0]
     }
 
     /// Puts a position at the end, if it isn't there yet.

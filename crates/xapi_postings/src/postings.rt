@@ -1,8 +1,8 @@
 // Positions by key.
-ghost use Rattle.std.specs.Prelude.{◌≡◌, [], nat_lt, true, OnOk, OnErr};
+ghost use Rattle.std.specs.Prelude.{◌≡◌, [], nat_lt, true, slice_get, IfOk, OnOk, OnErr, Some};
 ghost use Rattle.std.specs.List.{list_any};
 ghost use Rattle.xapi_postings.specs.Ascending.{below};
-ghost use Rattle.xapi_postings.specs.Postings.{posted, posting_of, Changes, SamePostings};
+ghost use Rattle.xapi_postings.specs.Postings.{posted, posted_if_none, posting_of, Changes, SamePostings};
 
 use crate::positions::Positions;
 use lrs_json::Memory;
@@ -56,6 +56,18 @@ impl Postings {
             Some(positions) => positions.put(position),
             None => post_first(self.alloc, &mut self.map, key, position),
         }
+    }
+
+    /// Puts a position under a key if none stands there, and tells the first that stands there then. It looks for the
+    /// key once.
+    pub fn post_if_none(&mut self, key: &Key, position: u32) -> Result<u32, Memory>
+        ensures first { IfOk result (λ first. Some first ≡ slice_get (posting_of key.now self.new) 0) }
+        ensures posted { OnOk result (Changes key.now (posted_if_none position) self.old self.new) }
+        ensures same { OnErr result (SamePostings self.old self.new) }
+    {
+        let positions = Positions::of(self.alloc, position)?;
+        let list = self.map.entry(key.copy()?)?.or_insert(positions);
+        Ok(list.first())
     }
 
     /// Takes the positions under a key back that aren't below a bound, and the key out if none is left. It takes no
