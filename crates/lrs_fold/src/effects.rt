@@ -23,8 +23,8 @@ ghost use Rattle.lrs_reads.specs.LrsRefusalsNaming.{with_these_ids};
 ghost use Rattle.lrs_replies.specs.Texts.{token_text};
 ghost use Rattle.xapi_statement.specs.Statements.{is_held};
 
-use crate::Fold;
 use crate::authority::authority_of;
+use crate::{Fold, Spent};
 use lrs_agents::Ifi;
 use lrs_command::Who;
 use lrs_json::{Items, Memory, Text, Tree};
@@ -47,16 +47,21 @@ impl Fold {
         ensures { IfOk result (λ made. made ≡ effect (state_of self.now.parts) entry) }
     {
         let who = who_is(&self.parts, &entry.caller);
-        self.prepare_known(alloc, who, Known::Nothing, entry)
+        let mut spent = Spent::none(alloc);
+        let effect = self.prepare_known(alloc, who, Known::Nothing, entry, &mut spent);
+        drop(spent);
+        effect
     }
 
-    /// The same of an entry of that caller. What is known of its statements isn't looked up again.
+    /// The same of an entry of that caller. What is known of its statements isn't looked up again. The caller and the
+    /// trees that aren't kept are put into `spent`.
     pub(crate) fn prepare_known(
         &self,
         alloc: Global,
         who: Who,
         known: Known,
         entry: Entry,
+        spent: &mut Spent,
     ) -> Result<Effect, Memory>
         requires judged { IsJudged entry.write }
         requires who { who ≡ who_is (state_of self.now.parts) entry.caller }
@@ -69,9 +74,9 @@ impl Fold {
             moment,
             draw,
         } = entry;
-        drop(caller);
+        spent.set_caller(caller);
         let mut known = known;
-        let effect = self.effect_by(alloc, who, moment, &draw, &mut known, write);
+        let effect = self.effect_by(alloc, who, moment, &draw, &mut known, write, spent);
         drop(known);
         effect
     }
@@ -86,6 +91,7 @@ impl Fold {
         draw: &Draw,
         known: &mut Known,
         write: Write,
+        spent: &mut Spent,
     ) -> Result<Effect, Memory>
         requires judged { IsJudged write }
         requires known { IsKnown (state_of self.now.parts) draw.now write known.old }
@@ -95,9 +101,11 @@ impl Fold {
             Write::Found { admin, base } => Ok(founding(alloc, admin, base, moment)),
             Write::Provider { name } => self.provider(alloc, name, moment, draw),
             Write::Put { id, statement } => {
-                self.put(alloc, who, moment, draw, known, id, statement)
+                self.put(alloc, who, moment, draw, known, id, statement, spent)
             }
-            Write::Post { statements } => self.post(alloc, who, moment, draw, known, statements),
+            Write::Post { statements } => {
+                self.post(alloc, who, moment, draw, known, statements, spent)
+            }
             Write::State {
                 how,
                 key,
@@ -110,7 +118,7 @@ impl Fold {
                 registration,
                 state,
             } => self.drop_documents(alloc, moment, activity, agent, registration, state),
-            Write::Course { tree } => self.course(alloc, moment, tree),
+            Write::Course { tree } => self.course(alloc, moment, tree, spent),
             Write::Enrol { course, actor } => enrolling(
                 alloc,
                 &self.parts,
@@ -175,6 +183,7 @@ impl Fold {
         known: &Known,
         id: Id,
         statement: Tree,
+        spent: &mut Spent,
     ) -> Result<Effect, Memory>
         requires judged { IsJudgedTree statement }
         requires known { IsKnownUnder (state_of self.now.parts) id known.now }
@@ -183,7 +192,7 @@ impl Fold {
     {
         let held = self.is_held_under(known, &id);
         let mut added = Vec::new(alloc);
-        self.push_new(&mut added, who, moment, &id, held, statement)?;
+        self.push_new(&mut added, who, moment, &id, held, statement, spent)?;
         self.owe_behind_put(alloc, who, moment, draw, &id, &mut added)?;
         Ok(writing_new(alloc, moment, added))
     }
@@ -207,6 +216,7 @@ impl Fold {
         draw: &Draw,
         known: &mut Known,
         statements: Items<Tree>,
+        spent: &mut Spent,
     ) -> Result<Effect, Memory>
         requires judged { AllByRecursion IsJudgedTree statements }
         requires known { IsKnownOf (state_of self.now.parts) draw.now statements known.old }
@@ -221,7 +231,7 @@ impl Fold {
         } = batch;
         let flags = held.into_vec();
         let trees = statements.into_vec();
-        let mut added = self.new_of_batch(alloc, who, moment, ids.as_slice(), flags, trees)?;
+        let mut added = self.new_of_batch(alloc, who, moment, ids.as_slice(), flags, trees, spent)?;
         self.owe_behind(alloc, who, moment, &mut supply, &mut added)?;
         Ok(writing_all(alloc, moment, added, ids))
     }
@@ -309,13 +319,19 @@ impl Fold {
         effect
     }
 
-    fn course(&self, alloc: Global, moment: Moment, tree: Tree) -> Result<Effect, Memory>
+    fn course(
+        &self,
+        alloc: Global,
+        moment: Moment,
+        tree: Tree,
+        spent: &mut Spent,
+    ) -> Result<Effect, Memory>
         requires fits { Fits (view tree) }
         requires unbroken { broken_rule (view tree) ≡ None }
         ensures { IfOk result (λ made. made ≡ taking (state_of self.now.parts) moment (course_of tree)) }
     {
         let effect = taking(alloc, &self.parts, moment, &tree);
-        drop(tree);
+        spent.push_tree(tree);
         effect
     }
 
@@ -328,6 +344,7 @@ impl Fold {
         id: &Id,
         held: bool,
         statement: Tree,
+        spent: &mut Spent,
     ) -> Result<(), Memory>
         requires judged { IsJudgedTree statement }
         requires held { held ≡ is_held id.now (state_of self.now.parts).statements }
@@ -336,6 +353,7 @@ impl Fold {
             ++ new_by (state_of self.now.parts) who moment (record { id = id.now; tree = statement } ∷ [])) }
     {
         if held {
+            spent.push_tree(statement);
             return Ok(());
         }
         if let Some(authority) = authority_of(&self.parts, who)? {
@@ -353,6 +371,7 @@ impl Fold {
         ids: &[Id],
         held: Vec<bool>,
         statements: Vec<Tree>,
+        spent: &mut Spent,
     ) -> Result<Vec<StoredStatement>, Memory>
         requires judged { AllByRecursion IsJudgedTree statements.items }
         requires told { TellHeld (state_of self.now.parts) held.items ids.now }
@@ -360,7 +379,7 @@ impl Fold {
             ≡ new_by (state_of self.now.parts) who moment (with_these_ids ids.now statements.items)) }
     {
         let mut added = Vec::with_capacity(alloc, ids.len())?;
-        self.push_each(&mut added, who, moment, ids, held, statements)?;
+        self.push_each(&mut added, who, moment, ids, held, statements, spent)?;
         Ok(added)
     }
 
@@ -373,6 +392,7 @@ impl Fold {
         ids: &[Id],
         held: Vec<bool>,
         statements: Vec<Tree>,
+        spent: &mut Spent,
     ) -> Result<(), Memory>
         requires judged { AllByRecursion IsJudgedTree statements.items }
         requires told { TellHeld (state_of self.now.parts) held.items ids.now }
@@ -382,7 +402,7 @@ impl Fold {
     {
         let mut flags = held.into_iter();
         let mut left = statements.into_iter();
-        let pushed = self.push_left(added, who, moment, ids, &mut flags, &mut left);
+        let pushed = self.push_left(added, who, moment, ids, &mut flags, &mut left, spent);
         drop(left);
         drop(flags);
         pushed
@@ -397,6 +417,7 @@ impl Fold {
         ids: &[Id],
         held: &mut IntoIter<bool>,
         statements: &mut IntoIter<Tree>,
+        spent: &mut Spent,
     ) -> Result<(), Memory>
         requires judged { AllByRecursion IsJudgedTree (into_iter_items statements.old) }
         requires told { TellHeld (state_of self.now.parts) (into_iter_items held.old) ids.now }
@@ -409,7 +430,7 @@ impl Fold {
             match statements.next() {
                 Some(statement) => {
                     let is_held = self.is_next_held(held, id);
-                    self.push_new(added, who, moment, id, is_held, statement)?;
+                    self.push_new(added, who, moment, id, is_held, statement, spent)?;
                 }
                 None => return Ok(()),
             }

@@ -5,11 +5,11 @@ ghost use Rattle.std.specs.Vec.Iter.{into_iter_items};
 ghost use Rattle.xapi_index.specs.Ahead.{AreTextsOf};
 ghost use Rattle.lrs_learning.specs.LrsStateState.{apply, nothing};
 
-use lrs_json::{Items, Memory};
-use lrs_learning::lrs_parts::{Effect, Parts};
+use lrs_json::Memory;
+use lrs_learning::lrs_parts::{Effect, Parts, SpentEffect};
 use std::alloc::Global;
 use std::vec::IntoIter;
-use xapi_statement::{ReceivedText, StoredStatement};
+use xapi_statement::ReceivedText;
 
 /// What the entries so far give.
 #[derive(Drop)]
@@ -51,9 +51,9 @@ impl Fold {
         self.parts.release(effect);
     }
 
-    /// Takes an effect in for which there is room. It takes no memory. What is left of its statements is handed back:
-    /// dropping their trees takes long.
-    pub fn install(&mut self, effect: Effect) -> Items<StoredStatement>
+    /// Takes an effect in for which there is room. It takes no memory. What is left of it is handed back: dropping trees
+    /// takes long.
+    pub fn install(&mut self, effect: Effect) -> SpentEffect
         requires { IsReadyFor self.old.parts effect }
         ensures { state_of self.new.parts ≡ apply (state_of self.old.parts) effect }
     {

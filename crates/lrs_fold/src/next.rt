@@ -8,7 +8,7 @@ ghost use Rattle.lrs_reads.specs.LrsHistoryWhose.{who_is};
 ghost use Rattle.lrs_learning.specs.LrsPartsParts.{state_of};
 ghost use Rattle.lrs_record.specs.Entries.{IsLawfulWrite};
 
-use crate::Fold;
+use crate::{Fold, Spent};
 use lrs_command::Who;
 use lrs_json::Memory;
 use lrs_learning::lrs_parts::{Effect, is_base, is_token};
@@ -55,7 +55,10 @@ impl Fold {
         requires known { IsKnown (state_of self.now.parts) entry.draw entry.write known }
         ensures { IfOk result (λ next. Changes first (state_of self.now.parts) entry next) }
     {
-        let effect = self.prepare_known(alloc, who, known, entry)?;
+        let mut spent = Spent::none(alloc);
+        let prepared = self.prepare_known(alloc, who, known, entry, &mut spent);
+        drop(spent);
+        let effect = prepared?;
         if !first && effect.changes_nothing() {
             drop(effect);
             return Ok(None);

@@ -14,8 +14,8 @@ ghost use Rattle.lrs_learning.specs.LrsPartsParts.{state_of};
 ghost use Rattle.lrs_record.specs.Entries.{HoldsWrite, IsLawful, IsLawfulCaller, IsLawfulWrite, closing_text, written_entry};
 ghost use Rattle.lrs_time.specs.Moments.{clamped};
 
-use crate::Fold;
 use crate::saying::write_said;
+use crate::{Fold, Spent};
 use lrs_command::{Area, Command, Who};
 use lrs_json::{Items, Memory};
 use lrs_learning::lrs_parts::Effect;
@@ -58,7 +58,7 @@ const HEADING_ROOM: usize = 256;
 
 impl Fold {
     /// What becomes of a command. All that it takes to keep its entry is made here, or was when it was submitted, but
-    /// for the room in the parts. What closed the entry's text is of no more use: it is put into `spent`.
+    /// for the room in the parts. What is of no more use is put into `spent`.
     pub fn outcome(
         &self,
         alloc: Global,
@@ -66,7 +66,7 @@ impl Fold {
         command: Submission,
         clock: u64,
         draw: &Draw,
-        spent: &mut Items<u8>,
+        spent: &mut Spent,
     ) -> Result<Outcome, Memory>
         requires caller { IsLawfulCaller caller }
         requires command { HasReadTrees command }
@@ -83,7 +83,7 @@ impl Fold {
             }
             Form::Refused { area, refusal } => {
                 let said = self.refused(&caller, area, refusal);
-                drop(caller);
+                spent.set_caller(caller);
                 Ok(Outcome::Said(said))
             }
         }
@@ -97,7 +97,7 @@ impl Fold {
         command: Command,
         clock: u64,
         draw: &Draw,
-        spent: &mut Items<u8>,
+        spent: &mut Spent,
     ) -> Result<Outcome, Memory>
         requires caller { IsLawfulCaller caller }
         requires command { HasReadTrees command }
@@ -111,13 +111,13 @@ impl Fold {
             }
             Command::Read(read) => {
                 let said = read_answered(alloc, &self.parts, &caller, &read);
-                drop(caller);
+                spent.set_caller(caller);
                 drop(read);
                 Ok(Outcome::Said(said?))
             }
             Command::Refused { area, status, rule } => {
                 let said = self.refused(&caller, area, refused_with(status, rule));
-                drop(caller);
+                spent.set_caller(caller);
                 Ok(Outcome::Said(said))
             }
         }
@@ -162,7 +162,7 @@ impl Fold {
         alloc: Global,
         written: Option<Written>,
         entry: Entry,
-        spent: &mut Items<u8>,
+        spent: &mut Spent,
     ) -> Result<Outcome, Memory>
         requires caller { IsLawfulCaller entry.caller }
         requires write { IsLawfulWrite entry.write }
@@ -182,14 +182,14 @@ impl Fold {
             Ok(None) => self.accepted(alloc, who, known, written, entry, spent),
             Ok(Some(refusal)) => {
                 drop(known);
-                drop(written);
-                drop(entry);
+                spent.set_written(written);
+                spent.set_entry(entry);
                 Ok(Outcome::Said(Answered::Refused(refusal)))
             }
             Err(refused) => {
                 drop(known);
-                drop(written);
-                drop(entry);
+                spent.set_written(written);
+                spent.set_entry(entry);
                 Err(refused)
             }
         }
@@ -203,7 +203,7 @@ impl Fold {
         known: Known,
         written: Option<Written>,
         entry: Entry,
-        spent: &mut Items<u8>,
+        spent: &mut Spent,
     ) -> Result<Outcome, Memory>
         requires caller { IsLawfulCaller entry.caller }
         requires write { IsLawfulWrite entry.write }
@@ -218,8 +218,8 @@ impl Fold {
             Ok(text) => self.outcome_with(alloc, who, known, written, text, entry, spent),
             Err(refused) => {
                 drop(known);
-                drop(written);
-                drop(entry);
+                spent.set_written(written);
+                spent.set_entry(entry);
                 Err(refused)
             }
         }
@@ -234,7 +234,7 @@ impl Fold {
         written: Option<Written>,
         text: Vec<u8>,
         entry: Entry,
-        spent: &mut Items<u8>,
+        spent: &mut Spent,
     ) -> Result<Outcome, Memory>
         requires written { IsWrittenIf entry.write written }
         requires who { who ≡ who_is (state_of self.now.parts) entry.caller }
@@ -247,10 +247,10 @@ impl Fold {
     {
         let made = Snapshot::of(&entry);
         let count = known.leading_new(&entry.write);
-        match self.prepare_known(alloc, who, known, entry) {
+        match self.prepare_known(alloc, who, known, entry, spent) {
             Ok(effect) => said_with(alloc, made, written, count, text, effect, spent),
             Err(refused) => {
-                drop(written);
+                spent.set_written(written);
                 Err(refused)
             }
         }
@@ -266,7 +266,7 @@ fn said_with(
     count: usize,
     text: Vec<u8>,
     effect: Effect,
-    spent: &mut Items<u8>,
+    spent: &mut Spent,
 ) -> Result<Outcome, Memory>
     ensures { IfOk result (λ outcome. outcome ≡ made_of
         (record { entry = entry; text = text.items; effect = effect; said = write_said effect })
@@ -283,55 +283,57 @@ fn said_with(
                     said,
                 },
                 texts,
+                spent,
             ))
         }
         Err(refused) => {
-            drop(effect);
-            drop(written);
+            spent.set_effect(effect);
+            spent.set_written(written);
             Err(refused)
         }
     }
 }
 
-// The first `count` of the texts that were written before, if the entry brings statements. What closed the entry's text
-// is put aside.
+// The first `count` of the texts that were written before, if the entry brings statements. The others and what closed
+// the entry's text are put aside.
 fn texts_for(
     alloc: Global,
     written: Option<Written>,
     count: usize,
     effect: &Effect,
-    spent: &mut Items<u8>,
+    spent: &mut Spent,
 ) -> Items<ReceivedText>
     ensures { result ≡ texts_for written count effect.now.statements }
 {
     let Some(Written { closing, texts }) = written else {
         return Items::new(alloc);
     };
-    *spent = closing;
+    spent.set_closing(closing);
     if effect.statements.is_empty() {
-        drop(texts);
+        spent.set_texts(texts);
         return Items::new(alloc);
     }
     let mut texts = texts.into_vec();
-    texts.truncate(count);
+    spent.split_later(&mut texts, count);
     Items::from_vec(texts)
 }
 
 // What changes nothing is answered at once, all else is to be kept.
-fn outcome_of(accepted: Accepted, texts: Items<ReceivedText>) -> Outcome
+fn outcome_of(accepted: Accepted, texts: Items<ReceivedText>, spent: &mut Spent) -> Outcome
     ensures { result ≡ made_of accepted texts }
 {
     if !accepted.effect.changes_nothing() {
         return Outcome::Accepted(accepted, texts);
     }
+    // There are none, since no statements come.
     drop(texts);
     let Accepted {
         entry: _,
-        text: _,
+        text,
         effect,
         said,
     } = accepted;
-    drop(effect);
+    spent.set_unmade(effect, text);
     Outcome::Said(said)
 }
 

@@ -12,7 +12,7 @@ ghost use Rattle.lrs_hall.specs.Steps.{IsSaid, IsTaken, Looks, pass_behind, seen
 use crate::Draws;
 use lrs_command::Command;
 use lrs_disk::{Disk, Door};
-use lrs_machine::{Desk, Receipt, Record, Submission};
+use lrs_machine::{Desk, Receipt, Record, Spent, Submission};
 use lrs_names::Draw;
 use lrs_record::Caller;
 use lrs_replies::Reply;
@@ -35,8 +35,8 @@ fn note<D: Disk>(turns: &Turns<Desk<D>>, pass: &mut Pass<Record>, desk: &Desk<D>
     turns.point(pass, desk);
 }
 
-// Acts on the desk that was taken, and gives it back. What a write left over is dropped behind that, when others may
-// have the turn.
+// Acts on the desk that was taken, and gives it back. What the act left over is handed on: it is to be dropped when
+// others may have the turn.
 fn act_and_give<D: Disk>(
     turns: &Turns<Desk<D>>,
     pass: &mut Pass<Record>,
@@ -45,7 +45,7 @@ fn act_and_give<D: Disk>(
     command: Submission,
     clock: u64,
     draw: &Draw,
-) -> (Reply, Receipt)
+) -> (Reply, Receipt, Spent)
     requires taken { IsTaken D.row.coded D.fault_count D.time turns.now desk pass.old }
     requires caller { IsLawfulCaller caller }
     requires command { HasReadTrees command }
@@ -57,14 +57,14 @@ fn act_and_give<D: Disk>(
 {
     let (reply, receipt) = desk.act(caller, command, clock, draw);
     note(turns, pass, &desk, &receipt);
-    let spent = desk.spent();
+    let spent = desk.take_spent();
     turns.give(pass, desk);
-    drop(spent);
-    (reply, receipt)
+    (reply, receipt, spent)
 }
 
 /// Answers a command of a caller: waits for the turn, acts, and gives the desk back. The clock is read and the draw
-/// made before that, and what rests on the command alone was found when it was submitted.
+/// made before that, and what rests on the command alone was found when it was submitted. What the act left over is
+/// handed on, so that nobody waits until it is dropped.
 pub(crate) fn act<R: Wait, D: Disk, O: Door>(
     rt: &R,
     turns: &Turns<Desk<D>>,
@@ -73,7 +73,7 @@ pub(crate) fn act<R: Wait, D: Disk, O: Door>(
     draws: &mut Draws,
     caller: Caller,
     command: Submission,
-) -> (Reply, Receipt)
+) -> (Reply, Receipt, Spent)
     requires idle { IsIdle turns.now pass.old }
     requires caller { IsLawfulCaller caller }
     requires command { HasReadTrees command }
@@ -128,6 +128,15 @@ pub(crate) fn look<R: Wait, D: Disk, O: Door>(
         status: 400,
         rule: Rule::B(1),
     });
-    let (reply, receipt) = act_and_give(turns, pass, desk, routed.caller, command, clock, &draw);
+    let (reply, receipt, spent) = act_and_give(
+        turns,
+        pass,
+        desk,
+        routed.caller,
+        command,
+        clock,
+        &draw,
+    );
+    drop(spent);
     Looked::Barred(reply, receipt)
 }

@@ -62,7 +62,8 @@ fn submission(alloc: Global, routed: &Routed, request: &Request) -> Result<Submi
     Submission::of(alloc, command)
 }
 
-// Reads a request outside the turn, and takes the turn for its act. The act itself looks at the caller first.
+// Reads a request outside the turn, and takes the turn for its act. The act itself looks at the caller first. What it
+// left over is dropped behind the response, so that the client doesn't wait for that either.
 fn serve_read<R: Wait, D: Disk, O: Door>(
     rt: &R,
     alloc: Global,
@@ -90,9 +91,10 @@ fn serve_read<R: Wait, D: Disk, O: Door>(
 {
     match submission(alloc, &routed, request) {
         Ok(command) => {
-            let (reply, receipt) = act(rt, turns, pass, door, draws, routed.caller, command);
+            let (reply, receipt, spent) = act(rt, turns, pass, door, draws, routed.caller, command);
             let sent = write_reply(link, &reply, closes);
             drop(reply);
+            drop(spent);
             (receipt, sent)
         }
         Err(Memory) => {

@@ -34,7 +34,7 @@ use Rattle.lrs_journal.specs.contracts.journal.Journal as Journal
 use Rattle.lrs_noted.specs.contracts.noted.Noted as Noted
 use Rattle.lrs_machine.specs.contracts.desk.Desk as Desk
 use Rattle.lrs_machine.specs.contracts.record.Record as Record
-use Rattle.lrs_machine.specs.contracts.spent.Spent as Spent
+use Rattle.lrs_fold.specs.contracts.spent.Spent as Spent
 use Rattle.lrs_names.proofs.draw.Draw.TheSendSync as draw
 use Rattle.lrs_names.proofs.iris.Iri.TheSendSync as iri
 use Rattle.lrs_record.proofs.entry.Caller.TheSendSync as caller
@@ -96,11 +96,6 @@ parts_sent = search (plain, counted.the_send, provider.the_send, index_sent, doc
 pub fold_sent : IsSend (Fold.the_field).row
 fold_sent = search (plain, parts_sent) depth 20
 
--- ---- what a write leaves over
-
-pub spent_sent : IsSend (Spent.the_field).row
-spent_sent = search (plain, stored_sent) depth 20
-
 -- ---- the line
 
 pub write_sent : IsSend (Write.the_field).row
@@ -112,6 +107,11 @@ entry_sent = search (plain, caller.the_field_send, draw.the_field_send, write_se
 
 pub record_sent : IsSend Record.the_row
 record_sent = search plain depth 20
+
+-- ---- what acts leave over
+
+pub spent_sent : IsSend (Spent.the_field).row
+spent_sent = search (of_trees, caller.the_field_send, entry_sent, stored_sent, received_sent) depth 20
 
 -- ---- a desk
 

@@ -9,11 +9,10 @@ ghost use Rattle.lrs_machine.specs.Steps.{Does, landed_of};
 ghost use Rattle.lrs_parts.specs.Parts.{AddsNoPlaces};
 ghost use Rattle.lrs_record.specs.Entries.{IsLawfulCaller};
 
-use crate::Spent;
 use crate::keeping::keep;
 use lrs_disk::Disk;
 use lrs_fold::lrs_refusals::Submission;
-use lrs_fold::{Fold, Outcome};
+use lrs_fold::{Fold, Outcome, Spent};
 use lrs_journal::Journal;
 use lrs_names::Draw;
 use lrs_record::{Caller, Entry};
@@ -92,7 +91,7 @@ fn answer<D: Disk>(
     ensures cause { HasDiskCause (D.fault_count journal.old.disk) (D.fault_count journal.new.disk) result.0 }
     ensures places { IsNone result.1 → AddsNoPlaces fold.old.parts fold.new.parts }
 {
-    match fold.outcome(alloc, caller, command, clock, draw, &mut spent.closing) {
+    match fold.outcome(alloc, caller, command, clock, draw, spent) {
         Ok(Outcome::Said(said)) => (Ok(said), None),
         Ok(Outcome::Accepted(accepted, texts)) => keep(journal, fold, spent, accepted, texts),
         Err(refused) => (Err(Trouble::from(refused)), None),

@@ -54,7 +54,7 @@ pub struct Desk<D: Disk> {
     pub(crate) origin: Snapshot<Journal<D>>,
     /// How many records the line has.
     pub(crate) records: u64,
-    /// What the last accepted write left over, of which clauses see nothing.
+    /// What the last act left over, of which clauses see nothing.
     pub(crate) spent: Spent,
     pub(crate) opening: Noted<Entry>,
     pub(crate) acts: Noted<Record>,
@@ -178,6 +178,8 @@ impl<D: Disk> Desk<D> {
         ensures places { LeavesNoPlace self.old self.new }
         ensures durable { IsOnDisk D.told D.image D.time D.image_since self.new }
     {
+        // Nobody took out what an earlier act left over.
+        self.spent = Spent::none(self.alloc);
         let Done { said, made, landed } = act(
             self.alloc,
             &mut self.journal,
@@ -328,9 +330,8 @@ impl<D: Disk> Desk<D> {
         (reply, receipt)
     }
 
-    /// What the last accepted write left over. At most one write's is held: what the next one leaves over takes its
-    /// place, if it wasn't taken out.
-    pub fn spent(&mut self) -> Spent
+    /// Takes out what the last act left over.
+    pub fn take_spent(&mut self) -> Spent
         ensures { self.new ≡ self.old }
     {
         mem::replace(&mut self.spent, Spent::none(self.alloc))

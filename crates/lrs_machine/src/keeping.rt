@@ -11,9 +11,8 @@ ghost use Rattle.lrs_parts.specs.State.{apply};
 ghost use Rattle.lrs_parts.specs.Parts.{SeenParts as Parts};
 ghost use Rattle.xapi_index.specs.Ahead.{AreTextsOf};
 
-use crate::Spent;
 use lrs_disk::Disk;
-use lrs_fold::{Accepted, Fold};
+use lrs_fold::{Accepted, Fold, Spent};
 use lrs_journal::{Full, Journal};
 use lrs_json::Items;
 use lrs_record::Entry;
@@ -22,8 +21,8 @@ use std::snapshot::Snapshot;
 use xapi_statement::ReceivedText;
 
 /// Keeps an accepted entry if there is room, and says whether it was made. All memory is taken before the frame is
-/// written. Where none was made, no place is left of what was made ready for it. What an entry that was made leaves over
-/// isn't dropped.
+/// written. Where none was made, no place is left of what was made ready for it. What is of no more use is put into
+/// `spent`.
 pub(crate) fn keep<D: Disk>(
     journal: &mut Journal<D>,
     fold: &mut Fold,
@@ -44,8 +43,8 @@ pub(crate) fn keep<D: Disk>(
     match journal.room(accepted.text.as_slice()) {
         Ok(()) => keep_within(journal, fold, spent, accepted, texts),
         Err(Full { need, limit }) => {
-            drop(accepted);
-            drop(texts);
+            spent.set_accepted(accepted);
+            spent.set_texts(texts);
             (Ok(Answered::Refused(Refusal::Full { need, limit })), None)
         }
     }
@@ -77,7 +76,7 @@ fn keep_within<D: Disk>(
         Ok(()) => append(journal, fold, spent, accepted),
         Err(refused) => {
             fold.release(&accepted.effect);
-            drop(accepted);
+            spent.set_accepted(accepted);
             (Err(Trouble::from(refused)), None)
         }
     }
@@ -115,15 +114,14 @@ fn append<D: Disk>(
                 (Err(Trouble::Disk), Some(entry))
             } else {
                 fold.release(&accepted.effect);
-                drop(accepted);
+                spent.set_accepted(accepted);
                 (Err(Trouble::Disk), None)
             }
         }
     }
 }
 
-// Takes in the effect of an entry for which all is ready, and hands on what is said of it and the entry. What is left
-// over stands in place of what an earlier one left.
+// Takes in the effect of an entry for which all is ready, and hands on what is said of it and the entry.
 fn take_in(fold: &mut Fold, spent: &mut Spent, accepted: Accepted) -> (Answered, Snapshot<Entry>)
     requires { IsReadyFor fold.old.parts accepted.effect }
     ensures applied { state_of fold.new ≡ apply (state_of fold.old) accepted.effect }
@@ -135,7 +133,7 @@ fn take_in(fold: &mut Fold, spent: &mut Spent, accepted: Accepted) -> (Answered,
         effect,
         said,
     } = accepted;
-    spent.statements = fold.install(effect);
-    spent.text = text;
+    let left = fold.install(effect);
+    spent.set_kept(left, text);
     (said, entry)
 }

@@ -2,7 +2,7 @@
 //! it, or several that take it in turns. Begin with `desk`;
 //! `acting` and `keeping` are the steps of an act, `opening` and `replaying` those of a recovery. A `record` says what
 //! became of an act that changed the journal, and a `receipt` what is kept of a response, to compare it with the
-//! history. `spent` is what a write leaves over.
+//! history. `Spent` (of `lrs_fold`) is what an act leaves over.
 #![tactic(auto)]
 
 mod acting;
@@ -12,13 +12,12 @@ mod opening;
 mod receipt;
 mod record;
 mod replaying;
-mod spent;
 
 pub use desk::Desk;
+pub use lrs_fold::Spent;
 pub use lrs_fold::lrs_refusals::Submission;
 pub use lrs_parts::{HeldProvider, is_base, is_token};
 pub use lrs_replies::{Answered, Body, Media, Refusal, Reply, Trouble};
 pub use opening::{DeskRefused, FoundRefused};
 pub use receipt::Receipt;
 pub use record::Record;
-pub use spent::Spent;

@@ -27,6 +27,7 @@ use cmi5_course::Course;
 use cmi5_running_verdicts::Running;
 use cmi5_running_verdicts::cmi5_verdict::Enrolment;
 use cmi5_running_verdicts::xapi_index::Index;
+use lrs_json::Items;
 use lrs_state::{Courses, Founding, HeldRegistration, Learning, Registrations};
 use xapi_statement::{StoredStatement, registration_of};
 
@@ -122,14 +123,15 @@ pub(crate) fn enrol_new(running: &mut Running, coming: &Option<HeldRegistration>
 
 // ---- statements come
 
-/// Takes statements in that are ready, each but for one whose id is held.
+/// Takes statements in that are ready, each but for one whose id is held. The trees that were read of those which they
+/// void are handed back.
 pub(crate) fn take_in_each(
     progress: &mut Progress,
     founding: &Option<Founding>,
     learning: &Learning,
     statements: &mut Index,
     coming: &[StoredStatement],
-)
+) -> Items<StoredStatement>
     requires ready { IsIndexReadyFor statements.old coming.now }
     requires places { HasPlacesForEach progress.old.sessions coming.now }
     requires targets { AreTargets progress.old.targets statements.old.held coming.now }
@@ -154,8 +156,8 @@ pub(crate) fn take_in_each(
         coming,
         first,
     );
-    drop(trees);
     progress.settle();
+    trees
 }
 
 // Follows those that came: they stand from that position on, but for those whose ids were held. The trees are those of

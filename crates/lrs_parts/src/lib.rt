@@ -1,12 +1,13 @@
 //! All parts of a store in memory, and how they take an entry's effect in. Beside the parts of `lrs_state` stands what
 //! is kept of how far sessions and registrations have come, which follows the others. Begin with `parts`, then
-//! `following` and `told`.
+//! `following` and `told`. `spent` is what is left of an effect.
 #![tactic(auto)]
 
 mod following;
 mod parts;
 mod progress;
 mod readying;
+mod spent;
 mod told;
 mod trees;
 
@@ -19,3 +20,4 @@ pub use lrs_state::{
 };
 pub use parts::Parts;
 pub use progress::Progress;
+pub use spent::SpentEffect;

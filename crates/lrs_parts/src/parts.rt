@@ -7,12 +7,12 @@ ghost use Rattle.lrs_parts.specs.Parts.{state_of, used_with, AddsNoPlaces, Holds
 ghost use Rattle.lrs_parts.specs.Parts.{MakesPlacesFor, SeenParts};
 ghost use Rattle.lrs_state.specs.State.{apply, nothing};
 
-use crate::Progress;
 use crate::following::{enrol_new, take_in_each};
 use crate::readying::ready_each;
+use crate::{Progress, SpentEffect};
 use cmi5_running_verdicts::xapi_index::Index;
 use lrs_ids::UsedIds;
-use lrs_json::{Items, Memory};
+use lrs_json::Memory;
 use lrs_names::Id;
 use lrs_state::{Effect, Founding, Learning, Providers};
 use lrs_time::Moment;
@@ -20,7 +20,7 @@ use std::alloc::Global;
 use std::marker::Model;
 use std::vec::IntoIter;
 use xapi_docs::Docs;
-use xapi_statement::{ReceivedText, StoredStatement};
+use xapi_statement::ReceivedText;
 
 /// All that a store holds. What is kept of progress follows the other parts.
 #[derive(Drop)]
@@ -124,9 +124,9 @@ impl Parts {
         self.progress.release(effect.statements.as_slice());
     }
 
-    /// Takes an effect in for which there is room. It takes no memory. What is left of its statements is handed back:
-    /// dropping their trees takes long.
-    pub fn install(&mut self, effect: Effect) -> Items<StoredStatement>
+    /// Takes an effect in for which there is room. It takes no memory. What is left of it is handed back: dropping trees
+    /// takes long.
+    pub fn install(&mut self, effect: Effect) -> SpentEffect
         requires { IsReadyFor self.old effect }
         ensures state { state_of self.new ≡ apply (state_of self.old) effect }
         ensures nothing { HoldsNothingMore self.new }
@@ -150,7 +150,7 @@ impl Parts {
         self.learning.courses.install(courses);
         enrol_new(&mut self.progress.running, &registrations.new);
         self.learning.registrations.install(registrations);
-        take_in_each(
+        let voided = take_in_each(
             &mut self.progress,
             &self.founding,
             &self.learning,
@@ -166,7 +166,7 @@ impl Parts {
         self.learning.tokens.install(tokens);
         self.length += 1;
         self.last = moment;
-        statements
+        SpentEffect { statements, voided }
     }
 }
 

@@ -29,18 +29,18 @@ pub install-requires-2 : goal.install-requires-2
 install-requires-2 c =
     let ready = subst (λ (v : SeenParts). IsReadyFor v c.args.effect) (sym c.self.view_is) c.requires in ready.learning.registrations
 
-pub take_in_each-requires-clause-ready : goal.take_in_each-requires-clause-ready
-take_in_each-requires-clause-ready c =
+pub take_in_each-voided-requires-clause-ready : goal.take_in_each-voided-requires-clause-ready
+take_in_each-voided-requires-clause-ready c =
     let ready = subst (λ (v : SeenParts). IsReadyFor v c.args.effect) (sym c.self.view_is) c.requires in
     subst (λ (ss : List StoredStatement). IsIndexReadyFor c.self.inside.statements ss) (sym c.as_slice.ensures) ready.statements
 
-pub take_in_each-requires-clause-places : goal.take_in_each-requires-clause-places
-take_in_each-requires-clause-places c =
+pub take_in_each-voided-requires-clause-places : goal.take_in_each-voided-requires-clause-places
+take_in_each-voided-requires-clause-places c =
     let ready = subst (λ (v : SeenParts). IsReadyFor v c.args.effect) (sym c.self.view_is) c.requires in
     subst (λ (ss : List StoredStatement). HasPlacesForEach c.self.inside.progress.sessions ss) (sym c.as_slice.ensures) ready.progress.sessions
 
-pub take_in_each-requires-clause-targets : goal.take_in_each-requires-clause-targets
-take_in_each-requires-clause-targets c =
+pub take_in_each-voided-requires-clause-targets : goal.take_in_each-voided-requires-clause-targets
+take_in_each-voided-requires-clause-targets c =
     let ready = subst (λ (v : SeenParts). IsReadyFor v c.args.effect) (sym c.self.view_is) c.requires in
     subst (λ (ss : List StoredStatement). AreTargets c.self.inside.progress.targets c.self.inside.statements.held ss) (sym c.as_slice.ensures) ready.progress.targets
 
@@ -80,8 +80,8 @@ enrol_new-requires c = λ r comes.
     let its = ready.progress.running r comes in
     (marked c.self.inside.statements.held, its.enrolment, its.counted)
 
-pub take_in_each-requires-clause-kept : goal.take_in_each-requires-clause-kept
-take_in_each-requires-clause-kept c =
+pub take_in_each-voided-requires-clause-kept : goal.take_in_each-voided-requires-clause-kept
+take_in_each-voided-requires-clause-kept c =
     let old = c.self.inside in
     let x = c.args.effect in
     let those = marked old.statements.held in
@@ -97,7 +97,7 @@ take_in_each-requires-clause-kept c =
     c.self.invariant
 
 pub invariant_of-self : goal.invariant_of-self
-invariant_of-self c = c.take_in_each.ensures.kept
+invariant_of-self c = c.take_in_each-voided.ensures.kept
 
 -- ---- the state
 
@@ -106,7 +106,7 @@ returns-clause-state c =
     let x = c.args.effect in
     let is = c.self.view_is in
     same_states _ _ (c.found.ensures ∙ ap (λ (v : SeenParts). founding_after v.founding x.founding) is) (c.install-3.ensures ∙ ap (λ (v : SeenParts). providers_after v.providers.held x.providers) is)
-    (c.take_in_each.ensures.held ∙ (ap (λ (ss : List StoredStatement). add_each c.self.inside.statements.held ss) c.as_slice.ensures ∙ ap (λ (v : SeenParts). add_each v.statements.held x.statements) is))
+    (c.take_in_each-voided.ensures.held ∙ (ap (λ (ss : List StoredStatement). add_each c.self.inside.statements.held ss) c.as_slice.ensures ∙ ap (λ (v : SeenParts). add_each v.statements.held x.statements) is))
     (c.install_change.ensures ∙ ap (λ (v : SeenParts). documents_after (documents_in v.documents) x.documents) is)
     (c.install.ensures ∙ ap (λ (v : SeenParts). courses_after v.learning.courses.held x.courses) is)
     (c.install-2.ensures ∙ ap (λ (v : SeenParts). registrations_after v.learning.registrations.held x.registrations) is)
@@ -120,7 +120,7 @@ returns-clause-state c =
 
 pub returns-clause-nothing : goal.returns-clause-nothing
 returns-clause-nothing c = record {
-  statements = c.take_in_each.ensures.nothing;
-  running = c.take_in_each.ensures.no_tallies;
-  targets = c.take_in_each.ensures.no_targets;
+  statements = c.take_in_each-voided.ensures.nothing;
+  running = c.take_in_each-voided.ensures.no_tallies;
+  targets = c.take_in_each-voided.ensures.no_targets;
 }

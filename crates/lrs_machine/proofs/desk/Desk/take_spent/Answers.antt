@@ -1,4 +1,4 @@
-use Rattle.lrs_machine.proofs.desk.Desk.spent.Goals as goal
+use Rattle.lrs_machine.proofs.desk.Desk.take_spent.Goals as goal
 
 pub invariant_of-self : goal.invariant_of-self
 invariant_of-self g c = c.self.invariant
