@@ -9,4 +9,5 @@ mod program;
 mod serve;
 
 pub use lrs_hall;
+pub use lrs_hall::lrs_machine;
 pub use program::{Ended, Report, run};

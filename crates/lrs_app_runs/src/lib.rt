@@ -5,5 +5,7 @@
 mod outside;
 mod texts;
 
+pub use lrs_app;
+pub use lrs_app::{lrs_hall, lrs_machine};
 pub use outside::{Around, Ran, file_behind, joined, run_over, store, words_of, wrong_at};
-pub use texts::{DISK, GET, MAKE, POST, PUT, SERVE, STATEMENT, stored};
+pub use texts::{DISK, GET, MAKE, POST, PUT, SERVE, STATEMENT, file_of, stored};

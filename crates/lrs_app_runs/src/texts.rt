@@ -35,3 +35,17 @@ const STORED: &[u8] =
 pub fn stored() -> &'static [u8] {
     STORED
 }
+
+// The header alone is no store of a history.
+const HEADER: &[u8] = b"\x01LRSJRNL\x01\0\0\0\0\0\x01\0\0";
+
+/// What the file of this name holds.
+pub fn file_of<'a>(name: &str, last: &'a [u8]) -> &'a [u8] {
+    match name {
+        "none" => &[],
+        "header" => HEADER,
+        "letter" => b"a letter",
+        "store" => stored(),
+        _ => last,
+    }
+}

@@ -1,10 +1,10 @@
 //! What `init`, `intake` and `serve` leave if they are stopped at any moment, or if the disk fails.
+use lrs_app_runs::lrs_machine::Receipt;
 use lrs_app_runs::{
     Around, DISK, GET, MAKE, POST, PUT, Ran, SERVE, STATEMENT, joined, run_over, stored, wrong_at,
 };
 use lrs_disk::Disk;
 use lrs_in_memory::{MemDisk, Pending};
-use lrs_machine::Receipt;
 use std::alloc::Global;
 use std::sync::Wait;
 use std::test::Fail;

@@ -7,7 +7,7 @@
 // `statement`, `other` or `unnamed`, or is given as it is. A second line stands after a comma. After a LINE that is cut
 // off stands `..`, and `changed` after the line if the file isn't as it was, with a status by which it has to be if no
 // batch of a load went well.
-use lrs_app_runs::{Around, Ran, STATEMENT, run_over, store, stored, wrong_at};
+use lrs_app_runs::{Around, Ran, STATEMENT, file_of, run_over, store, stored, wrong_at};
 use std::alloc::Global;
 use std::slice::from_ref;
 use std::sync::Wait;
@@ -19,20 +19,6 @@ const OTHER: &str =
 
 const UNNAMED: &str =
     r#"{"actor":{"mbox":"mailto:a@b"},"verb":{"id":"http://v/1"},"object":{"id":"http://a/1"}}"#;
-
-// The header alone is no store of a history.
-const HEADER: &[u8] = b"\x01LRSJRNL\x01\0\0\0\0\0\x01\0\0";
-
-/// What the file of this name holds.
-pub(crate) fn file_of<'a>(name: &str, last: &'a [u8]) -> &'a [u8] {
-    match name {
-        "none" => &[],
-        "header" => HEADER,
-        "letter" => b"a letter",
-        "store" => stored(),
-        _ => last,
-    }
-}
 
 fn input_of(name: &str) -> &str {
     match name {

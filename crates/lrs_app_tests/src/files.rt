@@ -1,5 +1,5 @@
 //! `init`, `intake` and `load` over real files.
-use lrs_app::run;
+use lrs_app_runs::lrs_app::run;
 use lrs_app_runs::{STATEMENT, words_of, wrong_at};
 use lrs_edge::{FileShelf, StdSource, TcpLobby};
 use lrs_in_memory_doors::MemSink;

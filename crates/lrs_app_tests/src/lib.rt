@@ -1,5 +1,5 @@
-//! The tests of lrs_app, and of the program, which only calls `run`: over the outside in memory, and over real files. What
-//! a stop leaves is tested in lrs_app_stops_tests.
+//! The tests of lrs_app, and of the program, which only calls `run`: over the outside in memory, and over real files.
+//! `serve` is tested in lrs_app_serving_tests, what a stop leaves in lrs_app_stops_tests.
 #![tactic(auto)]
 
 #[cfg(test)]
@@ -7,8 +7,4 @@ mod commands;
 #[cfg(test)]
 mod files;
 #[cfg(test)]
-mod serving;
-#[cfg(test)]
 mod words;
-#[cfg(test)]
-mod workers;

@@ -6,11 +6,11 @@ ghost use Rattle.lrs_in_memory_doors.specs.MemDoor.{out_of};
 ghost use Rattle.lrs_in_memory_doors.specs.MemLink.{IsUnused};
 
 use crate::desks::{NOW, founded};
+use lrs_hall::lrs_machine::Desk;
 use lrs_hall::{ServeEnd, Talk, serve_all};
 use lrs_in_memory::MemDisk;
 use lrs_in_memory_doors::{MemDoor, MemLink};
 use lrs_json::Items;
-use lrs_machine::Desk;
 use std::alloc::Global;
 use std::sync::Wait;
 use std::test::Fail;

@@ -1,7 +1,7 @@
 //! Desks for tests.
+use lrs_hall::lrs_machine::{Desk, is_base, is_token};
 use lrs_in_memory::MemDisk;
 use lrs_json::Text;
-use lrs_machine::{Desk, is_base, is_token};
 use std::alloc::Global;
 use std::test::Fail;
 

@@ -4,11 +4,11 @@ ghost use Rattle.lrs_turn.specs.Passes.{IsIdle};
 
 use crate::desks::founded;
 use lrs_disk::{Door, Next};
+use lrs_hall::lrs_machine::{Desk, Record};
 use lrs_hall::{Draws, Finish, ServeEnd, Talk, converse, serve_all};
 use lrs_in_memory::MemDisk;
 use lrs_in_memory_doors::{MemDoor, MemLink};
 use lrs_json::Items;
-use lrs_machine::{Desk, Record};
 use lrs_routes::Routes;
 use lrs_turn::{Pass, Turns};
 use std::alloc::Global;

@@ -5,11 +5,11 @@ ghost use Rattle.lrs_in_memory_doors.specs.MemDoor.{out_of};
 
 use crate::desks::{NOW, founded, if_founded};
 use lrs_disk::Disk;
+use lrs_hall::lrs_machine::{Desk, Receipt};
 use lrs_hall::{Finish, ServeEnd, Talk, serve_all};
 use lrs_in_memory::{MemDisk, Pending};
 use lrs_in_memory_doors::{Gate, GateDoor, MemDoor, MemLink, Sign, Until};
 use lrs_json::Items;
-use lrs_machine::{Desk, Receipt};
 use std::alloc::Global;
 use std::sync::Wait;
 use std::test::Fail;

@@ -8,3 +8,4 @@ mod documents_asked;
 pub use desk_rows::{
     answered, check_rows, check_rows_in, first_wrong_of, founded, founded_in, wrong_row,
 };
+pub use lrs_machine;

@@ -4,7 +4,7 @@ use lrs_command::{Command, Read};
 use lrs_desk_rows::{check_rows_of, replied};
 use lrs_disk::Disk;
 use lrs_in_memory::{MemDisk, Pending};
-use lrs_machine::{Desk, Submission};
+use lrs_machine_rows::lrs_machine::{Desk, Submission};
 use lrs_machine_rows::{answered, founded, wrong_row};
 use lrs_names::Draw;
 use lrs_record::Caller;

@@ -1,6 +1,6 @@
 // What state documents are answered over one desk.
 use lrs_in_memory::MemDisk;
-use lrs_machine::Desk;
+use lrs_machine_rows::lrs_machine::Desk;
 use lrs_machine_rows::{answered, check_rows, check_rows_in, first_wrong_of, founded, founded_in};
 use std::alloc::Global;
 use std::test::Fail;

@@ -1,6 +1,6 @@
 //! What `serve` does with several workers.
+use lrs_app_runs::lrs_hall::Talk;
 use lrs_app_runs::{Around, PUT, Ran, SERVE, joined, run_over, stored};
-use lrs_hall::Talk;
 use lrs_json::Items;
 use std::alloc::Global;
 use std::sync::Wait;

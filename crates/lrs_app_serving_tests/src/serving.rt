@@ -1,10 +1,9 @@
 //! What `serve` answers and leaves.
-use crate::commands::file_of;
+use lrs_app_runs::lrs_hall::Finish;
 use lrs_app_runs::{
-    Around, DISK, GET, MAKE, POST, PUT, Ran, SERVE, file_behind, joined, run_over, store, stored,
-    wrong_at,
+    Around, DISK, GET, MAKE, POST, PUT, Ran, SERVE, file_behind, file_of, joined, run_over, store,
+    stored, wrong_at,
 };
-use lrs_hall::Finish;
 use std::alloc::Global;
 use std::sync::Wait;
 use std::test::Fail;
