@@ -9,7 +9,7 @@ use Rattle.lrs_decimal.specs.Numbers.{Ends}
 use Rattle.lrs_json.specs.Written.{escaped, quoted, written}
 use Rattle.lrs_json_reader.specs.declared.cursor.Stop.{Stop}
 use Rattle.lrs_json_reader.specs.declared.cursor.Stop.TheVariants.{Memory}
-use Rattle.lrs_fields.specs.Reading.{IsKept, MayFollow, Reads, ReadsField, ReadsOptional, enclosed_text, field_text, identifier_text, optional_text}
+use Rattle.lrs_fields.specs.Reading.{IsKept, MayFollowOptional, Reads, ReadsField, ReadsOptional, enclosed_text, field_text, identifier_text, optional_text}
 use Rattle.lrs_fields.specs.Values.{HoldsActor, HoldsAgent, actor_value, agent_value, text_value, value_json}
 use Rattle.lrs_fields.proofs.Differing.{differ_at}
 use Rattle.lrs_fields.proofs.Sequences.{before, behind, both_stand, both_text, closed, made, mapped, not_begun, not_closed, paired, two}
@@ -193,7 +193,7 @@ IsNamed = both_stand IsName HoldsAgent
 pub name_and_identifier : (old mid new : List ℕ) (r : Result (Option (List ℕ)) Stop) (s : Result Ifi Stop) → ReadsOptional at_name text_value old r mid
     → OnOk r (Reads (enclosed_text (codes ",")) HoldsAgent Ends mid s new) → Reads named_identifier IsNamed Ends old (paired r s) new
 name_and_identifier old mid new r s first second =
-    two named (enclosed_text (codes ",")) IsName HoldsAgent (MayFollow at_name) Ends old mid new r s first second (λ ifi rest is f. (refl, λ more e. name_apart ifi rest more e))
+    two named (enclosed_text (codes ",")) IsName HoldsAgent (MayFollowOptional at_name) Ends old mid new r s first second (λ ifi rest is f. (refl, λ more e. name_apart ifi rest more e))
 
 abbrev pub open_agent : List ℕ
 open_agent = codes "{\"objectType\":\"Agent\""

@@ -14,7 +14,7 @@ use Rattle.lrs_json.proofs.Back.{back}
 use Rattle.lrs_json_reader.specs.Steps.{Finds}
 use Rattle.lrs_json_reader.specs.declared.cursor.Stop.{Stop}
 use Rattle.lrs_json_reader.specs.declared.cursor.Stop.TheVariants.{Memory}
-use Rattle.lrs_fields.specs.Reading.{IsKept, MayFollow, Reads, ReadsField, ReadsOptional, ReadsSpelling, optional_text}
+use Rattle.lrs_fields.specs.Reading.{IsKept, MayFollowOptional, Reads, ReadsField, ReadsOptional, ReadsSpelling, optional_text}
 use Rattle.lrs_fields.specs.Values.{AreLawfulTrees, Value, text_value, tree_value, trees_value, value_json}
 use Rattle.lrs_fields.proofs.Decimals.{Fits-decimal}
 use Rattle.lrs_fields.proofs.Sequences.{mapped}
@@ -103,7 +103,7 @@ trees_read old new (Err e) found all = record { found = tt; all = λ us rest is 
 -- ---- fields that may be missing
 
 there_all : {A : Type 0} (front : List ℕ) (value : A → Value) (old mid new : List ℕ) (r : Result A Stop) → old ≡ front ++ mid → ReadsField [] value mid r new → (o : Option A) (rest : List ℕ)
-    → IfSome o (IsKept value) → MayFollow front rest → old ≡ optional_text front value o ++ rest → Finds (mapped Some r) (λ b. (b ≡ o) × (new ≡ rest))
+    → IfSome o (IsKept value) → MayFollowOptional front rest → old ≡ optional_text front value o ++ rest → Finds (mapped Some r) (λ b. (b ≡ o) × (new ≡ rest))
 there_all front value old mid new r took reads None rest is f whole = absurd (f.1 mid (sym whole ∙ took))
 there_all front value old mid new (Ok b) took reads (Some a) rest is f whole =
     let told = reads.all a rest is f.0 (append_cancel_left front mid (written (value_json (value a)) ++ rest) (sym took ∙ whole ∙ append_assoc front (written (value_json (value a))) rest)) in

@@ -9,8 +9,8 @@ use Rattle.lrs_json.specs.Written.{written}
 use Rattle.lrs_json_reader.specs.Steps.{Finds}
 use Rattle.lrs_json_reader.specs.declared.cursor.Stop.{Stop}
 
--- What was read is the one that may stand there whose text comes next, if what follows it may follow it. If no such text
--- comes next, nothing is read.
+-- What was read is the one that may stand there whose text comes next, if what follows it may follow it. If no such
+-- text comes next, nothing is read.
 pub record Reads {A : Type 0} (text : A → List ℕ) (MayStand : A → Type 0) (MayFollow : List ℕ → Type 0) (old : List ℕ)
     (r : Result A Stop) (new : List ℕ) : Type 0 where
   pub found : IfOk r (λ a. MayStand a × (old ≡ text a ++ new))
@@ -18,8 +18,8 @@ pub record Reads {A : Type 0} (text : A → List ℕ) (MayStand : A → Type 0) 
       → Finds r (λ b. (b ≡ a) × (new ≡ rest))
 
 -- What was read is the one that may stand there whose spelling the text is. If it is the spelling of none, nothing is.
-pub record ReadsSpelling {A : Type 0} (spelling : A → List ℕ) (MayStand : A → Type 0) (text : List ℕ) (r : Result A Stop)
-    : Type 0 where
+pub record ReadsSpelling {A : Type 0} (spelling : A → List ℕ) (MayStand : A → Type 0) (text : List ℕ)
+    (r : Result A Stop) : Type 0 where
   pub found : IfOk r (λ a. MayStand a × (text ≡ spelling a))
   pub all : (a : A) → MayStand a → text ≡ spelling a → Finds r (λ b. b ≡ a)
 
@@ -41,13 +41,17 @@ abbrev pub optional_text : {A : Type 0} → List ℕ → (A → Value) → Optio
 optional_text front value None = []
 optional_text front value (Some a) = field_text front value a
 
+-- These bytes don't come next.
+abbrev pub IsMissing : List ℕ → List ℕ → Type 0
+IsMissing front bytes = (more : List ℕ) → bytes ≡ front ++ more → ⊥
+
 -- What follows such a field may not look like it.
-abbrev pub MayFollow : List ℕ → List ℕ → Type 0
-MayFollow front rest = Ends rest × ((more : List ℕ) → rest ≡ front ++ more → ⊥)
+abbrev pub MayFollowOptional : List ℕ → List ℕ → Type 0
+MayFollowOptional front rest = Ends rest × IsMissing front rest
 
 abbrev pub ReadsOptional : {A : Type 0} → List ℕ → (A → Value) → List ℕ → Result (Option A) Stop → List ℕ → Type 0
 ReadsOptional front value old r new =
-    Reads (optional_text front value) (λ o. IfSome o (IsKept value)) (MayFollow front) old r new
+    Reads (optional_text front value) (λ o. IfSome o (IsKept value)) (MayFollowOptional front) old r new
 
 -- the member that identifies, the first of its object
 abbrev pub identifier_text : Ifi → List ℕ

@@ -92,17 +92,17 @@ fn put_home(home: &Text, name: &Text, into: &mut Vec<u8>) -> Result<(), Memory>
 }
 
 /// An object with what an agent is, its name, if it has one, and its identifier.
-pub fn actor(cursor: &mut Cursor<'_>) -> Result<Agent, Stop>
+pub fn read_actor(cursor: &mut Cursor<'_>) -> Result<Agent, Stop>
     ensures { Reads (λ actor. written (agent_json actor)) HoldsActor Ends cursor.old result cursor.new }
 {
     cursor.word(b"{\"objectType\":\"Agent\"")?;
     let name = optional_text_behind(b",\"name\":", cursor)?;
-    let ifi = enclosed(b",", cursor)?;
+    let ifi = closed_identifier(b",", cursor)?;
     Ok(Agent { ifi, name })
 }
 
 /// The member that identifies, behind these bytes, and a closing brace.
-pub fn enclosed(front: &[u8], cursor: &mut Cursor<'_>) -> Result<Ifi, Stop>
+pub fn closed_identifier(front: &[u8], cursor: &mut Cursor<'_>) -> Result<Ifi, Stop>
     ensures { Reads (enclosed_text front.now) HoldsAgent Ends cursor.old result cursor.new }
 {
     cursor.word(front)?;

@@ -137,7 +137,7 @@ pub fn number_of(spelling: &str) -> Result<u32, Stop>
     ensures { ReadsSpelling decimal (IsKept number_value) spelling.now result }
 {
     match spelling.parse::<u32>() {
-        Ok(number) => if is_printed(number, spelling) {
+        Ok(number) => if is_printed(u64::from(number), spelling) {
             Ok(number)
         } else {
             Err(Stop::Bad)
@@ -146,8 +146,8 @@ pub fn number_of(spelling: &str) -> Result<u32, Stop>
     }
 }
 
-// Whether these are the digits of the number, without zeros or a sign before them.
-fn is_printed(number: u32, spelling: &str) -> bool
+/// Whether these are the digits of the number, without zeros or a sign before them.
+pub fn is_printed(number: u64, spelling: &str) -> bool
     ensures { IsTrue result ↔ (spelling.now ≡ decimal number) }
 {
     let mut buffer = Buffer::new();

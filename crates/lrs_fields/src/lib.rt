@@ -7,7 +7,7 @@ mod digits;
 mod fields;
 mod lent;
 
-pub use digits::{draw_digits, draw_of, put_word};
+pub use digits::{draw_digits, draw_of, is_printed, put_word};
 pub use fields::{
     actor_behind, agent_behind, bytes_behind, id_behind, iri_behind, number_behind,
     optional_id_behind, optional_iri_behind, optional_text_behind, text_behind, tree_behind,

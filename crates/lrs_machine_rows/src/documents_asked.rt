@@ -63,7 +63,7 @@ fn spelled(alloc: Global, text: &str) -> Result<String, Fail> {
 }
 
 /// A document is written: `HOW DOCUMENT TYPE BYTES`, with `-` for the type that is empty.
-#[tactic(auto, using(lrs_record::proofs::DocumentWrites::lawful_state))]
+#[tactic(auto, using(lrs_record::proofs::Writes::lawful_state))]
 pub(crate) fn state(alloc: Global, asked: &str) -> Result<Command, Fail>
     ensures { IfOk result HasReadTrees }
 {
@@ -83,7 +83,7 @@ pub(crate) fn state(alloc: Global, asked: &str) -> Result<Command, Fail>
 }
 
 /// Documents go: `DOCUMENT`.
-#[tactic(auto, using(lrs_record::proofs::DocumentWrites::lawful_drop))]
+#[tactic(auto, using(lrs_record::proofs::Writes::lawful_drop))]
 pub(crate) fn drop_of(alloc: Global, asked: &str) -> Result<Command, Fail>
     ensures { IfOk result HasReadTrees }
 {

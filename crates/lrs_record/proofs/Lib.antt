@@ -2,13 +2,9 @@ pub mod Joined
 pub mod Copied
 pub mod EntryParts
 pub mod Exactly
-pub mod Decoding
-pub mod DocumentWrites
-pub mod DeskWrites
 pub mod Writes
 pub mod Readable
 pub mod Told
-pub mod Named
 pub mod WriteReading
 pub mod OptionalReading
 pub mod WordReading

@@ -11,12 +11,11 @@ use Rattle.lrs_json_reader.proofs.WrittenLemmas.{Fits-IsSpellable}
 use Rattle.lrs_json_slices.specs.Single.{same_json}
 use Rattle.lrs_record.specs.Entries.{HoldsWrite, IsLawful, IsLawfulCaller, IsLawfulWrite, caller_text, write_json, entry_json, fields, written_entry}
 use Rattle.lrs_record.specs.Writes.{write_fields, write_name}
-use Rattle.lrs_record.proofs.Decoding.{write_in}
 use Rattle.lrs_record.specs.declared.entry.Caller.{Caller}
 use Rattle.lrs_record.specs.declared.entry.Caller.TheVariants.{Nobody, Operator, Token}
 use Rattle.lrs_record.specs.declared.entry.Write.{Write}
 use Rattle.lrs_record.specs.declared.entry.Entry.{Entry}
-use Rattle.lrs_record.proofs.Writes.{made_again}
+use Rattle.lrs_record.proofs.Writes.{made_again, write_in}
 use Rattle.lrs_record.proofs.EntryParts.{member_texts}
 use Rattle.lrs_record.proofs.Readable.{readable}
 

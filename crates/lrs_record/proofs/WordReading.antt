@@ -9,7 +9,7 @@ use Rattle.cmi5_course.specs.declared.launch.Mode.TheVariants.{Normal, Browse, R
 use Rattle.cmi5_course.specs.declared.reason.Reason.{Reason}
 use Rattle.cmi5_course.specs.declared.reason.Reason.TheVariants.{TestedOut, EquivalentAu, EquivalentOutsideActivity, Administrative}
 use Rattle.lrs_fields.specs.Reading.{IsKept, ReadsField, ReadsSpelling}
-use Rattle.lrs_fields.specs.Values.{text_value}
+use Rattle.lrs_fields.specs.Values.{Value, text_value}
 use Rattle.lrs_fields.proofs.FieldValues.{spelled, unspelled}
 use Rattle.lrs_fields.proofs.Words.{IsUtf8-small}
 use Rattle.lrs_json_reader.specs.declared.cursor.Stop.{Stop}
@@ -17,11 +17,17 @@ use Rattle.lrs_json_reader.specs.declared.cursor.Stop.TheVariants.{Bad}
 use Rattle.lrs_record.specs.Writes.{how_of, how_text}
 use Rattle.lrs_record.specs.declared.entry.How.{How}
 use Rattle.lrs_record.specs.declared.entry.How.TheVariants as how
-use Rattle.lrs_record.proofs.DeskWrites.{read_mode, read_reason}
-use Rattle.lrs_record.proofs.DocumentWrites.{read_how}
-use Rattle.lrs_record.proofs.OptionalReading.{how_value, mode_value}
-use Rattle.lrs_record.proofs.WriteReading.{reason_value}
+use Rattle.lrs_record.proofs.Writes.{read_how, read_mode, read_reason}
 use Rattle.std.proofs.lemmas.Slice.Eq.{bytes_eq-Decides}
+
+abbrev pub how_value : How → Value
+how_value h = text_value (how_text h)
+
+abbrev pub mode_value : Mode → Value
+mode_value mode = text_value (mode_text mode)
+
+abbrev pub reason_value : Reason → Value
+reason_value reason = text_value (reason_text reason)
 
 -- a word is read of its spelling, if each that is read is of its own
 word_spelled : {A : Type 0} (spelling : A → List ℕ) (of : List ℕ → Option A) (text : List ℕ) (found : Option A) → ((a : A) → of (spelling a) ≡ Some a) → ((a : A) → of text ≡ Some a → text ≡ spelling a)

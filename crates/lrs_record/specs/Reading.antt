@@ -8,7 +8,8 @@ use Rattle.lrs_json.specs.Json.{Json, number, string}
 use Rattle.lrs_json.specs.Texts.{member_text}
 use Rattle.lrs_json_reader.specs.declared.cursor.Stop.{Stop}
 use Rattle.lrs_names.specs.declared.draw.Draw.{Draw}
-use Rattle.lrs_record.specs.Entries.{HoldsCaller, HoldsWrite, IsLawfulCaller, IsLawfulWrite, caller_text, closing_text, opening_text}
+use Rattle.lrs_record.specs.Entries.{HoldsCaller, HoldsWrite, IsLawfulCaller, IsLawfulWrite}
+use Rattle.lrs_record.specs.Entries.{caller_text, closing_text, opening_text}
 use Rattle.lrs_record.specs.Writes.{write_fields, write_name}
 use Rattle.lrs_record.specs.declared.entry.Caller.{Caller}
 use Rattle.lrs_record.specs.declared.entry.Write.{Write}
@@ -53,7 +54,8 @@ IsClosed (byte ∷ bytes) = byte ≡ 125
 
 -- the fields of a write of that name, up to the brace that closes them
 abbrev pub ReadsWrite : List ℕ → List ℕ → Result Write Stop → List ℕ → Type 0
-ReadsWrite name old r new = Reads open_fields (λ write. (write_name write ≡ name) × IsKeptWrite write) IsClosed old r new
+ReadsWrite name old r new =
+    Reads open_fields (λ write. (write_name write ≡ name) × IsKeptWrite write) IsClosed old r new
 
 -- what a document stands under, as fields that stand behind another
 abbrev pub key_text : StateKey → List ℕ

@@ -1,5 +1,5 @@
 // What stands before the fields of an entry's write, read from the text.
-ghost use Rattle.std.specs.Prelude.{◌≡◌, ◌↔◌, ◌≤◌, IsTrue, IsUtf8};
+ghost use Rattle.std.specs.Prelude.{◌≡◌, ◌≤◌, IsUtf8};
 ghost use Rattle.std.specs.Fmt.{decimal};
 ghost use Rattle.lrs_fields.specs.LrsDecimalNumbers.{Ends};
 ghost use Rattle.lrs_fields.specs.Digits.{HoldsDraw};
@@ -11,13 +11,13 @@ ghost use Rattle.lrs_record.specs.declared.entry.Caller.{Caller as SpecCaller};
 ghost use Rattle.lrs_time.specs.declared.moments.TheConstants.{LATEST};
 
 use crate::{Caller, Moment};
-use itoa::Buffer;
-use lrs_fields::{draw_of, text_behind};
+use lrs_fields::{draw_of, is_printed, text_behind};
 use lrs_json::Text;
 use lrs_json_reader::Stop;
 use lrs_json_written::{Cursor, read_text};
 use lrs_names::Draw;
 
+/// The brace that opens the entry, and its caller: an empty text for nobody, `*` for the operator, else the token.
 pub fn read_caller(cursor: &mut Cursor<'_>) -> Result<Caller, Stop>
     ensures { Reads opened_caller IsKeptCaller Ends cursor.old result cursor.new }
 {
@@ -41,6 +41,7 @@ fn caller_of(text: Text) -> Caller
     }
 }
 
+/// A moment, in milliseconds since 1970-01-01T00:00:00Z, of the year 9999 at the latest.
 pub fn read_moment(cursor: &mut Cursor<'_>) -> Result<Moment, Stop>
     ensures { Reads moment_member (λ moment. moment ≤ LATEST) Ends cursor.old result cursor.new }
 {
@@ -65,14 +66,7 @@ fn moment_of(spelling: &str) -> Result<Moment, Stop>
     }
 }
 
-// Whether these are the digits of the number, without zeros or a sign before them.
-fn is_printed(number: u64, spelling: &str) -> bool
-    ensures { IsTrue result ↔ (spelling.now ≡ decimal number) }
-{
-    let mut buffer = Buffer::new();
-    spelling == buffer.format(number)
-}
-
+/// A draw, as 64 lower-case hexadecimal digits: its name, then its secret.
 pub fn read_draw(cursor: &mut Cursor<'_>) -> Result<Draw, Stop>
     ensures { Reads draw_member HoldsDraw Ends cursor.old result cursor.new }
 {

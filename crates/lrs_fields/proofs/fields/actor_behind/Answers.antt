@@ -7,4 +7,4 @@ returns-in_err-word c = failed _ c.from_residual.ensures.1 (no_word c.args.front
 
 pub returns : goal.returns
 returns c =
-    after_word c.args.front.now _ _ _ _ _ _ _ c.in_ok-word.ensures.found c.in_ok-word.ensures.all (kept_actor _ _ _ c.actor.ensures)
+    after_word c.args.front.now _ _ _ _ _ _ _ c.in_ok-word.ensures.found c.in_ok-word.ensures.all (kept_actor _ _ _ c.read_actor.ensures)

@@ -4,8 +4,8 @@ use Rattle.lrs_fields.proofs.FieldValues.{there}
 use Rattle.lrs_fields.proofs.Sequences.{failed}
 use Rattle.lrs_fields.proofs.fields.optional_id_behind.Goals as goal
 
-pub returns-in_err-id_behind : goal.returns-in_err-id_behind
-returns-in_err-id_behind c = failed _ c.from_residual.ensures.1 (there c.args.front.now id_value _ _ _ (Err _) c.if-take.ensures c.in_err-id_behind.ensures)
+pub returns-in_err-id_behind-clause-read : goal.returns-in_err-id_behind-clause-read
+returns-in_err-id_behind-clause-read c = failed _ c.from_residual.ensures.1 (there c.args.front.now id_value _ _ _ (Err _) c.if-take.ensures c.in_err-id_behind.ensures)
 
-pub returns-then-take : goal.returns-then-take
-returns-then-take c = there c.args.front.now id_value _ _ _ (Ok _) c.if-take.ensures c.in_ok-id_behind.ensures
+pub returns-then-take-clause-read : goal.returns-then-take-clause-read
+returns-then-take-clause-read c = there c.args.front.now id_value _ _ _ (Ok _) c.if-take.ensures c.in_ok-id_behind.ensures

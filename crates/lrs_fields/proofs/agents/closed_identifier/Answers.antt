@@ -3,7 +3,7 @@ use Rattle.lrs_decimal.specs.Numbers.{Ends}
 use Rattle.lrs_fields.specs.Reading.{identifier_text}
 use Rattle.lrs_fields.specs.Values.{HoldsAgent}
 use Rattle.lrs_fields.proofs.Sequences.{after_word, before, closed, failed, no_word, not_begun, not_closed}
-use Rattle.lrs_fields.proofs.agents.enclosed.Goals as goal
+use Rattle.lrs_fields.proofs.agents.closed_identifier.Goals as goal
 
 pub returns-in_err-word : goal.returns-in_err-word
 returns-in_err-word c = failed _ c.from_residual.ensures.1 (no_word c.args.front.now (before identifier_text (125 ∷ [])) HoldsAgent Ends _ _ _ c.in_err-word.ensures.all)
