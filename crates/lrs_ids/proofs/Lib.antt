@@ -1,3 +1,4 @@
 pub mod FreshLemmas
 pub mod Turns
 pub mod MadeIds
+pub mod FreeWords

@@ -1,5 +1,5 @@
 -- Ids that are given, and ids that are made.
-use Rattle.std.proofs.Common.{◌≡◌, ℕ, zero, suc, length, ◌%◌, ◌+◌, ◌-◌, ◌<◌, List, [], ◌∷◌, drop, Bool, true, false, not, ◌&&◌, ◌||◌, cond, Some, None, refl, sym, ap, ◌∙◌, arith}
+use Rattle.std.proofs.Common.{◌≡◌, ℕ, zero, suc, length, ◌%◌, ◌+◌, ◌-◌, ◌<◌, List, [], ◌∷◌, drop, Bool, true, false, not, ◌&&◌, ◌||◌, cond, Some, refl, sym, ap, ◌∙◌, arith}
 use Rattle.std.specs.Prelude.{find, unwrap_or}
 use Rattle.std.specs.List.{list_any, list_all}
 use Rattle.std.specs.Str.{bytes_eq}

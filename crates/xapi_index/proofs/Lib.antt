@@ -10,3 +10,4 @@ pub mod Coming
 pub mod Rising
 pub mod Succeeding
 pub mod Texts
+pub mod Unnamed
