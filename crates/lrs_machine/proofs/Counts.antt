@@ -4,10 +4,9 @@ use Rattle.std.specs.Prelude.{is_some, is_ok}
 use Rattle.std.proofs.lemmas.List.{append-nil, length-map}
 use Rattle.lrs_journal.specs.Store.{frames, body, header}
 use Rattle.lrs_journal.specs.declared.sizes.TheConstants.{MOST_BYTES}
-use Rattle.lrs_command.specs.declared.command.Command.TheVariants as command
 use Rattle.lrs_record.specs.Entries.{written_entry}
 use Rattle.lrs_record.specs.declared.entry.Entry.{Entry}
-use Rattle.lrs_fold.specs.LrsHistoryHistory.{Answer, end_place, outcome, state, ComesNext, IsLegal, IsLegalFrom}
+use Rattle.lrs_fold.specs.LrsHistoryHistory.{Answer, end_place, next_entry, state, write_outcome, ComesNext, IsLegal, IsLegalFrom}
 use Rattle.lrs_replies.specs.declared.answered.Answered.{Answered}
 use Rattle.lrs_replies.specs.declared.reply.Trouble.{Trouble}
 use Rattle.lrs_machine.specs.Acts.{landed_among}
@@ -35,7 +34,7 @@ store_long limit h =
 room_of : (limit : ℕ) (h : List Entry) (e : Entry) → 0 < length h → ComesNext limit h e → 2 * length (h ++ e ∷ []) ≤ limit
 room_of limit [] e some next = absurd (omega (arith, some))
 room_of limit (x ∷ h) e some next =
-    let a = accepted_by limit (end_place limit (x ∷ h)) (outcome (state (x ∷ h)) e.caller (command.Write e.write) e.moment e.draw) e next in
+    let a = accepted_by limit (end_place limit (x ∷ h)) (write_outcome (state (x ∷ h)) (next_entry (state (x ∷ h)) e.caller e.write e.moment e.draw)) e next in
     let fits = a.2 in
     omega (arith, fits, store_long limit (x ∷ h), length-append (x ∷ h) (e ∷ []))
 

@@ -1,13 +1,12 @@
 -- Whether an entry may come next is seen by the fold and by the room that is left.
-use Rattle.std.proofs.Common.{◌≡◌, ◌<◌, ◌≤◌, ◌+◌, ◌-◌, ◌^◌, ℕ, min, max, List, [], ◌∷◌, length, refl, sym, ◌∙◌, ap, subst, arith, Option, Some, None, Bool, true, false, nat_lt, nat_le}
+use Rattle.std.proofs.Common.{◌≡◌, ◌<◌, ◌≤◌, ◌+◌, ◌-◌, ℕ, min, max, List, [], ◌∷◌, length, refl, sym, ◌∙◌, ap, subst, arith, Option, Some, None, Bool, true, false, nat_lt, nat_le}
 use Rattle.std.specs.Prelude.{◌==◌, ◌&&◌, is_none, if◌then◌else◌}
 use Rattle.std.specs.Bool.{Decides}
 use Rattle.std.proofs.lemmas.Grind.{common_steps}
-use Rattle.lrs_command.specs.declared.command.Command.TheVariants as command
 use Rattle.lrs_fold.specs.Next.{may_come}
 use Rattle.lrs_fold.specs.LrsHistoryAnswers.{write_said}
 use Rattle.lrs_fold.specs.LrsHistoryEffects.{effect}
-use Rattle.lrs_fold.specs.LrsHistoryHistory.{Answer, answer_of, said_at_once, entry_at, need, end_place, state, outcome, outcome_by, ComesNext, is_founding}
+use Rattle.lrs_fold.specs.LrsHistoryHistory.{Answer, answer_of, said_at_once, need, end_place, next_entry, state, outcome_by, write_outcome, ComesNext, is_founding}
 use Rattle.lrs_fold.specs.LrsHistoryRoomProofs.{no_room, kept_answer}
 use Rattle.lrs_fold.specs.LrsHistoryOutcomesProofs.{accepted_again}
 use Rattle.lrs_machine.specs.Replays.{has_room, may_follow}
@@ -61,7 +60,7 @@ abbrev later : ℕ → ℕ → State → Entry → Bool
 later limit place st e = may_follow false limit place st e
 
 later_forth : (limit place : ℕ) (st : State) (e : Entry) → e.moment ≤ LATEST → later limit (place + (5 + length (written_entry e))) st e ≡ true
-    → (answer_of limit place (outcome st e.caller (command.Write e.write) e.moment e.draw)).entry ≡ Some e
+    → (answer_of limit place (write_outcome st (next_entry st e.caller e.write e.moment e.draw))).entry ≡ Some e
 later_forth limit place st e early is =
     ap (λ v. (answer_of limit place v).entry) (accepted_again st e (write_said (effect st e)) same at_once refl) ∙ by_test (nat_lt limit (need place e)) refl
   where
@@ -92,7 +91,7 @@ later_forth limit place st e early is =
 
 -- the entry that it would be now
 abbrev entry_now : State → Entry → Entry
-entry_now st e = entry_at e.caller e.write (max (clamped e.moment) st.last) e.draw
+entry_now st e = next_entry st e.caller e.write e.moment e.draw
 
 later_back : (limit place : ℕ) (st : State) (e : Entry) (o : Option Answered) → said_at_once st (entry_now st e) ≡ o
     → (answer_of limit place (outcome_by o (entry_now st e) (write_said (effect st (entry_now st e))))).entry ≡ Some e → later limit (place + (5 + length (written_entry e))) st e ≡ true

@@ -179,7 +179,7 @@ impl<D: Disk> Desk<D> {
         ensures durable { IsOnDisk D.told D.image D.time D.image_since self.new }
     {
         // Nobody took out what an earlier act left over.
-        self.spent = Spent::none(self.alloc);
+        drop(mem::replace(&mut self.spent, Spent::none(self.alloc)));
         let Done { said, made, landed } = act(
             self.alloc,
             &mut self.journal,
