@@ -1,7 +1,7 @@
 -- What sessions stand for behind one statement more, and behind one that is voided.
 use Rattle.std.proofs.Common.{◌+◌, ◌<◌, ◌^◌, true, false, List, [], ◌∷◌, ◌++◌, length, option_map, refl}
 use Rattle.cmi5_running_sessions.specs.Entries.{ChangesAt, ChangesUnits, Entries, UnitsByRegistration, own_behind, reached_behind, reached_without}
-use Rattle.cmi5_running_sessions.specs.Kept.{SeenSessions, StandsFor}
+use Rattle.cmi5_running_sessions.specs.Kept.{SeenSessions, SaidStandsFor}
 use Rattle.cmi5_running_sessions.specs.Room.{HasPlacesFor, KeepsPlaces, needs_own, needs_unit}
 use Rattle.cmi5_running_sessions.specs.declared.own.OwnSaid.{OwnSaid}
 use Rattle.cmi5_running_sessions.proofs.Counting.{counted_more, voided_more, voided_now}
@@ -16,7 +16,7 @@ seen_of own reached = record { own = own; reached = reached }
 
 -- a statement is taken in that is voided already
 module _ (s : StoredStatement) (own new : Entries OwnSaid) (reached : UnitsByRegistration) (places : HasPlacesFor (seen_of own reached) s) (changed : ChangesAt (λ id. needs_own id s) (option_map (own_behind s)) own new) where
-  pub stands_voided : (those : List MarkedStatement) → StandsFor (seen_of own reached) those → StandsFor (seen_of new reached) (those ++ mark s true ∷ [])
+  pub stands_voided : (those : List MarkedStatement) → SaidStandsFor (seen_of own reached) those → SaidStandsFor (seen_of new reached) (those ++ mark s true ∷ [])
   stands_voided those stands = record {
     own = heard s (seen_of own reached) (seen_of new reached) changed places.own those true stands.own;
     reached = voided_more s (seen_of own reached) (seen_of new reached) refl those stands.reached;
@@ -28,7 +28,7 @@ module _ (s : StoredStatement) (own new : Entries OwnSaid) (reached : UnitsByReg
 -- a statement is taken in that counts
 module _ (s : StoredStatement) (own new : Entries OwnSaid) (reached more : UnitsByRegistration) (places : HasPlacesFor (seen_of own reached) s) (changed : ChangesAt (λ id. needs_own id s) (option_map (own_behind s)) own new)
     (counted : ChangesUnits (λ r a. needs_unit r a s) (option_map (reached_behind (view s.received))) reached more) where
-  pub stands_counting : (those : List MarkedStatement) → length those + 1 < 2 ^ 64 → StandsFor (seen_of own reached) those → StandsFor (seen_of new more) (those ++ mark s false ∷ [])
+  pub stands_counting : (those : List MarkedStatement) → length those + 1 < 2 ^ 64 → SaidStandsFor (seen_of own reached) those → SaidStandsFor (seen_of new more) (those ++ mark s false ∷ [])
   stands_counting those small stands = record {
     own = heard s (seen_of own reached) (seen_of new more) changed places.own those false stands.own;
     reached = counted_more s (seen_of own reached) (seen_of new more) counted places.unit those small stands.reached;
@@ -39,7 +39,7 @@ module _ (s : StoredStatement) (own new : Entries OwnSaid) (reached more : Units
 
 -- a statement is voided that was taken in
 module _ (s : StoredStatement) (own : Entries OwnSaid) (reached less : UnitsByRegistration) (changed : ChangesUnits (λ r a. needs_unit r a s) (option_map (reached_without (view s.received))) reached less) where
-  pub stands_now_voided : (before behind : List MarkedStatement) → StandsFor (seen_of own reached) (before ++ mark s false ∷ behind) → StandsFor (seen_of own less) (before ++ mark s true ∷ behind)
+  pub stands_now_voided : (before behind : List MarkedStatement) → SaidStandsFor (seen_of own reached) (before ++ mark s false ∷ behind) → SaidStandsFor (seen_of own less) (before ++ mark s true ∷ behind)
   stands_now_voided before behind stands = record {
     own = voided_same s (seen_of own reached) (seen_of own less) refl before behind stands.own;
     reached = voided_now s (seen_of own reached) (seen_of own less) changed before behind stands.reached;

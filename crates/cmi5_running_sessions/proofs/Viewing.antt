@@ -3,7 +3,7 @@ use Rattle.std.proofs.Common.{◌≡◌, ℕ, nat_lt, Bool, if◌then◌else◌,
 use Rattle.cmi5_course.specs.declared.launch.Launch.{Launch}
 use Rattle.cmi5_session.specs.Cmi5LaunchNames.{completed, passed, terminated}
 use Rattle.cmi5_running_sessions.specs.Entries.{phase_by}
-use Rattle.cmi5_running_sessions.specs.Kept.{SeenSessions, StandsFor, own_of, own_said, reached_of}
+use Rattle.cmi5_running_sessions.specs.Kept.{SeenSessions, SaidStandsFor, own_of, own_said, reached_of}
 use Rattle.cmi5_running_sessions.specs.declared.own.OwnSaid.{OwnSaid}
 use Rattle.cmi5_running_sessions.specs.declared.units.Reached.{Reached}
 use Rattle.cmi5_running_sessions.proofs.Counting.{counting}
@@ -29,7 +29,7 @@ same_parts : (launch : Launch) (p q : Phase) (a b c d : Bool) → p ≡ q → a 
 same_parts launch p q a b c d phase is at = ap (λ x. made launch x a c) phase ∙ (ap (λ x. made launch q x c) is ∙ ap (λ x. made launch q b x) at)
 
 -- the view, by what stands for the statements
-pub viewed : (launch : Launch) (fetched abandoned : Bool) (s : SeenSessions) (statements : List StoredStatement) → StandsFor s (marked statements) → (own : OwnSaid) (reached : Reached)
+pub viewed : (launch : Launch) (fetched abandoned : Bool) (s : SeenSessions) (statements : List StoredStatement) → SaidStandsFor s (marked statements) → (own : OwnSaid) (reached : Reached)
     (phase : Phase) (a b : Bool) → own ≡ own_of launch.session s → reached ≡ reached_of launch.registration launch.activity s → phase ≡ phase_by own fetched abandoned
     → a ≡ nat_lt 0 reached.completed → b ≡ nat_lt 0 reached.passed → made launch phase a b ≡ view_of launch fetched abandoned statements
 viewed launch fetched abandoned s statements stands own reached phase a b said counts told some others =

@@ -76,7 +76,8 @@ says_of registration activity verb j =
 
 -- such a one that isn't voided
 abbrev pub counts_still_for : List ℕ → List ℕ → List ℕ → MarkedStatement → Bool
-counts_still_for registration activity verb m = says_of registration activity verb (view m.statement.received) && not m.voided
+counts_still_for registration activity verb m =
+    says_of registration activity verb (view m.statement.received) && not m.voided
 
 abbrev pub reached_in : List ℕ → List ℕ → List MarkedStatement → Reached
 reached_in registration activity those = record {
@@ -88,7 +89,7 @@ reached_in registration activity those = record {
 
 -- It stands for these statements: of each session what its own said, of each activity in each registration how many
 -- count.
-pub record StandsFor (s : SeenSessions) (those : List MarkedStatement) : Type 0 where
+pub record SaidStandsFor (s : SeenSessions) (those : List MarkedStatement) : Type 0 where
   pub own : (id : List ℕ) → own_of id s ≡ own_said id (statements_of those)
   pub reached : (registration activity : List ℕ)
       → reached_of registration activity s ≡ reached_in registration activity those

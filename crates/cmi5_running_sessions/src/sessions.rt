@@ -2,7 +2,7 @@
 ghost use Rattle.std.specs.Prelude.{◌≡◌, ◌<◌, ◌+◌, ◌^◌, [], ◌∷◌, ◌++◌, List, true, false, length, OnOk};
 ghost use Rattle.cmi5_session.specs.Cmi5LaunchNames.{terminated};
 ghost use Rattle.cmi5_running_sessions.specs.Entries.{phase_by};
-ghost use Rattle.cmi5_running_sessions.specs.Kept.{StandsFor};
+ghost use Rattle.cmi5_running_sessions.specs.Kept.{SaidStandsFor};
 ghost use Rattle.cmi5_running_sessions.specs.Room.{HasPlacesFor, HasPlacesForEach, KeepsPlaces, MakesPlaces};
 ghost use Rattle.cmi5_running_sessions.specs.Room.{TakesPlacesBack};
 ghost use Rattle.cmi5_session.specs.Marked.{MarkedStatement, mark, marked, statements_of};
@@ -94,8 +94,8 @@ impl Sessions {
     /// no memory.
     pub fn install(&mut self, statement: &StoredStatement, voided: bool)
         requires { HasPlacesFor self.old statement.now }
-        ensures stands { (those : List MarkedStatement) → length those + 1 < 2 ^ 64 → StandsFor self.old those
-            → StandsFor self.new (those ++ mark statement.now voided ∷ []) }
+        ensures stands { (those : List MarkedStatement) → length those + 1 < 2 ^ 64 → SaidStandsFor self.old those
+            → SaidStandsFor self.new (those ++ mark statement.now voided ∷ []) }
         ensures places { KeepsPlaces self.old self.new }
     {
         if voided {
@@ -107,8 +107,8 @@ impl Sessions {
 
     fn install_voided(&mut self, statement: &StoredStatement)
         requires { HasPlacesFor self.old statement.now }
-        ensures stands { (those : List MarkedStatement) → StandsFor self.old those
-            → StandsFor self.new (those ++ mark statement.now true ∷ []) }
+        ensures stands { (those : List MarkedStatement) → SaidStandsFor self.old those
+            → SaidStandsFor self.new (those ++ mark statement.now true ∷ []) }
         ensures places { KeepsPlaces self.old self.new }
     {
         self.own.install(statement);
@@ -116,8 +116,8 @@ impl Sessions {
 
     fn install_counting(&mut self, statement: &StoredStatement)
         requires { HasPlacesFor self.old statement.now }
-        ensures stands { (those : List MarkedStatement) → length those + 1 < 2 ^ 64 → StandsFor self.old those
-            → StandsFor self.new (those ++ mark statement.now false ∷ []) }
+        ensures stands { (those : List MarkedStatement) → length those + 1 < 2 ^ 64 → SaidStandsFor self.old those
+            → SaidStandsFor self.new (those ++ mark statement.now false ∷ []) }
         ensures places { KeepsPlaces self.old self.new }
     {
         self.own.install(statement);
@@ -127,8 +127,8 @@ impl Sessions {
     /// Notes that a statement which was taken in is voided. It takes no memory.
     pub fn void(&mut self, statement: &StoredStatement)
         ensures stands { (before behind : List MarkedStatement)
-            → StandsFor self.old (before ++ mark statement.now false ∷ behind)
-            → StandsFor self.new (before ++ mark statement.now true ∷ behind) }
+            → SaidStandsFor self.old (before ++ mark statement.now false ∷ behind)
+            → SaidStandsFor self.new (before ++ mark statement.now true ∷ behind) }
         ensures places { KeepsPlaces self.old self.new }
     {
         self.reached.void(statement);
@@ -138,7 +138,7 @@ impl Sessions {
 
     /// A session as the rules on its statements see it. Its token was fetched or not, and it was abandoned or not.
     pub fn view<'a>(&self, launch: &'a Launch, fetched: bool, abandoned: bool) -> SessionView<'a>
-        ensures { (statements : List SpecStatement) → StandsFor self.now (marked statements)
+        ensures { (statements : List SpecStatement) → SaidStandsFor self.now (marked statements)
             → seen result ≡ view_of launch.now fetched abandoned statements }
     {
         let own = self.own.get(&launch.session);
@@ -155,7 +155,7 @@ impl Sessions {
 
     /// Whether the session said that it is terminated.
     pub fn has_ended(&self, session: &Id) -> bool
-        ensures { (those : List MarkedStatement) → StandsFor self.now those
+        ensures { (those : List MarkedStatement) → SaidStandsFor self.now those
             → result ≡ has_own session.now terminated (statements_of those) }
     {
         self.own.get(session).ended
@@ -163,7 +163,7 @@ impl Sessions {
 
     /// When the session said that it is initialized, if it did.
     pub fn began_at(&self, session: &Id) -> Option<Moment>
-        ensures { (those : List MarkedStatement) → StandsFor self.now those
+        ensures { (those : List MarkedStatement) → SaidStandsFor self.now those
             → result ≡ began_at session.now (statements_of those) }
     {
         self.own.get(session).began
@@ -171,7 +171,7 @@ impl Sessions {
 
     /// When the session said something last, or that moment if it said nothing.
     pub fn last_own(&self, session: &Id, moment: Moment) -> Moment
-        ensures { (those : List MarkedStatement) → StandsFor self.now those
+        ensures { (those : List MarkedStatement) → SaidStandsFor self.now those
             → result ≡ last_own session.now moment (statements_of those) }
     {
         match self.own.get(session).last {

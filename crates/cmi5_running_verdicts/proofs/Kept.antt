@@ -4,7 +4,7 @@ use Rattle.std.specs.Prelude.{slice_get, slice_set}
 use Rattle.std.specs.Option.{option_map_or}
 use Rattle.std.proofs.lemmas.List.{get_or-set_same, length-set}
 use Rattle.std.proofs.lemmas.Option.{get_or_from_slice_get, none-some, same_Some, slice_get-get_or, slice_get_within}
-use Rattle.cmi5_running_verdicts.specs.Running.{HasCounted, SeenRunning, Stands}
+use Rattle.cmi5_running_verdicts.specs.Running.{HasCounted, SeenRunning, TalliesStandFor}
 use Rattle.cmi5_running_verdicts.specs.Tallies.{AreTallies}
 use Rattle.cmi5_running_verdicts.specs.declared.tally.Tally.{Tally}
 use Rattle.cmi5_verdict.specs.Cmi5SessionMarked.{MarkedStatement}
@@ -24,15 +24,15 @@ put_other (y ∷ ys) zero (suc k) x apart = refl
 put_other (y ∷ ys) (suc i) zero x apart = refl
 put_other (y ∷ ys) (suc i) (suc k) x apart = put_other ys i k x (λ e. apart (ap suc e))
 
-held_there : (xs : List (List Tally)) (r : SeenRunning) (i : ℕ) (e : SeenEnrolment) (those : List MarkedStatement) → xs ≡ r.held → (stands : Stands r those i e) → slice_get xs i ≡ Some stands.tallies
+held_there : (xs : List (List Tally)) (r : SeenRunning) (i : ℕ) (e : SeenEnrolment) (those : List MarkedStatement) → xs ≡ r.held → (stands : TalliesStandFor r those i e) → slice_get xs i ≡ Some stands.tallies
 held_there xs r i e those same stands = ap (λ (ys : List (List Tally)). slice_get ys i) same ∙ stands.held
 
-pub stands_within : (xs : List (List Tally)) (r : SeenRunning) (i : ℕ) (e : SeenEnrolment) (those : List MarkedStatement) → xs ≡ r.held → Stands r those i e → i < length xs
+pub stands_within : (xs : List (List Tally)) (r : SeenRunning) (i : ℕ) (e : SeenEnrolment) (those : List MarkedStatement) → xs ≡ r.held → TalliesStandFor r those i e → i < length xs
 stands_within xs r i e those same stands = slice_get_within xs i stands.tallies (held_there xs r i e those same stands)
 
 -- tallies that count on
 pub put_in : (xs : List (List Tally)) (r : SeenRunning) (i : ℕ) (old new : List Tally) (e : SeenEnrolment) (before after : List MarkedStatement)
-    → xs ≡ r.held → old ≡ get_or xs i old → (AreTallies e before old → AreTallies e after new) → Stands r before i e
+    → xs ≡ r.held → old ≡ get_or xs i old → (AreTallies e before old → AreTallies e after new) → TalliesStandFor r before i e
     → (slice_get (slice_set xs i new) i ≡ Some new) × AreTallies e after new
 put_in xs r i old new e before after same is step stands =
     let there : slice_get xs i ≡ Some stands.tallies = held_there xs r i e before same stands in
@@ -74,17 +74,17 @@ never_none r those e coming counted is none = none-some counted.tallies (sym non
 
 -- the tallies of a registration, as they are lent
 pub tallies_in : (r : SeenRunning) (number : ℕ) (e : SeenEnrolment) (those : List MarkedStatement) (ts : List Tally)
-    → ts ≡ option_map_or (λ (us : List Tally). us) (slice_get r.held number) [] → Stands r those number e → AreTallies e those ts
+    → ts ≡ option_map_or (λ (us : List Tally). us) (slice_get r.held number) [] → TalliesStandFor r those number e → AreTallies e those ts
 tallies_in r number e those ts is stands =
     let one : ts ≡ stands.tallies = is ∙ ap (λ (o : Option (List Tally)). option_map_or (λ (us : List Tally). us) o []) stands.held in
     subst (λ (us : List Tally). AreTallies e those us) (sym one) stands.are
 
 -- they stand for other statements that tell the same
 pub stands_on : (r : SeenRunning) (number : ℕ) (e : SeenEnrolment) (before after : List MarkedStatement)
-    → ((ts : List Tally) → AreTallies e before ts → AreTallies e after ts) → Stands r before number e → Stands r after number e
+    → ((ts : List Tally) → AreTallies e before ts → AreTallies e after ts) → TalliesStandFor r before number e → TalliesStandFor r after number e
 stands_on r number e before after step stands = record { tallies = stands.tallies; held = stands.held; are = step stands.tallies stands.are }
 
 -- where the same tallies are held, they stand for the same
 pub stands_same : (old new : SeenRunning) (number : ℕ) (e : SeenEnrolment) (those : List MarkedStatement)
-    → slice_get new.held number ≡ slice_get old.held number → Stands old those number e → Stands new those number e
+    → slice_get new.held number ≡ slice_get old.held number → TalliesStandFor old those number e → TalliesStandFor new those number e
 stands_same old new number e those same stands = record { tallies = stands.tallies; held = same ∙ stands.held; are = stands.are }

@@ -12,7 +12,8 @@ pub record SeenRunning : Type 0 where
   pub spare : ℕ
 
 -- the registration of that number has tallies, which stand for these statements
-pub record Stands (r : SeenRunning) (those : List MarkedStatement) (number : ℕ) (e : SeenEnrolment) : Type 0 where
+pub record TalliesStandFor (r : SeenRunning) (those : List MarkedStatement) (number : ℕ) (e : SeenEnrolment)
+    : Type 0 where
   pub tallies : List Tally
   pub held : slice_get r.held number ≡ Some tallies
   pub are : AreTallies e those tallies

@@ -6,7 +6,7 @@ ghost use Rattle.std.specs.Option.{option_map_or};
 ghost use Rattle.cmi5_verdict.specs.Cmi5LaunchNames.{waived};
 ghost use Rattle.cmi5_running_verdicts.specs.Holding.{StandBehindHolders};
 ghost use Rattle.cmi5_running_verdicts.specs.Positions.{marked_at, marked_at_each};
-ghost use Rattle.cmi5_running_verdicts.specs.Running.{HasCounted, Stands};
+ghost use Rattle.cmi5_running_verdicts.specs.Running.{HasCounted, TalliesStandFor};
 ghost use Rattle.cmi5_running_verdicts.specs.Tallies.{AreTallies};
 ghost use Rattle.cmi5_verdict.specs.Cmi5SessionMarked.{MarkedStatement, mark, marked};
 ghost use Rattle.cmi5_verdict.specs.Nodes.{SeenEnrolment, activity_at, is_satisfied, owed, seen, verdicts};
@@ -168,7 +168,7 @@ impl Running {
     pub fn enrol(&mut self)
         requires { (those : List MarkedStatement) × (e : SeenEnrolment) × HasCounted self.old those e }
         ensures stands { (those : List MarkedStatement) → (e : SeenEnrolment) → HasCounted self.old those e
-            → Stands self.new those (length self.old.held) e }
+            → TalliesStandFor self.new those (length self.old.held) e }
         ensures others { (k : ℕ) → k < length self.old.held
             → slice_get self.new.held k ≡ slice_get self.old.held k }
         ensures long { length self.new.held ≡ length self.old.held + 1 }
@@ -191,8 +191,8 @@ impl Running {
     )
         requires { StandBehindHolders enrolment.now.nodes.now }
         ensures stands { (those : List MarkedStatement) → length those + 1 < 2 ^ 64
-            → Stands self.old those number (seen enrolment.now)
-            → Stands self.new (those ++ mark statement.now voided ∷ []) number (seen enrolment.now) }
+            → TalliesStandFor self.old those number (seen enrolment.now)
+            → TalliesStandFor self.new (those ++ mark statement.now voided ∷ []) number (seen enrolment.now) }
         ensures others { (k : ℕ) → (k == number) ≡ false
             → slice_get self.new.held k ≡ slice_get self.old.held k }
         ensures long { length self.new.held ≡ length self.old.held }
@@ -208,8 +208,8 @@ impl Running {
     pub fn void(&mut self, number: u32, enrolment: &Enrolment<'_>, statement: &StoredStatement)
         requires { StandBehindHolders enrolment.now.nodes.now }
         ensures stands { (before behind : List MarkedStatement)
-            → Stands self.old (before ++ mark statement.now false ∷ behind) number (seen enrolment.now)
-            → Stands self.new (before ++ mark statement.now true ∷ behind) number (seen enrolment.now) }
+            → TalliesStandFor self.old (before ++ mark statement.now false ∷ behind) number (seen enrolment.now)
+            → TalliesStandFor self.new (before ++ mark statement.now true ∷ behind) number (seen enrolment.now) }
         ensures others { (k : ℕ) → (k == number) ≡ false
             → slice_get self.new.held k ≡ slice_get self.old.held k }
         ensures long { length self.new.held ≡ length self.old.held }
@@ -226,7 +226,7 @@ impl Running {
     /// Whether the node of that number is satisfied in the registration of that number.
     pub fn is_satisfied(&self, number: u32, place: u32) -> bool
         ensures { (e : SeenEnrolment) → (statements : List SpecStatement)
-            → Stands self.now (marked statements) number e → place < length e.nodes
+            → TalliesStandFor self.now (marked statements) number e → place < length e.nodes
             → result ≡ is_satisfied e statements place }
     {
         is_all_met_at(self.tallies(number), place as usize)
@@ -235,7 +235,7 @@ impl Running {
     /// Whether each node is satisfied in the registration of that number, in the order of the text.
     pub fn verdicts(&self, alloc: Global, number: u32) -> Result<Vec<bool>, Memory>
         ensures { IfOk result (λ told. (e : SeenEnrolment) → (statements : List SpecStatement)
-            → Stands self.now (marked statements) number e → told.items ≡ verdicts e statements) }
+            → TalliesStandFor self.now (marked statements) number e → told.items ≡ verdicts e statements) }
     {
         verdicts(alloc, self.tallies(number))
     }
@@ -243,7 +243,7 @@ impl Running {
     /// Whether the unit of that number was waived in the registration of that number.
     pub fn is_waived(&self, number: u32, place: u32) -> bool
         ensures { (e : SeenEnrolment) → (statements : List SpecStatement)
-            → Stands self.now (marked statements) number e → place < length e.nodes
+            → TalliesStandFor self.now (marked statements) number e → place < length e.nodes
             → result ≡ stands statements e.registration (activity_at e place) waived }
     {
         is_waived_at(self.tallies(number), place as usize)
@@ -259,7 +259,7 @@ impl Running {
         statements: &Statements<'_>,
         enrolment: &Enrolment<'_>,
     ) -> Result<Vec<u32>, Memory>
-        ensures { Stands self.now (marked statements.now.held.now.held) number (seen enrolment.now)
+        ensures { TalliesStandFor self.now (marked statements.now.held.now.held) number (seen enrolment.now)
             → IfOk result (λ places. places.items ≡ owed (seen enrolment.now) (all_of statements.now)) }
     {
         if any_voids(statements.new) {

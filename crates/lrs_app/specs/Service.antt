@@ -100,8 +100,8 @@ abbrev pub HoldsAfter : Ending → Bool → Option (List ℕ) → ℕ → List E
 HoldsAfter ending.DiskFault doubt told limit h = (doubt ≡ true) × HoldsIn true told limit h
 HoldsAfter other doubt told limit h = Holds told limit h
 
--- Where there was one worker, no other act came between two of its acts: each was on just what stood before it, from the
--- opening to the end of the line.
+-- Where there was one worker, no other act came between two of its acts: each was on just what stood before it, from
+-- the opening to the end of the line.
 abbrev pub IsAlone : (limit : ℕ) (line : List Record) (opened : ℕ) (opening closing : Tide) (connections : ℕ)
     (seed : List ℕ) (stints : List Stint) → AreStints limit line opened opening closing connections seed 1 stints
     → Type 0

@@ -35,13 +35,13 @@ is_enrolment j =
     has_only (codes "course" ∷ codes "actor" ∷ []) j && has_member (codes "course") j && has_member (codes "actor") j
 
 -- an Agent, known by an account (cmi5 Quartz, section 8.1.3)
-abbrev pub is_learner : Json → Bool
-is_learner j = is_none (least (agent_faults j)) && has_member (codes "account") j
+abbrev pub tells_learner : Json → Bool
+tells_learner j = is_none (least (agent_faults j)) && has_member (codes "account") j
 
 -- the numbers of the rules B that it breaks
 abbrev pub enrolment_body_faults : Json → List ℕ
 enrolment_body_faults j =
-    unless (is_enrolment j) 1 ++ unless (has_member_that (codes "actor") is_learner j) 3
+    unless (is_enrolment j) 1 ++ unless (has_member_that (codes "actor") tells_learner j) 3
     ++ unless (has_iri (codes "course") j) 8
 
 -- what an enrolment that breaks no rule says

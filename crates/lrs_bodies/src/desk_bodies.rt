@@ -8,7 +8,7 @@ ghost use Rattle.lrs_names.specs.Iris.{is_iri};
 ghost use Rattle.lrs_names.specs.Members.{has_member_that, if_member, is_string_that, text_under};
 ghost use Rattle.lrs_names.specs.Rules.{least};
 ghost use Rattle.lrs_bodies.specs.Bodies.{BodyBreaks, IsInBody, IsLeastOf, course_body, enrolment_body, launch_body};
-ghost use Rattle.lrs_bodies.specs.DeskBodies.{IsEnrolmentIn, IsLaunchIn, enrolment_body_faults, has_iri, is_enrolment, is_launch, is_learner, is_mode, launch_body_faults, mode_or_normal};
+ghost use Rattle.lrs_bodies.specs.DeskBodies.{IsEnrolmentIn, IsLaunchIn, enrolment_body_faults, has_iri, is_enrolment, is_launch, tells_learner, is_mode, launch_body_faults, mode_or_normal};
 ghost use Rattle.lrs_bodies.specs.Looks.{Finds};
 
 use crate::body_value::BodyValue;
@@ -76,16 +76,16 @@ fn is_enrolment(tree: &Tree) -> bool
 }
 
 fn has_learner(tree: &Tree) -> bool
-    ensures { result ≡ has_member_that (codes "actor") is_learner (view tree.now) }
+    ensures { result ≡ has_member_that (codes "actor") tells_learner (view tree.now) }
 {
     match tree.get("actor") {
-        Some(actor) => is_learner(actor),
+        Some(actor) => tells_learner(actor),
         None => false,
     }
 }
 
-fn is_learner(tree: &Tree) -> bool
-    ensures { result ≡ is_learner (view tree.now) }
+fn tells_learner(tree: &Tree) -> bool
+    ensures { result ≡ tells_learner (view tree.now) }
 {
     Agent::broken(tree).is_none() && has_member(tree, "account")
 }
@@ -110,7 +110,7 @@ fn unbroken_enrolment(alloc: Global, tree: &Tree) -> Result<BodyValue, Memory>
 }
 
 fn actor_of(alloc: Global, tree: &Tree) -> Result<Agent, Memory>
-    requires { has_member_that (codes "actor") is_learner (view tree.now) ≡ true }
+    requires { has_member_that (codes "actor") tells_learner (view tree.now) ≡ true }
     ensures { IfOk result (λ agent. MatchOption (find (codes "actor") (view tree.now)) ⊥ (λ a. IsAgentOf a agent)) }
 {
     match tree.get("actor") {

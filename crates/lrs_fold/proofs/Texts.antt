@@ -15,7 +15,7 @@ use Rattle.lrs_reads.specs.LrsRefusalsKnownBatch.{Batch}
 use Rattle.lrs_reads.specs.LrsRefusalsKnownKnown.{Known}
 use Rattle.lrs_reads.specs.LrsRefusalsKnownKnownTheVariants as known
 use Rattle.lrs_reads.specs.LrsRefusalsSubmissions.{IsWrittenIf}
-use Rattle.lrs_reads.specs.LrsRefusalsWrittenWritten.{Written}
+use Rattle.lrs_reads.specs.LrsRefusalsPreparedTexts.{PreparedTexts}
 use Rattle.lrs_record.specs.Writes.{trees_of}
 use Rattle.lrs_record.specs.declared.entry.Entry.{Entry}
 use Rattle.lrs_record.specs.declared.entry.Write.{Write}
@@ -48,15 +48,15 @@ are_new st moment by (false ∷ hs) (n ∷ ns) more tells =
     (subst (λ (b : Bool). AreTextsOf (n.tree ∷ take (prefix_len not hs) (trees_under ns)) ((if b then rest else held_of moment by n ∷ rest) ++ more)) tells.0
     (refl, are_new st moment by hs ns more tells.1))
 
-some_are : (w : Written) (n : ℕ) (ss : List StoredStatement) → AreTextsOf (take n w.texts) ss → AreTextsOf (texts_for (Some w) n ss) ss
+some_are : (w : PreparedTexts) (n : ℕ) (ss : List StoredStatement) → AreTextsOf (take n w.texts) ss → AreTextsOf (texts_for (Some w) n ss) ss
 some_are w n [] are = tt
 some_are w n (s ∷ ss) are = are
 
-none_are : (w : Written) (n : ℕ) (ss : List StoredStatement) → w.texts ≡ [] → AreTextsOf (texts_for (Some w) n ss) ss
+none_are : (w : PreparedTexts) (n : ℕ) (ss : List StoredStatement) → w.texts ≡ [] → AreTextsOf (texts_for (Some w) n ss) ss
 none_are w n ss none = some_are w n ss (subst (λ (ts : List Tree). AreTextsOf (take n ts) ss) (sym none) (none_taken n ss))
 
 -- of statements that are kept under these ids, by whom they come
-kept_are : (st : State) (at : Occasion) (supply : Supply) (w : Written) (hs : List Bool) (ns : List WithId) → w.texts ≡ trees_under ns → TellHeld st hs (ids_under ns)
+kept_are : (st : State) (at : Occasion) (supply : Supply) (w : PreparedTexts) (hs : List Bool) (ns : List WithId) → w.texts ≡ trees_under ns → TellHeld st hs (ids_under ns)
     → let ss = with_owed st at supply (new_ones st.statements (kept_by at.moment (authority_of st at.by) ns)) in AreTextsOf (texts_for (Some w) (prefix_len not hs) ss) ss
 kept_are st at supply w hs ns of tells = by_authority (authority_of st at.by)
   where
@@ -78,15 +78,15 @@ trees_with supply (t ∷ ts) = ap (λ (us : List Tree). t ∷ us) (trees_with (s
 abbrev occasion_of : State → Entry → Write → Occasion
 occasion_of st e x = record { by = who_is st e.caller; moment = e.moment; token = token_text st.length e.draw.secret; supply = supply_in st x e.draw }
 
-abbrev Are : State → Entry → Known → Written → Write → Type 0
+abbrev Are : State → Entry → Known → PreparedTexts → Write → Type 0
 Are st e k w x = let ss = (effect_of st (occasion_of st e x) x).statements in AreTextsOf (texts_for (Some w) (leading_new x k) ss) ss
 
-put_are : (st : State) (e : Entry) (k : Known) (w : Written) (id : List ℕ) (t : Tree) → IsKnown st e.draw (write.Put id t) k → w.texts ≡ t ∷ [] → Are st e k w (write.Put id t)
+put_are : (st : State) (e : Entry) (k : Known) (w : PreparedTexts) (id : List ℕ) (t : Tree) → IsKnown st e.draw (write.Put id t) k → w.texts ≡ t ∷ [] → Are st e k w (write.Put id t)
 put_are st e known.Nothing w id t told of = kept_are st (occasion_of st e (write.Put id t)) (supply_in st (write.Put id t) e.draw) w [] (record { id = id; tree = t } ∷ []) of tt
 put_are st e (known.Put held) w id t told of = kept_are st (occasion_of st e (write.Put id t)) (supply_in st (write.Put id t) e.draw) w (held ∷ []) (record { id = id; tree = t } ∷ []) of (told, tt)
 put_are st e (known.Batch b) w id t told of = kept_are st (occasion_of st e (write.Put id t)) (supply_in st (write.Put id t) e.draw) w [] (record { id = id; tree = t } ∷ []) of tt
 
-post_are : (st : State) (e : Entry) (k : Known) (w : Written) (ts : List Tree) → IsKnown st e.draw (write.Post ts) k → w.texts ≡ ts → Are st e k w (write.Post ts)
+post_are : (st : State) (e : Entry) (k : Known) (w : PreparedTexts) (ts : List Tree) → IsKnown st e.draw (write.Post ts) k → w.texts ≡ ts → Are st e k w (write.Post ts)
 post_are st e k w ts told of = by_known k told
   where
     supply : Supply
@@ -102,22 +102,22 @@ post_are st e k w ts told of = by_known k told
         kept_are st (occasion_of st e (write.Post ts)) (supply_after supply ts) w b.held (with_ids supply ts) under (subst (λ (ids : List (List ℕ)). TellHeld st b.held ids) told.ids told.held)
 
 -- a write that brings no statements has none written
-none_written : (st : State) (e : Entry) (w : Written) (x : Write) → w.texts ≡ [] → let ss = (effect_of st (occasion_of st e x) x).statements in AreTextsOf (texts_for (Some w) 0 ss) ss
+none_written : (st : State) (e : Entry) (w : PreparedTexts) (x : Write) → w.texts ≡ [] → let ss = (effect_of st (occasion_of st e x) x).statements in AreTextsOf (texts_for (Some w) 0 ss) ss
 none_written st e w x none = none_are w 0 (effect_of st (occasion_of st e x) x).statements none
 
 -- by what is written
-written_are : (st : State) (e : Entry) (k : Known) (w : Written) (x : Write) → IsKnown st e.draw x k → w.texts ≡ trees_of x → Are st e k w x
+written_are : (st : State) (e : Entry) (k : Known) (w : PreparedTexts) (x : Write) → IsKnown st e.draw x k → w.texts ≡ trees_of x → Are st e k w x
 written_are st e k w (write.Put id t) told of = put_are st e k w id t told of
 written_are st e k w (write.Post ts) told of = post_are st e k w ts told of
 written_are st e k w other told of = none_written st e w other of
 
-texts_are : (st : State) (e : Entry) (k : Known) (o : Option Written) → IsKnown st e.draw e.write k → IsWrittenIf e.write o
+texts_are : (st : State) (e : Entry) (k : Known) (o : Option PreparedTexts) → IsKnown st e.draw e.write k → IsWrittenIf e.write o
     → let ss = (effect st e).statements in AreTextsOf (texts_for o (leading_new e.write k) ss) ss
 texts_are st e k None told written = tt
 texts_are st e k (Some w) told written = written_are st e k w e.write told written.texts
 
 -- the same of what was made
-pub texts_now : (st : State) (e : Entry) (k : Known) (o : Option Written) (n : ℕ) (x : Effect) (ts : List Tree) → IsKnown st e.draw e.write k → IsWrittenIf e.write o
+pub texts_now : (st : State) (e : Entry) (k : Known) (o : Option PreparedTexts) (n : ℕ) (x : Effect) (ts : List Tree) → IsKnown st e.draw e.write k → IsWrittenIf e.write o
     → n ≡ leading_new e.write k → x ≡ effect st e → ts ≡ texts_for o n x.statements → AreTextsOf ts x.statements
 texts_now st e k o n x ts told written count of is =
     subst (λ (us : List Tree). AreTextsOf us x.statements) (sym is)

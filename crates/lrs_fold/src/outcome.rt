@@ -21,7 +21,7 @@ use lrs_json::{Items, Memory};
 use lrs_learning::lrs_parts::Effect;
 use lrs_names::Draw;
 use lrs_reads::lrs_history::{barred, refused_with};
-use lrs_reads::lrs_refusals::{Form, Known, Submission, Written, refusal, who_is};
+use lrs_reads::lrs_refusals::{Form, Known, PreparedTexts, Submission, refusal, who_is};
 use lrs_reads::read_answered;
 use lrs_record::{Caller, Entry, Moment, Write, write_entry, write_headed};
 use lrs_replies::{Answered, Refusal};
@@ -160,7 +160,7 @@ impl Fold {
     fn write_outcome(
         &self,
         alloc: Global,
-        written: Option<Written>,
+        written: Option<PreparedTexts>,
         entry: Entry,
         spent: &mut Spent,
     ) -> Result<Outcome, Memory>
@@ -201,7 +201,7 @@ impl Fold {
         alloc: Global,
         who: Who,
         known: Known,
-        written: Option<Written>,
+        written: Option<PreparedTexts>,
         entry: Entry,
         spent: &mut Spent,
     ) -> Result<Outcome, Memory>
@@ -231,7 +231,7 @@ impl Fold {
         alloc: Global,
         who: Who,
         known: Known,
-        written: Option<Written>,
+        written: Option<PreparedTexts>,
         text: Vec<u8>,
         entry: Entry,
         spent: &mut Spent,
@@ -262,7 +262,7 @@ impl Fold {
 fn said_with(
     alloc: Global,
     entry: Snapshot<Entry>,
-    written: Option<Written>,
+    written: Option<PreparedTexts>,
     count: usize,
     text: Vec<u8>,
     effect: Effect,
@@ -298,14 +298,14 @@ fn said_with(
 // the entry's text are put aside.
 fn texts_for(
     alloc: Global,
-    written: Option<Written>,
+    written: Option<PreparedTexts>,
     count: usize,
     effect: &Effect,
     spent: &mut Spent,
 ) -> Items<ReceivedText>
     ensures { result ≡ texts_for written count effect.now.statements }
 {
-    let Some(Written { closing, texts }) = written else {
+    let Some(PreparedTexts { closing, texts }) = written else {
         return Items::new(alloc);
     };
     spent.set_closing(closing);
@@ -338,7 +338,7 @@ fn outcome_of(accepted: Accepted, texts: Items<ReceivedText>, spent: &mut Spent)
 }
 
 // An entry's text. What closes it may have been written before.
-fn text_of(alloc: Global, written: &Option<Written>, entry: &Entry) -> Result<Vec<u8>, Memory>
+fn text_of(alloc: Global, written: &Option<PreparedTexts>, entry: &Entry) -> Result<Vec<u8>, Memory>
     requires caller { IsLawfulCaller entry.now.caller }
     requires write { IsLawfulWrite entry.now.write }
     requires written { IsWrittenIf entry.now.write written.now }

@@ -3,7 +3,7 @@ ghost use Rattle.std.specs.Prelude.{◌≡◌, take};
 use crate::Accepted;
 use lrs_json::{Items, Tree};
 use lrs_learning::lrs_parts::{Effect, SpentEffect};
-use lrs_reads::lrs_refusals::Written;
+use lrs_reads::lrs_refusals::PreparedTexts;
 use lrs_record::{Caller, Entry};
 use std::alloc::Global;
 use xapi_statement::ReceivedText;
@@ -19,7 +19,7 @@ pub struct Spent {
     // Trees that aren't kept.
     trees: Items<Tree>,
     effect: SpentEffect,
-    // The texts of statements that aren't held, and of those the ones that weren't handed on.
+    // The texts of statements that weren't handed on: of none of them, or of those behind the first that was held.
     texts: Items<ReceivedText>,
     later: Items<ReceivedText>,
     // An entry's text, and what closed it.
@@ -54,8 +54,8 @@ impl Spent {
     }
 
     /// What was written of a write before the turn.
-    pub(crate) fn set_written(&mut self, written: Option<Written>) {
-        if let Some(Written { closing, texts }) = written {
+    pub(crate) fn set_written(&mut self, written: Option<PreparedTexts>) {
+        if let Some(PreparedTexts { closing, texts }) = written {
             self.closing = closing;
             self.texts = texts;
         }

@@ -162,7 +162,8 @@ pub record IsSmooth (talk : Talk) : Type 0 where
 abbrev pub OneStream : Type 0
 OneStream =
     (limit : ℕ) (line_a line_b : List Record) (records_a records_b : ℕ) (own_a own_b : List ℕ) (tide_a tide_b : Tide)
-    (stream : List ℕ) (draws : Draws) (readings : List ℕ) (a b : Talk) (out_a out_b : List ℕ) (end_a end_b : Worker Reach)
+    (stream : List ℕ) (draws : Draws) (readings : List ℕ) (a b : Talk) (out_a out_b : List ℕ)
+    (end_a end_b : Worker Reach)
     → entries (take records_a line_a) ≡ entries (take records_b line_b)
     → BeginsWith (clocks a.receipts) readings → BeginsWith (clocks b.receipts) readings
     → IsWholeTalk (ActsNext limit line_a) (Some stream) a out_a (worker_at draws records_a own_a tide_a) end_a

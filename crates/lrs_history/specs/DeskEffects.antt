@@ -112,7 +112,8 @@ abandoning_each st at numbers = record (no_change at.moment) {
 -- the session of the launch of that number is abandoned, if it is open
 abbrev pub abandoning_one : State → Occasion → Option ℕ → Effect
 abandoning_one st at None = no_change at.moment
-abandoning_one st at (Some number) = if is_open st number then abandoning_each st at (number ∷ []) else no_change at.moment
+abandoning_one st at (Some number) =
+    if is_open st number then abandoning_each st at (number ∷ []) else no_change at.moment
 
 -- those that are idle for so many seconds; their ids are told
 abbrev pub sweeping : State → Occasion → ℕ → Effect

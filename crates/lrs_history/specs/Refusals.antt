@@ -1,10 +1,10 @@
 -- Why a command is refused: the first reason in a fixed order. It is: the caller (A1, A2), the form (of a provider its
 -- name (B2); of a document its agent (P6), its media type (F4) and its length; of statements their number and lengths,
--- then the rules S, then P15 or B9; of a course the rules K; of an enrolment its actor (B3); of a sweep its seconds (B6);
--- of `found` 404), an earlier list that there is not (P14), what a session may not do with documents (A3 to A5), what a
--- write speaks of that isn't there (404), what can't be merged into the document that is held (T1, T2), another course
--- under its id (409), then for each statement in its order another one under its id (409) or what a new one may not be
--- (C1 to C20). What a read asks for that isn't there is told in its answer.
+-- then the rules S, then P15 or B9; of a course the rules K; of an enrolment its actor (B3); of a sweep its seconds
+-- (B6); of `found` 404), an earlier list that there is not (P14), what a session may not do with documents (A3 to A5),
+-- what a write speaks of that isn't there (404), what can't be merged into the document that is held (T1, T2), another
+-- course under its id (409), then for each statement in its order another one under its id (409) or what a new one may
+-- not be (C1 to C20). What a read asks for that isn't there is told in its answer.
 use Rattle.std.specs.Prelude.{ℕ, ◌==◌, ◌&&◌, ◌||◌, nat_lt, Bool, true, false, not, List, [], ◌∷◌, length, Option, Some}
 use Rattle.std.specs.Prelude.{None, ◌++◌, is_none, option_and_then, option_map, slice_get, if◌then◌else◌}
 use Rattle.std.specs.List.{list_any}

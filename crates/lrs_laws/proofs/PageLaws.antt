@@ -17,7 +17,7 @@ use Rattle.lrs_history.specs.History.{only, refused_or, state, state_from, step,
 use Rattle.lrs_history.specs.Refusals.{barred, read_refusal, too_late}
 use Rattle.lrs_history.specs.Whose.{acts_in_session, known_as, sight_in as sight_in_launch, sight_of, who_is}
 use Rattle.lrs_json.specs.Written.{written}
-use Rattle.lrs_laws.specs.Laws.{FirstPagesAreTold, Follows, LinksGoOn, LinksStay, LinksWhereMoreComes, PagesEnd, PagesGiveTheList, PositionsComeOnce, IsLetIn, sight_in, who_in}
+use Rattle.lrs_laws.specs.Laws.{FirstPagesAreTold, FollowsLinks, LinksGoOn, LinksStay, LinksWhereMoreComes, PagesEnd, PagesGiveTheList, PositionsComeOnce, IsLetIn, sight_in, who_in}
 use Rattle.lrs_laws.proofs.Keepers.{state_from-append}
 use Rattle.lrs_laws.proofs.Lists.{slice_get-append}
 use Rattle.lrs_laws.proofs.NewIds.{and_left, and_right}
@@ -70,14 +70,14 @@ links query sight s after last some is = linked query.ascending (listing query s
 abbrev FollowsOf : Query → Sight → ℕ → List StoredStatement → List (List StoredStatement) → Option ℕ → List ℕ → Type 0
 FollowsOf query sight n s later after given =
     MatchOption (page_behind query sight s after).link (given ≡ (page_behind query sight s after).positions)
-    (λ last. (rest : List ℕ) × (given ≡ (page_behind query sight s after).positions ++ rest) × Follows query sight n later (Some last) rest)
+    (λ last. (rest : List ℕ) × (given ≡ (page_behind query sight s after).positions ++ rest) × FollowsLinks query sight n later (Some last) rest)
 
 -- each list has these first statements
 abbrev pub AreGrown : ℕ → List StoredStatement → List (List StoredStatement) → Type 0
 AreGrown n s helds = AllByRecursion (λ held. take n held ≡ s) helds
 
 whole_from : (query : Query) (sight : Sight) (n : ℕ) (s : List StoredStatement) (helds : List (List StoredStatement)) (after : Option ℕ) (given : List ℕ) → 0 < query.page → AreGrown n s helds
-    → Follows query sight n helds after given → given ≡ listing_behind query sight s after
+    → FollowsLinks query sight n helds after given → given ≡ listing_behind query sight s after
 whole_from query sight n s [] after given some grown follows = absurd follows
 whole_from query sight n s (held ∷ later) after given some grown follows =
     by_link (page_behind query sight s after).link refl (subst (λ t. FollowsOf query sight n t later after given) grown.0 follows)
@@ -85,8 +85,8 @@ whole_from query sight n s (held ∷ later) after given some grown follows =
   where
     by_link : (o : Option ℕ) → (page_behind query sight s after).link ≡ o
         → MatchOption o (given ≡ take query.page (listing_behind query sight s after))
-        (λ last. (rest : List ℕ) × (given ≡ take query.page (listing_behind query sight s after) ++ rest) × Follows query sight n later (Some last) rest)
-        → ((last : ℕ) (rest : List ℕ) → Follows query sight n later (Some last) rest → rest ≡ listing_behind query sight s (Some last)) → given ≡ listing_behind query sight s after
+        (λ last. (rest : List ℕ) × (given ≡ take query.page (listing_behind query sight s after) ++ rest) × FollowsLinks query sight n later (Some last) rest)
+        → ((last : ℕ) (rest : List ℕ) → FollowsLinks query sight n later (Some last) rest → rest ≡ listing_behind query sight s (Some last)) → given ≡ listing_behind query sight s after
     by_link None is gives next = gives ∙ unlinked (listing_behind query sight s after) query.page some is
     by_link (Some last) is gives next =
         gives.1
@@ -94,16 +94,16 @@ whole_from query sight n s (held ∷ later) after given some grown follows =
         ∙ take-append-drop query.page (listing_behind query sight s after))
 
 ends_from : (query : Query) (sight : Sight) (n : ℕ) (s : List StoredStatement) (helds : List (List StoredStatement)) (after : Option ℕ) → 0 < query.page → AreGrown n s helds
-    → length (listing_behind query sight s after) < length helds → Follows query sight n helds after (listing_behind query sight s after)
+    → length (listing_behind query sight s after) < length helds → FollowsLinks query sight n helds after (listing_behind query sight s after)
 ends_from query sight n s [] after some grown fewer = absurd (omega (arith, fewer))
 ends_from query sight n s (held ∷ later) after some grown fewer =
     subst (λ t. FollowsOf query sight n t later after (listing_behind query sight s after)) (sym grown.0)
     (by_link (page_behind query sight s after).link refl (λ last less. ends_from query sight n s later (Some last) some grown.1 less))
   where
     by_link : (o : Option ℕ) → (page_behind query sight s after).link ≡ o
-        → ((last : ℕ) → length (listing_behind query sight s (Some last)) < length later → Follows query sight n later (Some last) (listing_behind query sight s (Some last)))
+        → ((last : ℕ) → length (listing_behind query sight s (Some last)) < length later → FollowsLinks query sight n later (Some last) (listing_behind query sight s (Some last)))
         → MatchOption o (listing_behind query sight s after ≡ take query.page (listing_behind query sight s after))
-        (λ last. (rest : List ℕ) × (listing_behind query sight s after ≡ take query.page (listing_behind query sight s after) ++ rest) × Follows query sight n later (Some last) rest)
+        (λ last. (rest : List ℕ) × (listing_behind query sight s after ≡ take query.page (listing_behind query sight s after) ++ rest) × FollowsLinks query sight n later (Some last) rest)
     by_link None is next = sym (unlinked (listing_behind query sight s after) query.page some is)
     by_link (Some last) is next =
         let shown = links query sight s after last some is in
@@ -163,7 +163,7 @@ pages_give_the_list h grown query sight given some follows =
 pub pages_end : PagesEnd
 pages_end h grown query sight some fewer =
     let whole = from_none query.ascending (listing query sight (state h).statements) in
-    subst (λ ks. Follows query sight (length (state h).statements) (map (λ more. (state (h ++ more)).statements) grown) None ks) whole
+    subst (λ ks. FollowsLinks query sight (length (state h).statements) (map (λ more. (state (h ++ more)).statements) grown) None ks) whole
     (ends_from query sight (length (state h).statements) (state h).statements (map (λ more. (state (h ++ more)).statements) grown) None some (all_grown h grown)
     (omega (arith, fewer, ap (λ ks. length ks) whole, many grown)))
   where

@@ -24,7 +24,7 @@ use Rattle.lrs_laws.proofs.Again.{first_none, no_reason}
 use Rattle.lrs_laws.proofs.GivenTokens.{token_given}
 use Rattle.lrs_laws.proofs.Launched.{acting, session_launched}
 use Rattle.lrs_laws.specs.Laws.{IsAccepted, who_in}
-use Rattle.lrs_laws.specs.Sessions.{ActsIn, OtherTokensAreUnknown, SessionTokensWereGiven, SessionsAreBarredFromTheDesk, SessionsAreLaunched, SessionsKeepLaunchData, SessionsKeepToTheirDocuments, SessionsSeeTheirRegistration}
+use Rattle.lrs_laws.specs.Sessions.{ActsInSession, OtherTokensAreUnknown, SessionTokensWereGiven, SessionsAreBarredFromTheDesk, SessionsAreLaunched, SessionsKeepLaunchData, SessionsKeepToTheirDocuments, SessionsSeeTheirRegistration}
 use Rattle.lrs_names.specs.declared.draw.Draw.{Draw}
 use Rattle.lrs_state.specs.Launches.{launch_of_token}
 use Rattle.lrs_state.specs.Providers.{place_of_token}
@@ -102,7 +102,7 @@ other_state (Some state) is = (state, refl, by_same (bytes_eq state launch_data_
     by_same false at = refl
 
 -- the launch of the session
-its_launch : (h : List Entry) (caller : Caller) (launch : Launch) → ActsIn h caller launch → launch_of (state h) (who_in h caller) ≡ Some launch
+its_launch : (h : List Entry) (caller : Caller) (launch : Launch) → ActsInSession h caller launch → launch_of (state h) (who_in h caller) ≡ Some launch
 its_launch h caller launch acts = ap (launch_of (state h)) acts.known ∙ acts.launched
 
 -- the role of a write that isn't refused is right

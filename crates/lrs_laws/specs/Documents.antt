@@ -44,7 +44,7 @@ abbrev pub document_in : List Entry → StateKey → Option Document
 document_in h key = document_under key (state h).documents
 
 -- the entry is the one that a write makes after a history
-pub record Makes (limit : ℕ) (h : List Entry) (w : AWrite) (e : Entry) : Type 0 where
+pub record MakesEntry (limit : ℕ) (h : List Entry) (w : AWrite) (e : Entry) : Type 0 where
   pub caller : Caller
   pub clock : ℕ
   pub draw : Draw
@@ -95,7 +95,7 @@ DocumentsAreFolds =
 abbrev pub PostedDocumentsAreMerged : Type 0
 PostedDocumentsAreMerged =
     (limit : ℕ) (h : List Entry) (e : Entry) (key : StateKey) (media bytes : List ℕ) (held : Document)
-    → Makes limit h (write.State how.Post key media bytes) e → document_in h key ≡ Some held
+    → MakesEntry limit h (write.State how.Post key media bytes) e → document_in h key ≡ Some held
     → (merged : List ℕ) × (merge held.bytes bytes ≡ Some merged) × (is_json held.media && is_json media ≡ true)
     × (document_in (h ++ e ∷ []) key ≡ Some (document_of media merged e.moment))
 

@@ -222,19 +222,20 @@ BatchesAreWhole =
 
 -- What is given from a position on by following the links until there is none: the positions of each page in turn. For
 -- each page there are the statements that are held when it is asked for.
-abbrev pub Follows : Query → Sight → ℕ → List (List StoredStatement) → Option ℕ → List ℕ → Type 0
-Follows query sight n [] after given = ⊥
-Follows query sight n (held ∷ later) after given =
+abbrev pub FollowsLinks : Query → Sight → ℕ → List (List StoredStatement) → Option ℕ → List ℕ → Type 0
+FollowsLinks query sight n [] after given = ⊥
+FollowsLinks query sight n (held ∷ later) after given =
     let page = page_behind query sight (take n held) after in
     MatchOption page.link (given ≡ page.positions)
-    (λ last. (rest : List ℕ) × (given ≡ page.positions ++ rest) × Follows query sight n later (Some last) rest)
+    (λ last. (rest : List ℕ) × (given ≡ page.positions ++ rest) × FollowsLinks query sight n later (Some last) rest)
 
 -- The links from a first page on give the whole list as of that page, whatever is accepted between the pages: `grown`
 -- has for each page the entries that were accepted since the history h.
 abbrev pub PagesGiveTheList : Type 0
 PagesGiveTheList =
     (h : List Entry) (grown : List (List Entry)) (query : Query) (sight : Sight) (given : List ℕ) → 0 < query.page
-    → Follows query sight (length (state h).statements) (map (λ more. (state (h ++ more)).statements) grown) None given
+    → FollowsLinks query sight (length (state h).statements) (map (λ more. (state (h ++ more)).statements) grown) None
+    given
     → given ≡ listing query sight (state h).statements
 
 -- and each position once
@@ -262,7 +263,7 @@ abbrev pub PagesEnd : Type 0
 PagesEnd =
     (h : List Entry) (grown : List (List Entry)) (query : Query) (sight : Sight) → 0 < query.page
     → length (listing query sight (state h).statements) < length grown
-    → Follows query sight (length (state h).statements) (map (λ more. (state (h ++ more)).statements) grown) None
+    → FollowsLinks query sight (length (state h).statements) (map (λ more. (state (h ++ more)).statements) grown) None
     (listing query sight (state h).statements)
 
 -- ---- what callers are told of them

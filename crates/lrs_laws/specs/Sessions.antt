@@ -41,7 +41,7 @@ use Rattle.xapi_statement.specs.Statements.{held_under}
 use Rattle.xapi_statement.specs.Stored.{StoredStatement}
 
 -- the caller acts in the session of that launch
-pub record ActsIn (h : List Entry) (caller : Caller) (launch : Launch) : Type 0 where
+pub record ActsInSession (h : List Entry) (caller : Caller) (launch : Launch) : Type 0 where
   pub place : ℕ
   pub known : who_in h caller ≡ who.Session place
   pub launched : slice_get (state h).launches place ≡ Some launch
@@ -83,12 +83,12 @@ KeysAreTheirLaunches =
 abbrev pub SessionsAreLaunched : Type 0
 SessionsAreLaunched =
     (h : List Entry) (caller : Caller) (k : ℕ) → who_in h caller ≡ who.Session k → (launch : Launch)
-    × ActsIn h caller launch
+    × ActsInSession h caller launch
 
 -- Whoever acts in a session presents a token that a fetch gave away.
 abbrev pub SessionTokensWereGiven : Type 0
 SessionTokensWereGiven =
-    (h : List Entry) (token : List ℕ) (launch : Launch) → ActsIn h (Token token) launch → WasGiven h token
+    (h : List Entry) (token : List ℕ) (launch : Launch) → ActsInSession h (Token token) launch → WasGiven h token
 
 -- A token that a fetch gave away acts in the session of the launch that made the fetch's key, for good. A store counts
 -- its entries in 64 bits.
@@ -97,7 +97,7 @@ GivenTokensAct =
     (limit : ℕ) (before behind : List Entry) (e : Entry) (key : List ℕ) → IsLegal limit (before ++ e ∷ behind)
     → length (before ++ e ∷ behind) < 2 ^ 64 → e.write ≡ Fetch key
     → (launch : Launch) × IsKeyOf before key launch
-    × ActsIn (before ++ e ∷ behind) (Token (token_text (length before) e.draw.secret)) launch
+    × ActsInSession (before ++ e ∷ behind) (Token (token_text (length before) e.draw.secret)) launch
 
 -- A token that is neither the admin's nor a provider's, and that no fetch gave away, is nobody's.
 abbrev pub OtherTokensAreUnknown : Type 0
@@ -134,14 +134,14 @@ LaunchesLeaveStatements =
 -- It sees the statements whose context names its launch's registration, and no others.
 abbrev pub SessionsSeeTheirRegistration : Type 0
 SessionsSeeTheirRegistration =
-    (h : List Entry) (caller : Caller) (launch : Launch) → ActsIn h caller launch
+    (h : List Entry) (caller : Caller) (launch : Launch) → ActsInSession h caller launch
     → (s : StoredStatement) → sees (sight_in h caller) s ≡ is_registered launch.registration s
 
 -- It is let in at no command of the desk.
 abbrev pub SessionsAreBarredFromTheDesk : Type 0
 SessionsAreBarredFromTheDesk =
     (limit : ℕ) (h : List Entry) (caller : Caller) (launch : Launch) (c : Command) (clock : ℕ) (draw : Draw)
-    → ActsIn h caller launch → command_area c ≡ Desk
+    → ActsInSession h caller launch → command_area c ≡ Desk
     → answer limit h caller c clock draw ≡ only (refused (Forbidden (rule.A 2)))
 
 -- whose documents a command reads, writes or drops
@@ -158,7 +158,7 @@ abbrev pub SessionsKeepToTheirDocuments : Type 0
 SessionsKeepToTheirDocuments =
     (limit : ℕ) (h : List Entry) (caller : Caller) (launch : Launch) (c : Command) (clock : ℕ) (draw : Draw)
     (agent : Ifi) (registration : Option (List ℕ))
-    → ActsIn h caller launch → documents_asked c ≡ Some (agent, registration)
+    → ActsInSession h caller launch → documents_asked c ≡ Some (agent, registration)
     → IsAccepted (answer limit h caller c clock draw) → is_its_own launch agent registration ≡ true
 
 -- the state of the document that a command writes or drops: none where it drops all of them
@@ -171,6 +171,6 @@ state_changed other = None
 abbrev pub SessionsKeepLaunchData : Type 0
 SessionsKeepLaunchData =
     (limit : ℕ) (h : List Entry) (caller : Caller) (launch : Launch) (c : Command) (clock : ℕ) (draw : Draw)
-    (chosen : Option (List ℕ)) → ActsIn h caller launch → state_changed c ≡ Some chosen
+    (chosen : Option (List ℕ)) → ActsInSession h caller launch → state_changed c ≡ Some chosen
     → IsAccepted (answer limit h caller c clock draw)
     → (state : List ℕ) × (chosen ≡ Some state) × (bytes_eq state launch_data_state ≡ false)

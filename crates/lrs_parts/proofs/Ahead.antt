@@ -4,7 +4,7 @@ use Rattle.std.specs.Ordering.{nat_cmp}
 use Rattle.cmi5_course.specs.Courses.{course_key}
 use Rattle.cmi5_course.specs.Launches.{session_of}
 use Rattle.lrs_state.specs.Counted.{AddsNone, MakesPlaceFor, TakesPlaceBackFor}
-use Rattle.lrs_state.specs.Launches.{key_text, token_text}
+use Rattle.lrs_state.specs.Launches.{text_of_key, text_of_token}
 use Rattle.lrs_state.specs.Learning.{AddsNoLearningPlaces, MakesLearningPlaces, TakesLearningPlacesBack}
 use Rattle.lrs_parts.specs.Parts.{AddsNoPlaces, SeenParts}
 use Rattle.lrs_state.specs.Registrations.{registration_key}
@@ -30,8 +30,8 @@ learning_back before mid new x made taken = record {
   registrations = back registration_key x.registrations before.registrations mid.registrations new.registrations made.registrations taken.registrations;
   launches = back session_of x.launches before.launches mid.launches new.launches made.launches taken.launches;
   made_sessions = back made_session_id x.made_sessions before.made_sessions mid.made_sessions new.made_sessions made.made_sessions taken.made_sessions;
-  keys = back key_text x.keys before.keys mid.keys new.keys made.keys taken.keys;
-  tokens = back token_text x.tokens before.tokens mid.tokens new.tokens made.tokens taken.tokens;
+  keys = back text_of_key x.keys before.keys mid.keys new.keys made.keys taken.keys;
+  tokens = back text_of_token x.tokens before.tokens mid.tokens new.tokens made.tokens taken.tokens;
 }
 
 pub none_more : (parts : SeenParts) → AddsNoPlaces parts parts

@@ -8,7 +8,7 @@ use Rattle.std.proofs.lemmas.Bool.Decides.{nat_tests}
 use Rattle.std.proofs.lemmas.Option.{cond_some, none-some, same_Some, slice_get_within}
 use Rattle.cmi5_course.specs.Courses.{Course, course_key}
 use Rattle.cmi5_course.specs.declared.course.Node.{Node}
-use Rattle.cmi5_running_verdicts.specs.Running.{SeenRunning, Stands}
+use Rattle.cmi5_running_verdicts.specs.Running.{SeenRunning, TalliesStandFor}
 use Rattle.cmi5_running_verdicts.specs.Tallies.{AreTallies}
 use Rattle.cmi5_running_verdicts.specs.declared.tally.Tally.{Tally}
 use Rattle.cmi5_running_sessions.specs.Cmi5SessionMarked.{MarkedStatement}
@@ -107,24 +107,24 @@ other_counted old new founding courses registrations before after s elsewhere id
 
 -- the one that it names
 named_counted : (old new : SeenRunning) (founding : Option Founding) (courses : List Course) (registrations : List HeldRegistration) (before after : List MarkedStatement) (number : ℕ) (e : SeenEnrolment)
-    → enrolment_at founding courses registrations number ≡ Some e → (Stands old before number e → Stands new after number e)
+    → enrolment_at founding courses registrations number ≡ Some e → (TalliesStandFor old before number e → TalliesStandFor new after number e)
     → (k : ℕ) (r : HeldRegistration) → k ≡ number → slice_get registrations k ≡ Some r → HasTallies old founding courses before k r → HasTallies new founding courses after k r
 named_counted old new founding courses registrations before after number e at stands k r same there counted =
     let here : enrolment_in founding courses r ≡ Some e =
     sym (ap (λ (o : Option HeldRegistration). option_and_then (enrolment_in founding courses) o) there)
     ∙ (ap (λ (n : ℕ). enrolment_at founding courses registrations n) same ∙ at) in
     let its : counted.enrolment ≡ e = same_Some counted.enrolment e (sym counted.enrolled ∙ here) in
-    let old_stands : Stands old before number e =
-    subst (λ (n : ℕ). Stands old before n e) same (subst (λ (x : SeenEnrolment). Stands old before k x) its counted.stands) in
+    let old_stands : TalliesStandFor old before number e =
+    subst (λ (n : ℕ). TalliesStandFor old before n e) same (subst (λ (x : SeenEnrolment). TalliesStandFor old before k x) its counted.stands) in
     record {
       enrolment = e;
       enrolled = here;
-      stands = subst (λ (n : ℕ). Stands new after n e) (sym same) (stands old_stands);
+      stands = subst (λ (n : ℕ). TalliesStandFor new after n e) (sym same) (stands old_stands);
     }
 
 pub counted_on : (old new : SeenRunning) (founding : Option Founding) (courses : List Course) (registrations : List HeldRegistration) (before after : List MarkedStatement) (s : StoredStatement)
     → Elsewhere before after s → (number : ℕ) (e : SeenEnrolment) → number_named s registrations ≡ Some number → enrolment_at founding courses registrations number ≡ Some e
-    → (Stands old before number e → Stands new after number e) → ((k : ℕ) → (k == number) ≡ false → slice_get new.held k ≡ slice_get old.held k) → length new.held ≡ length old.held
+    → (TalliesStandFor old before number e → TalliesStandFor new after number e) → ((k : ℕ) → (k == number) ≡ false → slice_get new.held k ≡ slice_get old.held k) → length new.held ≡ length old.held
     → AreCounted old founding courses registrations before → AreCounted new founding courses registrations after
 counted_on old new founding courses registrations before after s elsewhere number e named at stands others long counted = record {
   long = long ∙ counted.long;
@@ -170,7 +170,7 @@ get_behind [] y ys = refl
 get_behind (x ∷ xs) y ys = get_behind xs y ys
 
 pub counted_more : (old new : SeenRunning) (founding : Option Founding) (courses : List Course) (registrations : List HeldRegistration) (those : List MarkedStatement) (r : HeldRegistration) (e : SeenEnrolment)
-    → enrolment_in founding courses r ≡ Some e → Stands new those (length old.held) e → ((k : ℕ) → k < length old.held → slice_get new.held k ≡ slice_get old.held k)
+    → enrolment_in founding courses r ≡ Some e → TalliesStandFor new those (length old.held) e → ((k : ℕ) → k < length old.held → slice_get new.held k ≡ slice_get old.held k)
     → length new.held ≡ length old.held + 1 → AreCounted old founding courses registrations those → AreCounted new founding courses (registrations ++ r ∷ []) those
 counted_more old new founding courses registrations those r e enrolled stands others long counted = record {
   long = omega (arith, long, counted.long, length-append registrations (r ∷ []));
@@ -200,7 +200,7 @@ counted_more old new founding courses registrations those r e enrolled stands ot
         record {
           enrolment = e;
           enrolled = subst (λ (y : HeldRegistration). enrolment_in founding courses y ≡ Some e) same enrolled;
-          stands = subst (λ (n : ℕ). Stands new those n e) (counted.long ∙ both.1) stands;
+          stands = subst (λ (n : ℕ). TalliesStandFor new those n e) (counted.long ∙ both.1) stands;
         }
 
 -- ---- the parts beside change
@@ -255,24 +255,24 @@ registered registrations change stay = ap (λ (o : Option HeldRegistration). wit
 
 -- its tallies stand for these statements
 pub held_stands : (running : SeenRunning) (founding : Option Founding) (courses : List Course) (registrations : List HeldRegistration) (those : List MarkedStatement) (r : HeldRegistration) (number : ℕ) (e : SeenEnrolment)
-    → number_held r registrations ≡ Some number → enrolment_in founding courses r ≡ Some e → AreCounted running founding courses registrations those → Stands running those number e
+    → number_held r registrations ≡ Some number → enrolment_in founding courses r ≡ Some e → AreCounted running founding courses registrations those → TalliesStandFor running those number e
 held_stands running founding courses registrations those r number e is enrolled counted = by_place (place_under registration_key r.id registrations) refl is
   where
     by_course : (k : ℕ) (h : HeldRegistration) (b : Bool) → place_under registration_key r.id registrations ≡ Some k → slice_get registrations k ≡ Some h → (h.course == r.course) ≡ b
-        → (if b then Some k else None) ≡ Some number → Stands running those number e
+        → (if b then Some k else None) ≡ Some number → TalliesStandFor running those number e
     by_course k h false place there course is = absurd (none-some number is)
     by_course k h true place there course is =
         let same_course : h.course ≡ r.course = grind (arith, nat_tests) in
         let same_id : h.id ≡ r.id = same_bytes h.id r.id (passes_there (λ (x : HeldRegistration). bytes_eq (registration_key x) r.id) registrations k h place there) in
         let its : HasTallies running founding courses those k h = counted.each r.id k h place there in
         let same : its.enrolment ≡ e = same_Some its.enrolment e (sym its.enrolled ∙ (same_enrolment founding courses h r same_id same_course ∙ enrolled)) in
-        subst (λ (n : ℕ). Stands running those n e) (same_Some k number is) (subst (λ (x : SeenEnrolment). Stands running those k x) same its.stands)
+        subst (λ (n : ℕ). TalliesStandFor running those n e) (same_Some k number is) (subst (λ (x : SeenEnrolment). TalliesStandFor running those k x) same its.stands)
 
     by_held : (k : ℕ) (o : Option HeldRegistration) → place_under registration_key r.id registrations ≡ Some k → slice_get registrations k ≡ o
-        → option_and_then (λ (held : HeldRegistration). if held.course == r.course then Some k else None) o ≡ Some number → Stands running those number e
+        → option_and_then (λ (held : HeldRegistration). if held.course == r.course then Some k else None) o ≡ Some number → TalliesStandFor running those number e
     by_held k None place there is = absurd (none-some number is)
     by_held k (Some h) place there is = by_course k h (h.course == r.course) place there refl is
 
-    by_place : (o : Option ℕ) → place_under registration_key r.id registrations ≡ o → option_and_then (number_in r registrations) o ≡ Some number → Stands running those number e
+    by_place : (o : Option ℕ) → place_under registration_key r.id registrations ≡ o → option_and_then (number_in r registrations) o ≡ Some number → TalliesStandFor running those number e
     by_place None place is = absurd (none-some number is)
     by_place (Some k) place is = by_held k (slice_get registrations k) place refl is

@@ -7,7 +7,7 @@ use Rattle.std.specs.Option.{option_map_or}
 use Rattle.std.specs.Str.{bytes_eq}
 use Rattle.std.proofs.lemmas.Option.{none-some}
 use Rattle.cmi5_course.specs.Courses.{Course}
-use Rattle.cmi5_running_sessions.specs.Kept.{SeenSessions, StandsFor, is_same, nothing_reached, nothing_said, own_of, own_said, reached_in, reached_of, unit_of, units_of}
+use Rattle.cmi5_running_sessions.specs.Kept.{SeenSessions, SaidStandsFor, is_same, nothing_reached, nothing_said, own_of, own_said, reached_in, reached_of, unit_of, units_of}
 use Rattle.cmi5_running_sessions.specs.Room.{AddsNoPlaces, HasOwnPlace, HasPlacesFor, HasUnitPlace, KeepsPlaces, KeepsSame, MakesPlaces, TakesPlacesBack, needs_own, needs_unit}
 use Rattle.cmi5_running_sessions.specs.declared.own.OwnSaid.{OwnSaid}
 use Rattle.cmi5_running_sessions.specs.declared.units.Reached.{Reached}
@@ -18,7 +18,7 @@ use Rattle.cmi5_running_sessions.specs.Cmi5SessionMarked.{MarkedStatement, marke
 use Rattle.lrs_ids.specs.Ids.{are_distinct}
 use Rattle.lrs_state.specs.Courses.{courses_after}
 use Rattle.lrs_state.specs.Founding.{founding_after}
-use Rattle.lrs_parts.specs.Progress.{AreCounted, Follows, HasTallies, IsKept}
+use Rattle.lrs_parts.specs.Progress.{AreCounted, KeepsUp, HasTallies, IsUpToDate}
 use Rattle.lrs_state.specs.Registrations.{registrations_after}
 use Rattle.lrs_state.specs.State.{State}
 use Rattle.lrs_state.specs.declared.founding.Founding.{Founding}
@@ -93,7 +93,7 @@ said_back statements before mid new made taken = record {
 
 -- ---- what is kept
 
-stands_same : (old new : SeenSessions) (those : List MarkedStatement) → KeepsSame old new → StandsFor old those → StandsFor new those
+stands_same : (old new : SeenSessions) (those : List MarkedStatement) → KeepsSame old new → SaidStandsFor old those → SaidStandsFor new those
 stands_same old new those same stands = record {
   own = λ id. same.own id ∙ stands.own id;
   reached = λ registration activity. same.reached registration activity ∙ stands.reached registration activity;
@@ -114,22 +114,22 @@ counted_same old new founding courses registrations those same counted = record 
 
 -- what stands ahead is let go
 pub settled : (old new : Progress) (founding : Option Founding) (courses : List Course) (registrations : List HeldRegistration) (those : List MarkedStatement)
-    → new.sessions ≡ old.sessions → new.running.held ≡ old.running.held → Follows old founding courses registrations those → Follows new founding courses registrations those
+    → new.sessions ≡ old.sessions → new.running.held ≡ old.running.held → KeepsUp old founding courses registrations those → KeepsUp new founding courses registrations those
 settled old new founding courses registrations those sessions held follows = record {
-  sessions = subst (λ (s : SeenSessions). StandsFor s those) (sym sessions) follows.sessions;
+  sessions = subst (λ (s : SeenSessions). SaidStandsFor s those) (sym sessions) follows.sessions;
   counted = counted_same old.running new.running founding courses registrations those held follows.counted;
 }
 
 -- places alone change
 pub kept_still : (old new : Progress) (founding : Option Founding) (courses courses_now : List Course) (registrations registrations_now : List HeldRegistration)
     (statements statements_now : List StoredStatement) → KeepsSame old.sessions new.sessions → new.running.held ≡ old.running.held → courses_now ≡ courses
-    → registrations_now ≡ registrations → statements_now ≡ statements → IsKept old founding courses registrations statements → IsKept new founding courses_now registrations_now statements_now
+    → registrations_now ≡ registrations → statements_now ≡ statements → IsUpToDate old founding courses registrations statements → IsUpToDate new founding courses_now registrations_now statements_now
 kept_still old new founding courses courses_now registrations registrations_now statements statements_now sessions running same_courses same_registrations same_statements kept =
-    subst (λ (cs : List Course). IsKept new founding cs registrations_now statements_now) (sym same_courses)
-    (subst (λ (rs : List HeldRegistration). IsKept new founding courses rs statements_now) (sym same_registrations)
-    (subst (λ (ss : List StoredStatement). IsKept new founding courses registrations ss) (sym same_statements) here))
+    subst (λ (cs : List Course). IsUpToDate new founding cs registrations_now statements_now) (sym same_courses)
+    (subst (λ (rs : List HeldRegistration). IsUpToDate new founding courses rs statements_now) (sym same_registrations)
+    (subst (λ (ss : List StoredStatement). IsUpToDate new founding courses registrations ss) (sym same_statements) here))
   where
-    here : IsKept new founding courses registrations statements
+    here : IsUpToDate new founding courses registrations statements
     here = record {
       distinct = kept.distinct;
       follows = record {
@@ -143,7 +143,7 @@ pub kept_enrolled : (p : Progress) (running : SeenRunning) (founding later new :
     (registrations registrations_now : List HeldRegistration) (change : Change HeldRegistration) (statements : List StoredStatement) → later ≡ founding_after founding new
     → more ≡ courses_after courses coming → coming.replaced ≡ None → registrations_now ≡ registrations_after registrations change → change.replaced ≡ None
     → ((rs : List HeldRegistration) → AreCounted p.running later more rs (marked statements) → AreCounted running later more (with_new rs change.new) (marked statements))
-    → IsKept p founding courses registrations statements → IsKept (record { sessions = p.sessions; running = running; targets = p.targets }) later more registrations_now statements
+    → IsUpToDate p founding courses registrations statements → IsUpToDate (record { sessions = p.sessions; running = running; targets = p.targets }) later more registrations_now statements
 kept_enrolled p running founding later new courses more coming registrations registrations_now change statements founded came stay made made_stay step kept = record {
   distinct = kept.distinct;
   follows = record {
@@ -156,7 +156,7 @@ kept_enrolled p running founding later new courses more coming registrations reg
 
 -- of a store without entries
 pub kept_of_nothing : (p : Progress) (courses : List Course) (registrations : List HeldRegistration) (statements : List StoredStatement) → p.sessions.own ≡ [] → p.sessions.reached ≡ []
-    → p.running.held ≡ [] → registrations ≡ [] → statements ≡ [] → IsKept p None courses registrations statements
+    → p.running.held ≡ [] → registrations ≡ [] → statements ≡ [] → IsUpToDate p None courses registrations statements
 kept_of_nothing p courses registrations statements own reached held no_registrations no_statements = record {
   distinct = ap (λ (ss : List StoredStatement). are_distinct (ids_of ss)) no_statements;
   follows = record {

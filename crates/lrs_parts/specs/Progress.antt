@@ -5,9 +5,9 @@ use Rattle.std.specs.Prelude.{IsTrue, option_and_then, option_map, slice_get, if
 use Rattle.std.specs.Option.{option_map_or}
 use Rattle.std.specs.Str.{bytes_eq}
 use Rattle.cmi5_course.specs.Courses.{Course}
-use Rattle.cmi5_running_sessions.specs.Kept.{SeenSessions, StandsFor}
+use Rattle.cmi5_running_sessions.specs.Kept.{SeenSessions, SaidStandsFor}
 use Rattle.cmi5_running_sessions.specs.Room.{HasPlacesForEach}
-use Rattle.cmi5_running_verdicts.specs.Running.{HasCounted, SeenRunning, Stands}
+use Rattle.cmi5_running_verdicts.specs.Running.{HasCounted, SeenRunning, TalliesStandFor}
 use Rattle.cmi5_running_sessions.specs.Cmi5SessionMarked.{MarkedStatement, marked}
 use Rattle.cmi5_running_verdicts.specs.Cmi5VerdictNodes.{SeenEnrolment}
 use Rattle.lrs_ids.specs.Ids.{are_distinct}
@@ -66,7 +66,7 @@ pub record HasTallies (running : SeenRunning) (founding : Option Founding) (cour
     (those : List MarkedStatement) (number : ℕ) (r : HeldRegistration) : Type 0 where
   pub enrolment : SeenEnrolment
   pub enrolled : enrolment_in founding courses r ≡ Some enrolment
-  pub stands : Stands running those number enrolment
+  pub stands : TalliesStandFor running those number enrolment
 
 -- Each registration has tallies. Those of the first of its id stand for these statements, and it has its course.
 pub record AreCounted (running : SeenRunning) (founding : Option Founding) (courses : List Course)
@@ -77,16 +77,16 @@ pub record AreCounted (running : SeenRunning) (founding : Option Founding) (cour
       → HasTallies running founding courses those number r
 
 -- What is kept of sessions stands for these statements, and so does what is kept of registrations.
-pub record Follows (p : Progress) (founding : Option Founding) (courses : List Course)
+pub record KeepsUp (p : Progress) (founding : Option Founding) (courses : List Course)
     (registrations : List HeldRegistration) (those : List MarkedStatement) : Type 0 where
-  pub sessions : StandsFor p.sessions those
+  pub sessions : SaidStandsFor p.sessions those
   pub counted : AreCounted p.running founding courses registrations those
 
 -- The statements have ids of their own, and what is kept follows them.
-pub record IsKept (p : Progress) (founding : Option Founding) (courses : List Course)
+pub record IsUpToDate (p : Progress) (founding : Option Founding) (courses : List Course)
     (registrations : List HeldRegistration) (statements : List StoredStatement) : Type 0 where
   pub distinct : IsTrue (are_distinct (ids_of statements))
-  pub follows : Follows p founding courses registrations (marked statements)
+  pub follows : KeepsUp p founding courses registrations (marked statements)
 
 -- ---- what a statement that comes changes
 

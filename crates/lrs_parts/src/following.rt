@@ -10,7 +10,7 @@ ghost use Rattle.cmi5_running_verdicts.specs.Running.{HasCounted};
 ghost use Rattle.cmi5_running_sessions.specs.Cmi5SessionMarked.{MarkedStatement, mark, marked};
 ghost use Rattle.cmi5_running_verdicts.specs.Cmi5VerdictNodes.{SeenEnrolment, seen};
 ghost use Rattle.lrs_ids.specs.Ids.{are_distinct};
-ghost use Rattle.lrs_parts.specs.Progress.{AreCounted, Follows, IsKept, IsReadyToEnrol};
+ghost use Rattle.lrs_parts.specs.Progress.{AreCounted, KeepsUp, IsUpToDate, IsReadyToEnrol};
 ghost use Rattle.lrs_parts.specs.Progress.{enrolment_at, enrolment_in, enrolment_with, is_at, is_voided_anew};
 ghost use Rattle.lrs_parts.specs.Progress.{number_named, place_behind, voided_anew};
 ghost use Rattle.lrs_parts.specs.Trees.{AreTargets, voided_in};
@@ -135,10 +135,10 @@ pub(crate) fn take_in_each(
     requires ready { IsIndexReadyFor statements.old coming.now }
     requires places { HasPlacesForEach progress.old.sessions coming.now }
     requires targets { AreTargets progress.old.targets statements.old.held coming.now }
-    requires kept { IsKept progress.old founding.now learning.now.courses.held learning.now.registrations.held
+    requires kept { IsUpToDate progress.old founding.now learning.now.courses.held learning.now.registrations.held
         statements.old.held }
     ensures held { statements.new.held ≡ add_each statements.old.held coming.now }
-    ensures kept { IsKept progress.new founding.now learning.now.courses.held learning.now.registrations.held
+    ensures kept { IsUpToDate progress.new founding.now learning.now.courses.held learning.now.registrations.held
         statements.new.held }
     ensures nothing { HoldsNothingAhead statements.new }
     ensures no_tallies { progress.new.running.coming ≡ None }
@@ -176,9 +176,9 @@ fn follow_each(
     requires added { statements.now.held ≡ add_each (take first statements.now.held) coming.now }
     requires places { HasPlacesForEach progress.old.sessions coming.now }
     requires targets { AreTargets trees.now (take first statements.now.held) coming.now }
-    ensures { Follows progress.old founding.now learning.now.courses.held learning.now.registrations.held
+    ensures { KeepsUp progress.old founding.now learning.now.courses.held learning.now.registrations.held
         (marked (take first statements.now.held))
-        → Follows progress.new founding.now learning.now.courses.held learning.now.registrations.held
+        → KeepsUp progress.new founding.now learning.now.courses.held learning.now.registrations.held
         (marked statements.now.held) }
 {
     let mut position = first;
@@ -206,9 +206,9 @@ fn follow_next(
     requires places { HasPlacesFor progress.old.sessions statement.now }
     requires voided { option_copied voided ≡ voided_in statements.now.held statement.now }
     ensures next { result ≡ place_behind statement.now statements.now.held at }
-    ensures follows { Follows progress.old founding.now learning.now.courses.held learning.now.registrations.held
+    ensures follows { KeepsUp progress.old founding.now learning.now.courses.held learning.now.registrations.held
         (marked (take at statements.now.held))
-        → Follows progress.new founding.now learning.now.courses.held learning.now.registrations.held
+        → KeepsUp progress.new founding.now learning.now.courses.held learning.now.registrations.held
         (marked (take result statements.now.held)) }
     ensures places { KeepsPlaces progress.old.sessions progress.new.sessions }
 {
@@ -238,9 +238,9 @@ fn follow_at(
     requires places { HasPlacesFor progress.old.sessions statement.now }
     requires voided { option_copied voided ≡ voided_in statements.now.held statement.now }
     ensures next { result ≡ place_behind statement.now statements.now.held at }
-    ensures follows { Follows progress.old founding.now learning.now.courses.held learning.now.registrations.held
+    ensures follows { KeepsUp progress.old founding.now learning.now.courses.held learning.now.registrations.held
         (marked (take at statements.now.held))
-        → Follows progress.new founding.now learning.now.courses.held learning.now.registrations.held
+        → KeepsUp progress.new founding.now learning.now.courses.held learning.now.registrations.held
         (marked (take result statements.now.held)) }
     ensures places { KeepsPlaces progress.old.sessions progress.new.sessions }
 {
@@ -279,9 +279,9 @@ fn follow(
     requires there { slice_get statements.now.held at ≡ Some statement.now }
     requires places { HasPlacesFor progress.old.sessions statement.now }
     requires voided { option_copied voided ≡ voided_in statements.now.held statement.now }
-    ensures follows { Follows progress.old founding.now learning.now.courses.held learning.now.registrations.held
+    ensures follows { KeepsUp progress.old founding.now learning.now.courses.held learning.now.registrations.held
         (marked (take at statements.now.held))
-        → Follows progress.new founding.now learning.now.courses.held learning.now.registrations.held
+        → KeepsUp progress.new founding.now learning.now.courses.held learning.now.registrations.held
         (marked (take (at + 1) statements.now.held)) }
     ensures places { KeepsPlaces progress.old.sessions progress.new.sessions }
 {
@@ -300,8 +300,8 @@ fn take_in(
 )
     requires { HasPlacesFor progress.old.sessions statement.now }
     ensures follows { (those : List MarkedStatement) → length those + 1 < 2 ^ 64
-        → Follows progress.old founding.now learning.now.courses.held learning.now.registrations.held those
-        → Follows progress.new founding.now learning.now.courses.held learning.now.registrations.held
+        → KeepsUp progress.old founding.now learning.now.courses.held learning.now.registrations.held those
+        → KeepsUp progress.new founding.now learning.now.courses.held learning.now.registrations.held
         (those ++ mark statement.now voided ∷ []) }
     ensures places { KeepsPlaces progress.old.sessions progress.new.sessions }
 {
@@ -363,10 +363,10 @@ fn void_by(
     requires voided { (s : SpecStatement) → slice_get statements.now.held at ≡ Some s
         → option_copied voided ≡ voided_in statements.now.held s }
     ensures follows { (s : SpecStatement) → slice_get statements.now.held at ≡ Some s
-        → Follows progress.old founding.now learning.now.courses.held learning.now.registrations.held
+        → KeepsUp progress.old founding.now learning.now.courses.held learning.now.registrations.held
         (marked (take at statements.now.held)
         ++ mark s (is_voided (take (at + 1) statements.now.held) s) ∷ [])
-        → Follows progress.new founding.now learning.now.courses.held learning.now.registrations.held
+        → KeepsUp progress.new founding.now learning.now.courses.held learning.now.registrations.held
         (marked (take (at + 1) statements.now.held)) }
     ensures places { KeepsPlaces progress.old.sessions progress.new.sessions }
 {
@@ -416,9 +416,9 @@ fn void_tree(
 )
     ensures follows { (s : SpecStatement) (before behind : List MarkedStatement)
         → option_copied voided.entry ≡ Some s
-        → Follows progress.old founding.now learning.now.courses.held learning.now.registrations.held
+        → KeepsUp progress.old founding.now learning.now.courses.held learning.now.registrations.held
         (before ++ mark s false ∷ behind)
-        → Follows progress.new founding.now learning.now.courses.held learning.now.registrations.held
+        → KeepsUp progress.new founding.now learning.now.courses.held learning.now.registrations.held
         (before ++ mark s true ∷ behind) }
     ensures places { KeepsPlaces progress.old.sessions progress.new.sessions }
 {
@@ -434,9 +434,9 @@ fn void(
     statement: &StoredStatement,
 )
     ensures follows { (before behind : List MarkedStatement)
-        → Follows progress.old founding.now learning.now.courses.held learning.now.registrations.held
+        → KeepsUp progress.old founding.now learning.now.courses.held learning.now.registrations.held
         (before ++ mark statement.now false ∷ behind)
-        → Follows progress.new founding.now learning.now.courses.held learning.now.registrations.held
+        → KeepsUp progress.new founding.now learning.now.courses.held learning.now.registrations.held
         (before ++ mark statement.now true ∷ behind) }
     ensures places { KeepsPlaces progress.old.sessions progress.new.sessions }
 {

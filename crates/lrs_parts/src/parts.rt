@@ -42,7 +42,7 @@ impl Model for Parts {
     ghost use Rattle.std.specs.Coded.{codes};
     ghost use Rattle.lrs_json.specs.contracts.tree.Tree as tree;
     ghost use Rattle.lrs_parts.specs.Parts.{SeenParts};
-    ghost use Rattle.lrs_parts.specs.Progress.{IsKept};
+    ghost use Rattle.lrs_parts.specs.Progress.{IsUpToDate};
 
     ghost Value = { SeenParts };
 
@@ -59,7 +59,7 @@ impl Model for Parts {
       last = p.last;
     } };
 
-    ghost invariant = { λ p. IsKept p.progress p.founding p.learning.courses.held p.learning.registrations.held
+    ghost invariant = { λ p. IsUpToDate p.progress p.founding p.learning.courses.held p.learning.registrations.held
         p.statements.held };
 }
 

@@ -1,7 +1,7 @@
 // What is told of sessions and of registrations. Of what is held it is told without going through the statements.
 ghost use Rattle.std.specs.Prelude.{◌≡◌, ◌==◌, ◌<◌, ◌++◌, IfOk, Some, length};
 ghost use Rattle.cmi5_running_sessions.specs.Cmi5LaunchNames.{terminated, waived};
-ghost use Rattle.cmi5_running_verdicts.specs.Running.{Stands};
+ghost use Rattle.cmi5_running_verdicts.specs.Running.{TalliesStandFor};
 ghost use Rattle.cmi5_running_sessions.specs.Cmi5SessionMarked.{marked};
 ghost use Rattle.cmi5_running_sessions.specs.Cmi5SessionMoments.{began_at, last_own};
 ghost use Rattle.cmi5_running_sessions.specs.Cmi5SessionOwn.{has_own};
@@ -130,7 +130,8 @@ impl Parts {
         enrolment: &Enrolment<'_>,
         new: &[StoredStatement],
     ) -> Result<Vec<u32>, Memory>
-        requires { Stands self.now.progress.running (marked self.now.statements.held) number (seen enrolment.now) }
+        requires { TalliesStandFor self.now.progress.running (marked self.now.statements.held) number
+            (seen enrolment.now) }
         ensures { IfOk result (λ places.
             places.items ≡ owed (seen enrolment.now) (self.now.statements.held ++ new.now)) }
     {

@@ -28,4 +28,4 @@ pub use Rattle.lrs_refusals.specs.declared.known.Known as LrsRefusalsKnownKnown
 pub use Rattle.lrs_refusals.specs.declared.known.Known.TheVariants as LrsRefusalsKnownKnownTheVariants
 pub use Rattle.lrs_refusals.specs.declared.submission.Form as LrsRefusalsSubmissionForm
 pub use Rattle.lrs_refusals.specs.declared.submission.Form.TheVariants as LrsRefusalsSubmissionFormTheVariants
-pub use Rattle.lrs_refusals.specs.declared.written.Written as LrsRefusalsWrittenWritten
+pub use Rattle.lrs_refusals.specs.declared.written.PreparedTexts as LrsRefusalsPreparedTexts

@@ -10,7 +10,7 @@ use Rattle.lrs_record.specs.declared.entry.Write.{Write}
 use Rattle.lrs_replies.specs.declared.answered.Refusal.{Refusal}
 use Rattle.lrs_refusals.specs.declared.submission.Form.{Form}
 use Rattle.lrs_refusals.specs.declared.submission.Form.TheVariants as form
-use Rattle.lrs_refusals.specs.declared.written.Written.{Written}
+use Rattle.lrs_refusals.specs.declared.written.PreparedTexts.{PreparedTexts}
 
 -- a write of that area, whose form is refused so
 abbrev pub IsMalformed : Area → Refusal → Command → Type 0
@@ -19,7 +19,7 @@ IsMalformed area refusal other = ⊥
 
 -- The form of the write is unbroken, and this is what is written of it: what closes the text of its entry, and the
 -- texts of its statements.
-pub record IsWrittenOf (write : Write) (written : Written) : Type 0 where
+pub record IsWrittenOf (write : Write) (written : PreparedTexts) : Type 0 where
   pub unbroken : bad_form write ≡ None
   pub closing : written.closing ≡ closing_text write
   pub holds : HoldsWrite write
@@ -32,6 +32,6 @@ IsFormOf c (form.Judged write written) = (command.Write write ≡ c) × IsWritte
 IsFormOf c (form.Refused area refusal) = IsMalformed area refusal c
 
 -- this was written of the write, if anything was
-abbrev pub IsWrittenIf : Write → Option Written → Type 0
+abbrev pub IsWrittenIf : Write → Option PreparedTexts → Type 0
 IsWrittenIf write None = Unit {0}
 IsWrittenIf write (Some written) = IsWrittenOf write written

@@ -1,7 +1,8 @@
 // Why a write is refused.
 ghost use Rattle.std.specs.Prelude.{◌≡◌, ℕ, List, IfOk, Ok, None};
 ghost use Rattle.std.specs.Option.{option_copied};
-ghost use Rattle.lrs_made.specs.LrsHistoryRefusals.{bad_form, conflict, refusal, refusal_at, unmergeable, unmergeable_with};
+ghost use Rattle.lrs_made.specs.LrsHistoryLaunches.{target};
+ghost use Rattle.lrs_made.specs.LrsHistoryRefusals.{bad_form, conflict, missing, refusal, refusal_at, unless_there, unmergeable, unmergeable_with};
 ghost use Rattle.lrs_made.specs.LrsHistoryWhose.{who_is};
 ghost use Rattle.lrs_made.specs.LrsPartsParts.{state_of};
 ghost use Rattle.lrs_record.specs.Entries.{IsLawfulWrite};
@@ -11,20 +12,20 @@ ghost use Rattle.lrs_refusals.specs.Meeting.{occasion_of};
 ghost use Rattle.lrs_refusals.specs.Submissions.{IsWrittenIf};
 
 use crate::Known;
-use crate::absent::missing;
 use crate::courses::{course_conflict, refused_course};
 use crate::forms::{refused_batch, refused_form};
 use crate::meeting::{refused_put, refused_together};
 use crate::whose::bad_role;
-use crate::written::Written;
+use crate::written::PreparedTexts;
 use lrs_command::Who;
 use lrs_json::{Memory, Text};
 use lrs_made::lrs_history::{
     barred, refused_actor, refused_agent, refused_document, refused_idle, refused_name,
 };
-use lrs_made::lrs_parts::Parts;
+use lrs_made::lrs_parts::{Parts, place_of_course};
+use lrs_made::target;
 use lrs_media::is_json;
-use lrs_names::Draw;
+use lrs_names::{Draw, Id, Iri};
 use lrs_record::{Entry, How, Write};
 use lrs_replies::Refusal;
 use lrs_rules::Rule;
@@ -38,7 +39,7 @@ pub fn refusal(
     alloc: Global,
     parts: &Parts,
     who: Who,
-    written: Option<&Written>,
+    written: Option<&PreparedTexts>,
     entry: &Entry,
     known: &mut Known,
 ) -> Result<Option<Refusal>, Memory>
@@ -58,7 +59,7 @@ fn refusal_of(
     alloc: Global,
     parts: &Parts,
     who: Who,
-    written: Option<&Written>,
+    written: Option<&PreparedTexts>,
     draw: &Draw,
     write: &Write,
     known: &mut Known,
@@ -93,7 +94,7 @@ fn refusal_of(
 // Why a write isn't looked at, whatever the store holds. Of one that was judged before nothing is left to be told.
 fn form_refusal(
     alloc: Global,
-    written: Option<&Written>,
+    written: Option<&PreparedTexts>,
     write: &Write,
 ) -> Result<Option<Refusal>, Memory>
     requires { IsWrittenIf write.now (option_copied written) }
@@ -126,6 +127,48 @@ pub(crate) fn bad_form(alloc: Global, write: &Write) -> Result<Option<Refusal>, 
         Write::Sweep { idle } => Ok(refused_idle(*idle)),
         Write::Launch { .. } | Write::Fetch { .. } | Write::Waive { .. } | Write::Abandon { .. } =>
             Ok(None),
+    }
+}
+
+// Why a write doesn't find what it speaks of: the course of an enrolment, the registration or the unit of a launch or
+// a waiver, the key of a fetch, the session that is abandoned.
+fn missing(parts: &Parts, write: &Write) -> Option<Refusal>
+    ensures { result ≡ missing (state_of parts.now) write.now }
+{
+    match write {
+        Write::Enrol { course, .. } => match place_of_course(&parts.learning.courses, course) {
+            Some(_) => None,
+            None => Some(Refusal::NotFound),
+        },
+        Write::Launch {
+            registration,
+            unit,
+            ..
+        } => missing_unit(parts, registration, unit),
+        Write::Fetch { key } => match parts.learning.keys.find(key) {
+            Some(_) => None,
+            None => Some(Refusal::NotFound),
+        },
+        Write::Waive {
+            registration,
+            unit,
+            ..
+        } => missing_unit(parts, registration, unit),
+        Write::Abandon { session } => match parts.learning.launches.place(session) {
+            Some(_) => None,
+            None => Some(Refusal::NotFound),
+        },
+        _ => None,
+    }
+}
+
+// The registration or the unit of a launch or a waiver.
+fn missing_unit(parts: &Parts, registration: &Id, unit: &Iri) -> Option<Refusal>
+    ensures { result ≡ unless_there (target (state_of parts.now) registration.now unit.now) }
+{
+    match target(parts, registration, unit) {
+        Some(_) => None,
+        None => Some(Refusal::NotFound),
     }
 }
 

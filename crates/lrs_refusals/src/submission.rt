@@ -5,7 +5,7 @@ ghost use Rattle.lrs_made.specs.LrsHistoryRefusals.{bad_form};
 ghost use Rattle.lrs_refusals.specs.Submissions.{IsFormOf, IsWrittenOf};
 
 use crate::refusals::bad_form;
-use crate::written::{Written, closing_of, texts_of};
+use crate::written::{PreparedTexts, closing_of, texts_of};
 use lrs_command::{Area, Command};
 use lrs_json::Memory;
 use lrs_record::Write;
@@ -30,9 +30,15 @@ pub enum Form {
     /// Nothing, or there is nothing to be known.
     Unjudged(Command),
     /// It is unbroken, and this was written of it.
-    Judged { write: Write, written: Written },
+    Judged {
+        write: Write,
+        written: PreparedTexts,
+    },
     /// This is what a caller is told who is let into the area, whatever the history.
-    Refused { area: Area, refusal: Refusal },
+    Refused {
+        area: Area,
+        refusal: Refusal,
+    },
 }
 
 impl Model for Submission {
@@ -124,11 +130,11 @@ fn unbroken(alloc: Global, write: Write, same: Snapshot<Command>) -> Result<Subm
     }
 }
 
-fn written_of(alloc: Global, write: &Write) -> Result<Written, Memory>
+fn written_of(alloc: Global, write: &Write) -> Result<PreparedTexts, Memory>
     requires { bad_form write.now ≡ None }
     ensures { IfOk result (IsWrittenOf write.now) }
 {
     let texts = texts_of(alloc, write)?;
     let closing = closing_of(alloc, write, &texts)?;
-    Ok(Written { closing, texts })
+    Ok(PreparedTexts { closing, texts })
 }

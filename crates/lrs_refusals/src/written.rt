@@ -10,7 +10,7 @@ use xapi_statement::ReceivedText;
 
 /// What is written of a write before there is an entry of it.
 #[derive(Drop)]
-pub struct Written {
+pub struct PreparedTexts {
     /// What closes the text of its entry.
     pub closing: Items<u8>,
     /// The texts that are held of its statements.

@@ -8,11 +8,11 @@ use Rattle.lrs_state.specs.declared.launches.HeldToken.{HeldToken}
 use Rattle.lrs_register.specs.Changes.{unchanged}
 use Rattle.lrs_register.specs.declared.change.Change.{Change}
 
-abbrev pub key_text : HeldKey → List ℕ
-key_text key = key.key
+abbrev pub text_of_key : HeldKey → List ℕ
+text_of_key key = key.key
 
-abbrev pub token_text : HeldToken → List ℕ
-token_text token = token.token
+abbrev pub text_of_token : HeldToken → List ℕ
+text_of_token token = token.token
 
 -- ---- what is found
 
@@ -31,10 +31,10 @@ abbrev pub session_ids : List Launch → List (List ℕ)
 session_ids launches = map session_of launches
 
 abbrev pub key_under : List ℕ → List HeldKey → Option HeldKey
-key_under key keys = first_under key_text key keys
+key_under key keys = first_under text_of_key key keys
 
 abbrev pub token_under : List ℕ → List HeldToken → Option HeldToken
-token_under token tokens = first_under token_text token tokens
+token_under token tokens = first_under text_of_token token tokens
 
 -- the number of the launch in whose session the token acts
 abbrev pub launch_of_token : List ℕ → List HeldToken → Option ℕ
@@ -67,7 +67,7 @@ abbrev pub launches_after : List Launch → LaunchesChange → List Launch
 launches_after launches change = list_after session_of launches change
 
 abbrev pub keys_after : List HeldKey → KeysChange → List HeldKey
-keys_after keys change = list_after key_text keys change
+keys_after keys change = list_after text_of_key keys change
 
 abbrev pub tokens_after : List HeldToken → TokensChange → List HeldToken
-tokens_after tokens change = list_after token_text tokens change
+tokens_after tokens change = list_after text_of_token tokens change

@@ -5,7 +5,7 @@ use Rattle.std.specs.Ordering.{nat_cmp}
 use Rattle.cmi5_course.specs.Courses.{course_key}
 use Rattle.cmi5_course.specs.Launches.{session_of}
 use Rattle.lrs_state.specs.Counted.{AddsNone, HasRoomToCount, MakesPlaceFor, TakesPlaceBackFor}
-use Rattle.lrs_state.specs.Launches.{key_text, token_text}
+use Rattle.lrs_state.specs.Launches.{text_of_key, text_of_token}
 use Rattle.lrs_state.specs.Registrations.{registration_key}
 use Rattle.lrs_state.specs.Sessions.{HasRoomForSession, made_session_id}
 use Rattle.lrs_state.specs.declared.effect.Effect.{Effect}
@@ -28,8 +28,8 @@ pub record IsLearningReadyFor (learning : Learning) (effect : Effect) : Type 0 w
   pub launches : HasRoomToCount (slice_cmp nat_cmp) session_of learning.launches effect.launches
   pub sessions : HasRoomForSession learning.sessions effect.sessions
   pub made_sessions : HasRoomToCount (slice_cmp nat_cmp) made_session_id learning.made_sessions effect.made_sessions
-  pub keys : HasRoomToCount (slice_cmp nat_cmp) key_text learning.keys effect.keys
-  pub tokens : HasRoomToCount (slice_cmp nat_cmp) token_text learning.tokens effect.tokens
+  pub keys : HasRoomToCount (slice_cmp nat_cmp) text_of_key learning.keys effect.keys
+  pub tokens : HasRoomToCount (slice_cmp nat_cmp) text_of_token learning.tokens effect.tokens
 
 -- places were made for what an effect brings, and for nothing else
 pub record MakesLearningPlaces (old new : Learning) (effect : Effect) : Type 0 where
@@ -39,8 +39,8 @@ pub record MakesLearningPlaces (old new : Learning) (effect : Effect) : Type 0 w
   pub launches : MakesPlaceFor (slice_cmp nat_cmp) session_of effect.launches old.launches new.launches
   pub made_sessions : MakesPlaceFor (slice_cmp nat_cmp) made_session_id effect.made_sessions old.made_sessions
       new.made_sessions
-  pub keys : MakesPlaceFor (slice_cmp nat_cmp) key_text effect.keys old.keys new.keys
-  pub tokens : MakesPlaceFor (slice_cmp nat_cmp) token_text effect.tokens old.tokens new.tokens
+  pub keys : MakesPlaceFor (slice_cmp nat_cmp) text_of_key effect.keys old.keys new.keys
+  pub tokens : MakesPlaceFor (slice_cmp nat_cmp) text_of_token effect.tokens old.tokens new.tokens
 
 -- and taken back, where nothing came
 pub record TakesLearningPlacesBack (old new : Learning) (effect : Effect) : Type 0 where
@@ -50,8 +50,8 @@ pub record TakesLearningPlacesBack (old new : Learning) (effect : Effect) : Type
   pub launches : TakesPlaceBackFor (slice_cmp nat_cmp) session_of effect.launches old.launches new.launches
   pub made_sessions : TakesPlaceBackFor (slice_cmp nat_cmp) made_session_id effect.made_sessions old.made_sessions
       new.made_sessions
-  pub keys : TakesPlaceBackFor (slice_cmp nat_cmp) key_text effect.keys old.keys new.keys
-  pub tokens : TakesPlaceBackFor (slice_cmp nat_cmp) token_text effect.tokens old.tokens new.tokens
+  pub keys : TakesPlaceBackFor (slice_cmp nat_cmp) text_of_key effect.keys old.keys new.keys
+  pub tokens : TakesPlaceBackFor (slice_cmp nat_cmp) text_of_token effect.tokens old.tokens new.tokens
 
 -- none of it has a place that it hadn't
 pub record AddsNoLearningPlaces (old new : Learning) : Type 0 where

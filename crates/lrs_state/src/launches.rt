@@ -38,9 +38,9 @@ pub type KeysChange = Change<HeldKey>;
 pub type TokensChange = Change<HeldToken>;
 
 impl Keyed<Text> for HeldKey {
-    ghost use Rattle.lrs_state.specs.Launches.{key_text};
+    ghost use Rattle.lrs_state.specs.Launches.{text_of_key};
 
-    ghost key = { key_text };
+    ghost key = { text_of_key };
 
     fn key(&self) -> &Text {
         &self.key
@@ -52,9 +52,9 @@ impl Keyed<Text> for HeldKey {
 }
 
 impl Keyed<Text> for HeldToken {
-    ghost use Rattle.lrs_state.specs.Launches.{token_text};
+    ghost use Rattle.lrs_state.specs.Launches.{text_of_token};
 
-    ghost key = { token_text };
+    ghost key = { text_of_token };
 
     fn key(&self) -> &Text {
         &self.token

@@ -43,11 +43,11 @@ impl<S: Journaled> Play<Option<S>, View<S::Record>> for Point {
 }
 
 /// The list behind a commit, for the proof alone: a step can't be told of it.
-pub trait Said<T> {
+pub trait ListBehind<T> {
     ghost list: { List T };
 }
 
-impl<T> Said<T> for Brand {
+impl<T> ListBehind<T> for Brand {
     ghost list = { [] };
 }
 
@@ -55,16 +55,16 @@ pub struct Commit<W> {
     marker: PhantomData<W>,
 }
 
-impl<S: Journaled, W: Said<S::Record>> Play<Option<S>, View<S::Record>> for Commit<W> {
+impl<S: Journaled, W: ListBehind<S::Record>> Play<Option<S>, View<S::Record>> for Commit<W> {
     ghost then = { λ s v n w. Commits W.list v w };
 }
 
 /// The tide that a pass knows behind a give, for the proof alone.
-pub trait Known {
+pub trait TideBehind {
     ghost tide: { List ℕ };
 }
 
-impl Known for Brand {
+impl TideBehind for Brand {
     ghost tide = { [] };
 }
 
@@ -72,7 +72,7 @@ pub struct Give<W> {
     marker: PhantomData<W>,
 }
 
-impl<S: Journaled, W: Known> Play<Option<S>, View<S::Record>> for Give<W> {
+impl<S: Journaled, W: TideBehind> Play<Option<S>, View<S::Record>> for Give<W> {
     ghost then = { λ s v n w. Gives W.tide v w };
 }
 

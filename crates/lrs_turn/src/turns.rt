@@ -5,7 +5,7 @@ ghost use Rattle.lrs_turn.specs.Passes.{IsIdle, HasTurn, IsOneMore, taken, point
 
 use crate::journaled::Journaled;
 use crate::pass::Pass;
-use crate::rule::{Commit, Fetch, Give, Keeps, Known, Point, Rest, Said, Take};
+use crate::rule::{Commit, Fetch, Give, Keeps, ListBehind, Point, Rest, Take, TideBehind};
 use crate::view::{Opening, View};
 use atomic_table::{Badge, Seat, Table};
 use std::alloc::Global;
@@ -95,7 +95,12 @@ impl<S: Journaled> Turns<S> {
     }
 
     // Commits the list that `W` names, of this many records.
-    fn commit_as<W: Said<S::Record>>(&self, pass: &mut Pass<S::Record>, _state: &S, count: u64)
+    fn commit_as<W: ListBehind<S::Record>>(
+        &self,
+        pass: &mut Pass<S::Record>,
+        _state: &S,
+        count: u64,
+    )
         requires turn { HasTurn self.now pass.old }
         requires line { IsOneMore W.list pass.old.line }
         requires count { count ≡ length W.list }
@@ -122,7 +127,7 @@ impl<S: Journaled> Turns<S> {
 
     // Gives the state back. Behind it the pass knows the tide that `W` names: the state's, or, where that is as it was
     // taken, what it knew before.
-    fn give_as<W: Known>(&self, pass: &mut Pass<S::Record>, state: S)
+    fn give_as<W: TideBehind>(&self, pass: &mut Pass<S::Record>, state: S)
         requires turn { HasTurn self.now pass.old }
         requires line { S.line state ≡ pass.old.line }
         requires marks { S.marks state ≡ pass.old.marks }

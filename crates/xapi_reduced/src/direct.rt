@@ -139,7 +139,8 @@ fn put_each<P: Part>(value: &Written<'_>, into: &mut Vec<u8>) -> Result<(), Memo
 
 #[tactic(auto, using(lrs_json::proofs::Extending::extends_trans))]
 fn put_object<P: Part>(members: WrittenMembers<'_>, into: &mut Vec<u8>) -> Result<(), Memory>
-    ensures ok { OnOk result (into.new.items ≡ into.old.items ++ written (object (each_member P.change members.entry))) }
+    ensures ok { OnOk result (into.new.items
+        ≡ into.old.items ++ written (object (each_member P.change members.entry))) }
     ensures kept { Extends into.old.items into.new.items }
 {
     put(b"{", into)?;

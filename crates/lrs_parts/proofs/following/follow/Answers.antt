@@ -2,7 +2,7 @@ use Rattle.std.proofs.Common.{◌≡◌, ◌+◌, ◌++◌, ◌∷◌, ◌∙◌
 use Rattle.std.specs.Option.{option_map_or}
 use Rattle.std.proofs.lemmas.Option.{same_Some}
 use Rattle.cmi5_running_sessions.specs.Cmi5SessionMarked.{mark, marked}
-use Rattle.lrs_parts.specs.Progress.{Follows}
+use Rattle.lrs_parts.specs.Progress.{KeepsUp}
 use Rattle.lrs_parts.specs.Trees.{voided_in}
 use Rattle.lrs_parts.proofs.Events.{marks_few}
 use Rattle.lrs_parts.proofs.Kept.{places_on}
@@ -21,7 +21,7 @@ returns-clause-follows c = λ follows.
     let voided : c.is_voided_at-already.result ≡ is_voided (take (c.args.at + 1) all) s =
     c.is_voided_at-already.ensures ∙ ap (λ (o : Option StoredStatement). option_map_or (is_voided (take (c.args.at + 1) all)) o false) c.requires.there in
     c.void_by.ensures.follows s c.requires.there
-    (subst (λ (v : Bool). Follows c.take_in.new.progress c.args.founding.now c.args.learning.now.courses.held c.args.learning.now.registrations.held (marked (take c.args.at all) ++ mark s v ∷ [])) voided
+    (subst (λ (v : Bool). KeepsUp c.take_in.new.progress c.args.founding.now c.args.learning.now.courses.held c.args.learning.now.registrations.held (marked (take c.args.at all) ++ mark s v ∷ [])) voided
     (c.take_in.ensures.follows (marked (take c.args.at all)) (marks_few all c.args.at c.requires.few) follows))
 
 pub returns-clause-places : goal.returns-clause-places

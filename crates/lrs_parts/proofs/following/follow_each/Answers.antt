@@ -4,7 +4,7 @@ use Rattle.std.proofs.lemmas.Option.{slice_get_read}
 use Rattle.cmi5_running_sessions.specs.Room.{HasPlacesFor}
 use Rattle.cmi5_running_sessions.specs.Cmi5SessionMarked.{marked}
 use Rattle.lrs_ids.proofs.Turns.{turn}
-use Rattle.lrs_parts.specs.Progress.{Follows}
+use Rattle.lrs_parts.specs.Progress.{KeepsUp}
 use Rattle.lrs_parts.proofs.Arrivals.{Next, next_of}
 use Rattle.lrs_parts.proofs.Kept.{places_kept, places_on, still_has}
 use Rattle.lrs_parts.proofs.Voided.{each_at, tree_found}
@@ -71,5 +71,5 @@ returns c = λ follows.
     let all = c.args.statements.now.held in
     let whole : all ≡ take at.position all =
     at.invariant.added ∙ ap (λ (ss : List StoredStatement). add_each (take at.position all) ss) (drop_all at.statement-index c.args.coming.now c.loop-statement-test.false) in
-    subst (λ (ss : List StoredStatement). Follows at.progress c.args.founding.now c.args.learning.now.courses.held c.args.learning.now.registrations.held (marked ss)) (sym whole)
+    subst (λ (ss : List StoredStatement). KeepsUp at.progress c.args.founding.now c.args.learning.now.courses.held c.args.learning.now.registrations.held (marked ss)) (sym whole)
     (at.invariant.follows follows)

@@ -1,7 +1,7 @@
 use Rattle.std.proofs.Common.{◌≡◌, ◌≤◌, drop, length, take}
 use Rattle.cmi5_running_sessions.specs.Room.{KeepsPlaces}
 use Rattle.cmi5_running_sessions.specs.Cmi5SessionMarked.{marked}
-use Rattle.lrs_parts.specs.Progress.{Follows}
+use Rattle.lrs_parts.specs.Progress.{KeepsUp}
 use Rattle.xapi_statement.specs.Statements.{add_each}
 use Rattle.lrs_parts.proofs.following.follow_each.Given as goal
 
@@ -10,7 +10,7 @@ abbrev pub invariant-loop-statement : goal.invariant-loop-statement
 invariant-loop-statement l = record {
   within : l.position ≤ length l.statements.held;
   added : l.statements.held ≡ add_each (take l.position l.statements.held) (drop l.statement-index l.coming);
-  follows : Follows l.fn.progress l.founding l.learning.courses.held l.learning.registrations.held (marked (take l.first l.statements.held))
-      → Follows l.progress l.founding l.learning.courses.held l.learning.registrations.held (marked (take l.position l.statements.held));
+  follows : KeepsUp l.fn.progress l.founding l.learning.courses.held l.learning.registrations.held (marked (take l.first l.statements.held))
+      → KeepsUp l.progress l.founding l.learning.courses.held l.learning.registrations.held (marked (take l.position l.statements.held));
   places : KeepsPlaces l.fn.progress.sessions l.progress.sessions;
 }

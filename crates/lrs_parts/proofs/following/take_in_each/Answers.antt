@@ -1,7 +1,7 @@
 use Rattle.std.proofs.Common.{◌≡◌, ◌∙◌, ℕ, List, length, take, ap, subst, sym, arith}
 use Rattle.cmi5_running_sessions.specs.Cmi5SessionMarked.{marked}
 use Rattle.lrs_ids.specs.Ids.{are_distinct}
-use Rattle.lrs_parts.specs.Progress.{Follows}
+use Rattle.lrs_parts.specs.Progress.{KeepsUp}
 use Rattle.lrs_parts.specs.Trees.{AreTargets}
 use Rattle.lrs_parts.proofs.Events.{distinct_each, front_of, longer}
 use Rattle.lrs_parts.proofs.Kept.{settled}
@@ -46,8 +46,8 @@ returns-clause-kept c =
     let front : take c.len-first.result c.install.new.self.held ≡ old =
     ap (λ (n : ℕ). take n c.install.new.self.held) c.len-first.ensures
     ∙ (ap (λ (ss : List StoredStatement). take (length old) ss) c.install.ensures.held ∙ front_of old c.args.coming.now) in
-    let was : Follows c.args.progress.now c.args.founding.now c.args.learning.now.courses.held c.args.learning.now.registrations.held (marked (take c.len-first.result c.install.new.self.held)) =
-    subst (λ (ss : List StoredStatement). Follows c.args.progress.now c.args.founding.now c.args.learning.now.courses.held c.args.learning.now.registrations.held (marked ss)) (sym front)
+    let was : KeepsUp c.args.progress.now c.args.founding.now c.args.learning.now.courses.held c.args.learning.now.registrations.held (marked (take c.len-first.result c.install.new.self.held)) =
+    subst (λ (ss : List StoredStatement). KeepsUp c.args.progress.now c.args.founding.now c.args.learning.now.courses.held c.args.learning.now.registrations.held (marked ss)) (sym front)
     c.requires.kept.follows in
     record {
       distinct = ap (λ (ss : List StoredStatement). are_distinct (ids_of ss)) c.install.ensures.held ∙ distinct_each old c.args.coming.now c.requires.kept.distinct;

@@ -1,5 +1,5 @@
 use Rattle.std.proofs.Common.{subst, sym}
-use Rattle.cmi5_running_sessions.specs.Kept.{SeenSessions, StandsFor}
+use Rattle.cmi5_running_sessions.specs.Kept.{SeenSessions, SaidStandsFor}
 use Rattle.cmi5_running_sessions.specs.Room.{HasPlacesFor, KeepsPlaces}
 use Rattle.cmi5_running_sessions.proofs.Standing.{places_counting, seen_of, stands_counting}
 use Rattle.cmi5_running_sessions.proofs.sessions.Sessions.install_counting.Goals as goal
@@ -10,7 +10,7 @@ install-requires c = (subst (λ (old : SeenSessions). HasPlacesFor old c.args.st
 pub returns-clause-stands : goal.returns-clause-stands
 returns-clause-stands c = λ those small stands.
     let places = subst (λ (old : SeenSessions). HasPlacesFor old c.args.statement.now) (sym c.self.view_is) c.requires in
-    stands_counting c.args.statement.now c.self.inside.own c.install.new.self c.self.inside.reached c.install-2.new.self places c.install.ensures c.install-2.ensures those small (subst (λ (old : SeenSessions). StandsFor old those) (sym c.self.view_is) stands)
+    stands_counting c.args.statement.now c.self.inside.own c.install.new.self c.self.inside.reached c.install-2.new.self places c.install.ensures c.install-2.ensures those small (subst (λ (old : SeenSessions). SaidStandsFor old those) (sym c.self.view_is) stands)
 
 pub returns-clause-places : goal.returns-clause-places
 returns-clause-places c =

@@ -1,5 +1,5 @@
 use Rattle.std.proofs.Common.{◌∷◌, ◌++◌, false, subst, sym}
-use Rattle.cmi5_running_sessions.specs.Kept.{SeenSessions, StandsFor}
+use Rattle.cmi5_running_sessions.specs.Kept.{SeenSessions, SaidStandsFor}
 use Rattle.cmi5_running_sessions.specs.Room.{KeepsPlaces}
 use Rattle.cmi5_running_sessions.proofs.Standing.{places_now_voided, seen_of, stands_now_voided}
 use Rattle.cmi5_running_sessions.proofs.sessions.Sessions.void.Goals as goal
@@ -9,7 +9,7 @@ pub returns-clause-stands : goal.returns-clause-stands
 returns-clause-stands c = λ before behind stands.
     let s = c.args.statement.now in
     stands_now_voided s c.self.inside.own c.self.inside.reached c.void.new.self c.void.ensures before behind
-    (subst (λ (old : SeenSessions). StandsFor old (before ++ mark s false ∷ behind)) (sym c.self.view_is) stands)
+    (subst (λ (old : SeenSessions). SaidStandsFor old (before ++ mark s false ∷ behind)) (sym c.self.view_is) stands)
 
 pub returns-clause-places : goal.returns-clause-places
 returns-clause-places c =

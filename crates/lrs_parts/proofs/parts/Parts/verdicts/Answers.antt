@@ -1,5 +1,5 @@
 use Rattle.std.proofs.Common.{◌≡◌, ◌∙◌, IfOk, List, Some, subst, sym}
-use Rattle.cmi5_running_verdicts.specs.Running.{Stands}
+use Rattle.cmi5_running_verdicts.specs.Running.{TalliesStandFor}
 use Rattle.cmi5_running_sessions.specs.Cmi5SessionMarked.{marked}
 use Rattle.cmi5_running_verdicts.specs.Cmi5VerdictNodes.{SeenEnrolment, seen, verdicts}
 use Rattle.lrs_parts.specs.Parts.{SeenParts}
@@ -19,5 +19,5 @@ returns-in-Some c =
     (sym c.number_held.ensures ∙ c.in-Some.is) enrolled c.self.invariant.follows.counted in
     subst (λ (v : SeenParts). IfOk c.verdicts.result (λ told. told.items ≡ verdicts e v.statements.held)) c.self.view_is
     (IfOk-weaker c.verdicts.result
-    (λ told. (x : SeenEnrolment) → (those : List StoredStatement) → Stands old.progress.running (marked those) c.in-Some.number x → told.items ≡ verdicts x those)
+    (λ told. (x : SeenEnrolment) → (those : List StoredStatement) → TalliesStandFor old.progress.running (marked those) c.in-Some.number x → told.items ≡ verdicts x those)
     (λ told. told.items ≡ verdicts e old.statements.held) (λ told says. says e old.statements.held stands) c.verdicts.ensures)
