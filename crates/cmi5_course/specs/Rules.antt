@@ -1,13 +1,13 @@
 -- The twelve rules on a course, by their numbers: those that it breaks, and the least. What they ask is of cmi5 Quartz,
 -- section 13; the JSON form is the store's own. A rule on a member is met if that is missing or if its holder is no
 -- object.
-use Rattle.std.specs.Prelude.{ℕ, nat_le, List, [], ◌∷◌, ◌++◌, Bool, true, false, not, ◌&&◌, ◌||◌, Option, codes}
+use Rattle.std.specs.Prelude.{ℕ, nat_le, List, [], ◌∷◌, ◌++◌, Bool, true, false, ◌&&◌, ◌||◌, Option, codes}
 use Rattle.std.specs.Prelude.{count_by, flat_map, is_some, is_none, if◌then◌else◌}
 use Rattle.std.specs.List.{list_all}
 use Rattle.std.specs.Option.{option_map_or, option_to_list}
 use Rattle.lrs_json.specs.Json.{Json, null, boolean, number, string, array, object, no_elements, element}
 use Rattle.lrs_json.specs.Json.{no_members, member}
-use Rattle.lrs_json.specs.Names.{is_among}
+use Rattle.lrs_json.specs.Names.{are_new}
 use Rattle.lrs_names.specs.Iris.{is_iri}
 use Rattle.lrs_names.specs.Languages.{is_language_map}
 use Rattle.lrs_names.specs.Members.{is_string, is_string_that, is_word, has_only, has_member, has_member_that}
@@ -147,11 +147,6 @@ node_faults node =
 -- the id, if it is a string
 abbrev pub ids_of : Placed → List (List ℕ)
 ids_of node = option_to_list (text_under (codes "id") node.value)
-
--- each is none of those before it, nor one of the names
-abbrev pub are_new : List (List ℕ) → List (List ℕ) → Bool
-are_new names [] = true
-are_new names (id ∷ ids) = not (is_among id names) && are_new (id ∷ names) ids
 
 -- rule 6: the ids of the course, the blocks and the units are distinct
 unfoldable pub have_distinct_ids : List Placed → Bool

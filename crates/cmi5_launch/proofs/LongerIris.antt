@@ -10,19 +10,12 @@ use Rattle.std.proofs.lemmas.List.{take-append-le, drop-append-le}
 use Rattle.std.proofs.lemmas.List.Folds.{list_all-append, prefix_len-append}
 use Rattle.std.proofs.lemmas.Str.{IsAscii-append, chars-IsAscii, chars-append}
 use Rattle.std.proofs.lemmas.Str.Ascii.{IsAscii-cons, IsAscii-nil}
+use Rattle.std.specs.Cmp.{first_so, second_so}
 use Rattle.lrs_names.specs.Iris.{has_some, is_colon, is_iri, is_iri_character, is_scheme}
 use Rattle.cmi5_launch.specs.Activities.{activity_text}
 use Rattle.cmi5_launch.proofs.Places.{other}
 
 -- ---- what stands before and behind the first colon
-
-left_true : (p q : Bool) → (p && q) ≡ true → p ≡ true
-left_true true q e = refl
-left_true false q e = e
-
-right_true : (p q : Bool) → (p && q) ≡ true → q ≡ true
-right_true true q e = e
-right_true false q e = absurd (false≢true e)
 
 all_three : (p q r : Bool) → p ≡ true → q ≡ true → r ≡ true → (p && q && r) ≡ true
 all_three p q r a b c = rw (a, b, c) refl
@@ -47,9 +40,9 @@ position-append p xs ys inside =
 pub longer : (base tail : List ℕ) → IsUtf8 base → IsAscii tail → list_all is_iri_character tail ≡ true → is_iri base ≡ true → is_iri (base ++ tail) ≡ true
 unfolding is_iri
 longer base tail utf8 ascii plain iri =
-    let scheme : is_scheme (before_first is_colon base) ≡ true = left_true _ _ (left_true _ _ iri) in
-    let rest : has_some (after_first is_colon base) ≡ true = right_true (is_scheme (before_first is_colon base)) _ (left_true _ _ iri) in
-    let characters : list_all is_iri_character (chars base) ≡ true = right_true (is_scheme (before_first is_colon base) && has_some (after_first is_colon base)) _ iri in
+    let scheme : is_scheme (before_first is_colon base) ≡ true = first_so _ _ (first_so _ _ iri) in
+    let rest : has_some (after_first is_colon base) ≡ true = second_so (is_scheme (before_first is_colon base)) _ (first_so _ _ iri) in
+    let characters : list_all is_iri_character (chars base) ≡ true = second_so (is_scheme (before_first is_colon base) && has_some (after_first is_colon base)) _ iri in
     let inside : position_or_len is_colon base + 1 < length base = is_inside (position_or_len is_colon base + 1) base rest in
     let place : position_or_len is_colon (base ++ tail) ≡ position_or_len is_colon base = position-append is_colon base tail (omega arith) in
     let before : before_first is_colon (base ++ tail) ≡ before_first is_colon base =
@@ -80,7 +73,7 @@ below_128 b e = grind (arith, nat_tests)
 ascii_word : (word : List ℕ) → list_all (λ b. nat_lt b 128) word ≡ true → IsAscii word
 ascii_word [] small = IsAscii-nil
 ascii_word (b ∷ bs) small =
-    IsAscii-cons b bs (below_128 b (left_true (nat_lt b 128) _ small)) (ascii_word bs (right_true (nat_lt b 128) _ small))
+    IsAscii-cons b bs (below_128 b (first_so (nat_lt b 128) _ small)) (ascii_word bs (second_so (nat_lt b 128) _ small))
 
 both_plain : (xs ys : List ℕ) → list_all is_iri_character xs ≡ true → list_all is_iri_character ys ≡ true → list_all is_iri_character (xs ++ ys) ≡ true
 both_plain xs ys a b = list_all-append is_iri_character xs ys ∙ ap (λ t. t && list_all is_iri_character ys) a ∙ b

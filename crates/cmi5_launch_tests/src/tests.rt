@@ -543,10 +543,21 @@ fn a_waived_statement_tells_why(rt: HostRuntime) -> Result<(), Fail> {
     drop(unit);
     drop(actor);
     assert_eq!(rt; wrong?, None);
-    for text in &NO_REASONS {
-        assert_eq!(rt; Reason::of(*text), None);
-    }
     Ok(())
+}
+
+fn wrongly_a_reason() -> Option<usize> {
+    for (i, text) in NO_REASONS.iter().enumerate() {
+        if Reason::of(*text).is_some() {
+            return Some(i);
+        }
+    }
+    None
+}
+
+#[test]
+fn another_spelling_is_no_reason(rt: HostRuntime) {
+    assert_eq!(rt; wrongly_a_reason(), None);
 }
 
 // What is told of the Activity behind its id: of a unit nothing.

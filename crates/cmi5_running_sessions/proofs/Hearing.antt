@@ -1,5 +1,6 @@
 -- What a session's own statements said, as of one statement more.
 use Rattle.std.proofs.Common.{◌≡◌, ℕ, Bool, true, false, cond, if◌then◌else◌, ◌&&◌, ◌||◌, List, [], ◌∷◌, ◌++◌, Option, Some, None, is_some, refl, sym, ap, subst, ◌∙◌, unwrap_or}
+use Rattle.std.proofs.Math.Bool.{or-false}
 use Rattle.std.specs.Prelude.{find, option_map}
 use Rattle.std.specs.Map.{lookup}
 use Rattle.std.specs.Option.{option_or}
@@ -71,16 +72,12 @@ own_more id xs s own =
     (ended_more id xs s ∙ ap (λ b. has_own id terminated xs || (b && says terminated (view s.received))) own)
     (last_more id xs s ∙ ap (λ b. option_or (if b then Some s.stored else None) (last_said id xs)) own)
 
-or_false : (a : Bool) → a || false ≡ a
-or_false true = refl
-or_false false = refl
-
 -- one of another's
 other_more : (id : List ℕ) (xs : List StoredStatement) (s : StoredStatement) → is_of_session id s.authority ≡ false → own_said id (xs ++ s ∷ []) ≡ own_said id xs
 other_more id xs s other =
     same_parts _ _ _ _ _ _
     (began_more id xs s ∙ (ap (λ b. option_or (began_at id xs) (if b && says initialized (view s.received) then Some s.stored else None)) other ∙ sym (or_none (began_at id xs))))
-    (ended_more id xs s ∙ (ap (λ b. has_own id terminated xs || (b && says terminated (view s.received))) other ∙ or_false (has_own id terminated xs)))
+    (ended_more id xs s ∙ (ap (λ b. has_own id terminated xs || (b && says terminated (view s.received))) other ∙ or-false (has_own id terminated xs)))
     (last_more id xs s ∙ ap (λ b. option_or (if b then Some s.stored else None) (last_said id xs)) other)
 
 -- ---- marks

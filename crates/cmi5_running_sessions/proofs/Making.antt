@@ -1,9 +1,9 @@
 -- Places that are made ahead for several statements, and taken back where nothing is kept in them.
-use Rattle.std.proofs.Common.{◌≡◌, ◌⊎◌, ℕ, ◌+◌, ◌<◌, ◌≤◌, Bool, true, false, if◌then◌else◌, ◌&&◌, ◌||◌, ◌==◌, eqb-true, List, [], ◌∷◌, ◌++◌, length, get_or, take, Option, Some, None, is_some, refl, sym, ap, subst, ◌∙◌, inl, inr}
+use Rattle.std.proofs.Common.{◌≡◌, ◌⊎◌, ℕ, ◌+◌, ◌<◌, ◌≤◌, Bool, true, false, if◌then◌else◌, ◌||◌, ◌==◌, eqb-true, List, [], ◌∷◌, ◌++◌, length, get_or, take, Option, Some, None, is_some, refl, sym, ap, subst, ◌∙◌, inl, inr}
 use Rattle.std.specs.Prelude.{option_map}
 use Rattle.std.specs.List.{list_any}
 use Rattle.std.specs.Map.{lookup}
-use Rattle.std.proofs.lemmas.Bool.{false≢true}
+use Rattle.std.proofs.lemmas.Bool.{and_parts, false≢true}
 use Rattle.std.proofs.lemmas.List.{take_all, take_more}
 use Rattle.std.proofs.lemmas.List.Folds.{list_any-append, list_any_at}
 use Rattle.cmi5_running_sessions.specs.Entries.{AddsFilled, AddsNoRegistrations, ChangesAt, ChangesUnits, Entries, IsMade, MakesAt, MakesUnits, StaysFilled, UnitsByRegistration, is_nothing_reached, is_nothing_said, kept_in, taken_back, unit_at}
@@ -90,16 +90,12 @@ said_nothing said is = by_parts said.began said.ended said.last is
     by_parts None true last is = absurd (false≢true is)
     by_parts (Some b) ended last is = absurd (false≢true is)
 
-both : (a b : Bool) → a && b ≡ true → (a ≡ true) × (b ≡ true)
-both true b is = (refl, is)
-both false b is = absurd (false≢true is)
-
 abbrev counts_of : ℕ → ℕ → Reached
 counts_of n m = record { completed = n; passed = m }
 
 reached_nothing : (r : Reached) → is_nothing_reached r ≡ true → r ≡ nothing_reached
 reached_nothing r is =
-    let tests = both (r.completed == 0) (r.passed == 0) is in
+    let tests = and_parts (r.completed == 0) (r.passed == 0) is in
     ap (λ n. counts_of n r.passed) (eqb-true r.completed 0 tests.0) ∙ ap (λ n. counts_of 0 n) (eqb-true r.passed 0 tests.1)
 
 -- ---- one statement

@@ -1,5 +1,6 @@
 -- What marked statements say of a node: by one statement more, and by one that is voided.
 use Rattle.std.proofs.Common.{◌≡◌, ◌∙◌, ◌&&◌, ◌||◌, ◌+◌, ◌-◌, ◌^◌, ◌<◌, ◌≤◌, ℕ, Bool, true, false, not, List, [], ◌∷◌, ◌++◌, length, min, refl, sym, ap, arith}
+use Rattle.std.proofs.Math.Bool.{or-false}
 use Rattle.std.specs.Prelude.{if◌then◌else◌, nat_lt}
 use Rattle.std.specs.List.{list_any}
 use Rattle.std.specs.Option.{option_map_or}
@@ -16,7 +17,6 @@ use Rattle.cmi5_verdict.specs.Nodes.{SeenEnrolment, activity_at, unit_in}
 use Rattle.cmi5_verdict.specs.Said.{meets, said_with}
 use Rattle.cmi5_verdict.specs.declared.said.Said.{Said}
 use Rattle.cmi5_verdict.proofs.Spoken.{same_said}
-use Rattle.cmi5_verdict.proofs.Tests.{or_false}
 use Rattle.cmi5_running_verdicts.proofs.Counts.{count_around, count_push}
 use Rattle.lrs_json.specs.View.{view}
 use Rattle.cmi5_verdict.specs.XapiStatementStatements.{is_that_id}
@@ -91,7 +91,7 @@ module _ (e : SeenEnrolment) (place : ℕ) (m : MarkedStatement) (verb : List �
 -- ---- one statement more
 
 any_push : {A : Type 0} (test : A → Bool) (xs : List A) (x : A) → list_any test (xs ++ x ∷ []) ≡ list_any test xs || test x
-any_push test xs x = list_any-append test xs (x ∷ []) ∙ ap (λ b. list_any test xs || b) (or_false (test x))
+any_push test xs x = list_any-append test xs (x ∷ []) ∙ ap (λ b. list_any test xs || b) (or-false (test x))
 
 module _ (e : SeenEnrolment) (those : List MarkedStatement) (m : MarkedStatement) (place : ℕ) where
   many_push : (verb : List ℕ) → how_many_say e (those ++ m ∷ []) verb place ≡ how_many_say e those verb place + one_if (says_of_node e verb place m && not m.voided)
@@ -104,7 +104,7 @@ module _ (e : SeenEnrolment) (those : List MarkedStatement) (m : MarkedStatement
   any_same : is_about e place (view m.statement.received) ≡ false → list_any (says_of_node e satisfied place) (those ++ m ∷ []) ≡ list_any (says_of_node e satisfied place) those
   any_same elsewhere =
       any_push (says_of_node e satisfied place) those m
-      ∙ (ap (λ b. list_any (says_of_node e satisfied place) those || b) (says_none e place m satisfied elsewhere) ∙ or_false (list_any (says_of_node e satisfied place) those))
+      ∙ (ap (λ b. list_any (says_of_node e satisfied place) those || b) (says_none e place m satisfied elsewhere) ∙ or-false (list_any (says_of_node e satisfied place) those))
 
   -- of another node nothing more is counted
   pub counted_elsewhere : (t : Tally) → is_about e place (view m.statement.received) ≡ false → IsSaid e those place t → IsSaid e (those ++ m ∷ []) place t

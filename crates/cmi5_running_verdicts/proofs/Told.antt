@@ -1,5 +1,6 @@
 -- What tallies tell is what the statements say for which they stand.
 use Rattle.std.proofs.Common.{◌≡◌, ◌∙◌, ◌<◌, ◌≤◌, ◌^◌, ◌==◌, ◌&&◌, ◌||◌, ℕ, suc, nat_lt, Bool, true, false, not, cond, if◌then◌else◌, List, [], ◌∷◌, ◌++◌, length, map, slice_get, Some, None, refl, sym, ap, subst, arith, true≢false}
+use Rattle.std.proofs.Math.Bool.{and-true, or-false}
 use Rattle.std.specs.Prelude.{filter}
 use Rattle.std.specs.List.{list_all, list_any, range_with_len}
 use Rattle.std.specs.Option.{option_map_or}
@@ -20,7 +21,6 @@ use Rattle.cmi5_verdict.specs.Units.{counts, stands}
 use Rattle.cmi5_verdict.specs.declared.said.Said.{Said}
 use Rattle.cmi5_verdict.proofs.Marked.{map_alike}
 use Rattle.cmi5_verdict.proofs.Spoken.{among_both, same_said}
-use Rattle.cmi5_verdict.proofs.Tests.{and_true, or_false}
 use Rattle.cmi5_running_verdicts.proofs.Visits.{kept_any}
 use Rattle.lrs_json.specs.View.{view}
 use Rattle.cmi5_verdict.specs.XapiStatementStatements.{is_that_id, is_voided, voids}
@@ -64,7 +64,7 @@ module _ (e : SeenEnrolment) (statements : List StoredStatement) where
   ever : (place : ℕ) → list_any (says_of_node e satisfied place) (marked statements) ≡ list_any (counts_for e statements true satisfied place) statements
   ever place =
       any_marked (says_of_node e satisfied place) (counts_for e statements true satisfied place) (λ s. mark s (is_voided statements s)) statements
-      (λ s. sym (and_true (counts e.registration (activity_at e place) satisfied (view s.received))))
+      (λ s. sym (and-true (counts e.registration (activity_at e place) satisfied (view s.received))))
 
   many_still : (verb : List ℕ) (place : ℕ) (n : ℕ) → n ≡ length (filter (says_still e verb place) (marked statements)) → nat_lt 0 n ≡ list_any (counts_for e statements false verb place) statements
   many_still verb place n is = ap (λ k. nat_lt 0 k) is ∙ (kept_any (says_still e verb place) (marked statements) ∙ still verb place)
@@ -132,7 +132,7 @@ module _ (e : SeenEnrolment) (held new : List StoredStatement) (none : any_voids
   same_voided : (s : StoredStatement) → is_voided (held ++ new) s ≡ is_voided held s
   same_voided s =
       ap (λ b. not (is_voiding (view s.received)) && b)
-      (list_any-append (voids s.id) held new ∙ (ap (λ b. list_any (voids s.id) held || b) (none_targets s.id new none) ∙ or_false (list_any (voids s.id) held)))
+      (list_any-append (voids s.id) held new ∙ (ap (λ b. list_any (voids s.id) held || b) (none_targets s.id new none) ∙ or-false (list_any (voids s.id) held)))
 
   counts_same : (even_voided : Bool) (verb : List ℕ) (place : ℕ) → list_any (counts_for e (held ++ new) even_voided verb place) held ≡ list_any (counts_for e held even_voided verb place) held
   counts_same even_voided verb place =

@@ -1,12 +1,17 @@
 -- A walk from a node outward.
-use Rattle.std.proofs.Common.{◌≡◌, ◌∙◌, ◌&&◌, ◌==◌, ◌+◌, ◌-◌, ◌<◌, ◌≤◌, ℕ, zero, suc, Bool, not, List, [], ◌∷◌, length, Option, Some, None, refl, sym, ap, arith}
+use Rattle.std.proofs.Common.{◌≡◌, ◌∙◌, ◌&&◌, ◌||◌, ◌==◌, ◌+◌, ◌-◌, ◌<◌, ◌≤◌, ℕ, zero, suc, Bool, true, false, not, List, [], ◌∷◌, length, Option, Some, None, refl, sym, ap, arith}
+use Rattle.std.proofs.Math.Bool.{and-true, and_assoc}
 use Rattle.std.specs.List.{list_any}
 use Rattle.cmi5_course.specs.declared.course.Node.{Node}
 use Rattle.cmi5_verdict.specs.Nodes.{outward, parent_of}
-use Rattle.cmi5_verdict.proofs.Tests.{and_assoc, and_true, neither}
 
 abbrev pub is_among : ℕ → List ℕ → Bool
 is_among holder ps = list_any (λ p. p == holder) ps
+
+-- neither of two
+neither : (a b : Bool) → not a && not b ≡ not (a || b)
+neither true b = refl
+neither false b = refl
 
 -- at first all steps are left
 pub outward_first : (nodes : List Node) (n : ℕ) (next : Option ℕ) → outward nodes (n - 0) next ≡ outward nodes n next
@@ -55,8 +60,8 @@ module _ (nodes : List Node) (n i here : ℕ) (next : Option ℕ) (lt : i < n) (
 
   pub left_ended : (holder : ℕ) (before now all : Bool) → next ≡ None → now ≡ before && not (here == holder) → before && not (is_among holder (outward nodes (n - i) (Some here))) ≡ all → now ≡ all
   left_ended holder before now all none is so_far =
-      sym (ap (λ o. now && not (is_among holder (outward nodes (n - (i + 1)) o))) none ∙ (ap (λ ps. now && not (is_among holder ps)) (outward_none nodes (n - (i + 1))) ∙ and_true now))
+      sym (ap (λ o. now && not (is_among holder (outward nodes (n - (i + 1)) o))) none ∙ (ap (λ ps. now && not (is_among holder ps)) (outward_none nodes (n - (i + 1))) ∙ and-true now))
       ∙ left_next holder before now all is so_far
 
 pub left_over : (holder : ℕ) (ps : List ℕ) (now all : Bool) → ps ≡ [] → now && not (is_among holder ps) ≡ all → now ≡ all
-left_over holder ps now all none so_far = sym (ap (λ qs. now && not (is_among holder qs)) none ∙ and_true now) ∙ so_far
+left_over holder ps now all none so_far = sym (ap (λ qs. now && not (is_among holder qs)) none ∙ and-true now) ∙ so_far

@@ -1,5 +1,4 @@
 pub mod Named
-pub mod Tests
 pub mod Spoken
 pub mod Posted
 pub mod Holders

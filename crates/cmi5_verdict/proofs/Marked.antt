@@ -1,19 +1,11 @@
 -- What marks tell of nodes.
 use Rattle.std.proofs.Common.{◌≡◌, ◌∙◌, ◌&&◌, ◌||◌, ◌==◌, ◌+◌, ◌-◌, ◌<◌, ◌≤◌, ℕ, zero, suc, Bool, true, false, not, List, [], ◌∷◌, ◌++◌, length, map, cond, refl, sym, ap, arith, ⊎_elim, append_assoc, append-nil}
+use Rattle.std.proofs.Math.Bool.{and-false, and-true, and_assoc, or-false, or-true}
 use Rattle.std.specs.Prelude.{filter, if◌then◌else◌, slice_set}
 use Rattle.std.specs.List.{list_all, range_with_len}
 use Rattle.std.proofs.lemmas.Bool.{cases_eq, eq-eqb, ne_eqb}
 use Rattle.std.proofs.lemmas.List.{get_or-set_same, get_or-set_other}
 use Rattle.cmi5_verdict.specs.Marks.{is_marked}
-use Rattle.cmi5_verdict.proofs.Tests.{and_assoc, and_true, or_false}
-
-or_true : (a : Bool) → a || true ≡ true
-or_true true = refl
-or_true false = refl
-
-and_false : (a : Bool) → a && false ≡ false
-and_false true = refl
-and_false false = refl
 
 -- ---- one mark less
 
@@ -23,12 +15,12 @@ left marks here place lt = ⊎_elim same elsewhere (cases_eq here place)
     same : here ≡ place → is_marked (slice_set marks here false) place ≡ is_marked marks place && not (here == place)
     same e =
         ap (λ k. is_marked (slice_set marks k false) place) e ∙ (get_or-set_same marks place false false lt
-        ∙ sym (ap (λ b. is_marked marks place && not b) (eq-eqb here place e) ∙ and_false (is_marked marks place)))
+        ∙ sym (ap (λ b. is_marked marks place && not b) (eq-eqb here place e) ∙ and-false (is_marked marks place)))
 
     elsewhere : (here ≡ place → ⊥) → is_marked (slice_set marks here false) place ≡ is_marked marks place && not (here == place)
     elsewhere never =
         get_or-set_other marks here place false false (λ e. never (sym e))
-        ∙ sym (ap (λ b. is_marked marks place && not b) (ne_eqb here place never) ∙ and_true (is_marked marks place))
+        ∙ sym (ap (λ b. is_marked marks place && not b) (ne_eqb here place never) ∙ and-true (is_marked marks place))
 
 -- ---- numbers of nodes
 
@@ -69,12 +61,12 @@ all_under shown met under a (suc k) same = by_test (under a) refl (all_under sho
     by_test true is rest =
         let told : Bool = list_all (λ p. shown p || not (under p)) (range_with_len (a + 1) k) in
         let those : List ℕ = filter under (range_with_len (a + 1) k) in
-        ap (λ b. (shown a || not b) && told) is ∙ (ap (λ b. b && told) (or_false (shown a) ∙ same a (omega arith))
+        ap (λ b. (shown a || not b) && told) is ∙ (ap (λ b. b && told) (or-false (shown a) ∙ same a (omega arith))
         ∙ (ap (λ b. met a && b) rest ∙ ap (λ b. list_all met (cond b (a ∷ those) those)) (sym is)))
     by_test false is rest =
         let told : Bool = list_all (λ p. shown p || not (under p)) (range_with_len (a + 1) k) in
         let those : List ℕ = filter under (range_with_len (a + 1) k) in
-        ap (λ b. (shown a || not b) && told) is ∙ (ap (λ b. b && told) (or_true (shown a))
+        ap (λ b. (shown a || not b) && told) is ∙ (ap (λ b. b && told) (or-true (shown a))
         ∙ (rest ∙ ap (λ b. list_all met (cond b (a ∷ those) those)) (sym is)))
 
 -- ---- lists that are filled by a test
@@ -101,7 +93,7 @@ passed_next test n i before now all lt is so_far =
     ∙ (ap (λ ps. before && list_all test ps) (sym (range_on n i lt)) ∙ so_far))
 
 pub passed_end : (test : ℕ → Bool) (n i : ℕ) (now all : Bool) → n ≤ i → now && list_all test (range_with_len i (n - i)) ≡ all → now ≡ all
-passed_end test n i now all end so_far = sym (ap (λ ps. now && list_all test ps) (range_over n i end) ∙ and_true now) ∙ so_far
+passed_end test n i now all end so_far = sym (ap (λ ps. now && list_all test ps) (range_over n i end) ∙ and-true now) ∙ so_far
 
 pub kept_first : (test : ℕ → Bool) (kept : List ℕ) (n : ℕ) → kept ≡ [] → kept ++ filter test (range_with_len 0 (n - 0)) ≡ filter test (range_with_len 0 n)
 kept_first test kept n none = ap (λ ys. ys ++ filter test (range_with_len 0 (n - 0))) none ∙ ap (λ ps. filter test ps) (range_first n)

@@ -1,5 +1,6 @@
 -- What statements say of nodes, one statement after another.
 use Rattle.std.proofs.Common.{◌≡◌, ◌∙◌, ◌&&◌, ◌||◌, ◌==◌, ◌+◌, ◌-◌, ◌^◌, ◌<◌, ◌≤◌, ℕ, Bool, true, false, not, List, [], ◌∷◌, ◌++◌, length, map, drop, refl, sym, ap, subst, arith, ⊎_elim}
+use Rattle.std.proofs.Math.Bool.{and-true, or-false, or_assoc}
 use Rattle.std.specs.Prelude.{if◌then◌else◌, replicate, slice_set}
 use Rattle.std.specs.List.{range_with_len}
 use Rattle.std.specs.Str.{bytes_eq}
@@ -12,7 +13,6 @@ use Rattle.cmi5_session.specs.Own.{is_cmi5_defined}
 use Rattle.cmi5_verdict.specs.Nodes.{SeenEnrolment, activity_at}
 use Rattle.cmi5_verdict.specs.Said.{counts_for, either, said_among, said_by, said_in, said_of, said_with, unsaid}
 use Rattle.cmi5_verdict.specs.declared.said.Said.{Said}
-use Rattle.cmi5_verdict.proofs.Tests.{and_true, or_assoc, or_false}
 use Rattle.lrs_json.specs.View.{view}
 use Rattle.cmi5_session.specs.XapiStatementStatements.{is_that_id, is_voided}
 use Rattle.cmi5_session.specs.XapiStatementStatement.{activity_of, registration_of, verb_of}
@@ -31,7 +31,7 @@ pub either_unsaid : (a : Said) → either a unsaid ≡ a
 unfolding either
 either_unsaid a =
     same_said (a.waived || false) (a.completed || false) (a.passed || false) (a.satisfied || false) a.waived a.completed a.passed a.satisfied
-    (or_false a.waived) (or_false a.completed) (or_false a.passed) (or_false a.satisfied)
+    (or-false a.waived) (or-false a.completed) (or-false a.passed) (or-false a.satisfied)
 
 pub unsaid_either : (a : Said) → either unsaid a ≡ a
 unfolding either
@@ -137,7 +137,7 @@ spoken e all place s here is =
     let a : Bool = is_that_id (activity_at e place) (activity_of (view s.received)) in
     ap (λ b. if b then said_with verb (is_voided all s) else unsaid) is ∙ (parts ((r && d) && a) verb (is_voided all s)
     ∙ same_said _ _ _ _ _ _ _ _ (flag (bytes_eq verb waived) kept r d a) (flag (bytes_eq verb completed) kept r d a) (flag (bytes_eq verb passed) kept r d a)
-    (ap (λ b. if (r && d) && a then b else false) (sym (and_true (bytes_eq verb satisfied))) ∙ flag (bytes_eq verb satisfied) true r d a))
+    (ap (λ b. if (r && d) && a then b else false) (sym (and-true (bytes_eq verb satisfied))) ∙ flag (bytes_eq verb satisfied) true r d a))
 
 -- ---- what all say of each node
 

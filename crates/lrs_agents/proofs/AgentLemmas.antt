@@ -6,6 +6,7 @@ use Rattle.lrs_json.specs.View.{view, elements_of}
 use Rattle.lrs_json.specs.declared.tree.Tree.{Tree}
 use Rattle.std.proofs.lemmas.Bool.{false≢true}
 use Rattle.std.proofs.lemmas.Grind.{common_steps}
+use Rattle.std.specs.Cmp.{first_so, second_so}
 use Rattle.std.specs.Option.{option_map_or}
 use Rattle.lrs_agents.specs.Agents.{mailbox_faults, sha1_faults, openid_faults, account_faults, is_mailbox, is_sha1, is_account, identifier_count, identifier_faults, is_agent, agent_faults, faults_of_agents, faults_of_members, is_group, group_faults}
 use Rattle.lrs_agents.specs.Identifiers.{or_else, account_of, identifier_of}
@@ -98,22 +99,14 @@ both_none None name e = inl refl
 both_none (Some h) None e = inr refl
 both_none (Some h) (Some n) e = cc e
 
-first_true : (x y : Bool) → (x && y) ≡ true → x ≡ true
-first_true true y e = refl
-first_true false y e = e
-
-second_true : (x y : Bool) → (x && y) ≡ true → y ≡ true
-second_true true y e = e
-second_true false y e = absurd (false≢true e)
-
 -- an account that breaks no rule has both texts
 no_account : (o : Option Json) → least (option_map_or account_faults o []) ≡ None → option_and_then account_of o ≡ None → is_some o ≡ false
 no_account None none without = refl
 no_account (Some j) none without =
     let shape : is_account j ≡ true = is_met (is_account j) 10 (none_left (unless (is_account j) 10) (faults_of_member (codes "homePage") iri_faults j) none) in
     let page : least (faults_of_member (codes "homePage") iri_faults j) ≡ None = none_right (unless (is_account j) 10) (faults_of_member (codes "homePage") iri_faults j) none in
-    let name_is : has_member_that (codes "name") is_string j ≡ true = second_true (has_only (codes "homePage" ∷ codes "name" ∷ []) j && has_member (codes "homePage") j) _ shape in
-    let home_is : has_member (codes "homePage") j ≡ true = second_true (has_only (codes "homePage" ∷ codes "name" ∷ []) j) _ (first_true _ (has_member_that (codes "name") is_string j) shape) in
+    let name_is : has_member_that (codes "name") is_string j ≡ true = second_so (has_only (codes "homePage" ∷ codes "name" ∷ []) j && has_member (codes "homePage") j) _ shape in
+    let home_is : has_member (codes "homePage") j ≡ true = second_so (has_only (codes "homePage" ∷ codes "name" ∷ []) j) _ (first_so _ (has_member_that (codes "name") is_string j) shape) in
     elim (both_none (text_under (codes "homePage") j) (text_under (codes "name") j) without) [
       | inl none_home ↦ absurd (some_iri (find (codes "homePage") j) home_is page none_home)
       | inr none_name ↦ absurd (some_text (find (codes "name") j) name_is none_name)
@@ -161,7 +154,7 @@ pub has_identifier : (j : Json) → least (agent_faults j) ≡ None → identifi
 unfolding agent_faults
 has_identifier j none without =
     let shape : is_agent j ≡ true = is_met (is_agent j) 11 (none_left (unless (is_agent j) 11) (identifier_faults j) none) in
-    let one : (identifier_count j == 1) ≡ true = second_true _ _ shape in
+    let one : (identifier_count j == 1) ≡ true = second_so _ _ shape in
     let missing : NoIdentifier j = no_identifier j (none_right (unless (is_agent j) 11) (identifier_faults j) none) without in
     let zero_count : identifier_count j ≡ 0 = no_count j missing.mbox missing.mbox_sha1sum missing.openid missing.account in
     false≢true (rw zero_count at one)

@@ -1,2 +1,3 @@
 pub mod AtSigns
 pub mod AgentLemmas
+pub mod SameAgents

@@ -4,7 +4,8 @@ use Rattle.std.specs.Option.{option_map_or}
 use Rattle.lrs_json.specs.Json.{Json, Elements, no_elements, element}
 use Rattle.lrs_json.specs.Find.{find}
 use Rattle.lrs_agents.specs.Identifiers.{identifier_of}
-use Rattle.lrs_names.specs.Members.{text_under, items_of}
+use Rattle.lrs_json.specs.Parts.{items_of}
+use Rattle.lrs_names.specs.Members.{text_under}
 use Rattle.lrs_agents.specs.declared.agents.Agent.{Agent}
 use Rattle.lrs_agents.specs.declared.groups.Group.{Group}
 

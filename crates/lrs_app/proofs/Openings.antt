@@ -1,17 +1,19 @@
 -- The line of an open store, and what stops leave since it was taken.
-use Rattle.std.proofs.Common.{◌≡◌, ◌≤◌, ℕ, suc, Bool, true, false, List, [], ◌∷◌, length, map, take, Option, Some, None, refl, sym, ap, ◌∙◌, subst, arith}
+use Rattle.std.proofs.Common.{◌≡◌, ◌≤◌, ℕ, suc, Bool, true, false, List, [], ◌∷◌, length, map, take, Option, refl, sym, ap, ◌∙◌, subst, arith}
 use Rattle.std.specs.Prelude.{◌-◌, if◌then◌else◌}
 use Rattle.std.specs.Option.{ForSome}
 use Rattle.lrs_disk.specs.Disk.{LeavesOnly}
 use Rattle.lrs_disk.specs.declared.disk.Disk as disks
 use Rattle.lrs_disk.proofs.Moments.{started, then_run, weaker_run}
 use Rattle.lrs_journal.specs.Journal.{IsSynced, StandsForFrames, TellsAlike}
+pub use Rattle.lrs_journal.proofs.Told.{alike_both, told_on}
+use Rattle.lrs_journal.proofs.Told.{alike_self}
 use Rattle.lrs_record.specs.Entries.{written_entry}
 use Rattle.lrs_record.specs.declared.entry.Entry.{Entry}
 use Rattle.lrs_hall.specs.LrsHistoryHistory.{IsLegal}
 use Rattle.lrs_hall.specs.LrsMachineDesk.{Desk, HoldsPrefix, IsOnDisk, IsStoreOf, OpensOnly, history}
 use Rattle.lrs_hall.specs.LrsMachineLine.{BeginsWith, Record, entries, in_doubt, opened_line, sure}
-use Rattle.lrs_hall.specs.LrsMachineLinesProofs.{doubt_opened, entries_opened, none_some}
+use Rattle.lrs_hall.specs.LrsMachineLinesProofs.{doubt_opened, entries_opened}
 use Rattle.lrs_hall.specs.LrsMachinePrefixesProofs.{prefix_less}
 use Rattle.lrs_hall.proofs.Lines.{begins_length, begins_self, begins_take, sure_begins}
 use Rattle.lrs_app.specs.ClosingSteps.{StopsFrom}
@@ -31,28 +33,10 @@ sure_all line settled = ap (λ (b : Bool). if b then length (entries line) - 1 e
 
 -- ---- what is told of one disk and of another
 
-pub told_on : (a b : Option (List ℕ)) (x : List ℕ) → TellsAlike a b → a ≡ Some x → (y : List ℕ) × (b ≡ Some y)
-told_on None None x alike e = absurd (none_some x e)
-told_on None (Some y) x alike e = absurd alike
-told_on (Some z) None x alike e = absurd alike
-told_on (Some z) (Some y) x alike e = (y, refl)
-
-pub alike_both : (a b c : Option (List ℕ)) → TellsAlike a b → TellsAlike b c → TellsAlike a c
-alike_both None None None x y = tt
-alike_both None None (Some c) x y = y
-alike_both None (Some b) c x y = absurd x
-alike_both (Some a) None c x y = absurd x
-alike_both (Some a) (Some b) None x y = y
-alike_both (Some a) (Some b) (Some c) x y = tt
-
 pub still_told : (a b : Option (List ℕ)) (P : Type 0) → TellsAlike a b → ForSome b (λ _. P) → ForSome a (λ _. P)
 still_told a b P alike holds x e =
     let t = told_on a b x alike e in
     holds t.0 t.1
-
-pub alike_self : (a : Option (List ℕ)) → TellsAlike a a
-alike_self None = tt
-alike_self (Some x) = tt
 
 -- ---- an open desk
 

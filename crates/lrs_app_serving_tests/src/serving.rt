@@ -197,10 +197,16 @@ fn check_bytes<R: Threads + Wait + Sync>(
 }
 
 #[test]
-fn a_put_and_a_get_are_answered_alike_however_they_are_cut(rt: HostRuntime) -> Result<(), Fail> {
+fn a_put_and_a_get_are_answered_alike_wherever_they_are_cut(rt: HostRuntime) -> Result<(), Fail> {
     let stream = joined(rt.alloc(), &[PUT, GET])?;
     let answers = joined(rt.alloc(), &[NO_CONTENT, SHOWN])?;
-    check_cuts(&rt, rt.alloc(), stream.as_str(), answers.as_str())?;
+    check_cuts(&rt, rt.alloc(), stream.as_str(), answers.as_str())
+}
+
+#[test]
+fn a_put_and_a_get_are_answered_alike_byte_by_byte(rt: HostRuntime) -> Result<(), Fail> {
+    let stream = joined(rt.alloc(), &[PUT, GET])?;
+    let answers = joined(rt.alloc(), &[NO_CONTENT, SHOWN])?;
     check_bytes(&rt, rt.alloc(), stream.as_str(), answers.as_str())
 }
 

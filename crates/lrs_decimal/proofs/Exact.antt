@@ -1,8 +1,9 @@
 -- The decimal of a spelling in range.
-use Rattle.std.proofs.Common.{◌≡◌, ◌≢◌, ◌<◌, ◌≤◌, ℕ, ◌+◌, ◌-◌, ◌*◌, ◌^◌, Bool, true, false, ◌&&◌, ◌||◌, nat_le, List, length, take, refl, sym, ap, ◌∙◌, IsTrue, true≢false, ◌==◌, arith}
+use Rattle.std.proofs.Common.{◌≡◌, ◌≢◌, ◌<◌, ◌≤◌, ℕ, ◌+◌, ◌-◌, ◌*◌, ◌^◌, Bool, true, false, ◌&&◌, ◌||◌, nat_le, List, length, take, sym, ap, ◌∙◌, IsTrue, true≢false, ◌==◌, arith}
 use Rattle.std.proofs.Math.Nat.{mul_assoc, zero-mul}
 use Rattle.std.proofs.lemmas.Nat.{pow-add}
 use Rattle.std.proofs.lemmas.Grind.{common_steps}
+use Rattle.std.specs.Cmp.{first_so, second_so}
 use Rattle.lrs_decimal.specs.Parts.{is_negative, all_digits, digits_value, exponent_digits, point_right, point_left}
 use Rattle.lrs_decimal.specs.Range.{leading_zeros, trailing_zeros, significant_digits, has_small_exponent, is_in_range}
 use Rattle.lrs_decimal.specs.Values.{signed, scaled}
@@ -20,14 +21,6 @@ pub record InRange (s : List ℕ) : Type 0 where
   pub above : leading_zeros (all_digits s) ≢ length (all_digits s) → point_left s ≤ point_right s + trailing_zeros (all_digits s) + LARGEST_EXPONENT
   pub below : leading_zeros (all_digits s) ≢ length (all_digits s) → point_right s + trailing_zeros (all_digits s) ≤ point_left s + LARGEST_EXPONENT
 
-and_left : (a b : Bool) → (a && b) ≡ true → a ≡ true
-and_left true b e = refl
-and_left false b e = e
-
-and_right : (a b : Bool) → (a && b) ≡ true → b ≡ true
-and_right true b e = e
-and_right false b e = absurd (true≢false (sym e))
-
 or_right : (a b : Bool) → (a || b) ≡ true → a ≡ false → b ≡ true
 or_right true b e f = absurd (true≢false f)
 or_right false b e f = e
@@ -42,16 +35,16 @@ pub in_range : (s : List ℕ) → IsTrue (is_in_range s) → InRange s
 in_range s t =
     let ds = all_digits s in
     let right = point_right s + trailing_zeros ds in
-    let sizes : (nat_le (length s) LONGEST_SPELLING && nat_le (length (exponent_digits s)) MOST_EXPONENT_DIGITS) ≡ true = and_left (nat_le (length s) LONGEST_SPELLING && nat_le (length (exponent_digits s)) MOST_EXPONENT_DIGITS) _ t in
-    let rest = and_right (nat_le (length s) LONGEST_SPELLING && nat_le (length (exponent_digits s)) MOST_EXPONENT_DIGITS) _ t in
+    let sizes : (nat_le (length s) LONGEST_SPELLING && nat_le (length (exponent_digits s)) MOST_EXPONENT_DIGITS) ≡ true = first_so (nat_le (length s) LONGEST_SPELLING && nat_le (length (exponent_digits s)) MOST_EXPONENT_DIGITS) _ t in
+    let rest = second_so (nat_le (length s) LONGEST_SPELLING && nat_le (length (exponent_digits s)) MOST_EXPONENT_DIGITS) _ t in
     let value : leading_zeros ds ≢ length ds → (nat_le (significant_digits ds) MOST_SIGNIFICANT_DIGITS && has_small_exponent s) ≡ true = λ some. or_right (leading_zeros ds == length ds) _ rest (not_same (leading_zeros ds) (length ds) some) in
-    let exponent : leading_zeros ds ≢ length ds → has_small_exponent s ≡ true = λ some. and_right (nat_le (significant_digits ds) MOST_SIGNIFICANT_DIGITS) (has_small_exponent s) (value some) in
+    let exponent : leading_zeros ds ≢ length ds → has_small_exponent s ≡ true = λ some. second_so (nat_le (significant_digits ds) MOST_SIGNIFICANT_DIGITS) (has_small_exponent s) (value some) in
     record {
-      short = le_of (length s) LONGEST_SPELLING (and_left (nat_le (length s) LONGEST_SPELLING) (nat_le (length (exponent_digits s)) MOST_EXPONENT_DIGITS) sizes);
-      few = le_of (length (exponent_digits s)) MOST_EXPONENT_DIGITS (and_right (nat_le (length s) LONGEST_SPELLING) (nat_le (length (exponent_digits s)) MOST_EXPONENT_DIGITS) sizes);
-      small = λ some. le_of (significant_digits ds) MOST_SIGNIFICANT_DIGITS (and_left (nat_le (significant_digits ds) MOST_SIGNIFICANT_DIGITS) (has_small_exponent s) (value some));
-      above = λ some. le_of (point_left s) (right + LARGEST_EXPONENT) (and_left (nat_le (point_left s) (right + LARGEST_EXPONENT)) (nat_le right (point_left s + LARGEST_EXPONENT)) (exponent some));
-      below = λ some. le_of right (point_left s + LARGEST_EXPONENT) (and_right (nat_le (point_left s) (right + LARGEST_EXPONENT)) (nat_le right (point_left s + LARGEST_EXPONENT)) (exponent some));
+      short = le_of (length s) LONGEST_SPELLING (first_so (nat_le (length s) LONGEST_SPELLING) (nat_le (length (exponent_digits s)) MOST_EXPONENT_DIGITS) sizes);
+      few = le_of (length (exponent_digits s)) MOST_EXPONENT_DIGITS (second_so (nat_le (length s) LONGEST_SPELLING) (nat_le (length (exponent_digits s)) MOST_EXPONENT_DIGITS) sizes);
+      small = λ some. le_of (significant_digits ds) MOST_SIGNIFICANT_DIGITS (first_so (nat_le (significant_digits ds) MOST_SIGNIFICANT_DIGITS) (has_small_exponent s) (value some));
+      above = λ some. le_of (point_left s) (right + LARGEST_EXPONENT) (first_so (nat_le (point_left s) (right + LARGEST_EXPONENT)) (nat_le right (point_left s + LARGEST_EXPONENT)) (exponent some));
+      below = λ some. le_of right (point_left s + LARGEST_EXPONENT) (second_so (nat_le (point_left s) (right + LARGEST_EXPONENT)) (nat_le right (point_left s + LARGEST_EXPONENT)) (exponent some));
     }
 
 signed_zero : (b : Bool) (n : ℕ) → n ≡ 0 → record { plus = 0; minus = 0 } ≡ signed b n

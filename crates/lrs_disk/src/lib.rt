@@ -10,6 +10,7 @@ mod door;
 mod failed;
 mod link;
 mod lobby;
+mod reading;
 mod shelf;
 mod streams;
 
@@ -18,5 +19,6 @@ pub use door::{Door, Next};
 pub use failed::Failed;
 pub use link::Link;
 pub use lobby::{DoorsRefused, Lobby};
+pub use reading::copied;
 pub use shelf::Shelf;
 pub use streams::{Sink, Source};

@@ -3,6 +3,7 @@ ghost use Rattle.std.specs.Prelude.{◌≡◌, ◌≤◌, ◌+◌, ◌-◌, [], 
 ghost use Rattle.std.specs.Option.{ForSome};
 ghost use Rattle.lrs_edge.specs.Ahead.{IsPiece};
 
+use lrs_disk::copied;
 use std::alloc::{AllocError, Global};
 use std::io;
 use std::marker::Model;
@@ -222,18 +223,4 @@ fn fill<B: Bytes>(inner: &B, place: u64, into: &mut Vec<u8>) -> io::Result<usize
 {
     let number = inner.read_at(place, into)?;
     Ok(number)
-}
-
-// Copies what stands from a place on, as much as there is room for, and answers how much.
-fn copied(bytes: &[u8], place: u64, into: &mut [u8]) -> usize
-    ensures number { result ≡ min (length into.old) (length bytes.now - place) }
-    ensures bytes { take result into.new ≡ take result (drop place bytes.now) }
-{
-    if place >= bytes.len() as u64 {
-        return 0;
-    }
-    let rest = &bytes[place as usize..];
-    let number = rest.len().min(into.len());
-    into[..number].copy_from_slice(&rest[..number]);
-    number
 }

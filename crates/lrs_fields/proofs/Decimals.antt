@@ -1,5 +1,6 @@
 -- What is written of a number of up to fifteen digits is a number of JSON, and in range.
 use Rattle.std.proofs.Common.{◌≡◌, ◌≢◌, ℕ, zero, suc, ◌+◌, ◌<◌, ◌≤◌, ◌^◌, ◌==◌, ◌&&◌, ◌||◌, nat_le, List, [], ◌∷◌, length, take, drop, reverse, get_or, not, Bool, true, false, arith, inl, inr, refl, ap, sym, ◌∙◌, append-nil}
+use Rattle.std.proofs.Math.Bool.{or-true}
 use Rattle.std.specs.Fmt.{decimal}
 use Rattle.std.specs.List.{filter, prefix_len}
 use Rattle.std.proofs.lemmas.Bool.Decides.{nat_tests}
@@ -65,10 +66,6 @@ all_digits_stay : (ds : List ℕ) → Each is_digit ds → filter is_digit ds �
 all_digits_stay [] digits = refl
 all_digits_stay (d ∷ ds) digits = rw (digits.0) (ap (λ more. d ∷ more) (all_digits_stay ds digits.1))
 
-or_true : (b : Bool) → (b || true) ≡ true
-or_true true = refl
-or_true false = refl
-
 -- the test of a range, over the parts of a spelling
 abbrev passes : ℕ → List ℕ → List ℕ → ℕ → ℕ → Bool
 passes long exponent digits right left =
@@ -82,7 +79,7 @@ few_digits_pass ds short =
     let significant : nat_le (significant_digits ds) 34 ≡ true = grind (arith, nat_tests) in
     let low : nat_le 0 (0 + trailing_zeros ds + 999) ≡ true = grind (arith, nat_tests) in
     let high : nat_le (0 + trailing_zeros ds) (0 + 999) ≡ true = grind (arith, nat_tests) in
-    rw (long, significant, low, high) (or_true (is_zero ds))
+    rw (long, significant, low, high) (or-true (is_zero ds))
 
 in_range : (ds : List ℕ) → Each is_digit ds → length ds ≤ 15 → is_in_range ds ≡ true
 in_range ds digits short =

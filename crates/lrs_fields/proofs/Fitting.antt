@@ -1,7 +1,7 @@
 -- What fields are kept as is such as reading takes it.
-use Rattle.std.proofs.Common.{◌≡◌, ℕ, List, [], ◌∷◌, Bool, true, false, ◌&&◌, not, codes, arith, refl}
+use Rattle.std.proofs.Common.{◌≡◌, ℕ, List, [], ◌∷◌, true, ◌&&◌, not, codes, arith, refl}
 use Rattle.std.specs.List.{AllByRecursion}
-use Rattle.std.proofs.lemmas.Bool.{false≢true}
+use Rattle.std.proofs.lemmas.Bool.{and_parts, not-true}
 use Rattle.lrs_agents.specs.Identifiers.{identifier_json}
 use Rattle.lrs_agents.specs.declared.identifiers.Ifi.{Ifi}
 use Rattle.lrs_agents.specs.declared.identifiers.Ifi.TheVariants.{Mbox, MboxSha1, OpenId, Account}
@@ -14,11 +14,7 @@ use Rattle.lrs_fields.proofs.Actors.{Fits-actor}
 use Rattle.lrs_fields.proofs.Apart.{are_apart}
 use Rattle.lrs_fields.proofs.Decimals.{Fits-decimal}
 use Rattle.lrs_fields.proofs.ManyTrees.{Fits-trees}
-use Rattle.lrs_fields.proofs.Words.{IsUtf8-digits, IsUtf8-small, are_small, both}
-
-no : (b : Bool) → not b ≡ true → b ≡ false
-no true h = absurd (false≢true h)
-no false h = refl
+use Rattle.lrs_fields.proofs.Words.{IsUtf8-digits, IsUtf8-small, are_small}
 
 Fits-agent : (ifi : Ifi) → HoldsAgent ifi → Fits (identifier_json ifi)
 Fits-agent (Mbox text) holds = (IsUtf8-small (codes "mbox") refl, refl, holds, tt)
@@ -46,6 +42,6 @@ pub Fits-fields : (before : List (List ℕ)) (fs : List (List ℕ × Value)) →
     → FitMembers before (members_of (members_for fs))
 Fits-fields before [] apart lawful holds = tt
 Fits-fields before (f ∷ fs) apart lawful holds =
-    let first = both (are_small f.0) (not (is_among f.0 before) && are_apart (f.0 ∷ before) fs) apart in
-    let second = both (not (is_among f.0 before)) (are_apart (f.0 ∷ before) fs) first.1 in
-    (IsUtf8-small f.0 first.0, no (is_among f.0 before) second.0, Fits-value f.1 lawful.0 holds.0, Fits-fields (f.0 ∷ before) fs second.1 lawful.1 holds.1)
+    let first = and_parts (are_small f.0) (not (is_among f.0 before) && are_apart (f.0 ∷ before) fs) apart in
+    let second = and_parts (not (is_among f.0 before)) (are_apart (f.0 ∷ before) fs) first.1 in
+    (IsUtf8-small f.0 first.0, not-true (is_among f.0 before) second.0, Fits-value f.1 lawful.0 holds.0, Fits-fields (f.0 ∷ before) fs second.1 lawful.1 holds.1)

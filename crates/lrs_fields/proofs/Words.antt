@@ -2,7 +2,7 @@
 use Rattle.std.proofs.Common.{◌≡◌, ℕ, ◌<◌, ◌^◌, ◌==◌, List, [], ◌∷◌, length, take, drop, Result, Ok, Err, MatchResult, Option, Some, None, option_map, IsAscii, IsUtf8, Bool, true, false, nat_lt, ◌&&◌, arith, refl, sym, ap, ◌∙◌, length-append}
 use Rattle.std.specs.Int.{from_be_bytes, to_be_bytes, w128}
 use Rattle.std.specs.Result.{result_ok}
-use Rattle.std.proofs.lemmas.Bool.{false_from_ne_true, false≢true}
+use Rattle.std.proofs.lemmas.Bool.{and_parts, false_from_ne_true}
 use Rattle.std.proofs.lemmas.Bool.Decides.{nat_tests}
 use Rattle.std.proofs.Math.Seq.{take-append_seam, drop-append_seam}
 use Rattle.std.proofs.lemmas.Str.{IsUtf8-append, IsUtf8-from_ascii}
@@ -18,14 +18,10 @@ abbrev pub are_small : List ℕ → Bool
 are_small [] = true
 are_small (b ∷ bs) = nat_lt b 128 && are_small bs
 
-pub both : (p q : Bool) → (p && q) ≡ true → (p ≡ true) × (q ≡ true)
-both true q h = (refl, h)
-both false q h = absurd (false≢true h)
-
 IsAscii-small : (bs : List ℕ) → are_small bs ≡ true → IsAscii bs
 IsAscii-small [] h = IsAscii-nil
 IsAscii-small (b ∷ bs) h =
-    let parts = both (nat_lt b 128) (are_small bs) h in
+    let parts = and_parts (nat_lt b 128) (are_small bs) h in
     let small : b < 128 = let test = parts.0 in grind (arith, nat_tests) in
     IsAscii-cons b bs small (IsAscii-small bs parts.1)
 

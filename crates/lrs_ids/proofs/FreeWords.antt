@@ -1,5 +1,6 @@
 -- A word that is free is found where there are more words than ids that are used or asked for.
-use Rattle.std.proofs.Common.{◌≡◌, ℕ, zero, suc, ◌+◌, ◌%◌, ◌<◌, ◌≤◌, List, ◌∷◌, ◌++◌, length, Bool, true, false, not, ◌||◌, ◌⊎◌, inl, inr, Some, cond, refl, sym, ap, subst, ◌∙◌, arith, length-append}
+use Rattle.std.proofs.Common.{◌≡◌, ℕ, zero, suc, ◌+◌, ◌%◌, ◌<◌, ◌≤◌, List, ◌∷◌, ◌++◌, length, Bool, true, false, ◌||◌, ◌⊎◌, inl, inr, Some, cond, refl, sym, ap, subst, ◌∙◌, arith, length-append}
+use Rattle.std.proofs.lemmas.Bool.{not-false, not-true, or_parts}
 use Rattle.std.specs.Prelude.{find, unwrap_or}
 use Rattle.std.specs.Str.{bytes_eq}
 use Rattle.std.proofs.lemmas.List.Folds.{list_any-append}
@@ -34,22 +35,6 @@ search_ends p (suc n) word = by_first (p word) refl (search_ends p n (word + 1))
         each zero le = let here : word ≡ word + 0 = omega arith in subst (λ w. p w ≡ false) here is
         each (suc k) le = let there : (word + 1) + k ≡ word + suc k = omega arith in subst (λ w. p w ≡ false) there (none k (omega arith))
 
-not_false : (b : Bool) → not b ≡ false → b ≡ true
-not_false true is = refl
-not_false false is = cc is
-
-not_true : (b : Bool) → not b ≡ true → b ≡ false
-not_true true is = cc is
-not_true false is = refl
-
-left_false : (a b : Bool) → a || b ≡ false → a ≡ false
-left_false true b is = is
-left_false false b is = refl
-
-right_false : (a b : Bool) → a || b ≡ false → b ≡ false
-right_false true b is = cc is
-right_false false b is = is
-
 -- where no more ids are used than are tried, one is free
 free_word-free : (used : Used) → IsCounted used → (ids : List (List ℕ)) (most word : ℕ) → used.count + length ids ≤ most → most < WORDS → is_free used ids (free_word used ids most word) ≡ true
 free_word-free used counted ids most word fits small = by_end (search_ends (is_free used ids) most word)
@@ -64,7 +49,7 @@ free_word-free used counted ids most word fits small = by_end (search_ends (is_f
     by_end (inl is) = is
     by_end (inr none) =
         absurd (not_all_used (counted.ids ++ ids) word (most + 1) (omega arith) fewer
-        (record { used = λ k less. there (id_of_word (word + k)) ∙ not_false (used.is_used (id_of_word (word + k)) || is_one_of ids (id_of_word (word + k))) (none k (omega arith)) }))
+        (record { used = λ k less. there (id_of_word (word + k)) ∙ not-false (used.is_used (id_of_word (word + k)) || is_one_of ids (id_of_word (word + k))) (none k (omega arith)) }))
 
 -- ---- ids that are made one after the other
 
@@ -79,10 +64,10 @@ one_made used id ids most n fits = (omega (arith, fits.0), omega (arith, fits.1)
 pub made_free : (used : Used) → IsCounted used → (ids : List (List ℕ)) (most word n : ℕ) → Suffices used ids most (suc n)
     → (used.is_used (id_of_word (free_word used ids most word)) ≡ false) × (is_one_of ids (id_of_word (free_word used ids most word)) ≡ false)
 made_free used counted ids most word n fits =
-    let free = not_true (used.is_used (id_of_word (free_word used ids most word)) || is_one_of ids (id_of_word (free_word used ids most word)))
+    let free = not-true (used.is_used (id_of_word (free_word used ids most word)) || is_one_of ids (id_of_word (free_word used ids most word)))
     (free_word-free used counted ids most word fits.0 (omega (arith, fits.1))) in (
-      left_false (used.is_used (id_of_word (free_word used ids most word))) (is_one_of ids (id_of_word (free_word used ids most word))) free,
-      right_false (used.is_used (id_of_word (free_word used ids most word))) (is_one_of ids (id_of_word (free_word used ids most word))) free,
+      (or_parts (used.is_used (id_of_word (free_word used ids most word))) (is_one_of ids (id_of_word (free_word used ids most word))) free).0,
+      (or_parts (used.is_used (id_of_word (free_word used ids most word))) (is_one_of ids (id_of_word (free_word used ids most word))) free).1,
     )
 
 -- where the next made id begins

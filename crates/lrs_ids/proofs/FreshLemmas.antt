@@ -1,12 +1,12 @@
 -- A set of ids doesn't hold more ids in a row than it has.
-use Rattle.std.proofs.Common.{◌≡◌, ℕ, zero, suc, ◌+◌, ◌%◌, ◌<◌, ◌≤◌, List, [], ◌∷◌, length, Bool, true, false, ◌||◌, ◌⊎◌, inl, inr, refl, sym, ap, ◌∙◌, subst, arith}
+use Rattle.std.proofs.Common.{◌≡◌, ℕ, zero, suc, ◌+◌, ◌%◌, ◌<◌, ◌≤◌, List, [], ◌∷◌, length, true, false, ◌||◌, inl, inr, refl, sym, ap, ◌∙◌, subst, arith}
 use Rattle.std.specs.Cmp.Lexicographic.{slice_cmp, same_text}
 use Rattle.std.specs.Int.{to_be_bytes, w128}
 use Rattle.std.specs.List.{IsDistinct, AllByRecursion, list_any}
 use Rattle.std.specs.Ordering.{nat_cmp, is_eq}
 use Rattle.std.specs.Set.{is_member}
 use Rattle.std.specs.Str.{bytes_eq}
-use Rattle.std.proofs.lemmas.Bool.{false≢true, cases_lt}
+use Rattle.std.proofs.lemmas.Bool.{cases_lt, false≢true, or_cases}
 use Rattle.std.proofs.lemmas.Cmp.{nat_list_eq_equiv}
 use Rattle.std.proofs.lemmas.Map.Made.{length-le_from_is_member}
 use Rattle.std.proofs.lemmas.Map.Text.{is_eq-slice_cmp}
@@ -45,15 +45,11 @@ unfolding row
 length-row w zero = refl
 length-row w (suc n) = ap suc (length-row w n)
 
-true_or : (b c : Bool) → (b || c) ≡ true → (b ≡ true) ⊎ (c ≡ true)
-true_or true c e = inl refl
-true_or false c e = inr e
-
 -- what is in the row is the id of one of its words
 in_row : (w n : ℕ) (id : List ℕ) → is_member bytes_eq (row w n) id ≡ true → (k : ℕ) × (k < n) × (id ≡ id_of_word (w + k))
 unfolding row
 in_row w zero id e = absurd (false≢true e)
-in_row w (suc n) id e = elim (true_or (bytes_eq id (id_of_word (w + n))) (is_member bytes_eq (row w n) id) e) [
+in_row w (suc n) id e = elim (or_cases (bytes_eq id (id_of_word (w + n))) (is_member bytes_eq (row w n) id) e) [
   | inl same ↦ (n, omega arith, same_text id (id_of_word (w + n)) (sym same))
   | inr later ↦ let found = in_row w n id later in (found.0, omega (arith, found.1), found.2)
 ]

@@ -1,4 +1,4 @@
-ghost use Rattle.std.specs.Prelude.{◌≡◌, ◌≤◌, ◌+◌, ◌-◌, length, take, drop, min, sum_by, vec_capacity, IfOk, OnOk, IsOk};
+ghost use Rattle.std.specs.Prelude.{◌≡◌, ◌≤◌, ◌+◌, length, take, sum_by, vec_capacity, IfOk, OnOk, IsOk};
 ghost use Rattle.lrs_disk.specs.Disk.{written};
 ghost use Rattle.lrs_in_memory.specs.Steps.{read_after, image_after, torn_write, torn_cut, crash_image};
 ghost use Rattle.lrs_in_memory.specs.Calls.{steps, step_of};
@@ -120,18 +120,4 @@ pub(crate) fn replay(
         rest = more;
     }
     Ok(left)
-}
-
-// Copies what stands from a place on, as much as there is room for, and answers how much.
-pub(crate) fn copied(bytes: &[u8], place: u64, into: &mut [u8]) -> usize
-    ensures number { result ≡ min (length into.old) (length bytes.now - place) }
-    ensures bytes { take result into.new ≡ take result (drop place bytes.now) }
-{
-    if place >= bytes.len() as u64 {
-        return 0;
-    }
-    let rest = &bytes[place as usize..];
-    let number = rest.len().min(into.len());
-    into[..number].copy_from_slice(&rest[..number]);
-    number
 }

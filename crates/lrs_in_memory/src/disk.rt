@@ -5,10 +5,10 @@ ghost use Rattle.lrs_in_memory.specs.Steps.{Nothing, Wrote, FailedWrite, CutTo, 
 ghost use Rattle.lrs_in_memory.specs.Ledger.{steps_of};
 
 use crate::Memory;
-use crate::bytes::{copied, overwrite, replay};
+use crate::bytes::{overwrite, replay};
 use crate::call::{Act, Pending};
 use crate::ledger::Ledger;
-use lrs_disk::{Disk, Failed};
+use lrs_disk::{Disk, Failed, copied};
 use std::alloc::Global;
 
 /// A disk in memory. It keeps its calls, so that what a crash leaves can be looked at.

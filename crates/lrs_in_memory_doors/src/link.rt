@@ -107,14 +107,7 @@ impl Link for MemLink {
         ensures room_left { IfOk result (λ n. room_of self.new ≡ room_of self.old - n) }
         ensures room_kept { OnErr result (room_of self.new ≡ room_of self.old) }
     {
-        if self.plan.is_due() {
-            return Err(self.plan.fail());
-        }
-        let number = self.output.write(bytes);
-        if number == 0 && !bytes.is_empty() {
-            return Err(self.plan.fail());
-        }
-        Ok(number)
+        self.output.write_due(&mut self.plan, bytes)
     }
 
     fn faults(&self) -> u64 {

@@ -7,7 +7,7 @@ use Rattle.lrs_journal.specs.Store.{store, header, body, Stands, HasHeader, IsDa
 use Rattle.lrs_journal.specs.Replay.{HasReadTo, IsWholeFrame, IsTorn}
 use Rattle.lrs_journal.specs.Steps.{Reads, IsPlaced, IsSettled, IsSound, IsReplay, IsClosed, IsCutBack}
 use Rattle.lrs_journal.specs.Journal.{settled, frames_of, TellsAlike}
-use Rattle.lrs_journal.proofs.Told.{alike_told, alike_back}
+use Rattle.lrs_journal.proofs.Told.{told_on, told_back}
 use Rattle.lrs_journal.proofs.Doubt.{placed_push, frame_read}
 use Rattle.lrs_journal.proofs.Cutting.{closed_rests, cut_back_stands}
 use Rattle.lrs_journal.proofs.Kept.{seen, settled_read}
@@ -198,7 +198,7 @@ module _ {D : Type 0} (told : D → Option (List ℕ)) (image : D → List ℕ �
     most = r.most;
     fits = r.few;
     tied = λ c told_c.
-        let old = alike_back (told d0) (told d1) c alike told_c in
+        let old = told_back (told d0) (told d1) c alike told_c in
         let tied = r.tied old.0 old.1 in
         (tied.0, closed_settled old.0 tied.0 old.1 tied.1 closed);
   }
@@ -206,7 +206,7 @@ module _ {D : Type 0} (told : D → Option (List ℕ)) (image : D → List ℕ �
   pub closed_frames : (x : List ℕ) (payloads : List (List ℕ)) → told d0 ≡ Some x → HasReadTo x limit place number payloads → TellsAlike (told d0) (told d1) → ((c : List ℕ) → image d1 c → IsClosed place (Reads told d0) c)
       → frames_of told (seen d1 limit place number None) ≡ Some payloads
   closed_frames x payloads told_x h alike closed =
-      let new = alike_told (told d0) (told d1) x alike told_x in
+      let new = told_on (told d0) (told d1) x alike told_x in
       ap (λ (o : Option (List ℕ)). option_map (λ bytes. payloads_in (settled false place bytes)) o) new.1
       ∙ ap Some (settled_read (image d1) limit place number payloads new.0 (closed_settled x payloads told_x h closed) (reads d1 new.0 new.1))
 

@@ -6,7 +6,7 @@ use Rattle.lrs_disk.specs.Disk.{written}
 use Rattle.lrs_journal.specs.Store.{body, Stands, IsBeforeOrAfter, payloads_in}
 use Rattle.lrs_journal.specs.Steps.{KeepsUpTo, IsAtGate, IsSettled, IsDoubtful, IsSound, end_behind}
 use Rattle.lrs_journal.specs.Journal.{Journal, settled, frames_of, need_of, StandsForFrames, IsHolding, IsJournal, TellsAlike, Stores}
-use Rattle.lrs_journal.proofs.Told.{alike_back}
+use Rattle.lrs_journal.proofs.Told.{told_back}
 use Rattle.lrs_journal.proofs.Doubt.{gate_within, doubt_within, behind_free, gate_keeps, gate_opens, staged_doubt, rest_stands, doubt_stands, placed_push}
 use Rattle.lrs_journal.proofs.Reading.{stands_read}
 
@@ -131,7 +131,7 @@ module _ {D : Type 0} (told : D → Option (List ℕ)) (image : D → List ℕ �
       most = sound.most;
       fits = sound.fits;
       tied = λ c told_c.
-          let old = alike_back (told d0) (told d1) c alike told_c in
+          let old = told_back (told d0) (told d1) c alike told_c in
           let tied = sound.tied old.0 old.1 in
           (tied.0, tied.1, tied.2, doubt_kept (image d0) (image d1) limit end number tied.0 tied.1 tied.3 from);
     },
@@ -152,7 +152,7 @@ module _ {D : Type 0} (told : D → Option (List ℕ)) (image : D → List ℕ �
       most = sound.most;
       fits = omega (arith, sound.fits.1);
       tied = λ c told_c.
-          let old = alike_back (told d0) (told d1) c alike told_c in
+          let old = told_back (told d0) (told d1) c alike told_c in
           let tied = sound.tied old.0 old.1 in
           (tied.0 ++ tied.1 ∷ [], doubt_opened (image d0) (image d1) limit end number size tied.0 tied.1 tied.3 tied.2 (omega (arith, sound.fits.2, sound.most)) was);
     },
@@ -175,7 +175,7 @@ module _ {D : Type 0} (told : D → Option (List ℕ)) (image : D → List ℕ �
       most = sound.most;
       fits = sound.fits;
       tied = λ c told_c.
-          let old = alike_back (told d0) (told d1) c alike told_c in
+          let old = told_back (told d0) (told d1) c alike told_c in
           let tied = sound.tied old.0 old.1 in
           (tied.0, settled_kept (image d0) (image d1) limit end number tied.0 tied.1 from);
     },
@@ -196,7 +196,7 @@ module _ {D : Type 0} (told : D → Option (List ℕ)) (image : D → List ℕ �
       most = sound.most;
       fits = (omega arith, omega (arith, sound.fits), fits);
       tied = λ c told_c.
-          let old = alike_back (told d0) (told d1) c alike told_c in
+          let old = told_back (told d0) (told d1) c alike told_c in
           let tied = sound.tied old.0 old.1 in
           (tied.0, p, refl, settled_staged (image d0) (image d1) limit end number tied.0 p tied.1 was);
     },

@@ -1,5 +1,5 @@
 mod Lists
-mod Told
+pub mod Told
 mod Cutting
 mod Doubt
 pub mod Reading

@@ -115,9 +115,9 @@ enum Ahead {
     Frame { size: u32 },
 }
 
-// What stands ahead, by its gate and its length. So many of these five bytes are there, and so many bytes in all.
+// What stands ahead, by its gate and its length. So many of a frame's first bytes are there, and so many bytes in all.
 fn ahead_of(gate: u8, size: u32, number: usize, left: u64) -> Ahead
-    ensures found { (bytes : List ℕ) → number ≡ min 5 (length bytes)
+    ensures found { (bytes : List ℕ) → number ≡ min FRAME_HEAD (length bytes)
         → take number (gate ∷ to_be_bytes w32 size) ≡ take number bytes → left ≡ length bytes → IsAhead bytes result }
     ensures fits { (n : ℕ) → result ≡ Ahead.Frame n → (n < 2 ^ 32) × (FRAME_HEAD + n ≤ left) }
 {
@@ -125,7 +125,7 @@ fn ahead_of(gate: u8, size: u32, number: usize, left: u64) -> Ahead
     if number < 2 || gate != 1 {
         return Ahead::End;
     }
-    if number < 5 || left < FRAME_HEAD + u64::from(size) {
+    if number < FRAME_HEAD as usize || left < FRAME_HEAD + u64::from(size) {
         return Ahead::Torn;
     }
     Ahead::Frame { size }
@@ -140,7 +140,7 @@ fn look<D: Disk>(disk: &mut D, place: u64, total: u64) -> Result<Ahead, Failed>
     ensures untouched { IsUntouched D.told D.image D.time D.image_since disk.old disk.new }
     ensures cause { HasCause (D.fault_count disk.old) (D.fault_count disk.new) result }
 {
-    let mut head = [0; 5];
+    let mut head = [0; FRAME_HEAD as usize];
     let number = disk.read_at(place, &mut head)?;
     let [gate, a, b, c, d] = head;
     let size = word_of([a, b, c, d]);

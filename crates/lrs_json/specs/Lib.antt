@@ -5,6 +5,7 @@ pub use Rattle.lrs_decimal.specs.Values as LrsDecimalValues
 pub mod formers
 pub mod Json
 pub mod View
+pub mod Parts
 pub mod Trees
 pub mod Written
 pub mod Texts

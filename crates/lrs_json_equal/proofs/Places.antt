@@ -1,5 +1,6 @@
 -- The member of a name at a place, where names differ, is the one that is found.
 use Rattle.std.proofs.Common.{◌≡◌, ℕ, suc, ◌<◌, get_or, drop-cons, length, Bool, true, false, List, [], ◌∷◌, ◌++◌, map, take, drop, Option, Some, is_some, if◌then◌else◌, refl, sym, ap, ◌∙◌, subst}
+use Rattle.std.proofs.lemmas.Bool.{or_parts}
 use Rattle.std.proofs.lemmas.Cmp.{nat_list_eq_equiv}
 use Rattle.std.proofs.lemmas.List.{take-append-drop}
 use Rattle.std.proofs.lemmas.Option.{slice_get_within, get_or_from_slice_get}
@@ -11,7 +12,7 @@ use Rattle.lrs_json.specs.Find.{find_member}
 use Rattle.lrs_json.specs.Names.{is_among}
 use Rattle.lrs_json.specs.Fits.{FitMembers}
 use Rattle.lrs_json.specs.declared.tree.Member.{Member}
-use Rattle.lrs_json_equal.proofs.SameValues.{or_left, or_right, found_at, passed, text-refl}
+use Rattle.lrs_json_equal.proofs.SameValues.{found_at, passed, text-refl}
 
 abbrev seen : List Member → Members
 seen ms = members_of (map member_view ms)
@@ -19,7 +20,7 @@ seen ms = members_of (map member_view ms)
 -- a member after others has none of their names, nor of those before
 is_new : (xs : List Member) (m : Member) (ys : List Member) (names : List (List ℕ)) → FitMembers names (seen (xs ++ (m ∷ ys))) → is_among (member_view m).0 names ≡ false
 is_new [] m ys names f = f.1
-is_new (x ∷ xs) m ys names f = or_right (bytes_eq (member_view m).0 (member_view x).0) (is_among (member_view m).0 names) (is_new xs m ys ((member_view x).0 ∷ names) f.3)
+is_new (x ∷ xs) m ys names f = (or_parts (bytes_eq (member_view m).0 (member_view x).0) (is_among (member_view m).0 names) (is_new xs m ys ((member_view x).0 ∷ names) f.3)).1
 
 found_behind : (xs : List Member) (m : Member) (ys : List Member) (names : List (List ℕ)) → FitMembers names (seen (xs ++ (m ∷ ys))) → find_member (member_view m).0 (seen (xs ++ (m ∷ ys))) ≡ Some (member_view m).1
 found_behind [] m ys names f =
@@ -29,7 +30,7 @@ found_behind (x ∷ xs) m ys names f =
     let k = (member_view m).0 in
     let n = (member_view x).0 in
     passed (bytes_eq n k) (member_view x).1 (find_member k (seen (xs ++ (m ∷ ys))))
-    (nat_list_eq_equiv.symm n k ∙ or_left (bytes_eq k n) (is_among k names) (is_new xs m ys (n ∷ names) f.3))
+    (nat_list_eq_equiv.symm n k ∙ (or_parts (bytes_eq k n) (is_among k names) (is_new xs m ys (n ∷ names) f.3)).0)
     ∙ found_behind xs m ys (n ∷ names) f.3
 
 is_some_at : (t : Bool) (j : Json) (rest : Option Json) → is_some rest ≡ true → is_some (if t then Some j else rest) ≡ true

@@ -1,5 +1,6 @@
 -- The same value is an equivalence.
-use Rattle.std.proofs.Common.{◌≡◌, ◌≢◌, ℕ, length, arith, Bool, true, false, ◌&&◌, ◌||◌, List, [], ◌∷◌, Option, Some, None, is_some, if◌then◌else◌, refl, sym, ap, ◌∙◌, subst, true≢false, Equal, Less, Greater}
+use Rattle.std.proofs.Common.{◌≡◌, ◌≢◌, ℕ, length, arith, Bool, true, false, ◌&&◌, List, [], ◌∷◌, Option, Some, None, is_some, if◌then◌else◌, refl, sym, ap, ◌∙◌, subst, true≢false, Equal, Less, Greater}
+use Rattle.std.proofs.lemmas.Bool.{and_from, or_parts}
 use Rattle.std.proofs.lemmas.Cmp.{nat_list_eq_equiv}
 use Rattle.std.specs.Option.{option_map_or}
 use Rattle.std.specs.declared.cmp.Ordering.{Ordering}
@@ -9,30 +10,12 @@ use Rattle.lrs_decimal.specs.Values.{order}
 use Rattle.lrs_decimal.proofs.Orders.{order-refl, order-sym, order-trans}
 use Rattle.lrs_json.specs.Json.{Json, null, boolean, number, string, array, object, Elements, no_elements, element, Members, no_members, member}
 use Rattle.std.proofs.lemmas.Slice.Eq.{bytes_eq-Decides}
+use Rattle.std.specs.Cmp.{first_so, second_so}
 use Rattle.lrs_json.specs.View.{elements_of}
 use Rattle.lrs_json.specs.Find.{find_member}
 use Rattle.lrs_json.specs.Names.{is_among}
 use Rattle.lrs_json.specs.Fits.{Fits, FitElements, FitMembers}
 use Rattle.lrs_json_equal.specs.SameValue.{same, same_elements, same_members, are_named}
-
-and_left : (a b : Bool) → (a && b) ≡ true → a ≡ true
-and_left true b e = refl
-and_left false b e = e
-
-and_right : (a b : Bool) → (a && b) ≡ true → b ≡ true
-and_right true b e = e
-and_right false b e = absurd (true≢false (sym e))
-
-both : (a b : Bool) → a ≡ true → b ≡ true → (a && b) ≡ true
-both a b e f = rw (e, f) refl
-
-pub or_left : (a b : Bool) → (a || b) ≡ false → a ≡ false
-or_left true b e = e
-or_left false b e = refl
-
-pub or_right : (a b : Bool) → (a || b) ≡ false → b ≡ false
-or_right true b e = absurd (true≢false e)
-or_right false b e = e
 
 is_equal : (o : Ordering) → is_eq o ≡ true → o ≡ Equal
 is_equal Less e = absurd (true≢false (sym e))
@@ -112,7 +95,7 @@ Leads names whole ms = (k : List ℕ) → is_among k names ≡ false → find_me
 
 leads_on : (names : List (List ℕ)) (whole ms : Members) (n : List ℕ) (j : Json) → Leads names whole (member n j ms) → Leads (n ∷ names) whole ms
 leads_on names whole ms n j leads k e =
-    leads k (or_right (bytes_eq k n) (is_among k names) e) ∙ passed (bytes_eq n k) j (find_member k ms) (nat_list_eq_equiv.symm n k ∙ or_left (bytes_eq k n) (is_among k names) e)
+    leads k (or_parts (bytes_eq k n) (is_among k names) e).1 ∙ passed (bytes_eq n k) j (find_member k ms) (nat_list_eq_equiv.symm n k ∙ (or_parts (bytes_eq k n) (is_among k names) e).0)
 
 leads_first : (names : List (List ℕ)) (whole ms : Members) (n : List ℕ) (j : Json) → Leads names whole (member n j ms) → is_among n names ≡ false → find_member n whole ≡ Some j
 leads_first names whole ms n j leads new = leads n new ∙ found_at n (bytes_eq n n) j (find_member n ms) (text-refl n)
@@ -126,22 +109,22 @@ mutual
   same-refl (number s) f = equal_is (order s s) (order-refl s)
   same-refl (string s) f = text-refl s
   same-refl (array js) f = elements-refl js f
-  same-refl (object ms) f = both (same_members ms ms) (are_named ms ms) (members-refl ms ms [] (λ k e. refl) f) (named-refl ms ms [] (λ k e. refl) f)
+  same-refl (object ms) f = and_from (same_members ms ms) (are_named ms ms) (members-refl ms ms [] (λ k e. refl) f) (named-refl ms ms [] (λ k e. refl) f)
 
   elements-refl : (js : Elements) → FitElements js → same_elements js js ≡ true
   elements-refl no_elements f = refl
-  elements-refl (element j js) f = both (same j j) (same_elements js js) (same-refl j f.0) (elements-refl js f.1)
+  elements-refl (element j js) f = and_from (same j j) (same_elements js js) (same-refl j f.0) (elements-refl js f.1)
 
   members-refl : (ms whole : Members) (names : List (List ℕ)) → Leads names whole ms → FitMembers names ms → same_members ms whole ≡ true
   members-refl no_members whole names leads f = refl
   members-refl (member n j ms) whole names leads f =
-      both (option_map_or (same j) (find_member n whole) false) (same_members ms whole)
+      and_from (option_map_or (same j) (find_member n whole) false) (same_members ms whole)
       (ap (λ o. option_map_or (same j) o false) (leads_first names whole ms n j leads f.1) ∙ same-refl j f.2) (members-refl ms whole (n ∷ names) (leads_on names whole ms n j leads) f.3)
 
   named-refl : (ms whole : Members) (names : List (List ℕ)) → Leads names whole ms → FitMembers names ms → are_named ms whole ≡ true
   named-refl no_members whole names leads f = refl
   named-refl (member n j ms) whole names leads f =
-      both (is_some (find_member n whole)) (are_named ms whole) (ap is_some (leads_first names whole ms n j leads f.1)) (named-refl ms whole (n ∷ names) (leads_on names whole ms n j leads) f.3)
+      and_from (is_some (find_member n whole)) (are_named ms whole) (ap is_some (leads_first names whole ms n j leads f.1)) (named-refl ms whole (n ∷ names) (leads_on names whole ms n j leads) f.3)
 
 -- ---- symmetric
 
@@ -158,7 +141,7 @@ same_found no_members ns k i e f = absurd (none_some i f)
 same_found (member n j ms) ns k i e f =
     let own = option_map_or (same j) (find_member n ns) false in
     same_found_at (bytes_eq n k) j i (find_member k ms) (find_member k ns) f
-    (λ t. ap (λ z. option_map_or (same j) (find_member z ns) false) (sym (name_is n k t)) ∙ and_left own (same_members ms ns) e) (same_found ms ns k i (and_right own (same_members ms ns) e))
+    (λ t. ap (λ z. option_map_or (same j) (find_member z ns) false) (sym (name_is n k t)) ∙ first_so own (same_members ms ns) e) (same_found ms ns k i (second_so own (same_members ms ns) e))
 
 -- each name that is found is one of the others
 named_found_at : (t : Bool) (j i : Json) (rest o : Option Json) → (if t then Some j else rest) ≡ Some i → (t ≡ true → is_some o ≡ true) → (rest ≡ Some i → is_some o ≡ true) → is_some o ≡ true
@@ -168,8 +151,8 @@ named_found_at false j i rest o e f g = g e
 named_found : (ms ns : Members) (k : List ℕ) (i : Json) → are_named ms ns ≡ true → find_member k ms ≡ Some i → is_some (find_member k ns) ≡ true
 named_found no_members ns k i e f = absurd (none_some i f)
 named_found (member n j ms) ns k i e f =
-    named_found_at (bytes_eq n k) j i (find_member k ms) (find_member k ns) f (λ t. ap (λ z. is_some (find_member z ns)) (sym (name_is n k t)) ∙ and_left (is_some (find_member n ns)) (are_named ms ns) e)
-    (named_found ms ns k i (and_right (is_some (find_member n ns)) (are_named ms ns) e))
+    named_found_at (bytes_eq n k) j i (find_member k ms) (find_member k ns) f (λ t. ap (λ z. is_some (find_member z ns)) (sym (name_is n k t)) ∙ first_so (is_some (find_member n ns)) (are_named ms ns) e)
+    (named_found ms ns k i (second_so (is_some (find_member n ns)) (are_named ms ns) e))
 
 some_value : (o : Option Json) → is_some o ≡ true → (j : Json) × (o ≡ Some j)
 some_value None e = absurd (true≢false (sym e))
@@ -184,7 +167,7 @@ same_named : (ms ns : Members) → same_members ms ns ≡ true → are_named ms 
 same_named no_members ns e = refl
 same_named (member n j ms) ns e =
     let own = option_map_or (same j) (find_member n ns) false in
-    both (is_some (find_member n ns)) (are_named ms ns) (mapped_some (same j) (find_member n ns) (and_left own (same_members ms ns) e)) (same_named ms ns (and_right own (same_members ms ns) e))
+    and_from (is_some (find_member n ns)) (are_named ms ns) (mapped_some (same j) (find_member n ns) (first_so own (same_members ms ns) e)) (same_named ms ns (second_so own (same_members ms ns) e))
 
 boolean-sym : (b c : Bool) → same (boolean b) (boolean c) ≡ true → same (boolean c) (boolean b) ≡ true
 boolean-sym true true e = e
@@ -201,17 +184,17 @@ members-sym : (rest ms ns : Members) (names : List (List ℕ)) → Leads names n
     → ((k : List ℕ) (j i : Json) → find_member k ms ≡ Some j → Fits i → same j i ≡ true → same i j ≡ true) → same_members rest ms ≡ true
 members-sym no_members ms ns names leads f covered named flips = refl
 members-sym (member n i rest) ms ns names leads f covered named flips =
-    let there = some_value (find_member n ms) (and_left (is_some (find_member n ms)) (are_named rest ms) named) in
+    let there = some_value (find_member n ms) (first_so (is_some (find_member n ms)) (are_named rest ms) named) in
     let j = there.0 in
     let here : find_member n ns ≡ Some i = leads_first names ns rest n i leads f.1 in
     let same_one : same j i ≡ true = ap (λ o. option_map_or (same j) o false) (sym here) ∙ same_found ms ns n j covered there.1 in
-    both (option_map_or (same i) (find_member n ms) false) (same_members rest ms) (ap (λ o. option_map_or (same i) o false) there.1 ∙ flips n j i there.1 f.2 same_one)
-    (members-sym rest ms ns (n ∷ names) (leads_on names ns rest n i leads) f.3 covered (and_right (is_some (find_member n ms)) (are_named rest ms) named) flips)
+    and_from (option_map_or (same i) (find_member n ms) false) (same_members rest ms) (ap (λ o. option_map_or (same i) o false) there.1 ∙ flips n j i there.1 f.2 same_one)
+    (members-sym rest ms ns (n ∷ names) (leads_on names ns rest n i leads) f.3 covered (second_so (is_some (find_member n ms)) (are_named rest ms) named) flips)
 
 objects-sym : (ms ns : Members) → FitMembers [] ns → same (object ms) (object ns) ≡ true → ((k : List ℕ) (j i : Json) → find_member k ms ≡ Some j → Fits i → same j i ≡ true → same i j ≡ true) → same (object ns) (object ms) ≡ true
 objects-sym ms ns f e flips =
-    let covered = and_left (same_members ms ns) (are_named ns ms) e in
-    both (same_members ns ms) (are_named ms ns) (members-sym ns ms ns [] (λ k z. refl) f covered (and_right (same_members ms ns) (are_named ns ms) e) flips) (same_named ms ns covered)
+    let covered = first_so (same_members ms ns) (are_named ns ms) e in
+    and_from (same_members ns ms) (are_named ms ns) (members-sym ns ms ns [] (λ k z. refl) f covered (second_so (same_members ms ns) (are_named ns ms) e) flips) (same_named ms ns covered)
 
 mutual
   pub same-sym : (j k : Json) → Fits k → same j k ≡ true → same k j ≡ true
@@ -233,7 +216,7 @@ mutual
       let g = subst FitElements o.2 f in
       let d = subst (λ z. same_elements (element j js) z ≡ true) o.2 e in
       subst (λ z. same_elements z (element j js) ≡ true) (sym o.2)
-      (both (same o.0 j) (same_elements o.1 js) (same-sym j o.0 g.0 (and_left (same j o.0) (same_elements js o.1) d)) (elements-sym js o.1 g.1 (and_right (same j o.0) (same_elements js o.1) d)))
+      (and_from (same o.0 j) (same_elements o.1 js) (same-sym j o.0 g.0 (first_so (same j o.0) (same_elements js o.1) d)) (elements-sym js o.1 g.1 (second_so (same j o.0) (same_elements js o.1) d)))
 
   -- of each value that is found in ms
   found-sym : (ms : Members) (k : List ℕ) (j i : Json) → find_member k ms ≡ Some j → Fits i → same j i ≡ true → same i j ≡ true
@@ -252,8 +235,8 @@ boolean-trans false false d e f = f
 named-trans : (os ns ms : Members) → are_named os ns ≡ true → are_named ns ms ≡ true → are_named os ms ≡ true
 named-trans no_members ns ms e f = refl
 named-trans (member n h os) ns ms e f =
-    let there = some_value (find_member n ns) (and_left (is_some (find_member n ns)) (are_named os ns) e) in
-    both (is_some (find_member n ms)) (are_named os ms) (named_found ns ms n there.0 f there.1) (named-trans os ns ms (and_right (is_some (find_member n ns)) (are_named os ns) e) f)
+    let there = some_value (find_member n ns) (first_so (is_some (find_member n ns)) (are_named os ns) e) in
+    and_from (is_some (find_member n ms)) (are_named os ms) (named_found ns ms n there.0 f there.1) (named-trans os ns ms (second_so (is_some (find_member n ns)) (are_named os ns) e) f)
 
 mapped_at : (j i : Json) (o : Option Json) → ((h : Json) → same j i ≡ true → same i h ≡ true → same j h ≡ true) → same j i ≡ true → option_map_or (same i) o false ≡ true → option_map_or (same j) o false ≡ true
 mapped_at j i None f s e = e
@@ -297,8 +280,8 @@ mutual
       let one = subst (λ z. same (object ms) z ≡ true) o.1 e in
       let two = subst (λ z. same (object ns) z ≡ true) p.1 g in
       subst (λ z. same (object ms) z ≡ true) (sym p.1)
-      (both (same_members ms os) (are_named os ms) (members-trans ms ns os (and_left (same_members ms ns) (are_named ns ms) one) (and_left (same_members ns os) (are_named os ns) two))
-      (named-trans os ns ms (and_right (same_members ns os) (are_named os ns) two) (and_right (same_members ms ns) (are_named ns ms) one)))
+      (and_from (same_members ms os) (are_named os ms) (members-trans ms ns os (first_so (same_members ms ns) (are_named ns ms) one) (first_so (same_members ns os) (are_named os ns) two))
+      (named-trans os ns ms (second_so (same_members ns os) (are_named os ns) two) (second_so (same_members ms ns) (are_named ns ms) one)))
 
   elements-trans : (js ks ls : Elements) → same_elements js ks ≡ true → same_elements ks ls ≡ true → same_elements js ls ≡ true
   elements-trans no_elements ks ls e f = subst (λ z. same_elements z ls ≡ true) (is_none ks e) f
@@ -309,15 +292,15 @@ mutual
       let one = subst (λ z. same_elements (element j js) z ≡ true) o.2 e in
       let two = subst (λ z. same_elements (element o.0 o.1) z ≡ true) p.2 g in
       subst (λ z. same_elements (element j js) z ≡ true) (sym p.2)
-      (both (same j p.0) (same_elements js p.1) (same-trans j o.0 p.0 (and_left (same j o.0) (same_elements js o.1) one) (and_left (same o.0 p.0) (same_elements o.1 p.1) two))
-      (elements-trans js o.1 p.1 (and_right (same j o.0) (same_elements js o.1) one) (and_right (same o.0 p.0) (same_elements o.1 p.1) two)))
+      (and_from (same j p.0) (same_elements js p.1) (same-trans j o.0 p.0 (first_so (same j o.0) (same_elements js o.1) one) (first_so (same o.0 p.0) (same_elements o.1 p.1) two))
+      (elements-trans js o.1 p.1 (second_so (same j o.0) (same_elements js o.1) one) (second_so (same o.0 p.0) (same_elements o.1 p.1) two)))
 
   members-trans : (ms ns os : Members) → same_members ms ns ≡ true → same_members ns os ≡ true → same_members ms os ≡ true
   members-trans no_members ns os e f = refl
   members-trans (member n j ms) ns os e f =
       let own = option_map_or (same j) (find_member n ns) false in
-      both (option_map_or (same j) (find_member n os) false) (same_members ms os) (mapped-trans j ns os n (find_member n ns) refl (λ i h. same-trans j i h) (and_left own (same_members ms ns) e) f)
-      (members-trans ms ns os (and_right own (same_members ms ns) e) f)
+      and_from (option_map_or (same j) (find_member n os) false) (same_members ms os) (mapped-trans j ns os n (find_member n ns) refl (λ i h. same-trans j i h) (first_so own (same_members ms ns) e) f)
+      (members-trans ms ns os (second_so own (same_members ms ns) e) f)
 
 -- ---- lengths
 

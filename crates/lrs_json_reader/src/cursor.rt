@@ -77,6 +77,13 @@ impl<'a> Cursor<'a> {
     {
         Cursor { left: bytes, alloc }
     }
+
+    /// Those that are left.
+    pub fn bytes(&self) -> &'a [u8]
+        ensures { result.now ≡ self.now }
+    {
+        self.left
+    }
 }
 
 impl Cursor<'_> {

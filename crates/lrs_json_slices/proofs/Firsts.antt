@@ -6,10 +6,10 @@ use Rattle.std.specs.List.{flat_map}
 use Rattle.std.proofs.lemmas.List.{append-nil}
 use Rattle.lrs_decimal.proofs.NumberLemmas.{IsNumber-begins, begins_number}
 use Rattle.lrs_json.specs.Json.{Json, null, boolean, number, string, array, object, Elements, no_elements, element, Members, no_members, member}
+use Rattle.lrs_json.specs.Parts.{items_in, members_in, text_in}
 use Rattle.lrs_json.specs.Spellable.{AreSpellableElements, IsSpellable}
 use Rattle.lrs_json.specs.Written.{elements_text, escaped, members_text, written}
 use Rattle.lrs_json_reader.proofs.Alike.{first_same}
-use Rattle.lrs_json_slices.specs.Parts.{items_in, members_in, text_in}
 use Rattle.lrs_json_slices.specs.Single.{ItemsFrom-prop, MembersFrom-prop, TextFrom-prop, same_json}
 use Rattle.lrs_json_slices.specs.Spelled.{IsSpelled, ItemsFrom, MembersFrom, TextFrom, WrittenFrom}
 

@@ -1,15 +1,16 @@
 -- The next item and the next member.
-use Rattle.std.proofs.Common.{◌≡◌, ◌<◌, ℕ, List, [], ◌∷◌, ◌++◌, ◌&&◌, Bool, true, false, refl, sym, ap, ◌∙◌, true≢false, arith}
+use Rattle.std.proofs.Common.{◌≡◌, ◌<◌, ℕ, List, [], ◌∷◌, ◌++◌, Bool, true, false, refl, sym, ap, ◌∙◌, true≢false, arith}
 use Rattle.std.specs.List.{flat_map, list_all}
 use Rattle.std.specs.Str.{bytes_eq}
 use Rattle.std.proofs.lemmas.Grind.{common_steps}
 use Rattle.std.proofs.lemmas.Slice.Eq.{bytes_eq-Decides}
 use Rattle.std.proofs.Math.Logic.{∥∥₁_map}
+use Rattle.std.proofs.lemmas.Bool.{and_parts}
 use Rattle.lrs_json.specs.Json.{Json, Elements, no_elements, element, Members, no_members, member}
+use Rattle.lrs_json.specs.Parts.{count_items, count_members}
 use Rattle.lrs_json.specs.Spellable.{AreSpellableElements, AreSpellableMembers}
 use Rattle.lrs_json.specs.Written.{elements_text, escaped, is_plain, members_text, quoted, written}
 use Rattle.lrs_json_reader.proofs.Escapes.{same_quoted}
-use Rattle.lrs_json_slices.specs.Parts.{count_items, count_members}
 use Rattle.lrs_json_slices.specs.Single.{ItemsFrom-prop, MembersFrom-prop, TextFrom-prop, WrittenFrom-prop}
 use Rattle.lrs_json_slices.specs.Spelled.{IsSpelled, ItemsFrom, MembersFrom, TextFrom, WrittenFrom}
 
@@ -78,14 +79,10 @@ escaped_itself : (b : ℕ) → is_plain b ≡ true → escaped b ≡ b ∷ []
 unfolding escaped
 escaped_itself b p = grind (arith, common_steps)
 
-both : (a b : Bool) → (a && b) ≡ true → (a ≡ true) × (b ≡ true)
-both true b e = (refl, e)
-both false b e = absurd (true≢false (sym e))
-
 plain_itself : (text : List ℕ) → list_all is_plain text ≡ true → flat_map escaped text ≡ text
 plain_itself [] p = refl
 plain_itself (b ∷ text) p =
-    let plain = both (is_plain b) (list_all is_plain text) p in
+    let plain = and_parts (is_plain b) (list_all is_plain text) p in
     rw (escaped_itself b plain.0, plain_itself text plain.1) refl
 
 -- so what stands between the quotes tells whether a text is that one

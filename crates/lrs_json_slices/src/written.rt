@@ -4,9 +4,9 @@ ghost use Rattle.std.specs.List.{list_all};
 ghost use Rattle.std.specs.Str.{bytes_eq};
 ghost use Rattle.lrs_json.specs.Find.{find, find_member};
 ghost use Rattle.lrs_json.specs.Json.{Json, array, element, member, no_elements, no_members, object, string};
+ghost use Rattle.lrs_json.specs.Parts.{count_items, count_members, items_in, members_in, text_in};
 ghost use Rattle.lrs_json.specs.Spellable.{IsSpellable};
 ghost use Rattle.lrs_json.specs.Written.{Extends, is_plain, quoted, written};
-ghost use Rattle.lrs_json_slices.specs.Parts.{count_items, count_members, items_in, members_in, text_in};
 ghost use Rattle.lrs_json_slices.specs.Single.{ItemsFrom-prop, MembersFrom-prop, TextFrom-prop, WrittenFrom-prop};
 ghost use Rattle.lrs_json_slices.specs.Spelled.{ItemsFrom, MembersFrom, TextFrom, WrittenFrom};
 

@@ -38,7 +38,8 @@ placed_found bytes p e =
     ))
     (λ t h. absurd (none-some p h)))
 
-placed_again : (bytes : List ℕ) (p : Placed) → IsText p bytes → placed_in bytes ≡ Some p
+-- what bytes are the text of is found
+pub placed_again : (bytes : List ℕ) (p : Placed) → IsText p bytes → placed_in bytes ≡ Some p
 unfolding placed_in
 placed_again bytes p t =
     let spaces = Spaces-length bytes t.0 t.2 in

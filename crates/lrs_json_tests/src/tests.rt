@@ -325,6 +325,10 @@ fn just_the_written_form_is_read_back(rt: HostRuntime) {
 #[test]
 fn no_bytes_but_utf8_are_read_back(rt: HostRuntime) {
     assert_eq!(rt; is_all_read_back(rt.alloc(), b"\"\xff\"", 0), Ok(false));
+}
+
+#[test]
+fn no_bytes_but_utf8_are_read_back_behind_an_escape(rt: HostRuntime) {
     assert_eq!(rt; is_all_read_back(rt.alloc(), b"\"\\n\xff\"", 0), Ok(false));
 }
 

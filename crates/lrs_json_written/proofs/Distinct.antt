@@ -6,11 +6,11 @@ use Rattle.std.specs.Ordering.{nat_cmp}
 use Rattle.std.specs.Str.{bytes_eq}
 use Rattle.std.proofs.lemmas.List.{drop_all, take_more}
 use denote.Ref.{Bor}
-use Rattle.lrs_json.specs.Names.{is_among}
+use Rattle.lrs_json.specs.Names.{are_new, is_among}
 use Rattle.lrs_json.specs.View.{member_view}
 use Rattle.lrs_json.specs.declared.tree.Member.{Member}
-use Rattle.lrs_json.proofs.Sets.{Names, has_more, has_name, not_false, not_true}
-use Rattle.lrs_json_written.specs.Fitting.{are_new, names_in}
+use Rattle.lrs_json.proofs.Sets.{Names, SetSoFar, has_name, name_again, name_new, names_done}
+use Rattle.lrs_json_written.specs.Fitting.{names_in}
 
 left_from : {A : Type 0} (xs : List A) (i : ℕ) (x : A) → i < length xs → x ≡ get_or xs i x → drop i xs ≡ x ∷ drop (i + 1) xs
 left_from xs i x within at = rw add-one (drop-cons xs i x within ∙ ap (λ z. z ∷ drop (suc i) xs) (sym at))
@@ -80,31 +80,19 @@ few_again ms i m named within at told known so =
 pub few_done : (ms : List Member) (i : ℕ) → length ms ≤ i → NewSoFar (names_in (take i ms)) (names_in (drop i ms)) (names_in ms) → true ≡ are_new [] (names_in ms)
 few_done ms i end so = ap (λ us. are_new so.so_far (names_in us)) (sym (drop_all i ms end)) ∙ so.same
 
--- The set has each name so far, and all are new where those that are left are, after these.
-pub record SetSoFar (names : Names) (left all : List (List ℕ)) : Type 0 where
-  pub so_far : List (List ℕ)
-  pub has : (k : List ℕ) → has_name k names ≡ is_among k so_far
-  pub same : are_new so_far left ≡ are_new [] all
+-- the names from a member on, as borrowed
+names_from : (k : Bor (List ℕ)) (ms : List Member) (i : ℕ) (m : Member) → i < length ms → m ≡ get_or ms i m → (member_view m).0 ≡ k.now → names_in (drop i ms) ≡ k.now ∷ names_in (drop (i + 1) ms)
+names_from k ms i m within at name = names_left ms i m within at ∙ ap (λ n. n ∷ names_in (drop (i + 1) ms)) name
 
 pub many_more : (k : Bor (List ℕ)) (names new : Names) (ms : List Member) (i : ℕ) (m : Member) → i < length ms → m ≡ get_or ms i m → (member_view m).0 ≡ k.now → SetSoFar names (names_in (drop i ms)) (names_in ms)
     → UpdatesBy (λ x y. slice_cmp nat_cmp x.now y.now) (λ n. slice_cmp nat_cmp k.now n.now) names new true → true ≡ not (has_name k.now names) → SetSoFar new (names_in (drop (i + 1) ms)) (names_in ms)
 many_more k names new ms i m within at name so updates unknown =
-    let among : is_among k.now so.so_far ≡ false = sym (so.has k.now) ∙ not_true (has_name k.now names) unknown in
-    let later = names_in (drop (i + 1) ms) in
-    let e : names_in (drop i ms) ≡ k.now ∷ later = names_left ms i m within at ∙ ap (λ n. n ∷ later) name in
-    record {
-      so_far = k.now ∷ so.so_far;
-      has = has_more k names new so.so_far updates so.has;
-      same = ap (λ b. not b && are_new (k.now ∷ so.so_far) later) (sym among) ∙ ap (λ left. are_new so.so_far left) (sym e) ∙ so.same;
-    }
+    name_new k names new (names_in (drop i ms)) (names_in (drop (i + 1) ms)) (names_in ms) so (names_from k ms i m within at name) updates unknown
 
 pub many_again : (k : Bor (List ℕ)) (names : Names) (ms : List Member) (i : ℕ) (m : Member) → i < length ms → m ≡ get_or ms i m → (member_view m).0 ≡ k.now → SetSoFar names (names_in (drop i ms)) (names_in ms)
     → false ≡ not (has_name k.now names) → false ≡ are_new [] (names_in ms)
 many_again k names ms i m within at name so known =
-    let among : is_among k.now so.so_far ≡ true = sym (so.has k.now) ∙ not_false (has_name k.now names) known in
-    let later = names_in (drop (i + 1) ms) in
-    let e : names_in (drop i ms) ≡ k.now ∷ later = names_left ms i m within at ∙ ap (λ n. n ∷ later) name in
-    ap (λ b. not b && are_new (k.now ∷ so.so_far) later) (sym among) ∙ ap (λ left. are_new so.so_far left) (sym e) ∙ so.same
+    name_again k names (names_in (drop i ms)) (names_in (drop (i + 1) ms)) (names_in ms) so (names_from k ms i m within at name) known
 
 pub many_done : (names : Names) (ms : List Member) (i : ℕ) → length ms ≤ i → SetSoFar names (names_in (drop i ms)) (names_in ms) → true ≡ are_new [] (names_in ms)
-many_done names ms i end so = ap (λ us. are_new so.so_far (names_in us)) (sym (drop_all i ms end)) ∙ so.same
+many_done names ms i end so = names_done names (names_in (drop i ms)) (names_in ms) so (ap (λ us. names_in us) (drop_all i ms end))

@@ -3,6 +3,7 @@ use Rattle.std.proofs.Common.{◌≡◌, ◌<◌, ℕ, ◌-◌, length, List, []
 use Rattle.std.proofs.lemmas.List.{map-append}
 use Rattle.lrs_json.specs.Fits.{IsReadable}
 use Rattle.lrs_json.specs.Json.{Json, object, Members, no_members, member}
+use Rattle.lrs_json.specs.Names.{are_new}
 use Rattle.lrs_json.specs.View.{member_view, members_of, view}
 use Rattle.lrs_json.specs.Written.{comma_if, members_text, quoted, written}
 use Rattle.lrs_json.specs.declared.tree.Member.{Member}
@@ -14,7 +15,7 @@ use Rattle.lrs_json_reader.proofs.Alike.{alike, alike_members, first_same, membe
 use Rattle.lrs_json_reader.proofs.Escapes.{same_quoted}
 use Rattle.lrs_json_reader.proofs.Rereads.{members_Ends, tail_same}
 use Rattle.lrs_json_reader.proofs.WrittenLemmas.{Fits-IsSpellable}
-use Rattle.lrs_json_written.specs.Fitting.{HaveReadable, are_new, names_in, names_of}
+use Rattle.lrs_json_written.specs.Fitting.{HaveReadable, names_in, names_of}
 use Rattle.lrs_json_written.specs.Reading.{GoesOn, NamedAt, NextMember, ReadsMember, ReadsMembers, ReadsTree, mark}
 use Rattle.lrs_json_written.proofs.Fitted.{named_apart, named_fit}
 use Rattle.lrs_json_written.proofs.Readings.{goes_shorter, members_spelled, not_empty, nothing_reads, object_only}

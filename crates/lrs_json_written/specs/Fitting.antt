@@ -1,15 +1,9 @@
 -- What is readable at a limit, told of its parts: the names of an object are distinct, and each value is readable.
-use Rattle.std.specs.Prelude.{ℕ, List, [], ◌∷◌, map, Bool, true, not, ◌&&◌, IsUtf8}
+use Rattle.std.specs.Prelude.{ℕ, List, [], ◌∷◌, map, IsUtf8}
 use Rattle.lrs_json.specs.Fits.{IsReadable}
 use Rattle.lrs_json.specs.Json.{Elements, no_elements, element, Members, no_members, member}
-use Rattle.lrs_json.specs.Names.{is_among}
 use Rattle.lrs_json.specs.View.{member_view, members_of}
 use Rattle.lrs_json.specs.declared.tree.Member.{Member}
-
--- each is none of those before it, nor one of the names
-abbrev pub are_new : List (List ℕ) → List (List ℕ) → Bool
-are_new names [] = true
-are_new names (k ∷ ks) = not (is_among k names) && are_new (k ∷ names) ks
 
 abbrev pub names_of : Members → List (List ℕ)
 names_of no_members = []

@@ -2,9 +2,10 @@
 //! than the caller allows, with numbers in range and distinct names in each object. Begin with `reading`.
 #![tactic(auto)]
 
-mod cursor;
 mod names;
 mod reading;
+mod texts;
 
-pub use cursor::{Cursor, read_text};
+pub use lrs_json_reader::Cursor;
 pub use reading::{read_tree, read_trees};
+pub use texts::read_text;

@@ -1,5 +1,6 @@
 ghost use Rattle.std.specs.Prelude.{◌≡◌, [], IfOk};
-ghost use Rattle.lrs_json_written.specs.Fitting.{are_new, names_in};
+ghost use Rattle.lrs_json.specs.Names.{are_new};
+ghost use Rattle.lrs_json_written.specs.Fitting.{names_in};
 
 use lrs_json::{Member, Memory};
 use lrs_json_reader::{FEW_MEMBERS, is_named};

@@ -9,11 +9,11 @@ ghost use Rattle.lrs_json.specs.declared.tree.Tree.{Tree as SpecTree};
 ghost use Rattle.lrs_json_reader.specs.Steps.{Finds};
 ghost use Rattle.lrs_json_written.specs.Reading.{GoesOn, NextItem, NextMember, ReadsItems, ReadsMember, ReadsMembers, ReadsNumber, ReadsText, ReadsTree, ReadsWord};
 
-use crate::cursor::{Cursor, read_text};
 use crate::names::have_distinct_names;
+use crate::texts::read_text;
 use lrs_decimal::is_in_range;
 use lrs_json::{Items, Member, Number, Tree};
-use lrs_json_reader::Stop;
+use lrs_json_reader::{Cursor, Stop};
 
 /// The tree whose written form comes next, nested at most `depth` deep.
 pub fn read_tree(cursor: &mut Cursor<'_>, depth: u32) -> Result<Tree, Stop>

@@ -7,13 +7,14 @@ use Rattle.lrs_json.specs.Depth.{depth, depth_of_members}
 use Rattle.lrs_json.specs.Fits.{FitMembers, Fits, IsReadable}
 use Rattle.lrs_json.specs.Json.{Json, null, boolean, number, string, array, object, Members, no_members, member}
 use Rattle.lrs_json.specs.Names.{is_among}
+use Rattle.lrs_json.specs.Parts.{members_in}
 use Rattle.lrs_json.specs.Written.{written}
 use Rattle.lrs_json.specs.declared.limits.TheConstants.{DEPTH}
 use Rattle.lrs_json_reader.proofs.WrittenLemmas.{Spells-IsReadable, written-Spells}
 use Rattle.lrs_json_spelled.proofs.Law.{finds_what_is_spelled}
 use Rattle.lrs_json_spelled.specs.Spelled.{value_in}
 use Rattle.lrs_laws.specs.Documents.{MergedIsRead}
-use Rattle.xapi_docs.specs.Merging.{members_in, merged_members, object_in, with_member, with_members}
+use Rattle.xapi_docs.specs.Merging.{merged_members, object_in, with_member, with_members}
 
 -- ---- one member
 

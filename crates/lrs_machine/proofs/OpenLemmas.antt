@@ -10,6 +10,8 @@ use Rattle.lrs_journal.specs.Store.{HasHeader, Stands, header, magic, payloads_i
 use Rattle.lrs_journal.specs.Journal.{Journal, frames_of, IsJournal, IsSynced, IsUnchanged, TellsAlike, StandsForFrames, settled}
 use Rattle.lrs_journal.specs.Replay.{Replay, HasRead}
 use Rattle.lrs_journal.specs.declared.sizes.TheConstants.{FRAME_HEAD, HEADER}
+pub use Rattle.lrs_journal.proofs.Told.{alike_self}
+use Rattle.lrs_journal.proofs.Told.{told_back, told_on}
 use Rattle.lrs_journal.proofs.Unique.{store_length}
 use Rattle.lrs_record.specs.declared.entry.Entry.{Entry}
 use Rattle.lrs_record.specs.Entries.{IsLawful, written_entry}
@@ -33,17 +35,6 @@ use Rattle.lrs_machine.proofs.ActLemmas.{settled_leaves}
 use Rattle.lrs_machine.proofs.Lines.{some_same, none_some}
 use Rattle.lrs_machine.proofs.Prefixes.{rests, run_then, weaker}
 use Rattle.lrs_machine.proofs.Tied.{Moves, alike_mapped, frames_told, tells_alike, told_of}
-
--- what is told of one is told of the other
-pub told_on : (o p : Option (List ℕ)) (b : List ℕ) → TellsAlike o p → o ≡ Some b → (c : List ℕ) × (p ≡ Some c)
-told_on o (Some c) b alike is = (c, refl)
-told_on None None b alike is = absurd (none_some b is)
-told_on (Some d) None b alike is = absurd alike
-
-pub told_back : (o p : Option (List ℕ)) (c : List ℕ) → TellsAlike o p → p ≡ Some c → (b : List ℕ) × (o ≡ Some b)
-told_back (Some b) p c alike is = (b, refl)
-told_back None None c alike is = absurd (none_some c is)
-told_back None (Some d) c alike is = absurd alike
 
 -- ---- what is opened
 
@@ -85,10 +76,6 @@ create_opened told image o journal st limit frame e h is text frames sound lawfu
 
 pub create_tells : {D : Type 0} (told : D → Option (List ℕ)) (o : Option (List ℕ)) (journal : Journal D) (frame : List ℕ) → frames_of told journal ≡ option_map (λ _. frame ∷ []) o → TellsAlike o (told journal.disk)
 create_tells told o journal frame is = alike_mapped (λ bytes. payloads_in (settled journal.doubt journal.gate bytes)) (λ _. frame ∷ []) o (told journal.disk) is
-
-pub alike_self : (o : Option (List ℕ)) → TellsAlike o o
-alike_self None = tt
-alike_self (Some b) = tt
 
 -- ---- what is closed
 

@@ -1,11 +1,12 @@
 -- The marks of a desk tell the disk of its opening, and the desk's disk comes from it.
 use base.Stored.{Coded, Gv, gnil, gnum, gcons}
-use Rattle.std.proofs.Common.{◌≡◌, ℕ, ◌≤◌, List, [], ◌∷◌, ◌++◌, length, map, Option, Some, None, Bool, true, false, Result, refl, sym, ap, ◌∙◌, subst, arith, append_assoc}
+use Rattle.std.proofs.Common.{◌≡◌, ℕ, ◌≤◌, List, [], ◌∷◌, ◌++◌, length, map, Option, Bool, true, false, Result, refl, sym, ap, ◌∙◌, subst, arith, append_assoc}
 use Rattle.std.specs.Prelude.{is_ok}
 use Rattle.std.specs.Option.{ForSome}
 use Rattle.lrs_disk.specs.Disk.{LeavesOnly}
 use Rattle.lrs_fold.specs.LrsHistoryHistory.{Answer, IsLegal}
 use Rattle.lrs_journal.specs.Journal.{Journal, StandsForFrames, TellsAlike}
+use Rattle.lrs_journal.proofs.Told.{alike_both, alike_self, told_on}
 use Rattle.lrs_record.specs.Entries.{written_entry}
 use Rattle.lrs_record.specs.declared.entry.Entry.{Entry}
 use Rattle.lrs_replies.specs.declared.answered.Answered.{Answered}
@@ -16,7 +17,6 @@ use Rattle.lrs_machine.specs.Numbers.{numbers_of, spelled}
 use Rattle.lrs_machine.specs.Origin.{ComesFrom}
 use Rattle.lrs_machine.specs.Steps.{Happens, one_of, sure_of}
 use Rattle.lrs_machine.proofs.Lines.{Goes, doubt_opened, entries_goes, entries_opened, goes, sure_more}
-use Rattle.lrs_machine.proofs.OpenLemmas.{alike_self, told_on}
 use Rattle.lrs_machine.proofs.Prefixes.{prefix_less, prefix_on, prefix_whole, rests, run_then, weaker}
 
 -- ---- numbers
@@ -72,13 +72,6 @@ happens_begins a said landed moment old new h =
 abbrev pub disk_in : {D : Type 0} → Journal D → D
 disk_in journal = journal.disk
 
-alike_then : (a b c : Option (List ℕ)) → TellsAlike a b → TellsAlike b c → TellsAlike a c
-alike_then None None c first second = second
-alike_then None (Some y) c first second = absurd first
-alike_then (Some x) None c first second = absurd first
-alike_then (Some x) (Some y) None first second = second
-alike_then (Some x) (Some y) (Some z) first second = tt
-
 module _ {D : Type 0} (told : D → Option (List ℕ)) (image : D → List ℕ → Type 0) (time : D → ℕ) (since : D → ℕ → List ℕ → Type 0) where
   -- at the opening
   pub comes_here : ((d : D) (c : List ℕ) → since d (time d) c → image d c) → (disk : D) (limit least : ℕ) (line : List Record) → least ≤ length (entries line) → IsLegal limit (entries line) → in_doubt line ≡ false
@@ -94,7 +87,7 @@ module _ {D : Type 0} (told : D → Option (List ℕ)) (image : D → List ℕ �
   pub comes_on : (on old new : D) (limit limit_now least sures : ℕ) (h h_now : List Entry) → ComesFrom told time since limit least h on old → TellsAlike (told old) (told new) → BeginsWith h h_now → least ≤ sures
       → ForSome (told old) (λ _. LeavesOnly time since old new (HoldsPrefix limit sures h_now)) → limit_now ≡ limit → ComesFrom told time since limit_now least h_now on new
   comes_on on old new limit limit_now least sures h h_now comes alike goes_on le stops same = subst (λ (l : ℕ). ComesFrom told time since l least h_now on new) (sym same) (
-    alike_then (told on) (told old) (told new) comes.0 alike,
+    alike_both (told on) (told old) (told new) comes.0 alike,
     λ b there.
         let m = told_on (told on) (told old) b comes.0 there in
         run_then time since on old new (HoldsPrefix limit least h_now) (HoldsPrefix limit sures h_now)

@@ -5,6 +5,7 @@ use Rattle.std.specs.Option.{ForSome}
 use Rattle.std.proofs.lemmas.List.{take-append-le, length-map}
 use Rattle.lrs_disk.specs.Disk.{LeavesOnly}
 use Rattle.lrs_fold.specs.LrsHistoryHistory.{IsLegal, IsLegalFrom}
+use Rattle.lrs_journal.proofs.Told.{told_on}
 use Rattle.lrs_journal.specs.Journal.{StandsForFrames, TellsAlike}
 use Rattle.lrs_journal.specs.Store.{IsBeforeOrAfter, Stands}
 use Rattle.lrs_record.specs.Entries.{written_entry}
@@ -71,10 +72,6 @@ stops_then told time since old mid new alike limit goes sures first second = λ 
     (weaker time since old.disk mid.disk (HoldsPrefix old.limit (sure old.line) (history mid)) (HoldsPrefix old.limit (sure old.line) (history new)) (first b there) (λ c held. prefix_on old.limit (sure old.line) (history mid) (history new) c goes held))
     (second m.0 m.1)
     (λ c held. prefix_less old.limit (sure mid.line) (sure old.line) (history new) c sures (subst (λ (l : ℕ). HoldsPrefix l (sure mid.line) (history new) c) limit held))
-  where
-    told_on : (o p : Option (List ℕ)) (b : List ℕ) → TellsAlike o p → o ≡ Some b → (c : List ℕ) × (p ≡ Some c)
-    told_on o (Some c) b alike is = (c, refl)
-    told_on o None b alike is = absurd (subst (λ (q : Option (List ℕ)). TellsAlike q None) is alike)
 
 -- ---- frames
 

@@ -32,15 +32,6 @@ text_of (string text) = Some text
 text_of (array js) = None
 text_of (object ms) = None
 
--- the items of an array
-abbrev pub items_of : Json → Elements
-items_of null = no_elements
-items_of (boolean b) = no_elements
-items_of (number s) = no_elements
-items_of (string s) = no_elements
-items_of (array js) = js
-items_of (object ms) = no_elements
-
 -- the member stands
 abbrev pub has_member : List ℕ → Json → Bool
 has_member name j = is_some (find name j)

@@ -1,5 +1,6 @@
 -- What is read of a whole entry: its heading, its command, and what closes them.
 use Rattle.std.proofs.Common.{◌≡◌, ◌≤◌, ℕ, List, [], ◌∷◌, ◌++◌, Result, Ok, Err, OnOk, IsUtf8, codes, Bool, true, false, append-nil, append_assoc, arith, refl, sym, ap, ◌∙◌}
+use Rattle.std.proofs.lemmas.Bool.{and_parts}
 use Rattle.std.specs.Fmt.{decimal}
 use Rattle.lrs_fields.specs.LrsDecimalNumbers.{Ends, IsNumber}
 use Rattle.lrs_fields.specs.Digits.{HoldsDraw, draw_text}
@@ -7,7 +8,7 @@ use Rattle.lrs_fields.specs.Reading.{IsKept, Reads, field_text}
 use Rattle.lrs_fields.specs.Values.{members_for, text_value}
 use Rattle.lrs_fields.proofs.FieldValues.{IsNumber-decimal, spelled_text}
 use Rattle.lrs_fields.proofs.Sequences.{before, behind, both_stand, both_text, made, mapped, paired, two}
-use Rattle.lrs_fields.proofs.Words.{IsUtf8-small, are_small, both}
+use Rattle.lrs_fields.proofs.Words.{IsUtf8-small, are_small}
 use Rattle.lrs_fields.proofs.Apart.{are_apart}
 use Rattle.lrs_json.specs.Json.{Json, string}
 use Rattle.lrs_json.specs.Texts.{member_text}
@@ -85,7 +86,7 @@ command_parts w rest =
     ∙ joined (opening_text (write_name w)) (open_fields w) rest
 
 small_name : (w : Write) → IsUtf8 (write_name w)
-small_name w = IsUtf8-small (write_name w) (both (are_small (write_name w)) (are_apart [] (write_fields w)) (well_named w)).0
+small_name w = IsUtf8-small (write_name w) (and_parts (are_small (write_name w)) (are_apart [] (write_fields w)) (well_named w)).0
 
 pub opening_failed : (old new own : List ℕ) (e : Stop) → Reads opening_text IsUtf8 Anything old (Err e) new → Reads command_text IsKeptWrite Ends old (Err e) own
 opening_failed old new own e reads =

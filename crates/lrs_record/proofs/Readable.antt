@@ -1,11 +1,12 @@
 -- The text of a lawful entry is written from a value such as reading takes it.
 use Rattle.std.proofs.Common.{◌≤◌, ℕ, [], IsUtf8, codes, arith, refl}
+use Rattle.std.proofs.lemmas.Bool.{and_parts}
 use Rattle.std.specs.Fmt.{decimal}
 use Rattle.std.proofs.lemmas.Str.{IsUtf8-nil}
 use Rattle.lrs_fields.proofs.Apart.{are_apart}
 use Rattle.lrs_fields.proofs.Decimals.{Fits-decimal}
 use Rattle.lrs_fields.proofs.Fitting.{Fits-fields}
-use Rattle.lrs_fields.proofs.Words.{IsUtf8-draw_text, IsUtf8-small, are_small, both}
+use Rattle.lrs_fields.proofs.Words.{IsUtf8-draw_text, IsUtf8-small, are_small}
 use Rattle.lrs_json.specs.Fits.{Fits}
 use Rattle.lrs_json.specs.Json.{number}
 use Rattle.lrs_record.specs.Entries.{HoldsCaller, HoldsWrite, IsLawful, IsLawfulWrite, caller_text, write_json, entry_json}
@@ -24,7 +25,7 @@ IsUtf8-caller_text (Token token) holds = holds
 
 Fits-write : (write : Write) → IsLawfulWrite write → HoldsWrite write → Fits (write_json write)
 Fits-write write lawful holds =
-    let named = both (are_small (write_name write)) (are_apart [] (write_fields write)) (well_named write) in
+    let named = and_parts (are_small (write_name write)) (are_apart [] (write_fields write)) (well_named write) in
     (IsUtf8-small (write_name write) named.0, refl, Fits-fields [] (write_fields write) named.1 lawful holds, tt)
 
 Fits-moment : (moment : ℕ) → moment ≤ LATEST → Fits (number (decimal moment))

@@ -249,11 +249,6 @@ launch_again registration unit mode None holds = rw (read_id registration holds.
 launch_again registration unit mode (Some address) holds =
     rw (read_id registration holds.0, read_iri unit holds.1.0.1, read_mode mode, read_iri address holds.1.1.1.0.1) refl
 
--- no tree stands in it
-pub lawful_launch : (registration unit : List ℕ) (mode : Mode) (return_url : Option (List ℕ)) → IsLawfulWrite (Launch registration unit mode return_url)
-lawful_launch registration unit mode None = (tt, (tt, (tt, tt)))
-lawful_launch registration unit mode (Some address) = (tt, (tt, (tt, (tt, tt))))
-
 apart_launch : (registration unit : List ℕ) (mode : Mode) (return_url : Option (List ℕ)) → are_apart [] (write_fields (Launch registration unit mode return_url)) ≡ true
 apart_launch registration unit mode None = refl
 apart_launch registration unit mode (Some address) = refl

@@ -11,14 +11,14 @@ pub record Registered (K T : Type 0) : Type 0 where
   pub places : List (K × Option ℕ)
   pub spare : ℕ
 
--- the place of the first item under a key
-abbrev pub place_under : {K T : Type 0} → (K → K → Ordering) → (T → K) → K → List T → Option ℕ
-place_under cmp key_of key held = position (λ x. is_at (cmp (key_of x)) key) held
+-- the place of the first item under a key, where a test tells which keys are the same
+abbrev pub place_under : {K T : Type 0} → (K → K → Bool) → (T → K) → K → List T → Option ℕ
+place_under same key_of key held = position (λ x. same (key_of x) key) held
 
 -- each key has the place of the first item under it
 pub record IsIndexed {K T : Type 0} (cmp : K → K → Ordering) (key_of : T → K) (places : List (K × Option ℕ))
     (held : List T) : Type 0 where
-  pub found : (k : K) → place_of cmp places k ≡ place_under cmp key_of k held
+  pub found : (k : K) → place_of cmp places k ≡ place_under (λ key. is_at (cmp key)) key_of k held
 
 -- ---- room
 

@@ -64,7 +64,7 @@ impl<K: Ord + Drop, T: Keyed<K> + Drop> Register<K, T> {
 
     /// The place of the first item under a key.
     pub fn place(&self, key: &K) -> Option<usize>
-        ensures { result ≡ place_under K.cmp T.key key.now self.now.held }
+        ensures { result ≡ place_under (λ k. is_at (K.cmp k)) T.key key.now self.now.held }
     {
         self.places.get(key)
     }

@@ -1,9 +1,10 @@
 -- Registers that stay so short that 32 bits number their items. They are found by keys of bytes.
-use Rattle.std.specs.Prelude.{◌+◌, ◌<◌, ◌^◌, ℕ, Bool, List, length, find, position, Option}
+use Rattle.std.specs.Prelude.{◌+◌, ◌<◌, ◌^◌, ℕ, Bool, List, length, find, Option}
 use Rattle.std.specs.Str.{bytes_eq}
 use Rattle.std.specs.declared.cmp.Ordering.{Ordering}
 use Rattle.lrs_register.specs.Changes.{HasRoomForChange, with_change}
 use Rattle.lrs_register.specs.Places.{AddsNoPlace, MakesPlaces, TakesPlacesBack}
+use Rattle.lrs_register.specs.Register as register
 use Rattle.lrs_register.specs.Register.{Registered, is_key_of}
 use Rattle.lrs_register.specs.declared.change.Change.{Change}
 
@@ -15,7 +16,7 @@ first_under key_of key xs = find (λ x. bytes_eq (key_of x) key) xs
 
 -- the place of that item
 abbrev pub place_under : {A : Type 0} → (A → List ℕ) → List ℕ → List A → Option ℕ
-place_under key_of key xs = position (λ x. bytes_eq (key_of x) key) xs
+place_under key_of key xs = register.place_under bytes_eq key_of key xs
 
 abbrev pub has_key_of : {A : Type 0} → (A → List ℕ) → A → A → Bool
 has_key_of key_of x y = bytes_eq (key_of x) (key_of y)

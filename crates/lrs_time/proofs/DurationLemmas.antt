@@ -10,6 +10,7 @@ use Rattle.lrs_time.specs.Digits.{IsNumeral, cut_fraction}
 use Rattle.lrs_time.specs.Duration.{Amount, is_decimal_sign, IsDecimalPart, IsAmount, billionths, field_text, fields_text, EachAmount, all_missing, FractionIsLast, Fields, date_fields, clock_fields, date_units, clock_units, clock_text, SpellsDuration, Span, span_of, IsNoDuration, IsDurationOf, IsSame, same_span}
 use Rattle.lrs_time.specs.Reading.{numeral_at, after, quantity_behind, quantity_at, is_empty, unit_behind, field_at, fields_at, all_none, if_some_field, clock_fields_at, span_from, fields_together, duration_at}
 use Rattle.lrs_time.specs.declared.durations.Quantity.{Quantity}
+use Rattle.lrs_time.specs.declared.durations.TheConstants.{BILLION}
 use Rattle.lrs_time.proofs.DigitLemmas.{numeral_found, numeral_again}
 use Rattle.lrs_time.proofs.TimestampLemmas.{after_found, after_again}
 
@@ -52,19 +53,19 @@ quantity_of a = record { billionths = billionths a; is_whole = is_empty a.fracti
 abbrev IsQuantityFront : List ℕ → Quantity × List ℕ → Type 0
 IsQuantityFront text q = (a : Amount) × IsAmount a × (quantity_of a ≡ q.0) × (text ≡ a.digits ++ (a.fraction ++ q.1))
 
-whole_quantity : (text ds rest : List ℕ) → IsNumeral 9 ds → text ≡ ds ++ rest → IsQuantityFront text (record { billionths = digits_value 10 ds * 1_000_000_000; is_whole = true }, rest)
+whole_quantity : (text ds rest : List ℕ) → IsNumeral 9 ds → text ≡ ds ++ rest → IsQuantityFront text (record { billionths = digits_value 10 ds * BILLION; is_whole = true }, rest)
 whole_quantity text ds rest n t =
-    let none : digits_value 10 ds * 1_000_000_000 + 0 ≡ digits_value 10 ds * 1_000_000_000 = omega arith in
+    let none : digits_value 10 ds * BILLION + 0 ≡ digits_value 10 ds * BILLION = omega arith in
     (record { digits = ds; fraction = [] }, record { digits = n; fraction = tt }, ap (λ (b : ℕ). record { billionths = b; is_whole = true }) none, t)
 
-behind_at : (text ds : List ℕ) (byte : ℕ) (rest : List ℕ) (q : Quantity × List ℕ) (t : Bool) → is_decimal_sign byte ≡ t → IsNumeral 9 ds → text ≡ ds ++ (byte ∷ rest) → (if t then option_and_then (λ (digits : List ℕ × List ℕ). Some (record { billionths = digits_value 10 ds * 1_000_000_000 + cut_fraction 9 digits.0; is_whole = false }, digits.1)) (numeral_at 9 rest) else Some (record { billionths = digits_value 10 ds * 1_000_000_000; is_whole = true }, byte ∷ rest)) ≡ Some q → IsQuantityFront text q
+behind_at : (text ds : List ℕ) (byte : ℕ) (rest : List ℕ) (q : Quantity × List ℕ) (t : Bool) → is_decimal_sign byte ≡ t → IsNumeral 9 ds → text ≡ ds ++ (byte ∷ rest) → (if t then option_and_then (λ (digits : List ℕ × List ℕ). Some (record { billionths = digits_value 10 ds * BILLION + cut_fraction 9 digits.0; is_whole = false }, digits.1)) (numeral_at 9 rest) else Some (record { billionths = digits_value 10 ds * BILLION; is_whole = true }, byte ∷ rest)) ≡ Some q → IsQuantityFront text q
 behind_at text ds byte rest q true sign n t e =
     option_and_then_some _ (numeral_at 9 rest) q e (λ more is e.
     let f = numeral_found 9 rest more is in
     subst (IsQuantityFront text) (same_Some _ _ e) (record { digits = ds; fraction = byte ∷ more.0 }, record { digits = n; fraction = (sign, f.0) }, refl, t ∙ ap (λ z. ds ++ (byte ∷ z)) f.1))
 behind_at text ds byte rest q false sign n t e = subst (IsQuantityFront text) (same_Some _ _ e) (whole_quantity text ds (byte ∷ rest) n t)
 
-behind_found : (text ds rest : List ℕ) (q : Quantity × List ℕ) → IsNumeral 9 ds → text ≡ ds ++ rest → quantity_behind (digits_value 10 ds * 1_000_000_000) rest ≡ Some q → IsQuantityFront text q
+behind_found : (text ds rest : List ℕ) (q : Quantity × List ℕ) → IsNumeral 9 ds → text ≡ ds ++ rest → quantity_behind (digits_value 10 ds * BILLION) rest ≡ Some q → IsQuantityFront text q
 unfolding quantity_behind
 behind_found text ds [] q n t e = subst (IsQuantityFront text) (same_Some _ _ e) (whole_quantity text ds [] n t)
 behind_found text ds (byte ∷ rest) q n t e = behind_at text ds byte rest q (is_decimal_sign byte) refl n t e
@@ -83,10 +84,10 @@ IsUnit unit = (is_ascii_digit unit ≡ false) × (is_decimal_sign unit ≡ false
 sign_no_digit : (byte : ℕ) → is_decimal_sign byte ≡ true → is_ascii_digit byte ≡ false
 sign_no_digit byte h = grind arith
 
-again_at : (ds fs : List ℕ) (unit : ℕ) (rest : List ℕ) → IsNumeral 9 ds → IsDecimalPart fs → IsUnit unit → quantity_at (ds ++ (fs ++ (unit ∷ rest))) ≡ Some (record { billionths = digits_value 10 ds * 1_000_000_000 + cut_fraction 9 (drop 1 fs); is_whole = is_empty fs }, unit ∷ rest)
+again_at : (ds fs : List ℕ) (unit : ℕ) (rest : List ℕ) → IsNumeral 9 ds → IsDecimalPart fs → IsUnit unit → quantity_at (ds ++ (fs ++ (unit ∷ rest))) ≡ Some (record { billionths = digits_value 10 ds * BILLION + cut_fraction 9 (drop 1 fs); is_whole = is_empty fs }, unit ∷ rest)
 unfolding quantity_at quantity_behind
 again_at ds [] unit rest n f u =
-    let none : digits_value 10 ds * 1_000_000_000 + 0 ≡ digits_value 10 ds * 1_000_000_000 = omega arith in
+    let none : digits_value 10 ds * BILLION + 0 ≡ digits_value 10 ds * BILLION = omega arith in
     rw (numeral_again 9 ds (unit ∷ rest) n u.0) (rw u.1 (rw none refl))
 again_at ds (byte ∷ more) unit rest n f u =
     rw (numeral_again 9 ds (byte ∷ (more ++ (unit ∷ rest))) n (sign_no_digit byte f.0)) (rw f.0 (rw (numeral_again 9 more (unit ∷ rest) f.1 u.0) refl))

@@ -4,6 +4,7 @@ use Rattle.std.specs.Prelude.{◌∷◌, ◌++◌, drop, Option, Some, None, opt
 use Rattle.std.specs.Str.Parse.{digits_value}
 use Rattle.std.specs.Fmt.{decimal}
 use Rattle.lrs_time.specs.Digits.{IsNumeral, cut_fraction, two_digits}
+use Rattle.lrs_time.specs.declared.durations.TheConstants.{BILLION}
 
 -- ---- one field
 
@@ -27,7 +28,7 @@ pub record IsAmount (a : Amount) : Type 0 where
 
 -- the number in billionths
 abbrev pub billionths : Amount → ℕ
-billionths a = digits_value 10 a.digits * 1_000_000_000 + cut_fraction 9 (drop 1 a.fraction)
+billionths a = digits_value 10 a.digits * BILLION + cut_fraction 9 (drop 1 a.fraction)
 
 -- a field that stands is its number and the letter of its unit
 abbrev pub field_text : ℕ → Option Amount → List ℕ

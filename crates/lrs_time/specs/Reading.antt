@@ -12,6 +12,7 @@ use Rattle.lrs_time.specs.Digits.{cut_fraction}
 use Rattle.lrs_time.specs.Timestamp.{seconds_ahead, nanoseconds}
 use Rattle.lrs_time.specs.Duration.{is_decimal_sign, date_units, clock_units, Span}
 use Rattle.lrs_time.specs.declared.durations.Quantity.{Quantity}
+use Rattle.lrs_time.specs.declared.durations.TheConstants.{BILLION}
 use Rattle.lrs_time.specs.declared.timestamps.CivilDay.{CivilDay}
 use Rattle.lrs_time.specs.declared.timestamps.Offset.{Offset}
 use Rattle.lrs_time.specs.declared.timestamps.Parts.{Parts}
@@ -150,7 +151,7 @@ quantity_behind billionths (byte ∷ rest) =
 
 -- the number of a field
 unfoldable pub quantity_at : Front Quantity
-quantity_at text = numeral_at 9 text >>= (λ digits. quantity_behind (digits_value 10 digits.0 * 1_000_000_000) digits.1)
+quantity_at text = numeral_at 9 text >>= (λ digits. quantity_behind (digits_value 10 digits.0 * BILLION) digits.1)
 
 abbrev pub is_empty : List ℕ → Bool
 is_empty [] = true

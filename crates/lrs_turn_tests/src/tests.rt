@@ -153,9 +153,16 @@ fn count_by<R: Threads + Wait + Sync>(
 }
 
 #[test]
-fn threads_count_under_the_turn(rt: HostRuntime) {
-    let alloc = rt.alloc();
-    assert_eq!(rt; count_by(&rt, alloc, 1, 3).ok(), Some(4));
-    assert_eq!(rt; count_by(&rt, alloc, 2, 50).ok(), Some(101));
-    assert_eq!(rt; count_by(&rt, alloc, 16, 20).ok(), Some(321));
+fn one_thread_counts(rt: HostRuntime) {
+    assert_eq!(rt; count_by(&rt, rt.alloc(), 1, 3).ok(), Some(4));
+}
+
+#[test]
+fn two_threads_count_under_the_turn(rt: HostRuntime) {
+    assert_eq!(rt; count_by(&rt, rt.alloc(), 2, 50).ok(), Some(101));
+}
+
+#[test]
+fn sixteen_threads_count_under_the_turn(rt: HostRuntime) {
+    assert_eq!(rt; count_by(&rt, rt.alloc(), 16, 20).ok(), Some(321));
 }

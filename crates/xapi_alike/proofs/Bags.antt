@@ -1,10 +1,10 @@
 -- What is alike of arrays without order, given that what is alike of their items is an equivalence.
 use Rattle.std.proofs.Common.{◌≡◌, ℕ, suc, ◌+◌, ◌≤◌, ◌==◌, ◌⊎◌, inl, inr, arith, Bool, true, false, ◌||◌, if◌then◌else◌, refl, sym, ap, ◌∙◌, subst, true≢false}
-use Rattle.std.proofs.lemmas.Bool.{eq-eqb}
+use Rattle.std.proofs.lemmas.Bool.{and_from, eq-eqb, or_cases, or_left, or_right}
 use Rattle.std.proofs.lemmas.Bool.Decides.{Decides-eqb}
+use Rattle.std.specs.Cmp.{both_ways, first_so, second_so}
 use Rattle.xapi_alike.specs.Normal.{Normal, Normals, none, more}
 use Rattle.xapi_alike.specs.Alike.{alike, size, count, same_count, as_often, same_bag}
-use Rattle.xapi_alike.proofs.LeafLaws.{and_left, and_right, both, either, or_left, or_right, both_ways}
 use Rattle.xapi_alike.proofs.Neat.{Neat, NeatAll}
 use Rattle.xapi_alike.proofs.Objects.{Agrees}
 
@@ -100,7 +100,7 @@ covered_here x z xs (inr f) later = let there = later f in (there.0, inr there.1
 
 covered_by : (xs : Normals) (z : Normal) → covers xs z ≡ true → (x : Normal) × In x xs × (alike x z ≡ true)
 covered_by none z e = absurd (true≢false (sym e))
-covered_by (more x xs) z e = covered_here x z xs (either (alike x z) (covers xs z) e) (covered_by xs z)
+covered_by (more x xs) z e = covered_here x z xs (or_cases (alike x z) (covers xs z) e) (covered_by xs z)
 
 covers_in : (xs : Normals) (x z : Normal) → In x xs → alike x z ≡ true → covers xs z ≡ true
 covers_in none x z i e = absurd i
@@ -124,7 +124,7 @@ covers_again : (x : Normal) (ls xs : Normals) → Within ls xs → Neat x → Ea
 covers_again x ls xs within n agree e z =
     let by = covered_by ls x e in
     both_ways (alike x z || covers ls z) (covers ls z)
-    (λ f. here (either (alike x z) (covers ls z) f)) (λ f. or_right (alike x z) (covers ls z) f)
+    (λ f. here (or_cases (alike x z) (covers ls z) f)) (λ f. or_right (alike x z) (covers ls z) f)
   where
     here : (alike x z ≡ true) ⊎ (covers ls z ≡ true) → covers ls z ≡ true
     here (inl f) = let by = covered_by ls x e in covers_in ls by.0 z by.1 (agree by.0 x (within by.0 by.1) n by.2 z ∙ f)
@@ -169,35 +169,35 @@ pub as_often_counts : (ls xs ys : Normals) → as_often ls xs ys ≡ true → Sa
 unfolding same_count
 as_often_counts none xs ys e x i = absurd i
 as_often_counts (more y ls) xs ys e x (inl i) =
-    subst (λ (z : Normal). count (alike z) xs ≡ count (alike z) ys) (sym i) ((Decides-eqb (count (alike y) xs) (count (alike y) ys)).0 (and_left (same_count (alike y) xs ys) (as_often ls xs ys) e))
-as_often_counts (more y ls) xs ys e x (inr i) = as_often_counts ls xs ys (and_right (same_count (alike y) xs ys) (as_often ls xs ys) e) x i
+    subst (λ (z : Normal). count (alike z) xs ≡ count (alike z) ys) (sym i) ((Decides-eqb (count (alike y) xs) (count (alike y) ys)).0 (first_so (same_count (alike y) xs ys) (as_often ls xs ys) e))
+as_often_counts (more y ls) xs ys e x (inr i) = as_often_counts ls xs ys (second_so (same_count (alike y) xs ys) (as_often ls xs ys) e) x i
 
 pub counts_as_often : (ls xs ys : Normals) → SameCounts ls xs ys → as_often ls xs ys ≡ true
 unfolding same_count
 counts_as_often none xs ys h = refl
 counts_as_often (more y ls) xs ys h =
-    both (same_count (alike y) xs ys) (as_often ls xs ys) (eq-eqb (count (alike y) xs) (count (alike y) ys) (h y (inl refl))) (counts_as_often ls xs ys (λ x i. h x (inr i)))
+    and_from (same_count (alike y) xs ys) (as_often ls xs ys) (eq-eqb (count (alike y) xs) (count (alike y) ys) (h y (inl refl))) (counts_as_often ls xs ys (λ x i. h x (inr i)))
 
 pub bag_refl : (xs : Normals) → same_bag xs xs ≡ true
-bag_refl xs = both (size xs == size xs) (as_often xs xs xs) (eq-eqb (size xs) (size xs) refl) (counts_as_often xs xs xs (λ x i. refl))
+bag_refl xs = and_from (size xs == size xs) (as_often xs xs xs) (eq-eqb (size xs) (size xs) refl) (counts_as_often xs xs xs (λ x i. refl))
 
 pub bags_agree : (xs ys : Normals) → NeatAll xs → NeatAll ys → EachAgrees xs → EachAlike xs → same_bag xs ys ≡ true → (zs : Normals) → same_bag xs zs ≡ same_bag ys zs
 bags_agree xs ys nx ny agree same e zs = both_ways (same_bag xs zs) (same_bag ys zs) onward backward
   where
     sizes : size xs ≡ size ys
-    sizes = (Decides-eqb (size xs) (size ys)).0 (and_left (size xs == size ys) (as_often xs xs ys) e)
+    sizes = (Decides-eqb (size xs) (size ys)).0 (first_so (size xs == size ys) (as_often xs xs ys) e)
 
     counts : SameCounts xs xs ys
-    counts = as_often_counts xs xs ys (and_right (size xs == size ys) (as_often xs xs ys) e)
+    counts = as_often_counts xs xs ys (second_so (size xs == size ys) (as_often xs xs ys) e)
 
     joined : (x y : Normal) → In x xs → In y ys → alike x y ≡ true → (ws : Normals) → count (alike x) ws ≡ count (alike y) ws
     joined x y i j f ws = count_agree (alike x) (alike y) ws (λ z k. agree x y i (neat_in ys y ny j) f z)
 
     onward : same_bag xs zs ≡ true → same_bag ys zs ≡ true
     onward f =
-        let far = as_often_counts xs xs zs (and_right (size xs == size zs) (as_often xs xs zs) f) in
-        both (size ys == size zs) (as_often ys ys zs)
-        (eq-eqb (size ys) (size zs) (sym sizes ∙ (Decides-eqb (size xs) (size zs)).0 (and_left (size xs == size zs) (as_often xs xs zs) f)))
+        let far = as_often_counts xs xs zs (second_so (size xs == size zs) (as_often xs xs zs) f) in
+        and_from (size ys == size zs) (as_often ys ys zs)
+        (eq-eqb (size ys) (size zs) (sym sizes ∙ (Decides-eqb (size xs) (size zs)).0 (first_so (size xs == size zs) (as_often xs xs zs) f)))
         (counts_as_often ys ys zs (λ y j.
         let there = partner_in xs ys nx ny agree same sizes counts y j in
         let x = there.0 in
@@ -205,9 +205,9 @@ bags_agree xs ys nx ny agree same e zs = both_ways (same_bag xs zs) (same_bag ys
 
     backward : same_bag ys zs ≡ true → same_bag xs zs ≡ true
     backward f =
-        let far = as_often_counts ys ys zs (and_right (size ys == size zs) (as_often ys ys zs) f) in
-        both (size xs == size zs) (as_often xs xs zs)
-        (eq-eqb (size xs) (size zs) (sizes ∙ (Decides-eqb (size ys) (size zs)).0 (and_left (size ys == size zs) (as_often ys ys zs) f)))
+        let far = as_often_counts ys ys zs (second_so (size ys == size zs) (as_often ys ys zs) f) in
+        and_from (size xs == size zs) (as_often xs xs zs)
+        (eq-eqb (size xs) (size zs) (sizes ∙ (Decides-eqb (size ys) (size zs)).0 (first_so (size ys == size zs) (as_often ys ys zs) f)))
         (counts_as_often xs xs zs (λ x i.
         let there = count_some (alike x) ys (subst (λ (n : ℕ). 1 ≤ n) (counts x i) (count_one (alike x) xs x i (same x i))) in
         let y = there.0 in

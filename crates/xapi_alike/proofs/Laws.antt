@@ -1,5 +1,7 @@
 -- What is alike is an equivalence of neat normal forms.
 use Rattle.std.proofs.Common.{◌≡◌, ℕ, List, [], ◌∷◌, Bool, true, false, ◌&&◌, inl, inr, is_some, refl, sym, ap, ◌∙◌, subst, true≢false}
+use Rattle.std.proofs.lemmas.Bool.{and_from}
+use Rattle.std.specs.Cmp.{first_so, second_so}
 use Rattle.std.specs.Str.{bytes_eq}
 use Rattle.xapi_values.specs.declared.kinds.Kind.{Kind}
 use Rattle.xapi_alike.specs.declared.place.Place.TheVariants.{Statement}
@@ -7,7 +9,7 @@ use Rattle.xapi_alike.specs.Normal.{Words, Normal, nothing, truth, amount, words
 use Rattle.xapi_values.specs.Kinds.{same_kind}
 use Rattle.xapi_alike.specs.Alike.{same_truth, same_words, same_amount, alike, all_alike, same_bag, has_name, any_named, named_alike, are_named}
 use Rattle.xapi_alike.specs.Same.{IsSameness}
-use Rattle.xapi_alike.proofs.LeafLaws.{and_left, and_right, both, truth_is, truth_refl, kind_is, kind_refl, amount_refl, amount_congr, words_refl, words_congr}
+use Rattle.xapi_alike.proofs.LeafLaws.{truth_is, truth_refl, kind_is, kind_refl, amount_refl, amount_congr, words_refl, words_congr}
 use Rattle.xapi_alike.proofs.Neat.{Neat, NeatAll, NeatNamed, find_named, Leads, leads_on, leads_first, none_some, found_case, neat}
 use Rattle.xapi_alike.proofs.Objects.{Agrees, FoundAgree, has_some, found_any, objects_agree}
 use Rattle.xapi_alike.proofs.Bags.{EachAgrees, EachAlike, bag_refl, bags_agree}
@@ -23,24 +25,24 @@ mutual
   alike-refl (items true xs) n = bag_refl xs
   alike-refl (items false xs) n = all-refl xs n
   alike-refl (thing k ms) n =
-      both (same_kind k k) (named_alike ms ms && are_named ms ms) (kind_refl k)
-      (both (named_alike ms ms) (are_named ms ms) (named-refl ms ms [] (λ i e. refl) n) (names-refl ms ms [] (λ i e. refl) n))
+      and_from (same_kind k k) (named_alike ms ms && are_named ms ms) (kind_refl k)
+      (and_from (named_alike ms ms) (are_named ms ms) (named-refl ms ms [] (λ i e. refl) n) (names-refl ms ms [] (λ i e. refl) n))
 
   all-refl : (xs : Normals) → NeatAll xs → all_alike xs xs ≡ true
   all-refl none n = refl
-  all-refl (more x xs) n = both (alike x x) (all_alike xs xs) (alike-refl x n.0) (all-refl xs n.1)
+  all-refl (more x xs) n = and_from (alike x x) (all_alike xs xs) (alike-refl x n.0) (all-refl xs n.1)
 
   named-refl : (ms whole : Named) (names : List (List ℕ)) → Leads names whole ms → NeatNamed names ms → named_alike ms whole ≡ true
   named-refl unnamed whole names leads n = refl
   named-refl (named k x ms) whole names leads n =
-      both (any_named k (alike x) whole) (named_alike ms whole)
+      and_from (any_named k (alike x) whole) (named_alike ms whole)
       (found_any k (alike x) whole x (leads_first names whole ms k x leads n.0) (alike-refl x n.1))
       (named-refl ms whole (k ∷ names) (leads_on names whole ms k x leads) n.2)
 
   names-refl : (ms whole : Named) (names : List (List ℕ)) → Leads names whole ms → NeatNamed names ms → are_named ms whole ≡ true
   names-refl unnamed whole names leads n = refl
   names-refl (named k x ms) whole names leads n =
-      both (has_name k whole) (are_named ms whole) (has_some k whole ∙ ap is_some (leads_first names whole ms k x leads n.0))
+      and_from (has_name k whole) (are_named ms whole) (has_some k whole ∙ ap is_some (leads_first names whole ms k x leads n.0))
       (names-refl ms whole (k ∷ names) (leads_on names whole ms k x leads) n.2)
 
 each-refl : (xs : Normals) → NeatAll xs → EachAlike xs
@@ -114,8 +116,8 @@ items_agree true true xs ys nx ny e h agree = unordered_agree xs ys (bags_agree 
 objects_of_kind_agree : (k l : Kind) (ms ns : Named) → NeatNamed [] ms → NeatNamed [] ns → alike (thing k ms) (thing l ns) ≡ true → FoundAgree ms → Agrees (thing k ms) (thing l ns)
 objects_of_kind_agree k l ms ns nm nn e found =
     let inside = named_alike ms ns && are_named ns ms in
-    subst (λ (i : Kind). Agrees (thing k ms) (thing i ns)) (kind_is k l (and_left (same_kind k l) inside e))
-    (things_agree k ms ns (objects_agree ms ns nm nn (and_right (same_kind k l) inside e) found))
+    subst (λ (i : Kind). Agrees (thing k ms) (thing i ns)) (kind_is k l (first_so (same_kind k l) inside e))
+    (things_agree k ms ns (objects_agree ms ns nm nn (second_so (same_kind k l) inside e) found))
 
 mutual
   agrees : (x y : Normal) → Neat x → Neat y → alike x y ≡ true → Agrees x y
@@ -142,8 +144,8 @@ mutual
       let o = is_more x xs ys e in
       let my = subst NeatAll o.2 ny in
       let d = subst (λ (w : Normals). all_alike (more x xs) w ≡ true) o.2 e in
-      let head = agrees x o.0 nx.0 my.0 (and_left (alike x o.0) (all_alike xs o.1) d) z in
-      let tail = all_agree xs o.1 nx.1 my.1 (and_right (alike x o.0) (all_alike xs o.1) d) zs in
+      let head = agrees x o.0 nx.0 my.0 (first_so (alike x o.0) (all_alike xs o.1) d) z in
+      let tail = all_agree xs o.1 nx.1 my.1 (second_so (alike x o.0) (all_alike xs o.1) d) zs in
       subst (λ (w : Normals). all_alike (more x xs) (more z zs) ≡ all_alike w (more z zs)) (sym o.2)
       (ap (λ (b : Bool). b && all_alike xs zs) head ∙ ap (λ (b : Bool). alike o.0 z && b) tail)
 

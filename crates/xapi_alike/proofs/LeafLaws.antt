@@ -1,10 +1,12 @@
 -- What is alike of leaves is an equivalence.
-use Rattle.std.proofs.Common.{◌≡◌, ℕ, List, Bool, true, false, ◌&&◌, ◌||◌, ◌⊎◌, inl, inr, refl, sym, ap, ◌∙◌, subst, true≢false, Equal, Less, Greater}
+use Rattle.std.proofs.Common.{◌≡◌, ℕ, List, Bool, true, false, ◌&&◌, ◌⊎◌, inl, inr, refl, sym, ap, ◌∙◌, subst, true≢false, Equal, Less, Greater}
+use Rattle.std.proofs.lemmas.Bool.{and_from, or_cases, or_left, or_right}
 use Rattle.std.proofs.lemmas.Cmp.{nat_list_eq_equiv, int_eq_equiv}
 use Rattle.std.specs.declared.cmp.Ordering.{Ordering}
 use Rattle.std.specs.Ordering.{is_eq}
 use Rattle.std.specs.Str.{bytes_eq}
 use Rattle.std.proofs.lemmas.Slice.Eq.{bytes_eq-Decides}
+use Rattle.std.specs.Cmp.{both_ways, first_so, second_so}
 use Rattle.lrs_decimal.specs.Values.{order}
 use Rattle.lrs_decimal.proofs.Orders.{order-sym, order-trans}
 use Rattle.lrs_time.proofs.DurationLemmas.{same_span_equivalence}
@@ -15,42 +17,6 @@ use Rattle.xapi_values.specs.Kinds.{same_kind}
 use Rattle.xapi_alike.specs.Alike.{same_amount, same_words, same_truth}
 
 -- ---- truth values
-
-pub and_left : (a b : Bool) → (a && b) ≡ true → a ≡ true
-and_left true b e = refl
-and_left false b e = e
-
-pub and_right : (a b : Bool) → (a && b) ≡ true → b ≡ true
-and_right true b e = e
-and_right false b e = absurd (true≢false (sym e))
-
-pub both : (a b : Bool) → a ≡ true → b ≡ true → (a && b) ≡ true
-both a b e f = rw (e, f) refl
-
-pub either : (a b : Bool) → (a || b) ≡ true → (a ≡ true) ⊎ (b ≡ true)
-either true b e = inl refl
-either false b e = inr e
-
-pub or_left : (a b : Bool) → a ≡ true → (a || b) ≡ true
-or_left a b e = rw e refl
-
-pub or_right : (a b : Bool) → b ≡ true → (a || b) ≡ true
-or_right true b e = refl
-or_right false b e = e
-
-pub neither_left : (a b : Bool) → (a || b) ≡ false → a ≡ false
-neither_left true b e = e
-neither_left false b e = refl
-
-pub neither_right : (a b : Bool) → (a || b) ≡ false → b ≡ false
-neither_right true b e = absurd (true≢false e)
-neither_right false b e = e
-
--- two tests that imply one another are one
-pub both_ways : (a b : Bool) → (a ≡ true → b ≡ true) → (b ≡ true → a ≡ true) → a ≡ b
-both_ways true b f g = sym (f refl)
-both_ways false true f g = g refl
-both_ways false false f g = refl
 
 pub truth_is : (b c : Bool) → same_truth b c ≡ true → b ≡ c
 truth_is true true e = refl
@@ -99,21 +65,21 @@ record OfOneValue (s t : List ℕ) : Type 0 where
 
 taken_apart : (s t : List ℕ) → of_one_value s t ≡ true → OfOneValue s t
 taken_apart s t e =
-    let front = and_left (is_decimal s && is_decimal t) (is_eq (order s t)) e in
+    let front = first_so (is_decimal s && is_decimal t) (is_eq (order s t)) e in
     record {
-      first = and_left (is_decimal s) (is_decimal t) front;
-      second = and_right (is_decimal s) (is_decimal t) front;
-      equal = is_equal (order s t) (and_right (is_decimal s && is_decimal t) (is_eq (order s t)) e);
+      first = first_so (is_decimal s) (is_decimal t) front;
+      second = second_so (is_decimal s) (is_decimal t) front;
+      equal = is_equal (order s t) (second_so (is_decimal s && is_decimal t) (is_eq (order s t)) e);
     }
 
 put_together : (s t : List ℕ) → OfOneValue s t → of_one_value s t ≡ true
-put_together s t o = both (is_decimal s && is_decimal t) (is_eq (order s t)) (both (is_decimal s) (is_decimal t) o.first o.second) (ap is_eq o.equal)
+put_together s t o = and_from (is_decimal s && is_decimal t) (is_eq (order s t)) (and_from (is_decimal s) (is_decimal t) o.first o.second) (ap is_eq o.equal)
 
 spelled : (s t : List ℕ) → bytes_eq s t ≡ true → s ≡ t
 spelled s t e = (bytes_eq-Decides s t).0 e
 
 amount_sym : (s t : List ℕ) → same_amount s t ≡ true → same_amount t s ≡ true
-amount_sym s t e = turned (either (bytes_eq s t) (of_one_value s t) e)
+amount_sym s t e = turned (or_cases (bytes_eq s t) (of_one_value s t) e)
   where
     turned : (bytes_eq s t ≡ true) ⊎ (of_one_value s t ≡ true) → same_amount t s ≡ true
     turned (inl f) = or_left (bytes_eq t s) (of_one_value t s) (sym (nat_list_eq_equiv.symm s t) ∙ f)
@@ -122,7 +88,7 @@ amount_sym s t e = turned (either (bytes_eq s t) (of_one_value s t) e)
         or_right (bytes_eq t s) (of_one_value t s) (put_together t s (record { first = o.second; second = o.first; equal = order-sym s t o.equal }))
 
 amount_trans : (s t u : List ℕ) → same_amount s t ≡ true → same_amount t u ≡ true → same_amount s u ≡ true
-amount_trans s t u e f = joined (either (bytes_eq s t) (of_one_value s t) e) (either (bytes_eq t u) (of_one_value t u) f)
+amount_trans s t u e f = joined (or_cases (bytes_eq s t) (of_one_value s t) e) (or_cases (bytes_eq t u) (of_one_value t u) f)
   where
     joined : (bytes_eq s t ≡ true) ⊎ (of_one_value s t ≡ true) → (bytes_eq t u ≡ true) ⊎ (of_one_value t u ≡ true) → same_amount s u ≡ true
     joined (inl a) b = subst (λ (z : List ℕ). same_amount z u ≡ true) (sym (spelled s t a)) f

@@ -1,5 +1,6 @@
 -- Normal forms in which no object repeats a name.
-use Rattle.std.proofs.Common.{◌≡◌, ℕ, List, [], ◌∷◌, Bool, true, false, ◌||◌, Option, Some, None, if◌then◌else◌, refl, ap, ◌∙◌, subst}
+use Rattle.std.proofs.Common.{◌≡◌, ℕ, List, [], ◌∷◌, Bool, true, false, Option, Some, None, if◌then◌else◌, ap, ◌∙◌, subst}
+use Rattle.std.proofs.lemmas.Bool.{or_from, or_parts}
 use Rattle.std.proofs.lemmas.Cmp.{nat_list_eq_equiv}
 use Rattle.std.specs.Str.{bytes_eq}
 use Rattle.lrs_json.specs.Json.{Json, null, boolean, number, string, array, object, Elements, no_elements, element, Members, no_members, member}
@@ -9,7 +10,6 @@ use Rattle.xapi_values.specs.Kinds.{kind_of}
 use Rattle.xapi_alike.specs.declared.place.Place.{Place}
 use Rattle.xapi_alike.specs.Places.{is_passed_over, kind_at, place_of_object, place_of_member, place_of_item, is_plural}
 use Rattle.xapi_alike.specs.Normal.{Normal, nothing, truth, amount, words, items, thing, Normals, none, more, Named, unnamed, named, normal, normal_items, normal_members}
-use Rattle.xapi_alike.proofs.LeafLaws.{neither_left, neither_right}
 
 abbrev mutual
   pub Neat : Normal → Type 0
@@ -33,12 +33,9 @@ abbrev mutual
 abbrev Covers : List (List ℕ) → List (List ℕ) → Type 0
 Covers names fewer = (k : List ℕ) → is_among k names ≡ false → is_among k fewer ≡ false
 
-pub not_either : (a b : Bool) → a ≡ false → b ≡ false → (a || b) ≡ false
-not_either a b e f = rw (e, f) refl
-
 covers_more : (n : List ℕ) (names fewer : List (List ℕ)) → Covers names fewer → Covers (n ∷ names) (n ∷ fewer)
 covers_more n names fewer covers k e =
-    not_either (bytes_eq k n) (is_among k fewer) (neither_left (bytes_eq k n) (is_among k names) e) (covers k (neither_right (bytes_eq k n) (is_among k names) e))
+    or_from (bytes_eq k n) (is_among k fewer) (or_parts (bytes_eq k n) (is_among k names) e).0 (covers k (or_parts (bytes_eq k n) (is_among k names) e).1)
 
 behind_fewer : (names fewer : List (List ℕ)) (ms : Named) → Covers names fewer → NeatNamed names ms → NeatNamed fewer ms
 behind_fewer names fewer unnamed covers n = tt
@@ -49,7 +46,7 @@ neat_alone true x n = (n, tt)
 neat_alone false x n = n
 
 pub neat_member : (b : Bool) (k : List ℕ) (names : List (List ℕ)) (x : Normal) (ms : Named) → is_among k names ≡ false → Neat x → NeatNamed (k ∷ names) ms → NeatNamed names (if b then ms else named k x ms)
-neat_member true k names x ms e n ns = behind_fewer (k ∷ names) names ms (λ i h. neither_right (bytes_eq i k) (is_among i names) h) ns
+neat_member true k names x ms e n ns = behind_fewer (k ∷ names) names ms (λ i h. (or_parts (bytes_eq i k) (is_among i names) h).1) ns
 neat_member false k names x ms e n ns = (e, n, ns)
 
 mutual
@@ -91,8 +88,8 @@ Leads names whole ms = (k : List ℕ) → is_among k names ≡ false → find_na
 
 pub leads_on : (names : List (List ℕ)) (whole ms : Named) (n : List ℕ) (x : Normal) → Leads names whole (named n x ms) → Leads (n ∷ names) whole ms
 leads_on names whole ms n x leads k e =
-    leads k (neither_right (bytes_eq k n) (is_among k names) e)
-    ∙ passed (bytes_eq n k) x (find_named k ms) (nat_list_eq_equiv.symm n k ∙ neither_left (bytes_eq k n) (is_among k names) e)
+    leads k (or_parts (bytes_eq k n) (is_among k names) e).1
+    ∙ passed (bytes_eq n k) x (find_named k ms) (nat_list_eq_equiv.symm n k ∙ (or_parts (bytes_eq k n) (is_among k names) e).0)
 
 pub leads_first : (names : List (List ℕ)) (whole ms : Named) (n : List ℕ) (x : Normal) → Leads names whole (named n x ms) → is_among n names ≡ false → find_named n whole ≡ Some x
 leads_first names whole ms n x leads new = leads n new ∙ found_at (bytes_eq n n) x (find_named n ms) (nat_list_eq_equiv.refl n)

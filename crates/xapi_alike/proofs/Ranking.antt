@@ -4,12 +4,13 @@ use Rattle.std.specs.List.{sum_by, slice_get}
 use Rattle.std.specs.List.Sorted.{IsPermutation}
 use Rattle.std.specs.Str.{bytes_eq}
 use Rattle.std.proofs.Math.Seq.{take-length, take-suc}
-use Rattle.std.proofs.lemmas.Bool.{eq-eqb}
+use Rattle.std.proofs.lemmas.Bool.{eq-eqb, not-true, or_from, or_left, or_right}
 use Rattle.std.proofs.lemmas.Cmp.{nat_list_eq_equiv}
 use Rattle.std.proofs.lemmas.List.{length-map}
 use Rattle.std.proofs.lemmas.List.Sorted.{length_permutation, sum_by-IsPermutation}
 use Rattle.std.proofs.lemmas.List.Sums.{sum_by-cons, sum_by_push}
 use Rattle.std.proofs.lemmas.Option.{slice_get_cases}
+use Rattle.std.specs.Cmp.{both_ways, first_so, second_so}
 use Rattle.lrs_json.specs.Names.{is_among}
 use Rattle.lrs_json.specs.Json.{Json, null, boolean, number, string, array, object, Elements, no_elements, element, Members, no_members, member}
 use Rattle.lrs_json.specs.View.{view, elements_of}
@@ -21,18 +22,13 @@ use Rattle.xapi_alike.specs.Normal.{Normal, thing, Normals, normal, normal_items
 use Rattle.xapi_alike.specs.Alike.{alike, count, same_count, as_often, size, same_bag}
 use Rattle.xapi_alike.specs.Steps.{has_member_named}
 use Rattle.xapi_alike.specs.Ranks.{places_to, has_own_names, have_own_names, are_own_names}
-use Rattle.xapi_alike.proofs.LeafLaws.{and_left, and_right, or_left, or_right, both_ways}
-use Rattle.xapi_alike.proofs.Neat.{Neat, NeatAll, NeatNamed, not_either, neat_alone, neat_member}
+use Rattle.xapi_alike.proofs.Neat.{Neat, NeatAll, NeatNamed, neat_alone, neat_member}
 use Rattle.xapi_alike.proofs.Objects.{name_is}
 use Rattle.xapi_alike.proofs.Bags.{In, neat_in, as_often_counts, counts_as_often}
 use Rattle.xapi_alike.proofs.Laws.{alike-sym, alike-trans}
 use Rattle.xapi_alike.proofs.Walks.{sizes_agree}
 
 -- ---- names of their own
-
-not_true : (b : Bool) → not b ≡ true → b ≡ false
-not_true true e = absurd (true≢false (sym e))
-not_true false e = refl
 
 -- no name of the members is among these
 abbrev NoneAmong : List (List ℕ) → Members → Type 0
@@ -56,18 +52,18 @@ mutual
   neat_own_members : (p : Place) (ms : Members) (names : List (List ℕ)) → are_own_names ms ≡ true → NoneAmong names ms → NeatNamed names (normal_members p ms)
   neat_own_members p no_members names e apart = tt
   neat_own_members p (member k j ms) names e apart =
-      let first = not_true (has_member_named k ms) (and_left (not (has_member_named k ms)) (has_own_names j && are_own_names ms) e) in
-      let rest = and_right (not (has_member_named k ms)) (has_own_names j && are_own_names ms) e in
+      let first = not-true (has_member_named k ms) (first_so (not (has_member_named k ms)) (has_own_names j && are_own_names ms) e) in
+      let rest = second_so (not (has_member_named k ms)) (has_own_names j && are_own_names ms) e in
       neat_member (is_passed_over p k) k names (normal (place_of_member p k) j) (normal_members p ms)
       (apart k (or_left (bytes_eq k k) (has_member_named k ms) (nat_list_eq_equiv.refl k)))
-      (neat_own (place_of_member p k) j (and_left (has_own_names j) (are_own_names ms) rest))
-      (neat_own_members p ms (k ∷ names) (and_right (has_own_names j) (are_own_names ms) rest)
-      (λ i h. not_either (bytes_eq i k) (is_among i names) (other_name (bytes_eq i k) k i ms refl first h) (apart i (or_right (bytes_eq k i) (has_member_named i ms) h))))
+      (neat_own (place_of_member p k) j (first_so (has_own_names j) (are_own_names ms) rest))
+      (neat_own_members p ms (k ∷ names) (second_so (has_own_names j) (are_own_names ms) rest)
+      (λ i h. or_from (bytes_eq i k) (is_among i names) (other_name (bytes_eq i k) k i ms refl first h) (apart i (or_right (bytes_eq k i) (has_member_named i ms) h))))
 
 pub neat_own_items : (p : Place) (js : Elements) → have_own_names js ≡ true → NeatAll (normal_items p js)
 neat_own_items p no_elements e = tt
 neat_own_items p (element j js) e =
-    (neat_own p j (and_left (has_own_names j) (have_own_names js) e), neat_own_items p js (and_right (has_own_names j) (have_own_names js) e))
+    (neat_own p j (first_so (has_own_names j) (have_own_names js) e), neat_own_items p js (second_so (has_own_names j) (have_own_names js) e))
 
 -- ---- counting by places
 

@@ -133,7 +133,7 @@ fn ranked_are_alike(place: Place, a: &[Tree], b: &[Tree]) -> Option<bool>
 #[inline(never)]
 fn ranks_are_alike(place: Place, a: &[Tree], b: &[Tree]) -> Option<bool>
     requires as_many { length a.now ≡ length b.now }
-    requires room { length a.now ≤ 16_384 }
+    requires room { length a.now ≤ MOST }
     requires own_left { IsTrue (have_own_names (elements_of (map view a.now))) }
     requires own_right { IsTrue (have_own_names (elements_of (map view b.now))) }
     ensures { IfSome result (λ answer. answer ≡ same_bag (normal_items place (elements_of (map view a.now)))

@@ -21,7 +21,7 @@ pub type Places = ArrayVec<u16, MOST>;
 /// The places of all items, by rank. Any order serves, but if items that are alike don't come together, ranks don't
 /// tell.
 pub fn rank(items: &[Tree], into: &mut Places)
-    requires room { length items.now ≤ 16_384 }
+    requires room { length items.now ≤ MOST }
     requires empty { into.old.items ≡ [] }
     ensures { IsPermutation (places_to (length items.now)) into.new.items }
 {
@@ -30,7 +30,7 @@ pub fn rank(items: &[Tree], into: &mut Places)
 }
 
 fn fill(count: usize, into: &mut Places)
-    requires room { count ≤ 16_384 }
+    requires room { count ≤ MOST }
     requires empty { into.old.items ≡ [] }
     ensures { into.new.items ≡ places_to count }
 {

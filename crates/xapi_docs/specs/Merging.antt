@@ -5,7 +5,8 @@ use Rattle.std.specs.BTreeMap.{BTreeMap, get}
 use Rattle.std.specs.Cmp.Lexicographic.{slice_cmp}
 use Rattle.std.specs.Ordering.{nat_cmp}
 use Rattle.std.specs.Str.{bytes_eq}
-use Rattle.lrs_json.specs.Json.{Json, null, boolean, number, string, array, object, Members, no_members, member}
+use Rattle.lrs_json.specs.Json.{Json, object, Members, no_members, member}
+use Rattle.lrs_json.specs.Parts.{members_in}
 use Rattle.lrs_json.specs.Written.{written}
 use Rattle.lrs_json.specs.declared.limits.TheConstants.{DEPTH}
 use Rattle.lrs_json_spelled.specs.Spelled.{value_in}
@@ -29,15 +30,6 @@ place_in name (member k j ms) = if bytes_eq k name then Some 0 else option_map s
 -- each name has the place of its member, and no other name has one
 abbrev pub HasPlaces : BTreeMap (List ℕ) ℕ → Members → Type 0
 HasPlaces places ms = (name : List ℕ) → get (slice_cmp nat_cmp) places name ≡ place_in name ms
-
--- the members of an object
-abbrev pub members_in : Json → Option Members
-members_in null = None
-members_in (boolean b) = None
-members_in (number s) = None
-members_in (string s) = None
-members_in (array js) = None
-members_in (object ms) = Some ms
 
 -- the members of the object that the bytes spell, None where they spell none
 abbrev pub object_in : List ℕ → Option Members

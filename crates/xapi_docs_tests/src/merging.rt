@@ -115,6 +115,11 @@ fn merges_up_to_the_depth(rt: HostRuntime) -> Result<(), Fail> {
     let deep = nested(rt.alloc(), 63)?;
     let merged = merge(rt.alloc(), b"{}", deep.as_slice());
     assert!(rt; matches!(&merged, Ok(bytes) if bytes.as_slice() == deep.as_slice()));
+    Ok(())
+}
+
+#[test]
+fn merges_no_deeper_object(rt: HostRuntime) -> Result<(), Fail> {
     let deeper = nested(rt.alloc(), 64)?;
     let refused = merge(rt.alloc(), b"{}", deeper.as_slice());
     assert!(rt; matches!(&refused, Err(MergeRefused::NotObjects)));

@@ -2,7 +2,8 @@
 use Rattle.std.specs.Prelude.{Bool, false, ◌||◌, codes}
 use Rattle.std.specs.Option.{option_map_or}
 use Rattle.lrs_json.specs.Json.{Json, Elements, no_elements, element}
-use Rattle.xapi_values.specs.LrsNamesMembers.{has_member_that, items_of}
+use Rattle.xapi_values.specs.LrsNamesMembers.{has_member_that}
+use Rattle.lrs_json.specs.Parts.{items_of}
 use Rattle.lrs_agents.specs.Identifiers.{identifier_of, same_ifi}
 use Rattle.lrs_agents.specs.declared.identifiers.Ifi.{Ifi}
 

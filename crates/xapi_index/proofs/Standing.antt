@@ -1,5 +1,6 @@
 -- Positions of statements that are to come: what is true of the postings while some stand ahead, and when none does.
-use Rattle.std.proofs.Common.{◌≡◌, ◌⊎◌, ◌+◌, ◌<◌, ◌≤◌, ℕ, List, [], ◌∷◌, ◌++◌, length, append-nil, append_assoc, refl, sym, ◌∙◌, ap, subst, arith, inl, inr, true≢false, Bool, true, false, cond, ◌||◌, nat_lt, take}
+use Rattle.std.proofs.Common.{◌≡◌, ◌⊎◌, ◌+◌, ◌<◌, ◌≤◌, ℕ, List, [], ◌∷◌, ◌++◌, length, append-nil, append_assoc, refl, sym, ◌∙◌, ap, subst, arith, inl, inr, true≢false, Bool, true, false, cond, nat_lt, take}
+use Rattle.std.proofs.lemmas.Bool.{or_parts}
 use Rattle.std.specs.List.{AllByRecursion}
 use Rattle.std.proofs.lemmas.List.{length-append, length_push, take-append-le, take_all}
 use Rattle.std.proofs.lemmas.List.Elements.{filter-append}
@@ -20,14 +21,6 @@ use Rattle.xapi_postings.specs.XapiStatementKeysKeyKey.{Key}
 each_push : {A : Type 0} (P : A → Type 0) (xs : List A) (y : A) → AllByRecursion P xs → P y → AllByRecursion P (xs ++ y ∷ [])
 each_push P [] y each is = (is, tt)
 each_push P (x ∷ xs) y each is = (each.0, each_push P xs y each.1 is)
-
-left_none : (a b : Bool) → (a || b) ≡ false → a ≡ false
-left_none true b is = is
-left_none false b is = refl
-
-right_none : (a b : Bool) → (a || b) ≡ false → b ≡ false
-right_none true b is = absurd (true≢false is)
-right_none false b is = is
 
 -- ---- one posting
 
@@ -106,8 +99,8 @@ stand_more held ahead old new coming keys s position at told each stand = record
       ap (λ (xs : List StoredStatement). positions_with (has_key key) xs) (sym behind)
       ∙ (positions-append (has_key key) (held ++ ahead) s
       ∙ (ap (λ b. cond b (positions_with (has_key key) (held ++ ahead) ++ length (held ++ ahead) ∷ []) (positions_with (has_key key) (held ++ ahead)))
-      (sym (told key) ∙ right_none (is_coming key coming) (is_among key keys) (sym (coming_push key coming keys) ∙ none))
-      ∙ stand.others key (left_none (is_coming key coming) (is_among key keys) (sym (coming_push key coming keys) ∙ none))));
+      (sym (told key) ∙ (or_parts (is_coming key coming) (is_among key keys) (sym (coming_push key coming keys) ∙ none)).1)
+      ∙ stand.others key (or_parts (is_coming key coming) (is_among key keys) (sym (coming_push key coming keys) ∙ none)).0));
 }
   where
     last : position ≡ length (held ++ ahead)
@@ -147,8 +140,8 @@ part_index held ahead old new coming keys position at some stand = record {
     by_others : (key : Key) → is_coming key (coming ++ keys ∷ []) ≡ false → (posting_of key new ≡ posting_of key old) ⊎ ((is_among key keys ≡ true) × (posting_of key new ≡ posted position (posting_of key old)))
         → posting_of key new ≡ positions_with (has_key key) held
     by_others key none (inl same) =
-        same ∙ (stand.posted key ∙ stand.others key (left_none (is_coming key coming) (is_among key keys) (sym (coming_push key coming keys) ∙ none)))
-    by_others key none (inr put) = absurd (true≢false (sym put.0 ∙ right_none (is_coming key coming) (is_among key keys) (sym (coming_push key coming keys) ∙ none)))
+        same ∙ (stand.posted key ∙ stand.others key (or_parts (is_coming key coming) (is_among key keys) (sym (coming_push key coming keys) ∙ none)).0)
+    by_others key none (inr put) = absurd (true≢false (sym put.0 ∙ (or_parts (is_coming key coming) (is_among key keys) (sym (coming_push key coming keys) ∙ none)).1))
 
 -- ---- nothing stands ahead
 

@@ -2,33 +2,13 @@
 use Rattle.std.proofs.Common.{rules, ◌≡◌, ℕ, Bool, true, false, List, Option, Some, None, refl, sym, ap, ◌∙◌, ◌&&◌}
 use Rattle.std.specs.Option.{option_eq}
 use Rattle.std.specs.Str.{bytes_eq}
+use Rattle.lrs_agents.proofs.SameAgents.{same_agents}
 use Rattle.lrs_agents.specs.Identifiers.{same_ifi}
-use Rattle.lrs_agents.specs.declared.identifiers.Ifi.{Ifi}
-use Rattle.lrs_agents.specs.declared.identifiers.Ifi.TheVariants.{Mbox, MboxSha1, OpenId, Account}
-use Rattle.lrs_agents.specs.contracts.identifiers.IfiPartialEq.TheImpl as ifi_eq
 use Rattle.lrs_names.specs.contracts.id.IdPartialEq.TheImpl as id_eq
 use Rattle.xapi_keys.specs.contracts.state_key.StateKeyPartialEq.TheImpl as key_eq
 use Rattle.xapi_keys.specs.contracts.state_key.StateKeyOrd.TheImpl.Laws.{matches_eq-law}
 use Rattle.xapi_keys.specs.Keys.{KeysAreTheirParts, is_of, same_registration}
 use Rattle.xapi_keys.specs.declared.state_key.StateKey.{StateKey}
-
-same_agents : (a b : Ifi) → (ifi_eq.ghosts).eq a b ≡ same_ifi a b
-same_agents (Mbox a) (Mbox b) = search rules
-same_agents (Mbox a) (MboxSha1 b) = refl
-same_agents (Mbox a) (OpenId b) = refl
-same_agents (Mbox a) (Account h n) = refl
-same_agents (MboxSha1 a) (Mbox b) = refl
-same_agents (MboxSha1 a) (MboxSha1 b) = search rules
-same_agents (MboxSha1 a) (OpenId b) = refl
-same_agents (MboxSha1 a) (Account h n) = refl
-same_agents (OpenId a) (Mbox b) = refl
-same_agents (OpenId a) (MboxSha1 b) = refl
-same_agents (OpenId a) (OpenId b) = search rules
-same_agents (OpenId a) (Account h n) = refl
-same_agents (Account h n) (Mbox b) = refl
-same_agents (Account h n) (MboxSha1 b) = refl
-same_agents (Account h n) (OpenId b) = refl
-same_agents (Account h n) (Account g m) = search rules
 
 same_registrations : (a b : Option (List ℕ)) → option_eq (id_eq.ghosts).eq a b ≡ same_registration a b
 same_registrations None None = refl

@@ -1,7 +1,10 @@
 -- What the text of an agent tells.
-use Rattle.std.proofs.Common.{◌≡◌, ℕ, List, Option, Some, None, Result, Ok, Err, IfOk, MatchBool, MatchOption, Bool, is_some, sym, ap, ◌∙◌, subst}
+use Rattle.std.proofs.Common.{◌≡◌, ℕ, List, Option, Some, None, Result, Ok, Err, IfOk, MatchBool, MatchOption, Bool, is_some, option_map, sym, ap, ◌∙◌, subst}
+use Rattle.std.proofs.lemmas.Option.{none-some, same_Some}
 use Rattle.lrs_json.specs.Json.{Json}
 use Rattle.lrs_json_reader.specs.Refusals.{Spells}
+use Rattle.lrs_json_spelled.proofs.Law.{finds_what_is_spelled}
+use Rattle.lrs_json_spelled.specs.Spelled.{value_in}
 use Rattle.lrs_json.specs.View.{view}
 use Rattle.lrs_json.specs.declared.tree.Tree.{Tree}
 use Rattle.lrs_json.specs.declared.memory.Memory.{Memory}
@@ -16,16 +19,19 @@ use Rattle.xapi_parameters.specs.Values.{IsActor, IsActorOf}
 abbrev pub IsAlone : List ℕ → Json → Type 0
 IsAlone text j = (k : Json) → Spells DEPTH text k → j ≡ k
 
--- What reading gives, by whether it gives a value.
-abbrev pub Reads : List ℕ → Option Tree → Type 0
-Reads bytes found =
-    MatchOption found ((j : Json) → Spells DEPTH bytes j → ⊥) (λ tree. Spells DEPTH bytes (view tree) × ((j : Json) → Spells DEPTH bytes j → view tree ≡ j))
+-- what is found where the value of the bytes is sought
+abbrev pub IsFound : List ℕ → Option Tree → Type 0
+IsFound bytes found = option_map view found ≡ value_in DEPTH bytes
 
-pub spelled_at : (bytes : List ℕ) (found : Option Tree) (tree : Tree) → found ≡ Some tree → Reads bytes found → Spells DEPTH bytes (view tree) × IsAlone bytes (view tree)
-spelled_at bytes found tree is reads = let P : Option Tree → Type 0 = λ o. Reads bytes o in subst P is reads
+pub spelled_at : (bytes : List ℕ) (found : Option Tree) (tree : Tree) → found ≡ Some tree → IsFound bytes found → Spells DEPTH bytes (view tree) × IsAlone bytes (view tree)
+spelled_at bytes found tree is sought =
+    let value : value_in DEPTH bytes ≡ Some (view tree) = sym sought ∙ ap (λ (o : Option Tree). option_map view o) is in
+    ((finds_what_is_spelled DEPTH bytes (view tree)).0 value, λ k spells. same_Some (view tree) k (sym value ∙ (finds_what_is_spelled DEPTH bytes k).1 spells))
 
-pub unspelled_at : (bytes : List ℕ) (found : Option Tree) → found ≡ None → Reads bytes found → (j : Json) → Spells DEPTH bytes j → ⊥
-unspelled_at bytes found is reads = let P : Option Tree → Type 0 = λ o. Reads bytes o in subst P is reads
+pub unspelled_at : (bytes : List ℕ) (found : Option Tree) → found ≡ None → IsFound bytes found → (j : Json) → Spells DEPTH bytes j → ⊥
+unspelled_at bytes found is sought j spells =
+    let value : value_in DEPTH bytes ≡ None = sym sought ∙ ap (λ (o : Option Tree). option_map view o) is in
+    none-some j (sym value ∙ (finds_what_is_spelled DEPTH bytes j).1 spells)
 
 pub no_actor : (text : List ℕ) → ((j : Json) → Spells DEPTH text j → ⊥) → ¬ (IsActor text)
 no_actor text none actor = none actor.1.0 actor.1.1

@@ -1,8 +1,9 @@
 -- The least broken rule is found once, and tells the answer.
-use Rattle.std.proofs.Common.{◌≡◌, ℕ, ◌&&◌, ◌||◌, IsTrue, Bool, true, false, List, Option, Some, None, is_some, option_and_then, Ok, Err, MatchBool, codes, arith, refl, sym, ap, ◌∙◌, subst, nat_lt}
+use Rattle.std.proofs.Common.{◌≡◌, ℕ, ◌||◌, IsTrue, Bool, true, false, List, Option, Some, None, is_some, option_and_then, Ok, Err, MatchBool, codes, arith, refl, sym, ap, ◌∙◌, subst, nat_lt}
 use Rattle.std.specs.Option.{option_map_or}
 use Rattle.std.proofs.lemmas.Bool.{false≢true}
 use Rattle.std.proofs.lemmas.Bool.Decides.{nat_tests}
+use Rattle.std.specs.Cmp.{first_so, second_so}
 use Rattle.lrs_names.specs.Ids.{id_of}
 use Rattle.xapi_parameters.specs.Parameters.{TellsLeast, Demands, DemandsOfList, LeastOfGet, LeastOfLink, LeastOfPut, asks_for_one, get_names, given, has, has_link_number, has_link_numbers, has_ids, is_rule, link_names, number_under, passes}
 use Rattle.xapi_parameters.specs.Values.{is_id, is_no}
@@ -85,22 +86,14 @@ get_filters pairs least = (meets get_names pairs _ least).filters
 pub link_filters : (pairs : List Pair) → LeastOfLink None pairs → AreFilters pairs
 link_filters pairs least = (meets link_names pairs _ least).filters
 
-pub left : (p q : Bool) → (p && q) ≡ true → p ≡ true
-left true q is = refl
-left false q is = absurd (false≢true is)
-
-pub right : (p q : Bool) → (p && q) ≡ true → q ≡ true
-right true q is = is
-right false q is = absurd (false≢true is)
-
 -- the two places, and that they are in order
 pub link_places : (pairs : List Pair) → LeastOfLink None pairs
     → (has_link_number (codes "asof") pairs ≡ true) × (has_link_number (codes "after") pairs ≡ true)
     × (nat_lt (number_under (codes "after") pairs) (number_under (codes "asof") pairs) ≡ true)
 link_places pairs least =
     let places = (meets link_names pairs _ least).rest.0 in
-    let two = left _ _ places in
-    (left _ _ two, right _ _ two, right _ _ places)
+    let two = first_so _ _ places in
+    (first_so _ _ two, second_so _ _ two, second_so _ _ places)
 
 not_given : (value : Option (List ℕ)) → option_map_or is_id value true ≡ true → None ≡ option_and_then id_of value → is_some value ≡ false
 not_given None passed none = refl
@@ -110,9 +103,9 @@ not_given (Some text) passed none = absurd (false≢true (ap is_some none ∙ pa
 pub asks_for_many : (pairs : List Pair) → LeastOfGet None pairs → None ≡ id_under (codes "statementId") pairs → None ≡ id_under (codes "voidedStatementId") pairs
     → (has (codes "statementId") pairs || has (codes "voidedStatementId") pairs) ≡ false
 asks_for_many pairs least none neither =
-    let ids = left _ _ (meets get_names pairs _ least).ids in
-    let one = not_given (given (codes "statementId") pairs) (left _ _ ids) none in
-    let other = not_given (given (codes "voidedStatementId") pairs) (right _ _ ids) neither in
+    let ids = first_so _ _ (meets get_names pairs _ least).ids in
+    let one = not_given (given (codes "statementId") pairs) (first_so _ _ ids) none in
+    let other = not_given (given (codes "voidedStatementId") pairs) (second_so _ _ ids) neither in
     rw (one, other) refl
 
 -- ---- the rules of a list, and those after them

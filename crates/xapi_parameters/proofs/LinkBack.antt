@@ -10,6 +10,7 @@ use Rattle.std.specs.Str.Parse.{AllDigits, digits_value}
 use Rattle.std.proofs.lemmas.Bool.Decides.{nat_tests}
 use Rattle.std.proofs.lemmas.Fmt.{decimal_is_IsNumeral, decimal_nonempty, length-decimal-le}
 use Rattle.std.proofs.lemmas.List.Elements.{All-head, All-tail}
+use Rattle.std.specs.Cmp.{first_so, second_so}
 use Rattle.form_urlencoded.specs.Form.{decode, extend_pairs, parse, raw_pairs}
 use Rattle.form_urlencoded.proofs.FormLemmas.{round_trip}
 use Rattle.lrs_names.specs.Ids.{IsId, id_of, id_text}
@@ -210,21 +211,13 @@ page_high : (t : Option (List ℕ)) → option_map_or (λ t. capped (digits_valu
 page_high None = omega arith
 page_high (Some t) = capped_high (digits_value 10 t)
 
-left : (p q : Bool) → (p && q) ≡ true → p ≡ true
-left true q is = refl
-left false q is = absurd (cc is)
-
-right : (p q : Bool) → (p && q) ≡ true → q ≡ true
-right true q is = is
-right false q is = absurd (cc is)
-
 holds : (pairs : List Pair) (q : Query) → AreTexts pairs → AreFilters pairs → IsQuery pairs q → Holds q
 holds pairs q texts filters is = record {
   agent = agent_holds (given (codes "agent") pairs) q.agent (given_text (codes "agent") pairs texts) is.agent_is;
   verb = subst IsTextIf (sym is.verb_is) (given_text (codes "verb") pairs texts);
-  verb_iri = ap (λ o. option_map_or is_iri o true) is.verb_is ∙ left (passes is_iri (codes "verb") pairs) (passes is_iri (codes "activity") pairs) filters.iris;
+  verb_iri = ap (λ o. option_map_or is_iri o true) is.verb_is ∙ first_so (passes is_iri (codes "verb") pairs) (passes is_iri (codes "activity") pairs) filters.iris;
   activity = subst IsTextIf (sym is.activity_is) (given_text (codes "activity") pairs texts);
-  activity_iri = ap (λ o. option_map_or is_iri o true) is.activity_is ∙ right (passes is_iri (codes "verb") pairs) (passes is_iri (codes "activity") pairs) filters.iris;
+  activity_iri = ap (λ o. option_map_or is_iri o true) is.activity_is ∙ second_so (passes is_iri (codes "verb") pairs) (passes is_iri (codes "activity") pairs) filters.iris;
   registration = subst IsIdIf (sym is.registration_is) (id_holds (given (codes "registration") pairs));
   since = subst IsInstantIf (sym is.since_is) (instant_holds (given (codes "since") pairs) (given_text (codes "since") pairs texts));
   until = subst IsInstantIf (sym is.until_is) (instant_holds (given (codes "until") pairs) (given_text (codes "until") pairs texts));

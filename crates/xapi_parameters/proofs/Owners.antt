@@ -1,10 +1,11 @@
 -- The least rule that the parameters of documents break, and what is given where they break none.
 use Rattle.std.proofs.Common.{◌≡◌, ℕ, true, false, List, [], ◌∷◌, Option, Some, None, codes, refl, subst}
+use Rattle.std.specs.Cmp.{first_so, second_so}
 use Rattle.xapi_parameters.specs.Documents.{DemandsOfDocuments, HasOwners, LeastOfDocument, LeastOfDocuments, LeastOfDrop, document_names, have_all, key_names, names_of_get, owner_names}
 use Rattle.xapi_parameters.specs.Parameters.{has, passes}
 use Rattle.xapi_parameters.specs.Values.{is_timestamp}
 use Rattle.xapi_parameters.specs.declared.pair.Pair.{Pair}
-use Rattle.xapi_parameters.proofs.Least.{both_none, left, more, not_true, once, right}
+use Rattle.xapi_parameters.proofs.Least.{both_none, more, not_true, once}
 
 -- ---- each rule is found once
 
@@ -61,9 +62,9 @@ owners : (names more : List (List ℕ)) (pairs : List Pair) (others : Type 0) �
 owners names more pairs others met =
     let all : have_all (codes "activityId" ∷ codes "agent" ∷ more) pairs ≡ true = met.1.1.0 in
     record {
-      activity_stands = left _ _ all;
+      activity_stands = first_so _ _ all;
       activity_passes = met.1.1.1.1.1.0;
-      agent_stands = left _ _ (right _ _ all);
+      agent_stands = first_so _ _ (second_so _ _ all);
       agent_passes = met.1.1.1.1.0;
     }
 
@@ -79,4 +80,4 @@ documents_owners pairs = owners (names_of_get pairs) [] pairs _
 pub document_state : (pairs : List Pair) → LeastOfDocument None pairs → has (codes "stateId") pairs ≡ true
 document_state pairs least =
     let all : have_all key_names pairs ≡ true = least.1.1.0 in
-    left _ _ (right _ _ (right _ _ all))
+    first_so _ _ (second_so _ _ (second_so _ _ all))

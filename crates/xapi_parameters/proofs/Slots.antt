@@ -1,7 +1,7 @@
 -- Pairs that stand only where there is a text to give: which names they have, and what is given under each.
 use Rattle.std.proofs.Common.{◌≡◌, ℕ, ◌&&◌, ◌||◌, Bool, true, false, not, if◌then◌else◌, List, [], ◌∷◌, ◌++◌, map, Option, Some, None, is_some, MatchOption, IsUtf8, All, refl, ap, ◌∙◌}
 use Rattle.std.specs.Str.{bytes_eq}
-use Rattle.std.proofs.lemmas.Bool.{and_parts, or_parts, false≢true}
+use Rattle.std.proofs.lemmas.Bool.{and_parts, not-true, or_parts}
 use Rattle.std.proofs.lemmas.List.Elements.{All-cons, All-nil}
 use Rattle.lrs_names.specs.Members.{is_one_of}
 use Rattle.form_urlencoded.proofs.FormLemmas.{IsBytePair}
@@ -62,16 +62,12 @@ abbrev pub are_apart : List Slot → Bool
 are_apart [] = true
 are_apart (slot ∷ slots) = not (is_named slot.0 slots) && are_apart slots
 
-not_true : (b : Bool) → not b ≡ true → b ≡ false
-not_true true is = absurd (false≢true is)
-not_true false is = refl
-
 pub distinct_in : (slots : List Slot) → are_apart slots ≡ true → are_distinct (pairs_from slots) ≡ true
 distinct_in [] apart = refl
 distinct_in ((n, None) ∷ slots) apart = distinct_in slots (and_parts (not (is_named n slots)) (are_apart slots) apart).1
 distinct_in ((n, Some text) ∷ slots) apart =
     let parts = and_parts (not (is_named n slots)) (are_apart slots) apart in
-    let none : given n (pairs_from slots) ≡ None = given_in n slots ∙ unnamed n slots (not_true _ parts.0) in
+    let none : given n (pairs_from slots) ≡ None = given_in n slots ∙ unnamed n slots (not-true _ parts.0) in
     let rest = distinct_in slots parts.1 in
     ap (λ (o : Option (List ℕ)). not (is_some o) && are_distinct (pairs_from slots)) none ∙ rest
 

@@ -2,10 +2,6 @@
 ghost use Rattle.std.specs.Prelude.{◌≡◌, IfOk, MatchBool, MatchOption, codes};
 ghost use Rattle.std.specs.Char.{is_ascii_digit};
 ghost use Rattle.std.specs.List.{list_all};
-ghost use Rattle.lrs_json.specs.Json.{Json};
-ghost use Rattle.lrs_json_reader.specs.Refusals.{Spells};
-ghost use Rattle.lrs_json.specs.View.{view};
-ghost use Rattle.lrs_json.specs.declared.limits.TheConstants.{DEPTH};
 ghost use Rattle.lrs_names.specs.Iris.{is_iri};
 ghost use Rattle.xapi_parameters.specs.Parameters.{Passes, has_ids, has_iris, has_timestamps, has_truths, passes};
 ghost use Rattle.xapi_parameters.specs.Values.{IsActor, IsActorOf, is_format, is_id, is_limit, is_no, is_timestamp, is_truth};
@@ -13,8 +9,8 @@ ghost use Rattle.xapi_parameters.specs.Values.{IsActor, IsActorOf, is_format, is
 use crate::Pair;
 use crate::parameters::given;
 use lrs_agents::{Ifi, broken_agent_or_group};
-use lrs_json::{Memory, Text, Tree};
-use lrs_json_reader::{ReadRefused, read};
+use lrs_json::{Memory, Text};
+use lrs_json_spelled::value_in;
 use lrs_names::{Id, Iri};
 use lrs_time::read_timestamp;
 use std::alloc::Global;
@@ -55,27 +51,12 @@ pub fn has_actor(alloc: Global, pairs: &[Pair]) -> Result<bool, Memory>
 pub fn actor(alloc: Global, text: &Text) -> Result<Option<Ifi>, Memory>
     ensures { IfOk result (λ found. MatchOption found (¬ IsActor text.now) (IsActorOf text.now)) }
 {
-    match json(alloc, text.as_bytes())? {
+    match value_in(alloc, text.as_bytes())? {
         Some(tree) => match broken_agent_or_group(&tree, 6) {
             Some(_) => Ok(None),
             None => Ifi::of(alloc, &tree),
         },
         None => Ok(None),
-    }
-}
-
-// The one value that the bytes spell.
-fn json(alloc: Global, bytes: &[u8]) -> Result<Option<Tree>, Memory>
-    ensures { IfOk result (λ found. MatchOption found ((j : Json) → Spells DEPTH bytes.now j → ⊥)
-        (λ tree. Spells DEPTH bytes.now (view tree) × ((j : Json) → Spells DEPTH bytes.now j → view tree ≡ j))) }
-{
-    match read(alloc, bytes) {
-        Ok(tree) => Ok(Some(tree)),
-        Err(ReadRefused::Memory) => Err(Memory),
-        Err(ReadRefused::TooDeep) => Ok(None),
-        Err(ReadRefused::Bad) => Ok(None),
-        Err(ReadRefused::Repeated { .. }) => Ok(None),
-        Err(ReadRefused::NumberRange { .. }) => Ok(None),
     }
 }
 

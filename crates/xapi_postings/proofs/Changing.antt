@@ -1,5 +1,6 @@
 -- Postings of which one changes.
 use Rattle.std.proofs.Common.{◌≡◌, ℕ, nat_lt, Bool, true, false, cond, not, if◌then◌else◌, List, [], ◌∷◌, Option, Some, None, slice_get, refl, sym, ap, subst, ◌∙◌}
+use Rattle.std.proofs.lemmas.Bool.{not-false, not-true}
 use Rattle.std.specs.Cmp.{IsEquivalence, IsTotalOrder}
 use Rattle.std.specs.List.{list_any}
 use Rattle.std.specs.Map.{lookup}
@@ -33,20 +34,12 @@ alike p q same (e ∷ es) = rw (same e.0, alike p q same es) refl
 pub same_keys : IsEquivalence is_same_key
 same_keys = eq_by_cmp_equiv keys_total
 
-flipped : (b : Bool) → not b ≡ true → b ≡ false
-flipped true is = sym is
-flipped false is = refl
-
-flipped_back : (b : Bool) → not b ≡ false → b ≡ true
-flipped_back true is = refl
-flipped_back false is = sym is
-
 -- what the equality of keys tells is whether they are the same
 pub told_apart : (a b : Key) (told : Bool) → told ≡ not ((key_eq.ghosts).eq a b) → told ≡ true → is_same_key a b ≡ false
-told_apart a b told is holds = sym (key_laws.matches_eq-law a b) ∙ flipped ((key_eq.ghosts).eq a b) (sym is ∙ holds)
+told_apart a b told is holds = sym (key_laws.matches_eq-law a b) ∙ not-true ((key_eq.ghosts).eq a b) (sym is ∙ holds)
 
 pub told_same : (a b : Key) (told : Bool) → told ≡ not ((key_eq.ghosts).eq a b) → told ≡ false → is_same_key a b ≡ true
-told_same a b told is fails = sym (key_laws.matches_eq-law a b) ∙ flipped_back ((key_eq.ghosts).eq a b) (sym is ∙ fails)
+told_same a b told is fails = sym (key_laws.matches_eq-law a b) ∙ not-false ((key_eq.ghosts).eq a b) (sym is ∙ fails)
 
 -- an equal key has the same list
 one_list : (key k : Key) (es : Entries) → is_same_key key k ≡ true → lookup (is_same_key key) es ≡ lookup (is_same_key k) es

@@ -1,8 +1,11 @@
 -- Two identifiers are the same exactly where their kinds and texts are.
-use Rattle.std.proofs.Common.{◌≡◌, ℕ, List, Bool, true, false, ◌&&◌, Option, Some, None, refl, sym, ap, ◌∙◌}
+use Rattle.std.proofs.Common.{◌≡◌, ℕ, List, Bool, true, false, Option, Some, None, refl, sym, ap, ◌∙◌}
+use Rattle.std.proofs.lemmas.Bool.{and_from}
+use Rattle.std.specs.Cmp.{both_ways, first_so, second_so}
 use Rattle.std.specs.Prelude.{IsTrue, ◌↔◌}
 use Rattle.std.specs.Option.{option_map_or}
 use Rattle.std.specs.Str.{bytes_eq}
+use Rattle.std.proofs.lemmas.Option.{none-some, same_Some}
 use Rattle.std.proofs.lemmas.Slice.Eq.{bytes_eq-Decides}
 use Rattle.xapi_rules.specs.LrsAgentsIdentifiersIfi.{Ifi}
 use Rattle.xapi_rules.specs.LrsAgentsIdentifiersIfiTheVariants.{Mbox, MboxSha1, OpenId, Account}
@@ -15,23 +18,11 @@ same_bytes a b e = (bytes_eq-Decides a b).0 e
 bytes_same : (a : List ℕ) → bytes_eq a a ≡ true
 bytes_same a = (bytes_eq-Decides a a).1 refl
 
-left_of : (a b : Bool) → (a && b) ≡ true → a ≡ true
-left_of true b e = refl
-left_of false b e = e
-
-right_of : (a b : Bool) → (a && b) ≡ true → b ≡ true
-right_of true b e = e
-right_of false b e = absurd (let bad : false ≡ true = e in cc)
-
-both : (a b : Bool) → a ≡ true → b ≡ true → (a && b) ≡ true
-both true b e f = f
-both false b e f = e
-
 same_self : (a : Ifi) → same_ifi a a ≡ true
 same_self (Mbox a) = bytes_same a
 same_self (MboxSha1 a) = bytes_same a
 same_self (OpenId a) = bytes_same a
-same_self (Account h n) = both (bytes_eq h h) (bytes_eq n n) (bytes_same h) (bytes_same n)
+same_self (Account h n) = and_from (bytes_eq h h) (bytes_eq n n) (bytes_same h) (bytes_same n)
 
 is_same : (a b : Ifi) → same_ifi a b ≡ true → b ≡ a
 is_same (Mbox a) (Mbox b) e = ap Mbox (sym (same_bytes a b e))
@@ -50,21 +41,9 @@ is_same (Account h n) (Mbox b) e = cc
 is_same (Account h n) (MboxSha1 b) e = cc
 is_same (Account h n) (OpenId b) e = cc
 is_same (Account h n) (Account g m) e =
-    ap (λ z. Account z m) (sym (same_bytes h g (left_of (bytes_eq h g) (bytes_eq n m) e))) ∙ ap (Account h) (sym (same_bytes n m (right_of (bytes_eq h g) (bytes_eq n m) e)))
-
-same_tests : (a b : Bool) → (a ≡ true → b ≡ true) → (b ≡ true → a ≡ true) → a ≡ b
-same_tests true true f g = refl
-same_tests true false f g = sym (f refl)
-same_tests false true f g = g refl
-same_tests false false f g = refl
-
-none_some : (ifi : Ifi) → None ≡ Some ifi → ⊥
-none_some ifi e = cc
-
-some_same : (a b : Ifi) → Some a ≡ Some b → a ≡ b
-some_same a b e = cc
+    ap (λ z. Account z m) (sym (same_bytes h g (first_so (bytes_eq h g) (bytes_eq n m) e))) ∙ ap (Account h) (sym (same_bytes n m (second_so (bytes_eq h g) (bytes_eq n m) e)))
 
 pub same_test : (ifi : Ifi) (o : Option Ifi) (found : Bool) → IsTrue found ↔ (o ≡ Some ifi) → found ≡ option_map_or (same_ifi ifi) o false
-same_test ifi None found iff = same_tests found false (λ e. absurd (none_some ifi (iff.0 e))) (λ e. absurd (let bad : false ≡ true = e in cc))
+same_test ifi None found iff = both_ways found false (λ e. absurd (none-some ifi (iff.0 e))) (λ e. absurd (let bad : false ≡ true = e in cc))
 same_test ifi (Some a) found iff =
-    same_tests found (same_ifi ifi a) (λ e. ap (same_ifi ifi) (some_same a ifi (iff.0 e)) ∙ same_self ifi) (λ e. iff.1 (ap Some (is_same ifi a e)))
+    both_ways found (same_ifi ifi a) (λ e. ap (same_ifi ifi) (same_Some a ifi (iff.0 e)) ∙ same_self ifi) (λ e. iff.1 (ap Some (is_same ifi a e)))

@@ -6,6 +6,7 @@ use Rattle.std.proofs.Math.Seq.{drop-length}
 use Rattle.std.proofs.lemmas.List.{append-nil}
 use Rattle.lrs_json.specs.Find.{find}
 use Rattle.lrs_json.specs.Json.{Json, null, boolean, number, string, array, object, Members, no_members}
+use Rattle.lrs_json.specs.Parts.{members_in}
 use Rattle.lrs_json.specs.Spellable.{IsSpellable}
 use Rattle.lrs_json.specs.Texts.{member_text, name_text}
 use Rattle.lrs_json.specs.View.{view}
@@ -13,7 +14,7 @@ use Rattle.lrs_json.specs.Written.{members_text, quoted, written, written_tree}
 use Rattle.lrs_json.specs.declared.memory.Memory.{Memory}
 use Rattle.lrs_json.specs.declared.tree.Tree.{Tree}
 use Rattle.xapi_format.specs.Completed.{added, completed, given_or, kept_before}
-use Rattle.xapi_received.specs.Marking.{Adds, Completes, IsFirst, IsSound, Marks, SoFar, members_in, shown_text}
+use Rattle.xapi_received.specs.Marking.{Adds, Completes, IsFirst, IsSound, Marks, SoFar, shown_text}
 use Rattle.xapi_received.specs.Excerpts.{listed}
 use Rattle.xapi_received.specs.Received.{AreWithin, EndsAs, HasEnding, IsGiven, IsReceived, bytes_at, ending_text, excerpts_text}
 use Rattle.xapi_received.specs.declared.draft.Draft.{Draft}

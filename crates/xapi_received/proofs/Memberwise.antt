@@ -3,6 +3,7 @@ use Rattle.std.proofs.Common.{◌≡◌, ◌+◌, ◌<◌, ℕ, length, get_or, 
 use Rattle.std.specs.Prelude.{IsUtf8}
 use Rattle.std.proofs.lemmas.Bool.Decides.{nat_tests}
 use Rattle.lrs_json.specs.Json.{Json, null, boolean, number, string, array, object, element, no_elements, Members, no_members, member}
+use Rattle.lrs_json.specs.Parts.{members_in}
 use Rattle.lrs_json.specs.Spellable.{AreSpellableMembers}
 use Rattle.lrs_json.specs.Texts.{member_text, name_text}
 use Rattle.lrs_json.specs.View.{view, member_view, members_of}
@@ -11,7 +12,7 @@ use Rattle.lrs_json.specs.declared.tree.Member.{Member}
 use Rattle.xapi_format.specs.XapiValuesMemberwise.{each_member, with_each_member}
 use Rattle.xapi_format.specs.XapiValuesNested.{is_nested}
 use Rattle.xapi_format.specs.Completed.{in_array, plural_nested_member, plural_object}
-use Rattle.xapi_received.specs.Marking.{Adds, IsSound, Marks, MarksMember, members_in, shown_text}
+use Rattle.xapi_received.specs.Marking.{Adds, IsSound, Marks, MarksMember, shown_text}
 use Rattle.xapi_received.specs.declared.draft.Draft.{Draft}
 use Rattle.xapi_format.proofs.Appending.{member_more, member_parts}
 use Rattle.xapi_received.proofs.Drafting.{adds_as, adds_both}

@@ -1,9 +1,9 @@
 -- The received text as far as it is written, with what is shown of it by then: how the marks come about.
 use Rattle.std.specs.Prelude.{◌≡◌, ◌≤◌, ◌++◌, ℕ, List, length, drop, codes, Bool, true, false, IsUtf8}
-use Rattle.std.specs.Prelude.{Option, Some, None, option_map}
+use Rattle.std.specs.Prelude.{Option, option_map}
 use Rattle.std.specs.Option.{option_or}
 use Rattle.lrs_json.specs.Find.{find_member}
-use Rattle.lrs_json.specs.Json.{Json, null, boolean, number, string, array, object, Members}
+use Rattle.lrs_json.specs.Json.{Json, Members}
 use Rattle.lrs_json.specs.Spellable.{IsSpellable, AreSpellableMembers}
 use Rattle.lrs_json.specs.Texts.{member_text}
 use Rattle.lrs_json.specs.Written.{members_text, written}
@@ -13,15 +13,6 @@ use Rattle.xapi_received.specs.Received.{AreWithin, EndsAs, HasPlace, bytes_at, 
 use Rattle.xapi_received.specs.declared.draft.Draft.{Draft}
 use Rattle.xapi_received.specs.declared.marks.Ending.{Ending}
 use Rattle.xapi_received.specs.declared.marks.Place.{Place}
-
--- the members of an object
-abbrev pub members_in : Json → Option Members
-members_in null = None
-members_in (boolean b) = None
-members_in (number s) = None
-members_in (string s) = None
-members_in (array js) = None
-members_in (object ms) = Some ms
 
 -- ---- a draft
 

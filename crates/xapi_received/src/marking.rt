@@ -1,11 +1,12 @@
 // The received text of a statement, written with the marks of its completed form.
 ghost use Rattle.std.specs.Prelude.{◌≡◌, false, map, true, IfOk, OnOk, None};
 ghost use Rattle.lrs_json.specs.Json.{Members, member, no_members, object};
+ghost use Rattle.lrs_json.specs.Parts.{members_in};
 ghost use Rattle.lrs_json.specs.View.{view, member_view, members_of};
 ghost use Rattle.lrs_json.specs.Written.{comma_if};
 ghost use Rattle.xapi_format.specs.LrsNamesMembers.{is_one_of};
 ghost use Rattle.xapi_format.specs.Completed.{added_names, plural_member};
-ghost use Rattle.xapi_received.specs.Marking.{Adds, Completes, MarksMember, SoFar, members_in};
+ghost use Rattle.xapi_received.specs.Marking.{Adds, Completes, MarksMember, SoFar};
 ghost use Rattle.xapi_received.specs.declared.draft.Draft.{Draft as SpecDraft};
 
 use crate::draft::Draft;

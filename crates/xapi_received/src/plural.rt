@@ -2,9 +2,10 @@
 // 2.4.6.2), marked while the received text is written.
 ghost use Rattle.std.specs.Prelude.{◌≡◌, ℕ, List, OnOk, map, option_map};
 ghost use Rattle.lrs_json.specs.Json.{Json, object};
+ghost use Rattle.lrs_json.specs.Parts.{members_in};
 ghost use Rattle.lrs_json.specs.View.{view, member_view, members_of};
 ghost use Rattle.xapi_format.specs.Completed.{in_array, plural_activities_member, plural_context_member, plural_member, plural_nested_member, plural_object};
-ghost use Rattle.xapi_received.specs.Marking.{Marks, MarksMember, members_in};
+ghost use Rattle.xapi_received.specs.Marking.{Marks, MarksMember};
 ghost use Rattle.xapi_format.specs.XapiValuesMemberwise.{each_member, with_each_member};
 
 use crate::draft::Draft;

@@ -1,8 +1,8 @@
 -- Values of one kind, and of all others.
 use Rattle.std.proofs.Common.{◌≡◌, ◌++◌, ℕ, List, [], ◌∷◌, None, refl, sym, subst}
 use Rattle.lrs_json.specs.Json.{Json, null, boolean, number, string, array, object, Elements, Members}
+use Rattle.lrs_json.specs.Parts.{items_in, members_in, text_in}
 use Rattle.lrs_json.specs.Written.{written}
-use Rattle.lrs_json_slices.specs.Parts.{items_in, members_in, text_in}
 use Rattle.xapi_format.specs.Completed.{completed, in_array}
 use Rattle.xapi_values.specs.Kinds.{kind_named}
 use Rattle.xapi_values.specs.declared.kinds.Kind.{Kind}

@@ -1,13 +1,13 @@
 -- Lists of trees, as data.
 use Rattle.std.proofs.Common.{◌≡◌, ℕ, suc, ◌+◌, ◌<◌, get_or, drop, add-one, drop-cons, List, [], ◌∷◌, ◌++◌, map, length, Option, refl, sym, ap, ◌∙◌, subst}
+use Rattle.lrs_json.specs.Parts.{count_items}
 use Rattle.lrs_json.specs.View.{view, elements_of}
 use Rattle.lrs_json.specs.declared.tree.Tree.{Tree}
 use Rattle.std.specs.Prelude.{IfOk, Result, Ok, Err}
 use Rattle.lrs_names.specs.Rules.{least, lesser, IsLeast}
 use Rattle.lrs_names.proofs.RuleLemmas.{lesser_assoc, least-append, least_is}
-use Rattle.xapi_rules.specs.Rules.{count}
 
-pub length_elements : (ts : List Tree) → count (elements_of (map view ts)) ≡ length ts
+pub length_elements : (ts : List Tree) → count_items (elements_of (map view ts)) ≡ length ts
 length_elements [] = refl
 length_elements (t ∷ ts) = ap suc (length_elements ts)
 

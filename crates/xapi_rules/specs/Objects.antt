@@ -1,8 +1,8 @@
 -- What a statement is about, and the rules 17 to 23 on it (xAPI 1.0.3, part two, sections 2.4.4 and 4.1).
-use Rattle.std.specs.Prelude.{ℕ, List, [], ◌∷◌, ◌++◌, Bool, true, false, not, ◌&&◌, codes}
+use Rattle.std.specs.Prelude.{ℕ, List, [], ◌∷◌, ◌++◌, Bool, true, false, ◌&&◌, codes}
 use Rattle.std.specs.Option.{option_to_list}
 use Rattle.lrs_json.specs.Json.{Json, null, boolean, number, string, array, object, Elements, no_elements, element}
-use Rattle.lrs_json.specs.Names.{is_among}
+use Rattle.lrs_json.specs.Names.{are_new}
 use Rattle.lrs_names.specs.Rules.{unless}
 use Rattle.lrs_names.specs.Iris.{iri_faults}
 use Rattle.lrs_names.specs.Languages.{language_map_faults}
@@ -45,11 +45,6 @@ faults_of_components (element j js) = component_faults j ++ faults_of_components
 abbrev pub ids_of : Elements → List (List ℕ)
 ids_of no_elements = []
 ids_of (element j js) = option_to_list (text_under (codes "id") j) ++ ids_of js
-
--- each is none of those before it, nor one of the names
-abbrev pub are_new : List (List ℕ) → List (List ℕ) → Bool
-are_new names [] = true
-are_new names (k ∷ ks) = not (is_among k names) && are_new (k ∷ names) ks
 
 -- The rules that a list of components breaks: 14 in their descriptions, 20 in its form, 21 if an id comes again.
 unfoldable pub component_list_faults : Json → List ℕ

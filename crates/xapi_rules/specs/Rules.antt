@@ -1,7 +1,8 @@
 -- The thirty-two rules on a statement (xAPI 1.0.3, part two, section 2), by their numbers: those that it breaks, and
 -- the least.
-use Rattle.std.specs.Prelude.{ℕ, suc, List, [], ◌∷◌, ◌++◌, Bool, false, not, ◌&&◌, ◌||◌, ◌==◌, Option, codes}
-use Rattle.lrs_json.specs.Json.{Json, null, boolean, number, string, array, object, Elements, no_elements, element}
+use Rattle.std.specs.Prelude.{ℕ, List, [], ◌∷◌, ◌++◌, Bool, false, not, ◌&&◌, ◌||◌, ◌==◌, Option, codes}
+use Rattle.lrs_json.specs.Json.{Json, null, boolean, number, string, array, object}
+use Rattle.lrs_json.specs.Parts.{count_items}
 use Rattle.lrs_names.specs.Rules.{unless, least}
 use Rattle.lrs_names.specs.Iris.{iri_faults}
 use Rattle.lrs_names.specs.Languages.{language_map_faults}
@@ -80,16 +81,12 @@ object_faults j = object_faults_with substatement_faults j
 
 -- ---- authorities (section 2.4.9)
 
-abbrev pub count : Elements → ℕ
-count no_elements = 0
-count (element j js) = suc (count js)
-
 abbrev pub is_pair : Json → Bool
 is_pair null = false
 is_pair (boolean b) = false
 is_pair (number s) = false
 is_pair (string s) = false
-is_pair (array js) = count js == 2
+is_pair (array js) = count_items js == 2
 is_pair (object ms) = false
 
 abbrev pub has_no_identifier : Json → Bool

@@ -1,9 +1,10 @@
 // The parts of interaction activities (xAPI 1.0.3, part two, section 2.4.4.1).
 ghost use Rattle.std.specs.Prelude.{◌≡◌, [], IfOk, map};
+ghost use Rattle.lrs_json.specs.Names.{are_new};
 ghost use Rattle.lrs_json.specs.View.{view, elements_of};
 ghost use Rattle.lrs_names.specs.Members.{faults_of_member, is_string_that};
 ghost use Rattle.lrs_names.specs.Rules.{least};
-ghost use Rattle.xapi_rules.specs.Objects.{is_component, are_components, component_faults, faults_of_components, ids_of, are_new, component_list_faults, is_interaction, interaction_faults, is_interaction_type};
+ghost use Rattle.xapi_rules.specs.Objects.{is_component, are_components, component_faults, faults_of_components, ids_of, component_list_faults, is_interaction, interaction_faults, is_interaction_type};
 
 use lrs_json::{Memory, Tree};
 use lrs_names::{has_only, has_string, lesser, text_under, unless};

@@ -2,10 +2,11 @@
 use Rattle.std.proofs.Common.{◌≡◌, ◌<◌, ◌≤◌, ◌-◌, ◌⊎◌, ℕ, List, min, max, nat_le, nat_lt, refl, sym, ◌∙◌, ap, subst, inl, inr, arith, Option, Some, None, SomeIff, Bool, true, false, ◌&&◌, ◌||◌, Bor, if◌then◌else◌}
 use Rattle.std.proofs.lemmas.Bool.{and_from, and_left, and_right, cases_lt, cond-false, cond-true, le-leb, le-ltb, leb-false, leb-true, lt-leb, lt-ltb, ltb-false, ltb-true, or_from, or_left, or_right}
 use Rattle.std.proofs.lemmas.Option.{cond_some, same_Some}
+use Rattle.lrs_names.specs.Rules.{lesser}
 use Rattle.xapi_index.specs.XapiPostingsAscending.{IsAscending, is_in}
 use Rattle.xapi_index.specs.XapiPostingsNearest.{IsGreatestBelow, IsLeastFrom, is_after, is_before}
 use Rattle.xapi_search.specs.Candidates.{IsFirstFrom, IsLastBefore, ListsAscend, is_candidate, stands_in}
-use Rattle.xapi_search.specs.Nearer.{greater, if_below, if_from, lesser}
+use Rattle.xapi_search.specs.Nearer.{greater, if_below, if_from}
 use Rattle.xapi_search.specs.declared.candidates.Candidates.{Candidates}
 use Rattle.xapi_search.specs.declared.candidates.Lists.{Lists}
 use Rattle.xapi_search.specs.declared.candidates.Lists.TheVariants.{Each, Either}

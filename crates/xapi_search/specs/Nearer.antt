@@ -1,10 +1,6 @@
--- The nearer of two positions, of which either may be missing, and a position if it lies within a bound.
-use Rattle.std.specs.Prelude.{ℕ, nat_le, nat_lt, min, max, Option, Some, None, if◌then◌else◌}
-
-abbrev pub lesser : Option ℕ → Option ℕ → Option ℕ
-lesser None other = other
-lesser (Some a) None = Some a
-lesser (Some a) (Some b) = Some (min a b)
+-- The greater of two positions, of which either may be missing (the lesser is `lesser` of `lrs_names`), and a position
+-- if it lies within a bound.
+use Rattle.std.specs.Prelude.{ℕ, nat_le, nat_lt, max, Option, Some, None, if◌then◌else◌}
 
 abbrev pub greater : Option ℕ → Option ℕ → Option ℕ
 greater None other = other

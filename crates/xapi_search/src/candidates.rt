@@ -1,8 +1,9 @@
 // Positions of statements that may be listed, and which of them is the next one.
 ghost use Rattle.std.specs.Prelude.{◌≡◌};
+ghost use Rattle.lrs_names.specs.Rules.{lesser};
 ghost use Rattle.xapi_index.specs.XapiPostingsNearest.{IsGreatestBelow, IsLeastFrom};
 ghost use Rattle.xapi_search.specs.Candidates.{IsFirstFrom, IsLastBefore, ListsAscend, stands_in};
-ghost use Rattle.xapi_search.specs.Nearer.{greater, if_below, if_from, lesser};
+ghost use Rattle.xapi_search.specs.Nearer.{greater, if_below, if_from};
 
 use xapi_index::xapi_postings::{first_from, last_below};
 

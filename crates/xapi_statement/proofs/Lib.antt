@@ -1,4 +1,4 @@
 pub mod Holding
 pub mod Identifying
 pub mod Refusals
-mod Sizes
+pub mod Sizes

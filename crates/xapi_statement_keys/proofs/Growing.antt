@@ -1,28 +1,21 @@
 -- Lists of keys that grow: by none, by one, in two or three steps, and over a list.
-use Rattle.std.proofs.Common.{◌≡◌, List, [], ◌∷◌, ◌++◌, Bool, true, false, ◌||◌, refl, sym, ap, ◌∙◌}
+use Rattle.std.proofs.Common.{◌≡◌, List, [], ◌∷◌, ◌++◌, Bool, false, ◌||◌, refl, sym, ap, ◌∙◌}
+use Rattle.std.proofs.Math.Bool.{or-false, or_assoc}
 use Rattle.std.proofs.lemmas.List.Folds.{list_any-append}
 use Rattle.xapi_statement_keys.specs.Adding.{Adds, same_parts}
 use Rattle.xapi_statement_keys.specs.Keys.{is_among, is_same_key}
 use Rattle.xapi_statement_keys.specs.declared.key.Key.{Key}
 use Rattle.xapi_statement_keys.proofs.SameKeys.{by_parts}
 
-pub or_false : (b : Bool) → (b || false) ≡ b
-or_false true = refl
-or_false false = refl
-
-pub or_assoc : (a b c : Bool) → ((a || b) || c) ≡ (a || (b || c))
-or_assoc true b c = refl
-or_assoc false b c = refl
-
 -- ---- steps
 
 pub adds_none : (keys : List Key) (none : Key → Bool) → ((k : Key) → none k ≡ false) → Adds keys keys none
-adds_none keys none is = record { each = λ k. sym (ap (λ b. is_among k keys || b) (is k) ∙ or_false (is_among k keys)) }
+adds_none keys none is = record { each = λ k. sym (ap (λ b. is_among k keys || b) (is k) ∙ or-false (is_among k keys)) }
 
 pub adds_one : (old new : List Key) (one : Key) → new ≡ old ++ one ∷ [] → Adds old new (λ k. same_parts one k)
 adds_one old new one is = record {
   each = λ k. ap (λ ks. is_among k ks) is ∙ list_any-append (λ other. is_same_key other k) old (one ∷ [])
-      ∙ ap (λ b. is_among k old || b) (or_false (is_same_key one k) ∙ by_parts one k);
+      ∙ ap (λ b. is_among k old || b) (or-false (is_same_key one k) ∙ by_parts one k);
 }
 
 pub adds_same : (old new : List Key) (p q : Key → Bool) → ((k : Key) → p k ≡ q k) → Adds old new p → Adds old new q
@@ -57,5 +50,5 @@ so_far_more old mid new left next rest whole split adds so_far = record {
 
 pub so_far_all : (old new : List Key) (left whole : Key → Bool) → ((k : Key) → left k ≡ false) → KeysSoFar old new left whole → Adds old new whole
 so_far_all old new left whole none so_far = record {
-  each = λ k. sym (ap (λ b. is_among k new || b) (none k) ∙ or_false (is_among k new)) ∙ so_far.each k;
+  each = λ k. sym (ap (λ b. is_among k new || b) (none k) ∙ or-false (is_among k new)) ∙ so_far.each k;
 }

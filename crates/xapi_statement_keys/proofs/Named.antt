@@ -1,5 +1,6 @@
 -- The keys of parties and activities: of none, of two places, and of the items of a list.
 use Rattle.std.proofs.Common.{◌≡◌, ℕ, ◌+◌, ◌<◌, ◌≤◌, List, length, drop, map, slice_index_or, Bool, true, false, ◌&&◌, ◌||◌, Option, Some, None, codes, option_and_then, if◌then◌else◌, refl, sym, ap, ◌∙◌}
+use Rattle.std.proofs.Math.Bool.{and-false, and-or_distrib_left, or-false}
 use Rattle.std.proofs.lemmas.List.{at_drop_all}
 use Rattle.std.specs.Option.{option_map_or}
 use Rattle.std.specs.Str.{bytes_eq}
@@ -10,33 +11,26 @@ use Rattle.lrs_json.specs.Find.{find}
 use Rattle.lrs_json.specs.Json.{Json, null, boolean, number, string, array, object, Elements}
 use Rattle.lrs_json.specs.View.{elements_of, view}
 use Rattle.lrs_json.specs.declared.tree.Tree.{Tree}
-use Rattle.lrs_names.specs.Members.{is_word, items_of, text_of}
+use Rattle.lrs_json.specs.Parts.{items_of}
+use Rattle.lrs_names.specs.Members.{is_word, text_of}
 use Rattle.xapi_query.specs.XapiFormatParty.{any_identified, is_identified}
 use Rattle.xapi_query.specs.XapiRulesRules.{is_about_activity}
 use Rattle.xapi_query.specs.XapiStatementStatement.{activity_in, any_activity_of, context_holds, holds_activity, holds_at, is_activity_of}
 use Rattle.xapi_statement_keys.specs.Adding.{Adds, activity_keys, agent_keys, named_keys, object_keys, same_parts}
 use Rattle.xapi_statement_keys.specs.declared.key.Key.{Key}
 use Rattle.xapi_statement_keys.specs.declared.key.Key.TheVariants as key
-use Rattle.xapi_statement_keys.proofs.Growing.{adds_both, or_false}
+use Rattle.xapi_statement_keys.proofs.Growing.{adds_both}
 use Rattle.xapi_statement_keys.proofs.SameKeys.{ifi_sym}
-
-pub and_false : (b : Bool) → (b && false) ≡ false
-and_false true = refl
-and_false false = refl
-
-and_or : (b x y : Bool) → (b && (x || y)) ≡ ((b && x) || (b && y))
-and_or true x y = refl
-and_or false x y = refl
 
 -- ---- parties
 
 pub agents_none : (direct : Bool) (k : Key) → agent_keys direct (λ ifi. false) k ≡ false
-agents_none direct (key.Agent ifi) = and_false direct
+agents_none direct (key.Agent ifi) = and-false direct
 agents_none direct (key.RelatedAgent ifi) = refl
 agents_none direct _ = refl
 
 agents_or : (direct : Bool) (p q : Ifi → Bool) (k : Key) → agent_keys direct (λ ifi. p ifi || q ifi) k ≡ (agent_keys direct p k || agent_keys direct q k)
-agents_or direct p q (key.Agent ifi) = and_or direct (p ifi) (q ifi)
+agents_or direct p q (key.Agent ifi) = and-or_distrib_left direct (p ifi) (q ifi)
 agents_or direct p q (key.RelatedAgent ifi) = refl
 agents_or direct p q _ = refl
 
@@ -46,9 +40,9 @@ more_agents direct p q old mid new first second =
 
 -- the plain key, at a direct place, and the related one
 pub agent_split : (direct : Bool) (ifi : Ifi) (k : Key) → agent_keys direct (λ other. same_ifi other ifi) k ≡ ((direct && same_parts (key.Agent ifi) k) || same_parts (key.RelatedAgent ifi) k)
-agent_split direct ifi (key.Agent other) = ap (λ b. direct && b) (ifi_sym other ifi) ∙ sym (or_false (direct && same_ifi ifi other))
-agent_split direct ifi (key.RelatedAgent other) = ifi_sym other ifi ∙ sym (ap (λ b. b || same_ifi ifi other) (and_false direct))
-agent_split direct ifi _ = sym (ap (λ b. b || false) (and_false direct))
+agent_split direct ifi (key.Agent other) = ap (λ b. direct && b) (ifi_sym other ifi) ∙ sym (or-false (direct && same_ifi ifi other))
+agent_split direct ifi (key.RelatedAgent other) = ifi_sym other ifi ∙ sym (ap (λ b. b || same_ifi ifi other) (and-false direct))
+agent_split direct ifi _ = sym (ap (λ b. b || false) (and-false direct))
 
 -- the keys of these members
 abbrev pub member_keys : Bool → List Tree → Key → Bool
@@ -67,12 +61,12 @@ no_members direct items i past k = at_drop_all (λ (ts : List Tree). member_keys
 -- ---- activities
 
 pub activities_none : (direct : Bool) (k : Key) → activity_keys direct (λ id. false) k ≡ false
-activities_none direct (key.Activity id) = and_false direct
+activities_none direct (key.Activity id) = and-false direct
 activities_none direct (key.RelatedActivity id) = refl
 activities_none direct _ = refl
 
 activities_or : (direct : Bool) (p q : List ℕ → Bool) (k : Key) → activity_keys direct (λ id. p id || q id) k ≡ (activity_keys direct p k || activity_keys direct q k)
-activities_or direct p q (key.Activity id) = and_or direct (p id) (q id)
+activities_or direct p q (key.Activity id) = and-or_distrib_left direct (p id) (q id)
 activities_or direct p q (key.RelatedActivity id) = refl
 activities_or direct p q _ = refl
 
@@ -86,9 +80,9 @@ more_activities direct p q old mid new first second =
     adds_both old mid new (activity_keys direct p) (activity_keys direct q) (activity_keys direct (λ id. p id || q id)) (activities_or direct p q) first second
 
 pub activity_split : (direct : Bool) (id : List ℕ) (k : Key) → activity_keys direct (λ other. bytes_eq id other) k ≡ ((direct && same_parts (key.Activity id) k) || same_parts (key.RelatedActivity id) k)
-activity_split direct id (key.Activity other) = sym (or_false (direct && bytes_eq id other))
-activity_split direct id (key.RelatedActivity other) = sym (ap (λ b. b || bytes_eq id other) (and_false direct))
-activity_split direct id _ = sym (ap (λ b. b || false) (and_false direct))
+activity_split direct id (key.Activity other) = sym (or-false (direct && bytes_eq id other))
+activity_split direct id (key.RelatedActivity other) = sym (ap (λ b. b || bytes_eq id other) (and-false direct))
+activity_split direct id _ = sym (ap (λ b. b || false) (and-false direct))
 
 -- the id of the Activity that a value is, if it is one
 abbrev pub is_id_in : Option (List ℕ) → List ℕ → Bool
@@ -111,11 +105,11 @@ activity_word j id = word_in (is_about_activity j) (find (codes "id") j) id
 -- what holds it is an array with an Activity of that id, or is one
 pub held_is : (j : Json) (id : List ℕ) → holds_activity id j ≡ (any_activity_of id (items_of j) || is_activity_of id j)
 unfolding is_activity_of
-held_is null id = sym (and_false (is_about_activity null))
-held_is (boolean b) id = sym (and_false (is_about_activity (boolean b)))
-held_is (number s) id = sym (and_false (is_about_activity (number s)))
-held_is (string s) id = sym (and_false (is_about_activity (string s)))
-held_is (array js) id = sym (ap (λ b. any_activity_of id js || b) (and_false (is_about_activity (array js))) ∙ or_false (any_activity_of id js))
+held_is null id = sym (and-false (is_about_activity null))
+held_is (boolean b) id = sym (and-false (is_about_activity (boolean b)))
+held_is (number s) id = sym (and-false (is_about_activity (number s)))
+held_is (string s) id = sym (and-false (is_about_activity (string s)))
+held_is (array js) id = sym (ap (λ b. any_activity_of id js || b) (and-false (is_about_activity (array js))) ∙ or-false (any_activity_of id js))
 held_is (object ms) id = refl
 
 -- the keys of these context activities
@@ -146,9 +140,9 @@ context_held_in id o =
 -- ---- both
 
 pub named_none : (direct : Bool) (k : Key) → named_keys direct (λ ifi. false) (λ id. false) k ≡ false
-named_none direct (key.Agent ifi) = and_false direct
+named_none direct (key.Agent ifi) = and-false direct
 named_none direct (key.RelatedAgent ifi) = refl
-named_none direct (key.Activity id) = and_false direct
+named_none direct (key.Activity id) = and-false direct
 named_none direct (key.RelatedActivity id) = refl
 named_none direct _ = refl
 
@@ -157,9 +151,9 @@ pub no_object : (k : Key) → object_keys None k ≡ false
 no_object k = ap (λ b. b || named_keys false (λ ifi. false) (λ id. false) k) (named_none true k) ∙ named_none false k
 
 named_or : (direct : Bool) (p q : Ifi → Bool) (a b : List ℕ → Bool) (k : Key) → named_keys direct (λ ifi. p ifi || q ifi) (λ id. a id || b id) k ≡ (named_keys direct p a k || named_keys direct q b k)
-named_or direct p q a b (key.Agent ifi) = and_or direct (p ifi) (q ifi)
+named_or direct p q a b (key.Agent ifi) = and-or_distrib_left direct (p ifi) (q ifi)
 named_or direct p q a b (key.RelatedAgent ifi) = refl
-named_or direct p q a b (key.Activity id) = and_or direct (a id) (b id)
+named_or direct p q a b (key.Activity id) = and-or_distrib_left direct (a id) (b id)
 named_or direct p q a b (key.RelatedActivity id) = refl
 named_or direct p q a b _ = refl
 
@@ -169,8 +163,8 @@ more_named direct p q a b old mid new first second =
     adds_both old mid new (named_keys direct p a) (named_keys direct q b) (named_keys direct (λ ifi. p ifi || q ifi) (λ id. a id || b id)) (named_or direct p q a b) first second
 
 party_or_activity : (direct : Bool) (p : Ifi → Bool) (a : List ℕ → Bool) (k : Key) → named_keys direct p a k ≡ (agent_keys direct p k || activity_keys direct a k)
-party_or_activity direct p a (key.Agent ifi) = sym (or_false (direct && p ifi))
-party_or_activity direct p a (key.RelatedAgent ifi) = sym (or_false (p ifi))
+party_or_activity direct p a (key.Agent ifi) = sym (or-false (direct && p ifi))
+party_or_activity direct p a (key.RelatedAgent ifi) = sym (or-false (p ifi))
 party_or_activity direct p a (key.Activity id) = refl
 party_or_activity direct p a (key.RelatedActivity id) = refl
 party_or_activity direct p a _ = refl
@@ -180,7 +174,7 @@ party_and_activity direct p a old mid new first second =
     adds_both old mid new (agent_keys direct p) (activity_keys direct a) (named_keys direct p a) (party_or_activity direct p a) first second
 
 party_or_named : (direct : Bool) (p q : Ifi → Bool) (a : List ℕ → Bool) (k : Key) → named_keys direct (λ ifi. p ifi || q ifi) a k ≡ (agent_keys direct p k || named_keys direct q a k)
-party_or_named direct p q a (key.Agent ifi) = and_or direct (p ifi) (q ifi)
+party_or_named direct p q a (key.Agent ifi) = and-or_distrib_left direct (p ifi) (q ifi)
 party_or_named direct p q a (key.RelatedAgent ifi) = refl
 party_or_named direct p q a (key.Activity id) = refl
 party_or_named direct p q a (key.RelatedActivity id) = refl

@@ -1,8 +1,10 @@
 -- Keys that their order doesn't tell apart have the same parts, and are one.
-use Rattle.std.proofs.Common.{rules, ◌≡◌, ℕ, List, Bool, true, false, eq-eqb, eqb-true, refl, sym, ap, ◌∙◌}
+use Rattle.std.proofs.Common.{rules, ◌≡◌, ℕ, List, true, eq-eqb, eqb-true, refl, sym, ap, ◌∙◌}
 use Rattle.std.specs.Str.{bytes_eq}
 use Rattle.std.proofs.lemmas.Bool.{false≢true, and_from, and_parts}
 use Rattle.std.proofs.lemmas.Slice.Eq.{bytes_eq-Decides}
+use Rattle.std.specs.Cmp.{both_ways}
+use Rattle.lrs_agents.proofs.SameAgents.{same_agents}
 use Rattle.lrs_agents.specs.Identifiers.{same_ifi}
 use Rattle.lrs_agents.specs.declared.identifiers.Ifi.{Ifi}
 use Rattle.lrs_agents.specs.declared.identifiers.Ifi.TheVariants.{Mbox, MboxSha1, OpenId, Account}
@@ -15,24 +17,6 @@ use Rattle.xapi_statement_keys.specs.declared.key.Key.{Key}
 use Rattle.xapi_statement_keys.specs.declared.key.Key.TheVariants as key
 
 -- ---- what the derived equality compares
-
-same_agents : (a b : Ifi) → (ifi_eq.ghosts).eq a b ≡ same_ifi a b
-same_agents (Mbox a) (Mbox b) = search rules
-same_agents (Mbox a) (MboxSha1 b) = refl
-same_agents (Mbox a) (OpenId b) = refl
-same_agents (Mbox a) (Account h n) = refl
-same_agents (MboxSha1 a) (Mbox b) = refl
-same_agents (MboxSha1 a) (MboxSha1 b) = search rules
-same_agents (MboxSha1 a) (OpenId b) = refl
-same_agents (MboxSha1 a) (Account h n) = refl
-same_agents (OpenId a) (Mbox b) = refl
-same_agents (OpenId a) (MboxSha1 b) = refl
-same_agents (OpenId a) (OpenId b) = search rules
-same_agents (OpenId a) (Account h n) = refl
-same_agents (Account h n) (Mbox b) = refl
-same_agents (Account h n) (MboxSha1 b) = refl
-same_agents (Account h n) (OpenId b) = refl
-same_agents (Account h n) (Account g m) = search rules
 
 both_agents : (a b : Ifi) → (key_eq.ghosts).eq (key.Agent a) (key.Agent b) ≡ (ifi_eq.ghosts).eq a b
 both_agents a b = search rules
@@ -198,20 +182,15 @@ same_keys_are_one a b e = parts_one a b (sym (by_parts a b) ∙ e)
 
 -- ---- either way round
 
-same_answers : (a b : Bool) → (a ≡ true → b ≡ true) → (b ≡ true → a ≡ true) → a ≡ b
-same_answers true b f g = sym (f refl)
-same_answers false true f g = g refl
-same_answers false false f g = refl
-
 pub is_same-refl : (k : Key) → is_same_key k k ≡ true
 is_same-refl k = by_parts k k ∙ parts_same k
 
 pub is_same-sym : (a b : Key) → is_same_key a b ≡ is_same_key b a
 is_same-sym a b =
-    same_answers (is_same_key a b) (is_same_key b a) (λ e. ap (λ k. is_same_key k a) (sym (same_keys_are_one a b e)) ∙ is_same-refl a)
+    both_ways (is_same_key a b) (is_same_key b a) (λ e. ap (λ k. is_same_key k a) (sym (same_keys_are_one a b e)) ∙ is_same-refl a)
     (λ e. ap (λ k. is_same_key k b) (sym (same_keys_are_one b a e)) ∙ is_same-refl b)
 
 pub ifi_sym : (a b : Ifi) → same_ifi a b ≡ same_ifi b a
 ifi_sym a b =
-    same_answers (same_ifi a b) (same_ifi b a) (λ e. ap (λ i. same_ifi i a) (sym (same_ifis a b e)) ∙ ifi_same a)
+    both_ways (same_ifi a b) (same_ifi b a) (λ e. ap (λ i. same_ifi i a) (sym (same_ifis a b e)) ∙ ifi_same a)
     (λ e. ap (λ i. same_ifi i b) (sym (same_ifis b a e)) ∙ ifi_same b)

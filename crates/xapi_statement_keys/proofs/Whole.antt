@@ -1,5 +1,6 @@
 -- The keys of a statement, put together from those of its parts.
 use Rattle.std.proofs.Common.{◌≡◌, ℕ, ◌==◌, List, Bool, true, false, ◌&&◌, ◌||◌, Option, Some, None, codes, refl, sym, ap, ◌∙◌}
+use Rattle.std.proofs.Math.Bool.{and-false, or-false}
 use Rattle.std.specs.Option.{option_map_or}
 use Rattle.std.specs.Str.{bytes_eq}
 use Rattle.lrs_agents.specs.Identifiers.{same_ifi}
@@ -23,8 +24,6 @@ use Rattle.xapi_statement_keys.specs.Adding.{agent_keys, authority_keys, named_k
 use Rattle.xapi_statement_keys.specs.Keys.{has_key}
 use Rattle.xapi_statement_keys.specs.declared.key.Key.{Key}
 use Rattle.xapi_statement_keys.specs.declared.key.Key.TheVariants as key
-use Rattle.xapi_statement_keys.proofs.Growing.{or_false}
-use Rattle.xapi_statement_keys.proofs.Named.{and_false}
 
 -- ---- places
 
@@ -65,7 +64,7 @@ provider_is number authority.Desk = refl
 pub authority_split : (a : Authority) (account : Ifi) → account ≡ Account home_page (account_name a) → (k : Key)
     → authority_keys a k ≡ (agent_keys false (λ other. same_ifi other account) k || provider_keys (provider_in a) k)
 authority_split a account is (key.RelatedAgent ifi) =
-    is_authority ifi (authority_name a) (account_name a) ∙ ap (λ i. same_ifi ifi i) (sym is) ∙ sym (or_false (same_ifi ifi account))
+    is_authority ifi (authority_name a) (account_name a) ∙ ap (λ i. same_ifi ifi i) (sym is) ∙ sym (or-false (same_ifi ifi account))
 authority_split a account is (key.Provider number) = provider_is number a
 authority_split a account is _ = refl
 
@@ -90,7 +89,7 @@ no_registration _ = refl
 pub own_split : (s : StoredStatement) (id verb : List ℕ) (registration : Option (List ℕ)) → id ≡ s.id → verb ≡ verb_of (view s.received) → registration ≡ registration_of (view s.received) → (k : Key)
     → own_keys s k ≡ ((same_parts (key.Statement id) k || same_parts (key.Verb verb) k) || registration_keys registration k)
 own_split s id verb registration id_is verb_is registration_is (key.Statement i) = ap (λ x. bytes_eq x i) (sym id_is) ∙ plain false (bytes_eq id i)
-own_split s id verb registration id_is verb_is registration_is (key.Verb i) = ap (λ x. bytes_eq x i) (sym verb_is) ∙ sym (or_false (bytes_eq verb i))
+own_split s id verb registration id_is verb_is registration_is (key.Verb i) = ap (λ x. bytes_eq x i) (sym verb_is) ∙ sym (or-false (bytes_eq verb i))
 own_split s id verb registration id_is verb_is registration_is (key.Registration i) = ap (λ o. option_map_or (λ own. bytes_eq own i) o false) (sym registration_is)
 own_split s id verb registration id_is verb_is registration_is _ = refl
 
@@ -99,14 +98,14 @@ own_split s id verb registration id_is verb_is registration_is _ = refl
 pub reference_split : (voiding : Bool) (id : List ℕ) (k : Key)
     → reference_keys voiding (Some id) k ≡ ((same_parts (key.Reference id) k || (voiding && same_parts (key.Voiding id) k)) || same_parts key.AnyReference k)
 reference_split voiding id (key.Reference i) =
-    sym (or_false (bytes_eq id i || (voiding && false)) ∙ ap (λ b. bytes_eq id i || b) (and_false voiding) ∙ or_false (bytes_eq id i))
-reference_split voiding id (key.Voiding i) = sym (or_false (voiding && bytes_eq id i))
-reference_split voiding id key.AnyReference = sym (ap (λ b. b || true) (and_false voiding))
-reference_split voiding id _ = sym (ap (λ b. b || false) (and_false voiding))
+    sym (or-false (bytes_eq id i || (voiding && false)) ∙ ap (λ b. bytes_eq id i || b) (and-false voiding) ∙ or-false (bytes_eq id i))
+reference_split voiding id (key.Voiding i) = sym (or-false (voiding && bytes_eq id i))
+reference_split voiding id key.AnyReference = sym (ap (λ b. b || true) (and-false voiding))
+reference_split voiding id _ = sym (ap (λ b. b || false) (and-false voiding))
 
 pub no_reference : (voiding : Bool) (k : Key) → reference_keys voiding None k ≡ false
 no_reference voiding (key.Reference id) = refl
-no_reference voiding (key.Voiding id) = and_false voiding
+no_reference voiding (key.Voiding id) = and-false voiding
 no_reference voiding key.AnyReference = refl
 no_reference voiding _ = refl
 
@@ -126,14 +125,14 @@ pub whole_split : (s : StoredStatement) (k : Key)
 unfolding has_activity
 whole_split s (key.Statement id) = plain false (bytes_eq s.id id)
 whole_split s (key.Verb id) = plain false (bytes_eq (verb_of (view s.received)) id)
-whole_split s (key.Activity id) = sym (or_false (is_about id (view s.received) || false))
+whole_split s (key.Activity id) = sym (or-false (is_about id (view s.received) || false))
 whole_split s (key.RelatedActivity id) =
     plain false (is_about id (view s.received) || (has_some_context_activity id (view s.received) || has_member_that (codes "object") (nested_has_activity id) (view s.received)))
-whole_split s (key.Agent ifi) = sym (or_false (has_direct_agent ifi (view s.received) || false))
+whole_split s (key.Agent ifi) = sym (or-false (has_direct_agent ifi (view s.received) || false))
 whole_split s (key.RelatedAgent ifi) =
     with_authority (has_direct_agent ifi (view s.received)) (is_party ifi (authority_json s.authority)) (has_context_agent ifi (view s.received)) (has_member_that (codes "object") (nested_has_agent ifi) (view s.received))
 whole_split s (key.Registration id) = plain false (is_registered id s)
-whole_split s (key.Provider number) = sym (or_false (is_of_provider number s.authority))
+whole_split s (key.Provider number) = sym (or-false (is_of_provider number s.authority))
 whole_split s (key.Reference id) = refl
 whole_split s (key.Voiding id) = refl
 whole_split s key.AnyReference = refl

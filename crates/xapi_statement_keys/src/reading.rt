@@ -1,7 +1,7 @@
 // What is read of a tree.
 ghost use Rattle.std.specs.Prelude.{◌≡◌, map, option_map};
 ghost use Rattle.lrs_json.specs.View.{view, elements_of};
-ghost use Rattle.lrs_names.specs.Members.{items_of};
+ghost use Rattle.lrs_json.specs.Parts.{items_of};
 ghost use Rattle.xapi_query.specs.XapiStatementStatement.{activity_in};
 
 use lrs_json::{Text, Tree};

@@ -1,6 +1,6 @@
 use Rattle.std.proofs.Common.{◌≡◌}
 use Rattle.lrs_json.specs.Find.{find_member}
-use Rattle.lrs_json_slices.specs.Parts.{count_members}
+use Rattle.lrs_json.specs.Parts.{count_members}
 use Rattle.lrs_json_slices.proofs.written.find_member.Given as goal
 
 abbrev pub invariant-loop-part : goal.invariant-loop-part

@@ -1,6 +1,7 @@
 use Rattle.std.proofs.Common.{[], ◌∙◌, ap, subst, rules, arith}
+use Rattle.lrs_json.specs.Names.{are_new}
 use Rattle.lrs_json.specs.declared.tree.Tree.{the_lemmas}
-use Rattle.lrs_json_written.specs.Fitting.{are_new, names_in}
+use Rattle.lrs_json_written.specs.Fitting.{names_in}
 use Rattle.lrs_json_written.proofs.Objects.{MembersSoFar, member_done, members_begun, members_done, members_fault, members_next, members_unopened, next_done, next_fault, object_again, object_deep, object_done, object_fault}
 use Rattle.lrs_json_written.proofs.Objects as objects
 use Rattle.lrs_json_written.proofs.Readings.{ItemsSoFar, item_done, item_fault, items_begun, items_done, items_fault, items_next, items_unopened, list_deep, list_done, list_fault, next_shorter}

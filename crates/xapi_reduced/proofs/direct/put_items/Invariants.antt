@@ -1,6 +1,6 @@
 use Rattle.std.proofs.Common.{◌≡◌, ◌++◌, false}
+use Rattle.lrs_json.specs.Parts.{count_items}
 use Rattle.lrs_json.specs.Written.{Extends, elements_text}
-use Rattle.lrs_json_slices.specs.Parts.{count_items}
 use Rattle.xapi_reduced.specs.Direct.{kept_names}
 use Rattle.xapi_reduced.specs.Reduced.{each_item, with_only}
 use Rattle.xapi_reduced.proofs.direct.put_items.Given as goal

@@ -1,7 +1,7 @@
 use Rattle.std.proofs.Common.{◌≡◌, ◌++◌, false}
 use Rattle.lrs_json.specs.Json.{Members}
+use Rattle.lrs_json.specs.Parts.{count_members}
 use Rattle.lrs_json.specs.Written.{Extends, members_text}
-use Rattle.lrs_json_slices.specs.Parts.{count_members}
 use Rattle.xapi_reduced.specs.Direct.{direct_before}
 use Rattle.xapi_reduced.proofs.direct.put_kept.Given as goal
 

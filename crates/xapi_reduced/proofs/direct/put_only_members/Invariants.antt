@@ -1,6 +1,6 @@
 use Rattle.std.proofs.Common.{◌≡◌, ◌++◌, false}
+use Rattle.lrs_json.specs.Parts.{count_members}
 use Rattle.lrs_json.specs.Written.{Extends, members_text}
-use Rattle.lrs_json_slices.specs.Parts.{count_members}
 use Rattle.xapi_values.specs.Memberwise.{each_member}
 use Rattle.xapi_reduced.specs.Direct.{kept_names}
 use Rattle.xapi_reduced.specs.Reduced.{only}

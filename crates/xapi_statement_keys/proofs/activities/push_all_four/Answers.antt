@@ -1,9 +1,10 @@
 use Rattle.std.proofs.Common.{ℕ, List, Bool, ◌||◌, false, codes, sym}
+use Rattle.std.proofs.Math.Bool.{or_assoc}
 use Rattle.std.proofs.lemmas.Result.{on_ok_weaker}
 use Rattle.lrs_json.specs.View.{view}
 use Rattle.xapi_query.specs.XapiStatementStatement.{holds_at}
 use Rattle.xapi_statement_keys.specs.Adding.{activity_keys, holds_some}
-use Rattle.xapi_statement_keys.proofs.Growing.{adds_same, or_assoc}
+use Rattle.xapi_statement_keys.proofs.Growing.{adds_same}
 use Rattle.xapi_statement_keys.proofs.Named.{activities_same, more_activities}
 use Rattle.xapi_statement_keys.proofs.activities.push_all_four.Goals as goal
 

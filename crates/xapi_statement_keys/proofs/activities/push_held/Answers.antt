@@ -3,7 +3,7 @@ use Rattle.std.proofs.Common.{◌||◌, false, sym, subst}
 use Rattle.std.proofs.lemmas.Result.{on_ok_weaker}
 use Rattle.lrs_json.specs.Json.{Elements}
 use Rattle.lrs_json.specs.View.{view}
-use Rattle.lrs_names.specs.Members.{items_of}
+use Rattle.lrs_json.specs.Parts.{items_of}
 use Rattle.xapi_query.specs.XapiStatementStatement.{any_activity_of, holds_activity, is_activity_of}
 use Rattle.xapi_statement_keys.specs.Adding.{Adds, activity_keys}
 use Rattle.xapi_statement_keys.proofs.Growing.{adds_same}

@@ -2,7 +2,7 @@ use Rattle.std.proofs.Common.{List, map, ap, sym, ◌∙◌}
 use Rattle.lrs_json.proofs.Views.{view-List}
 use Rattle.lrs_json.specs.View.{elements_of, view}
 use Rattle.lrs_json.specs.declared.tree.Tree.{Tree}
-use Rattle.lrs_names.specs.Members.{items_of}
+use Rattle.lrs_json.specs.Parts.{items_of}
 use Rattle.xapi_statement_keys.proofs.reading.items_in.Goals as goal
 
 pub returns-in-List : goal.returns-in-List

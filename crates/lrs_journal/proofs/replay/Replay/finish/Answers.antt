@@ -5,7 +5,7 @@ use Rattle.lrs_journal.specs.Store.{Stands}
 use Rattle.lrs_journal.specs.Replay.{Replay, HasRead}
 use Rattle.lrs_journal.specs.Steps.{IsCutBack, IsReplay}
 use Rattle.lrs_journal.specs.Journal.{frames_of, Stores}
-use Rattle.lrs_journal.proofs.Told.{alike_told}
+use Rattle.lrs_journal.proofs.Told.{told_on}
 use Rattle.lrs_journal.proofs.Kept.{seen, settled_journal}
 use Rattle.lrs_journal.proofs.Frames.{after_closed, closed_frames, cut_stands}
 use Rattle.lrs_journal.proofs.replay.Replay.finish.Goals as goal
@@ -66,6 +66,6 @@ returns-in-Err-clause-failed g c =
     let r = subst (λ (b : Bool). IsReplay (told i.disk) (I i.disk) i.limit i.size i.place i.number b) (ap (λ (r : Replay _). r.ended) c.self.view_is ∙ c.requires) c.self.invariant in
     subst (λ (r : Replay _). (x : List ℕ) → told r.disk ≡ Some x → (payloads : List (List ℕ)) → HasRead x r payloads → Stores told d1 r.limit payloads) c.self.view_is
     (λ x told_x payloads h.
-    let new = alike_told (told i.disk) (told d1) x c.close_end.ensures.tells told_x in
+    let new = told_on (told i.disk) (told d1) x c.close_end.ensures.tells told_x in
     let now = now_has T S I g.met.D.Disk.counts_now g.met.D.Disk.only_now i.disk d1 (IsCutBack i.place (I i.disk)) c.close_end.ensures.any_moment new.0 (g.met.D.Disk.reads_image d1 new.0 new.1) in
     (new.0, new.1, cut_stands told I g.met.D.Disk.reads_image i.disk d1 i.limit i.place i.number i.size r x payloads told_x h new.0 now))

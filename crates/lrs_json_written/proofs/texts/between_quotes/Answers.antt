@@ -1,6 +1,6 @@
 use Rattle.std.proofs.Common.{[], ◌∷◌}
 use Rattle.lrs_json_written.proofs.Strings.{comes, plain_quoted}
-use Rattle.lrs_json_written.proofs.cursor.between_quotes.Goals as goal
+use Rattle.lrs_json_written.proofs.texts.between_quotes.Goals as goal
 
 pub returns : goal.returns
 returns c =

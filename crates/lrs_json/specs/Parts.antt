@@ -21,6 +21,15 @@ items_in (string s) = None
 items_in (array js) = Some js
 items_in (object ms) = None
 
+-- the items of an array; nothing else has any
+abbrev pub items_of : Json → Elements
+items_of null = no_elements
+items_of (boolean b) = no_elements
+items_of (number s) = no_elements
+items_of (string s) = no_elements
+items_of (array js) = js
+items_of (object ms) = no_elements
+
 -- the text of a string
 abbrev pub text_in : Json → Option (List ℕ)
 text_in null = None
