@@ -9,7 +9,7 @@ use Rattle.lrs_json.specs.declared.tree.Tree.{Tree}
 use Rattle.lrs_json.specs.declared.tree.Member.{Member}
 use Rattle.lrs_names.specs.Rules.{least, lesser, IsLeast}
 use Rattle.lrs_names.proofs.RuleLemmas.{lesser_assoc, least-append, least_is}
-use Rattle.cmi5_course.specs.Places.{Placed}
+use Rattle.cmi5_course.specs.SpelledNodes.{SpelledNode}
 use Rattle.cmi5_course.specs.Rules.{has_some_item, has_some_member}
 use Rattle.cmi5_course.specs.Courses.{node_of}
 use Rattle.cmi5_course.specs.declared.course.Node.{Node}
@@ -32,10 +32,10 @@ ok_least fs (Ok o) e = subst (IsLeast fs) (sym e) (least_is fs)
 ok_least fs (Err x) e = tt
 
 -- one more node is made
-pub one_more_node : (whole before new : List Node) (place : Placed) (rest : List Placed) (made : Node)
-    → whole ≡ before ++ map node_of (place ∷ rest) → made ≡ node_of place → new ≡ before ++ made ∷ []
+pub one_more_node : (whole before new : List Node) (index : SpelledNode) (rest : List SpelledNode) (made : Node)
+    → whole ≡ before ++ map node_of (index ∷ rest) → made ≡ node_of index → new ≡ before ++ made ∷ []
     → whole ≡ new ++ map node_of rest
-one_more_node whole before new place rest made so is n =
+one_more_node whole before new index rest made so is n =
     so ∙ ap (λ z. before ++ z ∷ map node_of rest) (sym is) ∙ sym (append_assoc before (made ∷ []) (map node_of rest))
     ∙ ap (λ ns. ns ++ map node_of rest) (sym n)
 

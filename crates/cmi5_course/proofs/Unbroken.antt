@@ -14,7 +14,7 @@ use Rattle.lrs_names.specs.Iris.{is_iri}
 use Rattle.lrs_names.specs.Members.{is_string_that, text_of, has_only, has_member, has_member_that, faults_of_member}
 use Rattle.lrs_names.specs.Members.{text_under}
 use Rattle.lrs_names.specs.Rules.{unless, least}
-use Rattle.cmi5_course.specs.Places.{Placed, placed, nodes_in, nodes_under}
+use Rattle.cmi5_course.specs.SpelledNodes.{SpelledNode, spelled_node, nodes_in, nodes_under}
 use Rattle.cmi5_course.specs.Units.{is_at_most, is_score}
 use Rattle.lrs_decimal.specs.Range.{is_decimal}
 use Rattle.lrs_names.specs.Members.{spelling_of, spelling_under}
@@ -90,7 +90,7 @@ id_unbroken j none =
     none_left ids titles (none_left (ids ++ titles) descriptions (none_left (ids ++ titles ++ descriptions) _ none))
 
 -- a node that breaks no rule has an IRI as its id, and what stands there for a launch breaks none
-pub node_has_id : (node : Placed) → least (node_faults node) ≡ None
+pub node_has_id : (node : SpelledNode) → least (node_faults node) ≡ None
     → has_member_that (codes "id") (is_string_that is_iri) node.value ≡ true
 unfolding node_faults
 node_has_id node none =
@@ -101,7 +101,7 @@ node_has_id node none =
     found_iri (find (codes "id") node.value) (form_titled node.value node.parent (none_left form shared both))
     (id_unbroken node.value (none_right form shared both))
 
-pub form_unbroken : (node : Placed) → least (node_faults node) ≡ None → least (form_faults node) ≡ None
+pub form_unbroken : (node : SpelledNode) → least (node_faults node) ≡ None → least (form_faults node) ≡ None
 unfolding node_faults
 form_unbroken node none =
     let form : List ℕ = form_faults node in
@@ -109,7 +109,7 @@ form_unbroken node none =
     none_left form shared (none_left (form ++ shared) (launch_faults node.value) (none_left
     (form ++ shared ++ launch_faults node.value) _ none))
 
-pub launch_unbroken : (node : Placed) → least (node_faults node) ≡ None → least (launch_faults node.value) ≡ None
+pub launch_unbroken : (node : SpelledNode) → least (node_faults node) ≡ None → least (launch_faults node.value) ≡ None
 unfolding node_faults
 launch_unbroken node none =
     none_right (form_faults node ++ shared_faults node.value) (launch_faults node.value)
@@ -161,16 +161,16 @@ found_score (Some (object ms)) s none e = cc e
 
 -- ---- all nodes
 
-pub nodes_unbroken : (j : Json) (nodes : List Placed) → nodes ≡ nodes_in j → broken_rule j ≡ None
+pub nodes_unbroken : (j : Json) (nodes : List SpelledNode) → nodes ≡ nodes_in j → broken_rule j ≡ None
     → least (flat_map node_faults nodes) ≡ None
 unfolding broken_rule course_faults nodes_faults
 nodes_unbroken j nodes e none =
-    let all : List Placed = nodes_in j in
+    let all : List SpelledNode = nodes_in j in
     ap (λ ps. least (flat_map node_faults ps)) e
     ∙ none_left (flat_map node_faults all) (unless (have_distinct_ids all) 6)
     (none_left (flat_map node_faults all ++ unless (have_distinct_ids all) 6) (unless (is_within_limits all) 12) none)
 
-pub more_unbroken : (first : Placed) (rest : List Placed) → least (flat_map node_faults (first ∷ rest)) ≡ None
+pub more_unbroken : (first : SpelledNode) (rest : List SpelledNode) → least (flat_map node_faults (first ∷ rest)) ≡ None
     → (least (node_faults first) ≡ None) × (least (flat_map node_faults rest) ≡ None)
 more_unbroken first rest none = (
   none_left (node_faults first) (flat_map node_faults rest) none,
@@ -179,7 +179,7 @@ more_unbroken first rest none = (
 )
 
 -- the course itself is the first node
-pub first_place : (j : Json) → (rest : List Placed) × (nodes_in j ≡ placed j None 0 ∷ rest)
+pub first_place : (j : Json) → (rest : List SpelledNode) × (nodes_in j ≡ spelled_node j None 0 ∷ rest)
 unfolding nodes_in
 first_place null = ([], refl)
 first_place (boolean b) = ([], refl)
@@ -193,9 +193,9 @@ pub nodes_stand : (j : Json) (nodes : List Node) → nodes ≡ nodes_of j → No
 unfolding nodes_of
 nodes_stand j nodes e none =
     let first = first_place j in
-    let known : slice_get nodes 0 ≡ Some (node_of (placed j None 0)) = ap (λ (ns : List Node). slice_get ns 0) (e
+    let known : slice_get nodes 0 ≡ Some (node_of (spelled_node j None 0)) = ap (λ (ns : List Node). slice_get ns 0) (e
     ∙ ap (map node_of) first.1) in
-    let bad : None ≡ Some (node_of (placed j None 0)) = none ∙ known in
+    let bad : None ≡ Some (node_of (spelled_node j None 0)) = none ∙ known in
     cc bad
 
 pub first_id_is : (j : Json) (nodes : List Node) → nodes ≡ nodes_of j → broken_rule j ≡ None
@@ -203,7 +203,7 @@ pub first_id_is : (j : Json) (nodes : List Node) → nodes ≡ nodes_of j → br
 unfolding nodes_of node_of
 first_id_is j nodes e none =
     let first = first_place j in
-    let course : Placed = placed j None 0 in
+    let course : SpelledNode = spelled_node j None 0 in
     let unbroken : least (flat_map node_faults (nodes_in j)) ≡ None = nodes_unbroken j (nodes_in j) refl none in
     let own = more_unbroken course first.0 (ap (λ ps. least (flat_map node_faults ps)) (sym first.1) ∙ unbroken) in
     let text = id_text j (node_has_id course own.0) in

@@ -19,7 +19,7 @@ use Rattle.lrs_json.specs.declared.tree.Tree.{Tree}
 use Rattle.lrs_agents.proofs.AgentLemmas.{none_right}
 use Rattle.lrs_names.specs.Members.{is_string_that, is_word, has_only, has_member, faults_of_member, text_under}
 use Rattle.lrs_names.specs.Rules.{unless, least}
-use Rattle.cmi5_course.specs.Places.{Placed, nodes_in}
+use Rattle.cmi5_course.specs.SpelledNodes.{SpelledNode, nodes_in}
 use Rattle.cmi5_course.specs.Urls.{is_launchable_if_read, is_unit_url}
 use Rattle.cmi5_course.specs.Units.{AssignableUnit, unit_of}
 use Rattle.lrs_decimal.specs.Range.{is_decimal}
@@ -27,10 +27,10 @@ use Rattle.lrs_names.specs.Members.{spelling_under}
 use Rattle.cmi5_course.specs.Rules.{is_course, is_block, is_unit, is_node, is_of_kind, is_unit_node, has_title}
 use Rattle.cmi5_course.specs.Rules.{unit_members, move_on_faults, mastery_faults, method_faults, url_faults}
 use Rattle.cmi5_course.specs.Rules.{launch_faults, node_faults, broken_rule}
-use Rattle.cmi5_course.specs.Courses.{IsSound, kind_of, is_unit_kind, unit_if, node_of, nodes_of, course_of, is_unit_of}
-use Rattle.cmi5_course.specs.Courses.{place_of_unit, unit_at}
-use Rattle.cmi5_course.specs.declared.course.Kind.{Kind}
-use Rattle.cmi5_course.specs.declared.course.Kind.TheVariants.{Course as CourseKind, Block, Unit as UnitKind}
+use Rattle.cmi5_course.specs.Courses.{IsSoundUnit, kind_of, is_unit_kind, unit_if, node_of, nodes_of, course_of, is_unit_of}
+use Rattle.cmi5_course.specs.Courses.{index_of_unit, unit_at}
+use Rattle.cmi5_course.specs.declared.course.NodeKind.{NodeKind}
+use Rattle.cmi5_course.specs.declared.course.NodeKind.TheVariants.{Course as CourseKind, Block, Unit as UnitKind}
 use Rattle.cmi5_course.specs.declared.course.Node.{Node}
 use Rattle.cmi5_course.proofs.Unbroken.{is_met, first_true, second_true, one_of, text_found, found_score}
 use Rattle.cmi5_course.proofs.Unbroken.{mastery_unbroken, form_unbroken, launch_unbroken, nodes_unbroken, more_unbroken}
@@ -74,13 +74,13 @@ node_form : (alone : Bool) (j : Json) → alone ≡ false
 node_form true j e none = absurd (false≢true (sym e))
 node_form false j e none = is_met (is_node j) 2 none
 
-unit_is : (kind : Kind) (j : Json) (unit : AssignableUnit) → unit_if kind j ≡ Some unit
+unit_is : (kind : NodeKind) (j : Json) (unit : AssignableUnit) → unit_if kind j ≡ Some unit
     → (is_unit_kind kind ≡ true) × (unit ≡ unit_of j)
 unit_is CourseKind j unit e = cc e
 unit_is Block j unit e = cc e
 unit_is UnitKind j unit e = let same : unit_of j ≡ unit = cc e in (refl, sym same)
 
-has_unit : (kind : Kind) (j : Json) → is_unit_kind kind ≡ true → unit_if kind j ≡ Some (unit_of j)
+has_unit : (kind : NodeKind) (j : Json) → is_unit_kind kind ≡ true → unit_if kind j ≡ Some (unit_of j)
 has_unit CourseKind j e = absurd (false≢true e)
 has_unit Block j e = absurd (false≢true e)
 has_unit UnitKind j e = refl
@@ -122,7 +122,7 @@ score_known : (o : Option (List ℕ)) (j : Json) → o ≡ spelling_under (codes
 score_known None j e none = tt
 score_known (Some s) j e none = found_score (find (codes "masteryScore") j) s (mastery_unbroken j none) (sym e)
 
-unit_sound : (j : Json) → is_unit j ≡ true → least (launch_faults j) ≡ None → IsSound (unit_of j)
+unit_sound : (j : Json) → is_unit j ≡ true → least (launch_faults j) ≡ None → IsSoundUnit (unit_of j)
 unfolding unit_of
 unit_sound j is none = record {
   address = address_known j (has_url j is) none;
@@ -131,15 +131,15 @@ unit_sound j is none = record {
 
 -- ---- one node among all
 
-node_unbroken : (nodes : List Placed) (k : ℕ) (node : Placed) → least (flat_map node_faults nodes) ≡ None
+node_unbroken : (nodes : List SpelledNode) (k : ℕ) (node : SpelledNode) → least (flat_map node_faults nodes) ≡ None
     → slice_get nodes k ≡ Some node → least (node_faults node) ≡ None
 node_unbroken [] k node none e = cc e
 node_unbroken (n ∷ ns) zero node none e = let same : n ≡ node = cc e in subst
-    (λ (m : Placed). least (node_faults m) ≡ None) same (more_unbroken n ns none).0
+    (λ (m : SpelledNode). least (node_faults m) ≡ None) same (more_unbroken n ns none).0
 node_unbroken (n ∷ ns) (suc k) node none e = node_unbroken ns k node (more_unbroken n ns none).1 e
 
-placed_at : (nodes : List Placed) (k : ℕ) (made : Node) → slice_get (map node_of nodes) k ≡ Some made
-    → (node : Placed) × (slice_get nodes k ≡ Some node) × (made ≡ node_of node)
+placed_at : (nodes : List SpelledNode) (k : ℕ) (made : Node) → slice_get (map node_of nodes) k ≡ Some made
+    → (node : SpelledNode) × (slice_get nodes k ≡ Some node) × (made ≡ node_of node)
 placed_at [] k made e = cc e
 placed_at (n ∷ ns) zero made e = let same : node_of n ≡ made = cc e in (n, refl, sym same)
 placed_at (n ∷ ns) (suc k) made e = placed_at ns k made e
@@ -149,42 +149,42 @@ unit_there : (o : Option Node) (unit : AssignableUnit) → option_and_then (λ n
 unit_there None unit e = cc e
 unit_there (Some node) unit e = (node, refl, e)
 
-place_sound : (node : Placed) (unit : AssignableUnit) → least (node_faults node) ≡ None
-    → unit_if (kind_of node) node.value ≡ Some unit → IsSound unit
+place_sound : (node : SpelledNode) (unit : AssignableUnit) → least (node_faults node) ≡ None
+    → unit_if (kind_of node) node.value ≡ Some unit → IsSoundUnit unit
 place_sound node unit none e =
     let is = unit_is (kind_of node) node.value unit e in
     let kind = chosen (is_none node.parent) (is_unit_node node) is.0 in
     let form = node_form (is_none node.parent) node.value kind.0 (form_unbroken node none) in
-    subst IsSound (sym is.1) (unit_sound node.value (unit_form node.value kind.1 form) (launch_unbroken node none))
+    subst IsSoundUnit (sym is.1) (unit_sound node.value (unit_form node.value kind.1 form) (launch_unbroken node none))
 
-pub node_sound : (j : Json) (nodes : List Node) (place : ℕ) (unit : AssignableUnit) → nodes ≡ nodes_of j
-    → broken_rule j ≡ None → option_and_then (λ node. node.unit) (slice_get nodes place) ≡ Some unit
-    → IsSound unit
+pub node_sound : (j : Json) (nodes : List Node) (index : ℕ) (unit : AssignableUnit) → nodes ≡ nodes_of j
+    → broken_rule j ≡ None → option_and_then (λ node. node.unit) (slice_get nodes index) ≡ Some unit
+    → IsSoundUnit unit
 unfolding nodes_of node_of
-node_sound j nodes place unit read unbroken e =
-    let there = unit_there (slice_get nodes place) unit e in
-    let at = placed_at (nodes_in j) place there.0 (ap (λ (ns : List Node). slice_get ns place) (sym read) ∙ there.1) in
-    let none = node_unbroken (nodes_in j) place at.0 (nodes_unbroken j (nodes_in j) refl unbroken) at.1 in
+node_sound j nodes index unit read unbroken e =
+    let there = unit_there (slice_get nodes index) unit e in
+    let at = placed_at (nodes_in j) index there.0 (ap (λ (ns : List Node). slice_get ns index) (sym read) ∙ there.1) in
+    let none = node_unbroken (nodes_in j) index at.0 (nodes_unbroken j (nodes_in j) refl unbroken) at.1 in
     place_sound at.0 unit none (ap (λ (node : Node). node.unit) (sym at.2) ∙ there.2)
 
 -- The URL Standard reads the address of each unit of a course that breaks no rule, and its mastery score is a number in
 -- range.
-pub units_sound : (t : Tree) (place : ℕ) (unit : AssignableUnit) → broken_rule (view t) ≡ None
-    → unit_at place (course_of t) ≡ Some unit → IsSound unit
-units_sound t place unit unbroken e = node_sound (view t) (nodes_of (view t)) place unit refl unbroken e
+pub units_sound : (t : Tree) (index : ℕ) (unit : AssignableUnit) → broken_rule (view t) ≡ None
+    → unit_at index (course_of t) ≡ Some unit → IsSoundUnit unit
+units_sound t index unit unbroken e = node_sound (view t) (nodes_of (view t)) index unit refl unbroken e
 
 pub all_sound : (o : Option (Bor AssignableUnit)) → ((unit : AssignableUnit) → option_map (λ u. u.now) o ≡ Some unit
-    → IsSound unit) → IfSome o (λ u. IsSound u.now)
+    → IsSoundUnit unit) → IfSome o (λ u. IsSoundUnit u.now)
 all_sound None sound = tt
 all_sound (Some u) sound = sound u.now refl
 
--- ---- the place of a unit
+-- ---- the index of a unit
 
 -- what `position_from` finds
 record IsFound {X : Type 0} (test : X → Bool) (i : ℕ) (xs : List X) (k : ℕ) : Type 0 where
   pub steps : ℕ
   pub item : X
-  pub place : k ≡ i + steps
+  pub index : k ≡ i + steps
   pub at : slice_get xs steps ≡ Some item
   pub passes : test item ≡ true
 
@@ -194,28 +194,28 @@ by_test : {X : Type 0} (test : X → Bool) (i : ℕ) (x : X) (xs : List X) (k : 
 by_test test i x xs k true is e more = let same : i ≡ k = cc e in record {
   steps = 0;
   item = x;
-  place = omega
+  index = omega
       (arith, same);
   at = refl;
   passes = is;
 }
 by_test test i x xs k false is e more =
     let rest = more e in
-    let far : k ≡ i + suc rest.steps = omega (arith, rest.place) in
-    record { steps = suc rest.steps; item = rest.item; place = far; at = rest.at; passes = rest.passes }
+    let far : k ≡ i + suc rest.steps = omega (arith, rest.index) in
+    record { steps = suc rest.steps; item = rest.item; index = far; at = rest.at; passes = rest.passes }
 
 found_at : {X : Type 0} (test : X → Bool) (i : ℕ) (xs : List X) (k : ℕ) → position_from test i xs ≡ Some k
     → IsFound test i xs k
 found_at test i [] k e = cc e
 found_at test i (x ∷ xs) k e = by_test test i x xs k (test x) refl e (found_at test (i + 1) xs k)
 
-pub unit_stands : (j : Json) (nodes : List Node) (id : List ℕ) (place : ℕ) → nodes ≡ nodes_of j
-    → position (is_unit_of id) nodes ≡ Some place
-    → IsSome (option_and_then (λ node. node.unit) (slice_get nodes place))
+pub unit_stands : (j : Json) (nodes : List Node) (id : List ℕ) (index : ℕ) → nodes ≡ nodes_of j
+    → position (is_unit_of id) nodes ≡ Some index
+    → IsSome (option_and_then (λ node. node.unit) (slice_get nodes index))
 unfolding nodes_of node_of
-unit_stands j nodes id place read e =
-    let found = found_at (is_unit_of id) 0 nodes place (sym (position_from-zero (is_unit_of id) nodes) ∙ e) in
-    let same : place ≡ found.steps = omega (arith, found.place) in
+unit_stands j nodes id index read e =
+    let found = found_at (is_unit_of id) 0 nodes index (sym (position_from-zero (is_unit_of id) nodes) ∙ e) in
+    let same : index ≡ found.steps = omega (arith, found.index) in
     let at = placed_at (nodes_in j) found.steps found.item (ap (λ (ns : List Node). slice_get ns found.steps) (sym read)
     ∙ found.at) in
     let kind : is_unit_kind found.item.kind ≡ true = first_true (is_unit_kind found.item.kind)
@@ -227,7 +227,7 @@ unit_stands j nodes id place read e =
     ap (λ (k : ℕ). is_some (option_and_then (λ (node : Node). node.unit) (slice_get nodes k))) same
     ∙ ap (λ (o : Option Node). is_some (option_and_then (λ (node : Node). node.unit) o)) found.at ∙ ap is_some unit
 
--- the unit that is found by its id stands at its place
-pub unit_found : (t : Tree) (id : List ℕ) (place : ℕ) → place_of_unit id (course_of t) ≡ Some place
-    → IsSome (unit_at place (course_of t))
-unit_found t id place e = unit_stands (view t) (nodes_of (view t)) id place refl e
+-- the unit that is found by its id stands at its index
+pub unit_found : (t : Tree) (id : List ℕ) (index : ℕ) → index_of_unit id (course_of t) ≡ Some index
+    → IsSome (unit_at index (course_of t))
+unit_found t id index e = unit_stands (view t) (nodes_of (view t)) id index refl e

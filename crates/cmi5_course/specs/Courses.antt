@@ -14,28 +14,28 @@ use Rattle.lrs_json.specs.declared.tree.Tree.{Tree}
 use Rattle.lrs_names.specs.Members.{text_under}
 use Rattle.cmi5_course.specs.Units.{AssignableUnit, unit_of}
 use Rattle.lrs_decimal.specs.Range.{is_decimal}
-use Rattle.cmi5_course.specs.Places.{Placed, nodes_in}
+use Rattle.cmi5_course.specs.SpelledNodes.{SpelledNode, nodes_in}
 use Rattle.cmi5_course.specs.Rules.{is_unit_node, broken_rule}
 use Rattle.cmi5_course.specs.declared.refused.CourseRefused.{CourseRefused}
 use Rattle.cmi5_course.specs.declared.refused.CourseRefused.TheVariants.{Broken}
-use Rattle.cmi5_course.specs.declared.course.Kind.{Kind}
-use Rattle.cmi5_course.specs.declared.course.Kind.TheVariants.{Course as CourseKind, Block, Unit as UnitKind}
+use Rattle.cmi5_course.specs.declared.course.NodeKind.{NodeKind}
+use Rattle.cmi5_course.specs.declared.course.NodeKind.TheVariants.{Course as CourseKind, Block, Unit as UnitKind}
 use Rattle.cmi5_course.specs.declared.course.Node.{Node}
 
--- what a node is, by its place and by its member `kind`
-abbrev pub kind_of : Placed → Kind
+-- what a node is, by its index and by its member `kind`
+abbrev pub kind_of : SpelledNode → NodeKind
 kind_of node = if is_none node.parent then CourseKind else (if is_unit_node node then UnitKind else Block)
 
-abbrev pub is_unit_kind : Kind → Bool
+abbrev pub is_unit_kind : NodeKind → Bool
 is_unit_kind CourseKind = false
 is_unit_kind Block = false
 is_unit_kind UnitKind = true
 
 -- what a unit has beside
-abbrev pub unit_if : Kind → Json → Option AssignableUnit
+abbrev pub unit_if : NodeKind → Json → Option AssignableUnit
 unit_if kind j = if is_unit_kind kind then Some (unit_of j) else None
 
-unfoldable pub node_of : Placed → Node
+unfoldable pub node_of : SpelledNode → Node
 node_of node = record {
   id = unwrap_or (text_under (codes "id") node.value) [];
   kind = kind_of node;
@@ -82,19 +82,19 @@ abbrev pub is_unit_of : List ℕ → Node → Bool
 is_unit_of id node = is_unit_kind node.kind && bytes_eq node.id id
 
 -- the number of the unit of that id
-abbrev pub place_of_unit : List ℕ → Course → Option ℕ
-place_of_unit id course = position (is_unit_of id) course.nodes
+abbrev pub index_of_unit : List ℕ → Course → Option ℕ
+index_of_unit id course = position (is_unit_of id) course.nodes
 
 -- the node of that number
 abbrev pub node_at : ℕ → Course → Option Node
-node_at place course = slice_get course.nodes place
+node_at index course = slice_get course.nodes index
 
 -- the unit that the node of that number is
 abbrev pub unit_at : ℕ → Course → Option AssignableUnit
-unit_at place course = option_and_then (λ node. node.unit) (node_at place course)
+unit_at index course = option_and_then (λ node. node.unit) (node_at index course)
 
 -- What is known of a unit of a course that breaks no rule: the URL Standard reads its address, and its mastery score is
 -- the spelling of a number in range.
-pub record IsSound (unit : AssignableUnit) : Type 0 where
+pub record IsSoundUnit (unit : AssignableUnit) : Type 0 where
   pub address : (url : Parts) × (parse_url None unit.url ≡ Ok url)
   pub decimal : IfSome unit.mastery_text (λ spelling. is_decimal spelling ≡ true)

@@ -1,7 +1,7 @@
 pub mod Words
 pub mod Units
 pub mod Urls
-pub mod Places
+pub mod SpelledNodes
 pub mod Rules
 pub mod Courses
 pub mod Launches

@@ -17,7 +17,7 @@ use Rattle.cmi5_course.specs.Words.{move_on_of, method_of}
 use Rattle.cmi5_course.specs.Units.{is_score}
 use Rattle.lrs_names.specs.Members.{spelling_of}
 use Rattle.cmi5_course.specs.Urls.{is_unit_url}
-use Rattle.cmi5_course.specs.Places.{Placed, nodes_in}
+use Rattle.cmi5_course.specs.SpelledNodes.{SpelledNode, nodes_in}
 use Rattle.cmi5_course.specs.declared.rules.TheConstants.{MOST_UNITS, DEEPEST}
 
 -- ---- the members of courses, blocks and units
@@ -119,7 +119,7 @@ type_faults j = unless (is_string_that is_iri j) 11
 -- ---- a node by itself
 
 -- rule 1 on the course, which no node holds, and rule 2 on each other node
-abbrev pub form_faults : Placed → List ℕ
+abbrev pub form_faults : SpelledNode → List ℕ
 form_faults node = if is_none node.parent then unless (is_course node.value) 1 else unless (is_node node.value) 2
 
 -- what stands in a course, a block and a unit
@@ -138,30 +138,30 @@ content_faults j =
     faults_of_member (codes "launchParameters") text_faults j ++ faults_of_member (codes "entitlementKey") text_faults j
     ++ faults_of_member (codes "activityType") type_faults j
 
-unfoldable pub node_faults : Placed → List ℕ
+unfoldable pub node_faults : SpelledNode → List ℕ
 node_faults node =
     form_faults node ++ shared_faults node.value ++ launch_faults node.value ++ content_faults node.value
 
 -- ---- all nodes together
 
 -- the id, if it is a string
-abbrev pub ids_of : Placed → List (List ℕ)
+abbrev pub ids_of : SpelledNode → List (List ℕ)
 ids_of node = option_to_list (text_under (codes "id") node.value)
 
 -- rule 6: the ids of the course, the blocks and the units are distinct
-unfoldable pub have_distinct_ids : List Placed → Bool
+unfoldable pub have_distinct_ids : List SpelledNode → Bool
 have_distinct_ids nodes = are_new [] (flat_map ids_of nodes)
 
-abbrev pub is_unit_node : Placed → Bool
+abbrev pub is_unit_node : SpelledNode → Bool
 is_unit_node node = is_of_kind (codes "unit") node.value
 
 -- rule 12: no more units and no deeper nodes than the store takes
-unfoldable pub is_within_limits : List Placed → Bool
+unfoldable pub is_within_limits : List SpelledNode → Bool
 is_within_limits nodes =
     nat_le (count_by is_unit_node nodes) MOST_UNITS && list_all (λ node. nat_le node.depth DEEPEST) nodes
 
 -- The rules that these nodes break, each as often as they break it.
-unfoldable pub nodes_faults : List Placed → List ℕ
+unfoldable pub nodes_faults : List SpelledNode → List ℕ
 nodes_faults nodes =
     flat_map node_faults nodes ++ unless (have_distinct_ids nodes) 6 ++ unless (is_within_limits nodes) 12
 

@@ -4,14 +4,14 @@ ghost use Rattle.lrs_json.specs.View.{view};
 ghost use Rattle.lrs_json.specs.Fits.{Fits};
 ghost use Rattle.lrs_json_equal.specs.SameValue.{same};
 ghost use Rattle.lrs_names.specs.Members.{text_under};
-ghost use Rattle.cmi5_course.specs.Places.{seen, nodes_in};
+ghost use Rattle.cmi5_course.specs.SpelledNodes.{seen, nodes_in};
 ghost use Rattle.cmi5_course.specs.Rules.{broken_rule};
 ghost use Rattle.cmi5_course.specs.declared.refused.CourseRefused.TheVariants as CourseRefused;
-ghost use Rattle.cmi5_course.specs.Courses.{refusal, course_of, course_key, same_course, is_unit_of, IsSound, place_of_unit, node_at, unit_at};
+ghost use Rattle.cmi5_course.specs.Courses.{refusal, course_of, course_key, same_course, is_unit_of, IsSoundUnit, index_of_unit, node_at, unit_at};
 
-use crate::places::{Placed, nodes_in};
 use crate::reading::nodes_of;
 use crate::rules::broken_nodes;
+use crate::spelled_nodes::{SpelledNode, nodes_in};
 use crate::{CourseRefused, Unit};
 use lrs_json::{Items, Memory, Text, Tree};
 use lrs_json_equal::same_value;
@@ -22,7 +22,7 @@ use std::marker::Model;
 
 /// What a node of a course is.
 #[derive(Clone, Copy, Debug, PartialEq, Eq)]
-pub enum Kind {
+pub enum NodeKind {
     Course,
     Block,
     Unit,
@@ -33,8 +33,8 @@ pub enum Kind {
 pub struct Node {
     /// The id that its publisher gave it.
     pub id: Iri,
-    pub kind: Kind,
-    /// The place of the block or course that holds it; none of the course itself.
+    pub kind: NodeKind,
+    /// The index of the block or course that holds it; none of the course itself.
     pub parent: Option<u32>,
     /// What a unit has beside; none of a course or a block.
     pub unit: Option<Unit>,
@@ -71,10 +71,10 @@ impl Course {
             (λ course. (course ≡ course_of tree.now) × (broken_rule (view tree.now) ≡ None))
             (λ e. (refusal (view tree.now) ≡ Some e) ⊎ (e ≡ CourseRefused.Memory)) }
     {
-        let places = nodes_in(alloc, tree)?;
-        match broken_nodes(alloc, places.as_slice())? {
+        let spelled_nodes = nodes_in(alloc, tree)?;
+        match broken_nodes(alloc, spelled_nodes.as_slice())? {
             Some(rule) => Err(CourseRefused::Broken { rule }),
-            None => Ok(course_of(alloc, tree, places.as_slice())?),
+            None => Ok(course_of(alloc, tree, spelled_nodes.as_slice())?),
         }
     }
 
@@ -124,28 +124,28 @@ impl Course {
 
     /// The number of the unit of that id.
     pub fn unit(&self, id: &Iri) -> Option<u32>
-        ensures value { result ≡ place_of_unit id.now self.now }
-        ensures stands { IfSome result (λ place. IsSome (unit_at place self.now)) }
+        ensures value { result ≡ index_of_unit id.now self.now }
+        ensures stands { IfSome result (λ index. IsSome (unit_at index self.now)) }
     {
-        match place_of(self.nodes.as_slice(), id) {
-            Some(place) => Some(place as u32),
+        match index_of(self.nodes.as_slice(), id) {
+            Some(index) => Some(index as u32),
             None => None,
         }
     }
 
     /// The node of that number.
-    pub fn node_at(&self, place: u32) -> Option<&Node>
-        ensures { option_map (λ node. node.now) result ≡ node_at place self.now }
+    pub fn node_at(&self, index: u32) -> Option<&Node>
+        ensures { option_map (λ node. node.now) result ≡ node_at index self.now }
     {
-        self.nodes.get(place as usize)
+        self.nodes.get(index as usize)
     }
 
     /// The unit that the node of that number is.
-    pub fn unit_at(&self, place: u32) -> Option<&Unit>
-        ensures value { option_map (λ unit. unit.now) result ≡ unit_at place self.now }
-        ensures sound { IfSome result (λ unit. IsSound unit.now) }
+    pub fn unit_at(&self, index: u32) -> Option<&Unit>
+        ensures value { option_map (λ unit. unit.now) result ≡ unit_at index self.now }
+        ensures sound { IfSome result (λ unit. IsSoundUnit unit.now) }
     {
-        unit_in(self.nodes.as_slice(), place as usize)
+        unit_in(self.nodes.as_slice(), index as usize)
     }
 }
 
@@ -163,23 +163,23 @@ impl Keyed<Text> for Course {
     }
 }
 
-fn unit_in(nodes: &[Node], place: usize) -> Option<&Unit>
+fn unit_in(nodes: &[Node], index: usize) -> Option<&Unit>
     ensures { option_map (λ unit. unit.now) result
-        ≡ option_and_then (λ node. node.unit) (slice_get nodes.now place) }
+        ≡ option_and_then (λ node. node.unit) (slice_get nodes.now index) }
 {
-    match nodes.get(place) {
+    match nodes.get(index) {
         Some(node) => node.unit.as_ref(),
         None => None,
     }
 }
 
-fn place_of(nodes: &[Node], id: &Iri) -> Option<usize>
+fn index_of(nodes: &[Node], id: &Iri) -> Option<usize>
     ensures value { result ≡ position_from (is_unit_of id.now) 0 nodes.now }
-    ensures within { IfSome result (λ place. place < length nodes.now) }
+    ensures within { IfSome result (λ index. index < length nodes.now) }
 {
-    for (place, node) in nodes.iter().enumerate() {
+    for (index, node) in nodes.iter().enumerate() {
         if is_unit_of(node, id) {
-            return Some(place);
+            return Some(index);
         }
     }
     None
@@ -188,17 +188,21 @@ fn place_of(nodes: &[Node], id: &Iri) -> Option<usize>
 fn is_unit_of(node: &Node, id: &Iri) -> bool
     ensures { result ≡ is_unit_of id.now node.now }
 {
-    node.kind == Kind::Unit && node.id.text().as_str() == id.text().as_str()
+    node.kind == NodeKind::Unit && node.id.text().as_str() == id.text().as_str()
 }
 
 #[tactic(auto, unfolding(crate::specs::Courses::nodes_of))]
-fn course_of(alloc: Global, tree: &Tree, places: &[Placed<'_>]) -> Result<Course, Memory>
+fn course_of(
+    alloc: Global,
+    tree: &Tree,
+    spelled_nodes: &[SpelledNode<'_>],
+) -> Result<Course, Memory>
     requires fits { Fits (view tree.now) }
-    requires places { map seen places.now ≡ nodes_in (view tree.now) }
+    requires spelled_nodes { map seen spelled_nodes.now ≡ nodes_in (view tree.now) }
     requires unbroken { broken_rule (view tree.now) ≡ None }
     ensures { IfOk result (λ course. course ≡ course_of tree.now) }
 {
-    let nodes = nodes_of(alloc, places)?;
+    let nodes = nodes_of(alloc, spelled_nodes)?;
     if u32::try_from(nodes.len()).is_err() {
         return Err(Memory);
     }

@@ -5,15 +5,15 @@
 
 mod course;
 mod launch;
-mod places;
 mod reading;
 mod reason;
 mod refused;
 mod rules;
+mod spelled_nodes;
 mod unit;
 mod urls;
 
-pub use course::{Course, Kind, Node};
+pub use course::{Course, Node, NodeKind};
 pub use launch::{Launch, Mode};
 pub use lrs_json::Memory;
 pub use reason::Reason;

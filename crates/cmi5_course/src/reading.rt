@@ -4,15 +4,15 @@ ghost use Rattle.lrs_json.specs.View.{view};
 ghost use Rattle.lrs_names.specs.Iris.{is_iri};
 ghost use Rattle.lrs_names.specs.Members.{text_under, has_member_that, is_string_that};
 ghost use Rattle.lrs_names.specs.Rules.{least};
-ghost use Rattle.cmi5_course.specs.Places.{seen};
+ghost use Rattle.cmi5_course.specs.SpelledNodes.{seen};
 ghost use Rattle.cmi5_course.specs.Units.{move_on_in, method_in, unit_of};
 ghost use Rattle.lrs_names.specs.Members.{spelling_under};
 ghost use Rattle.cmi5_course.specs.Rules.{node_faults};
 ghost use Rattle.cmi5_course.specs.Courses.{kind_of, unit_if, node_of};
 
-use crate::places::Placed;
 use crate::rules::is_of_kind;
-use crate::{Kind, Method, MoveOn, Node, Unit};
+use crate::spelled_nodes::SpelledNode;
+use crate::{Method, MoveOn, Node, NodeKind, Unit};
 use lrs_json::{Items, Memory, Number, Text, Tree};
 use lrs_names::{Iri, text_under};
 use std::alloc::Global;
@@ -91,24 +91,24 @@ fn unit_of(alloc: Global, tree: &Tree) -> Result<Unit, Memory>
     })
 }
 
-fn unit_if(alloc: Global, kind: Kind, tree: &Tree) -> Result<Option<Unit>, Memory>
+fn unit_if(alloc: Global, kind: NodeKind, tree: &Tree) -> Result<Option<Unit>, Memory>
     ensures { IfOk result (λ unit. unit ≡ unit_if kind (view tree.now)) }
 {
     match kind {
-        Kind::Course | Kind::Block => Ok(None),
-        Kind::Unit => Ok(Some(unit_of(alloc, tree)?)),
+        NodeKind::Course | NodeKind::Block => Ok(None),
+        NodeKind::Unit => Ok(Some(unit_of(alloc, tree)?)),
     }
 }
 
-fn kind_of(node: &Placed<'_>) -> Kind
+fn kind_of(node: &SpelledNode<'_>) -> NodeKind
     ensures { result ≡ kind_of (seen node.now) }
 {
     if node.parent.is_none() {
-        Kind::Course
+        NodeKind::Course
     } else if is_of_kind(node.value, "unit") {
-        Kind::Unit
+        NodeKind::Unit
     } else {
-        Kind::Block
+        NodeKind::Block
     }
 }
 
@@ -126,7 +126,7 @@ fn id_of(tree: &Tree) -> Result<Iri, Memory>
 }
 
 #[tactic(auto, unfolding(crate::specs::Courses::node_of))]
-fn node_of(alloc: Global, node: &Placed<'_>) -> Result<Node, Memory>
+fn node_of(alloc: Global, node: &SpelledNode<'_>) -> Result<Node, Memory>
     requires { least (node_faults (seen node.now)) ≡ None }
     ensures { IfOk result (λ made. made ≡ node_of (seen node.now)) }
 {
@@ -141,14 +141,14 @@ fn node_of(alloc: Global, node: &Placed<'_>) -> Result<Node, Memory>
     })
 }
 
-/// A node of its own for each place, in their order.
-pub fn nodes_of(alloc: Global, places: &[Placed<'_>]) -> Result<Items<Node>, Memory>
-    requires { least (flat_map node_faults (map seen places.now)) ≡ None }
-    ensures { IfOk result (λ nodes. nodes ≡ map node_of (map seen places.now)) }
+/// A node of its own for each spelled, in their order.
+pub fn nodes_of(alloc: Global, spelled_nodes: &[SpelledNode<'_>]) -> Result<Items<Node>, Memory>
+    requires { least (flat_map node_faults (map seen spelled_nodes.now)) ≡ None }
+    ensures { IfOk result (λ nodes. nodes ≡ map node_of (map seen spelled_nodes.now)) }
 {
     let mut nodes = Items::new(alloc);
-    for place in places {
-        nodes.push(node_of(alloc, place)?)?;
+    for spelled in spelled_nodes {
+        nodes.push(node_of(alloc, spelled)?)?;
     }
     Ok(nodes)
 }

@@ -5,12 +5,12 @@ ghost use Rattle.std.specs.List.{list_all};
 ghost use Rattle.lrs_json.specs.View.{view};
 ghost use Rattle.lrs_names.specs.Members.{has_member_that, is_string_that, is_word, faults_of_member};
 ghost use Rattle.lrs_names.specs.Rules.{least, IsLeast};
-ghost use Rattle.cmi5_course.specs.Places.{seen, nodes_in};
+ghost use Rattle.cmi5_course.specs.SpelledNodes.{seen, nodes_in};
 ghost use Rattle.cmi5_course.specs.Units.{is_at_most, is_score};
 ghost use Rattle.lrs_decimal.specs.Range.{is_decimal};
 ghost use Rattle.cmi5_course.specs.Rules.{has_title, is_course, is_of_kind, is_block, is_unit, is_node, has_some_member, is_title, has_some_item, id_faults, title_faults, children_faults, move_on_faults, mastery_faults, method_faults, url_faults, text_faults, type_faults, form_faults, shared_faults, launch_faults, content_faults, node_faults, have_distinct_ids, is_unit_node, is_within_limits, nodes_faults, course_faults, broken_rule};
 
-use crate::places::{Placed, nodes_in};
+use crate::spelled_nodes::{SpelledNode, nodes_in};
 use crate::urls::is_unit_url;
 use crate::{Method, MoveOn};
 use lrs_decimal::Decimal;
@@ -88,7 +88,7 @@ fn is_unit(tree: &Tree) -> bool
         && has_member(tree, "url")
 }
 
-fn broken_form(node: &Placed<'_>) -> Option<u8>
+fn broken_form(node: &SpelledNode<'_>) -> Option<u8>
     ensures { result ≡ least (form_faults (seen node.now)) }
 {
     if node.parent.is_none() {
@@ -258,7 +258,7 @@ fn broken_content(tree: &Tree) -> Option<u8>
 }
 
 #[tactic(auto, using(lrs_names::proofs::RuleLemmas::joined), unfolding(crate::specs::Rules::node_faults))]
-fn broken_node(alloc: Global, node: &Placed<'_>) -> Result<Option<u8>, Memory>
+fn broken_node(alloc: Global, node: &SpelledNode<'_>) -> Result<Option<u8>, Memory>
     ensures { IfOk result (λ r. r ≡ least (node_faults (seen node.now))) }
 {
     let broken = lesser(broken_form(node), broken_shared(node.value));
@@ -267,7 +267,7 @@ fn broken_node(alloc: Global, node: &Placed<'_>) -> Result<Option<u8>, Memory>
 }
 
 #[tactic(auto, using(lrs_names::proofs::RuleLemmas::joined))]
-fn broken_by_itself(alloc: Global, nodes: &[Placed<'_>]) -> Result<Option<u8>, Memory>
+fn broken_by_itself(alloc: Global, nodes: &[SpelledNode<'_>]) -> Result<Option<u8>, Memory>
     ensures { IfOk result (λ r. r ≡ least (flat_map node_faults (map seen nodes.now))) }
 {
     let mut broken = None;
@@ -279,7 +279,7 @@ fn broken_by_itself(alloc: Global, nodes: &[Placed<'_>]) -> Result<Option<u8>, M
 
 // Whether no id comes twice.
 #[tactic(auto, unfolding(crate::specs::Rules::have_distinct_ids))]
-fn have_distinct_ids(alloc: Global, nodes: &[Placed<'_>]) -> Result<bool, Memory>
+fn have_distinct_ids(alloc: Global, nodes: &[SpelledNode<'_>]) -> Result<bool, Memory>
     ensures { IfOk result (λ r. r ≡ have_distinct_ids (map seen nodes.now)) }
 {
     let mut ids = BTreeSet::new(alloc);
@@ -294,7 +294,7 @@ fn have_distinct_ids(alloc: Global, nodes: &[Placed<'_>]) -> Result<bool, Memory
     Ok(true)
 }
 
-fn unit_count(nodes: &[Placed<'_>]) -> usize
+fn unit_count(nodes: &[SpelledNode<'_>]) -> usize
     ensures { result ≡ count_by is_unit_node (map seen nodes.now) }
 {
     let mut units = 0;
@@ -306,7 +306,7 @@ fn unit_count(nodes: &[Placed<'_>]) -> usize
     units
 }
 
-fn are_shallow(nodes: &[Placed<'_>]) -> bool
+fn are_shallow(nodes: &[SpelledNode<'_>]) -> bool
     ensures { result ≡ list_all (λ node. nat_le node.depth DEEPEST) (map seen nodes.now) }
 {
     for node in nodes {
@@ -318,7 +318,7 @@ fn are_shallow(nodes: &[Placed<'_>]) -> bool
 }
 
 #[tactic(auto, unfolding(crate::specs::Rules::is_within_limits))]
-fn is_within_limits(nodes: &[Placed<'_>]) -> bool
+fn is_within_limits(nodes: &[SpelledNode<'_>]) -> bool
     ensures { result ≡ is_within_limits (map seen nodes.now) }
 {
     unit_count(nodes) <= MOST_UNITS && are_shallow(nodes)
@@ -326,7 +326,7 @@ fn is_within_limits(nodes: &[Placed<'_>]) -> bool
 
 /// The least rule that the nodes of a course break, by themselves or together.
 #[tactic(auto, using(lrs_names::proofs::RuleLemmas::joined), unfolding(crate::specs::Rules::nodes_faults))]
-pub fn broken_nodes(alloc: Global, nodes: &[Placed<'_>]) -> Result<Option<u8>, Memory>
+pub fn broken_nodes(alloc: Global, nodes: &[SpelledNode<'_>]) -> Result<Option<u8>, Memory>
     ensures { IfOk result (λ r. r ≡ least (nodes_faults (map seen nodes.now))) }
 {
     let broken = broken_by_itself(alloc, nodes)?;

@@ -1,5 +1,5 @@
 // What is read of a course, which courses are the same, and the words of modes.
-use cmi5_course::{Course, CourseRefused, Kind, Method, Mode, MoveOn, Node, Unit};
+use cmi5_course::{Course, CourseRefused, Method, Mode, MoveOn, Node, NodeKind, Unit};
 use lrs_json::{Number, Text};
 use lrs_json_reader::read;
 use lrs_names::Iri;
@@ -24,11 +24,11 @@ fn course_of(alloc: Global, text: &str) -> Result<Course, Fail> {
     }
 }
 
-fn kind_text(kind: Kind) -> &'static str {
+fn kind_text(kind: NodeKind) -> &'static str {
     match kind {
-        Kind::Course => "course",
-        Kind::Block => "block",
-        Kind::Unit => "unit",
+        NodeKind::Course => "course",
+        NodeKind::Block => "block",
+        NodeKind::Unit => "unit",
     }
 }
 

@@ -21,8 +21,8 @@ use Rattle.xapi_statement.specs.XapiRulesNulls.{has_null, items_have_null, role_
 use Rattle.xapi_statement.specs.XapiRulesObjects.{activity_faults, definition_faults, interaction_faults, is_activity, is_definition, is_interaction}
 use Rattle.xapi_statement.specs.XapiRulesRules.{action_faults, actor_faults, are_timestamps, broken_rule, form_faults, has_no_revision, is_fit_revision, is_verb, is_voided_verb, is_voiding, object_faults, own_faults, shared_faults, statement_faults, verb_faults, voids_reference}
 use Rattle.xapi_statement.specs.XapiRulesNullsRoleTheVariants.{Plain, Object, Described, Holder, Context}
-use Rattle.cmi5_course.specs.declared.course.Kind.{Kind}
-use Rattle.cmi5_course.specs.declared.course.Kind.TheVariants.{Course, Block, Unit as UnitKind}
+use Rattle.cmi5_course.specs.declared.course.NodeKind.{NodeKind}
+use Rattle.cmi5_course.specs.declared.course.NodeKind.TheVariants.{Course, Block, Unit as UnitKind}
 use Rattle.cmi5_launch.specs.Activities.{activity_json}
 use Rattle.cmi5_launch.specs.Data.{number_given, only_activity}
 use Rattle.cmi5_launch.specs.Made.{Saying, abandoned_result, categories_json, context_activities, context_json, extensions_json, made_json, object_json, result_given, said, type_of, verb_json, waived_result}
@@ -204,7 +204,7 @@ said_voids_none (Abandoned ms unit) = refl
 said_voids_none (Waived why unit) = refl
 said_voids_none (Satisfied kind) = refl
 
-type_named : (kind : Kind) → IsIriIfThere (type_of kind)
+type_named : (kind : NodeKind) → IsIriIfThere (type_of kind)
 unfolding is_iri chars
 type_named Course = refl
 type_named Block = refl

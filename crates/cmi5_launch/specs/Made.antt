@@ -7,8 +7,8 @@ use Rattle.lrs_json.specs.View.{elements_of, members_of}
 use Rattle.lrs_names.specs.Ids.{id_text}
 use Rattle.lrs_time.specs.Duration.{seconds_text}
 use Rattle.cmi5_course.specs.Words.{mode_text, move_on_text}
-use Rattle.cmi5_course.specs.declared.course.Kind.{Kind}
-use Rattle.cmi5_course.specs.declared.course.Kind.TheVariants.{Course, Block, Unit as UnitKind}
+use Rattle.cmi5_course.specs.declared.course.NodeKind.{NodeKind}
+use Rattle.cmi5_course.specs.declared.course.NodeKind.TheVariants.{Course, Block, Unit as UnitKind}
 use Rattle.cmi5_course.specs.declared.launch.Mode.{Mode}
 use Rattle.cmi5_course.specs.declared.unit.Unit as units
 use Rattle.cmi5_launch.specs.declared.made.Made.{Made}
@@ -147,12 +147,12 @@ said_waived why = record {
 -- ---- satisfied (section 9.3.9)
 
 -- what cmi5 calls a course and a block (section 9.4); it has no name for a unit
-abbrev pub type_of : Kind → Option (List ℕ)
+abbrev pub type_of : NodeKind → Option (List ℕ)
 type_of Course = Some course_type
 type_of Block = Some block_type
 type_of UnitKind = None
 
-abbrev pub said_satisfied : Kind → Saying
+abbrev pub said_satisfied : NodeKind → Saying
 said_satisfied kind = record {
   verb = satisfied;
   word = codes "satisfied";

@@ -11,7 +11,7 @@ use crate::names::{
     ABANDONED, BLOCK_TYPE, CMI5_CATEGORY, COURSE_TYPE, LAUNCH_MODE, LAUNCH_PARAMETERS, LAUNCH_URL,
     LAUNCHED, MASTERY_SCORE, MOVE_ON, MOVE_ON_CATEGORY, REASON, SATISFIED, SESSION_ID, WAIVED,
 };
-use cmi5_course::{Kind, Mode, Reason, Unit};
+use cmi5_course::{Mode, NodeKind, Reason, Unit};
 use lrs_agent_texts::agent_tree;
 use lrs_agent_texts::building::{push, push_given, push_words, whole};
 use lrs_agents::Agent;
@@ -35,7 +35,7 @@ pub enum Made<'a> {
     /// That a unit was waived (section 9.3.7).
     Waived { reason: Reason, unit: &'a Unit },
     /// That a block or a course was satisfied (section 9.3.9). Of a unit this is never said.
-    Satisfied { kind: Kind },
+    Satisfied { kind: NodeKind },
 }
 
 /// The statement that the store makes: of that actor, on the Activity under which it knows the unit, the block or the
@@ -140,13 +140,13 @@ fn object_of(alloc: Global, made: &Made<'_>, activity: &str) -> Result<Tree, Mem
 }
 
 // The Activity of a course or a block, with its type; of a unit none is told.
-fn object_of_kind(alloc: Global, kind: Kind, activity: &str) -> Result<Tree, Memory>
+fn object_of_kind(alloc: Global, kind: NodeKind, activity: &str) -> Result<Tree, Memory>
     ensures { IfOk result (λ tree. view tree ≡ object_json activity.now (type_of kind)) }
 {
     match kind {
-        Kind::Course => typed(alloc, activity, COURSE_TYPE),
-        Kind::Block => typed(alloc, activity, BLOCK_TYPE),
-        Kind::Unit => activities::activity(alloc, activity),
+        NodeKind::Course => typed(alloc, activity, COURSE_TYPE),
+        NodeKind::Block => typed(alloc, activity, BLOCK_TYPE),
+        NodeKind::Unit => activities::activity(alloc, activity),
     }
 }
 

@@ -1,7 +1,7 @@
 ghost use Rattle.std.specs.Prelude.{◌≡◌, IfOk};
 ghost use Rattle.cmi5_launch.specs.Addresses.{IsAddress};
 
-use cmi5_course::{Kind, Method, Mode, MoveOn, Reason, Unit};
+use cmi5_course::{Method, Mode, MoveOn, NodeKind, Reason, Unit};
 use cmi5_launch::{Made, activity_id, launch_address, launch_data, made_statement};
 use lrs_agents::{Agent, Ifi};
 use lrs_json::{Decimal, Number, Text, write};
@@ -440,7 +440,12 @@ fn wrong_kind(alloc: Global, unit: &Unit, actor: &Agent) -> Result<Option<usize>
             },
             WAIVED,
         ),
-        (Made::Satisfied { kind: Kind::Block }, SATISFIED),
+        (
+            Made::Satisfied {
+                kind: NodeKind::Block,
+            },
+            SATISFIED,
+        ),
     ];
     for (i, (made, text)) in rows.iter().enumerate() {
         if written(alloc, made, actor)?.as_slice() != text.as_bytes() {
@@ -561,16 +566,16 @@ fn another_spelling_is_no_reason(rt: HostRuntime) {
 }
 
 // What is told of the Activity behind its id: of a unit nothing.
-const TYPES: [(Kind, &str); 3] = [
+const TYPES: [(NodeKind, &str); 3] = [
     (
-        Kind::Course,
+        NodeKind::Course,
         r#","definition":{"type":"https://w3id.org/xapi/cmi5/activitytype/course"}"#,
     ),
     (
-        Kind::Block,
+        NodeKind::Block,
         r#","definition":{"type":"https://w3id.org/xapi/cmi5/activitytype/block"}"#,
     ),
-    (Kind::Unit, ""),
+    (NodeKind::Unit, ""),
 ];
 
 const BEFORE_TYPE: &str =

@@ -6,7 +6,7 @@ use Rattle.std.specs.Str.{bytes_eq}
 use Rattle.std.proofs.lemmas.Bool.{false≢true}
 use Rattle.std.proofs.lemmas.Map.Text.{is_eq-slice_cmp}
 use Rattle.std.proofs.lemmas.Slice.Eq.{bytes_eq-Decides}
-use Rattle.cmi5_running_sessions.specs.Entries.{AddsFilled, AddsNoRegistrations, ChangesAt, ChangesUnits, Entries, HoldsUnits, IsMade, MakesAt, MakesUnits, StaysFilled, UnitsByRegistration, is_empty_place, is_same_unit, taken_back, unit_at}
+use Rattle.cmi5_running_sessions.specs.Entries.{AddsFilled, AddsNoRegistrations, ChangesAt, ChangesUnits, Entries, HoldsUnits, IsMade, MakesAt, MakesUnits, StaysFilled, UnitsByRegistration, is_empty_slot, is_same_unit, taken_back, unit_at}
 use Rattle.cmi5_running_sessions.specs.Kept.{is_same, nothing_reached, units_of}
 use Rattle.cmi5_running_sessions.specs.declared.units.Reached.{Reached}
 
@@ -49,7 +49,7 @@ first_there {X = X} (e ∷ es) some = (e.0, ap (λ b. is_some (cond b (Some e.1)
 pub made_same : {X : Type 0} (nothing : X) (passes : List ℕ → Bool) (old new : Entries X) → new ≡ old → MakesAt nothing passes old new
 made_same nothing passes old new is = λ k. inl (ap (λ es. lookup (is_same k) es) is)
 
--- a place is made for a key that had none
+-- a slot is made for a key that had none
 pub made_new : {X : Type 0} (nothing : X) (key copy : List ℕ) (inside seen new : Entries X) → copy ≡ key → inside ≡ seen → is_some (lookup (is_same key) inside) ≡ false
     → ((k : List ℕ) → lookup (is_same k) new ≡ cond (is_same copy k) (Some nothing) (lookup (is_same k) inside)) → MakesAt nothing (λ k. is_same key k) seen new
 made_new {X} nothing key copy inside seen new is same none at =
@@ -91,23 +91,23 @@ unchanged_at key change es is = λ k. by_test k (is_same key k) refl
     by_test k true e = subst (λ (q : List ℕ). lookup (is_same q) es ≡ change (lookup (is_same q) es)) (one_key key k e) (sym is)
     by_test k false e = refl
 
--- ---- a place that is taken back
+-- ---- a slot that is taken back
 
-pub emptied : {X : Type 0} (is_nothing : X → Bool) (place : Option X) → is_empty_place is_nothing place ≡ true → None ≡ taken_back is_nothing place
+pub emptied : {X : Type 0} (is_nothing : X → Bool) (slot : Option X) → is_empty_slot is_nothing slot ≡ true → None ≡ taken_back is_nothing slot
 emptied is_nothing None empty = refl
 emptied is_nothing (Some x) empty = sym (ap (λ b. if b then None else Some x) empty)
 
-pub left : {X : Type 0} (is_nothing : X → Bool) (place : Option X) → is_empty_place is_nothing place ≡ false → taken_back is_nothing place ≡ place
+pub left : {X : Type 0} (is_nothing : X → Bool) (slot : Option X) → is_empty_slot is_nothing slot ≡ false → taken_back is_nothing slot ≡ slot
 left is_nothing None full = refl
 left is_nothing (Some x) full = ap (λ b. if b then None else Some x) full
 
--- a place that is empty is there
-pub empty_there : {X : Type 0} (is_nothing : X → Bool) (place : Option X) → is_empty_place is_nothing place ≡ true → is_some place ≡ true
+-- a slot that is empty is there
+pub empty_there : {X : Type 0} (is_nothing : X → Bool) (slot : Option X) → is_empty_slot is_nothing slot ≡ true → is_some slot ≡ true
 empty_there is_nothing None empty = absurd (false≢true empty)
 empty_there is_nothing (Some x) empty = refl
 
 -- the only entry is taken out
-pub only_one : {X : Type 0} (key : List ℕ) (es : Entries X) → nat_lt 1 (length es) ≡ false → is_some (lookup (is_same key) es) ≡ true → ChangesAt (λ k. is_same key k) (λ (place : Option X). None) es []
+pub only_one : {X : Type 0} (key : List ℕ) (es : Entries X) → nat_lt 1 (length es) ≡ false → is_some (lookup (is_same key) es) ≡ true → ChangesAt (λ k. is_same key k) (λ (slot : Option X). None) es []
 only_one key [] few there = absurd (false≢true there)
 only_one {X} key (e ∷ []) few there = λ k. by_test k (is_same key k) refl
   where
@@ -147,7 +147,7 @@ units_unchanged p change es none = λ r a. sym (ap (λ b. if b then change (unit
 
 -- ---- units
 
--- the registration of a unit that has a place is kept
+-- the registration of a unit that has a slot is kept
 pub unit_kept : (r a : List ℕ) (es : UnitsByRegistration) → is_some (unit_at r a es) ≡ true → is_some (lookup (is_same r) es) ≡ true
 unit_kept r a es there = by_found (lookup (is_same r) es) there
   where

@@ -9,7 +9,7 @@ use Rattle.std.proofs.lemmas.Bool.{false≢true}
 use Rattle.std.proofs.lemmas.List.Sums.{count_by-le-length, sum_by-append, sum_by-cons, sum_by_push}
 use Rattle.cmi5_course.specs.declared.launch.Launch.{Launch}
 use Rattle.cmi5_session.specs.Cmi5LaunchNames.{completed, passed}
-use Rattle.cmi5_running_sessions.specs.Entries.{ChangesUnits, UnitsByRegistration, is_empty_place, is_nothing_reached, is_same_unit, kept_in, one_less, one_more, reached_behind, reached_without, taken_back, unit_at}
+use Rattle.cmi5_running_sessions.specs.Entries.{ChangesUnits, UnitsByRegistration, is_empty_slot, is_nothing_reached, is_same_unit, kept_in, one_less, one_more, reached_behind, reached_without, taken_back, unit_at}
 use Rattle.cmi5_running_sessions.specs.Kept.{SeenSessions, counts_still_for, is_same, nothing_reached, reached_in, reached_of, says_of}
 use Rattle.cmi5_running_sessions.specs.Room.{needs_unit}
 use Rattle.cmi5_running_sessions.specs.declared.told.UnitTold.{UnitTold}
@@ -40,7 +40,7 @@ four false false false d = refl
 of_unit : (r a verb : List ℕ) (j : Json) → says_of r a verb j ≡ ((is_that_id r (registration_of j) && is_that_id a (activity_of j)) && says verb j)
 of_unit r a verb j = four (bytes_eq (verb_of j) verb) (is_that_id r (registration_of j)) (is_that_id a (activity_of j)) (is_cmi5_defined j)
 
--- where a place is needed, each verb is told of that unit; where none is, neither is
+-- where a slot is needed, each verb is told of that unit; where none is, neither is
 needed_first : (x y c p : Bool) → (x && y && (c || p)) ≡ true → ((x && y) && c) ≡ c
 needed_first true true c p is = refl
 needed_first true false c p is = absurd (false≢true is)
@@ -67,7 +67,7 @@ other_second false true c p is = refl
 other_second false false c p is = refl
 
 module _ (r a : List ℕ) (s : StoredStatement) where
-  -- what is said of the unit, as the place that it needs tells it
+  -- what is said of the unit, as the slot that it needs tells it
   told_completed : needs_unit r a s ≡ true → says_of r a completed (view s.received) ≡ says completed (view s.received)
   told_completed is = of_unit r a completed (view s.received)
       ∙ needed_first (is_that_id r (registration_of (view s.received))) (is_that_id a (activity_of (view s.received))) (says completed (view s.received)) (says passed (view s.received)) is
@@ -106,7 +106,7 @@ pub of_untold : (told : Option UnitTold) (needs : List ℕ → List ℕ → Bool
     → ((r a : List ℕ) → needs r a ≡ option_map_or (λ u. bytes_eq u.registration r && bytes_eq u.activity.now a) told false) → (r a : List ℕ) → needs r a ≡ false
 of_untold told needs is named r a = named r a ∙ ap (λ (o : Option UnitTold). option_map_or (λ u. bytes_eq u.registration r && bytes_eq u.activity.now a) o false) is
 
--- a place of the unit is one of each that passes
+-- a slot of the unit is one of each that passes
 pub unit_there : (registration activity : List ℕ) (needs : List ℕ → List ℕ → Bool) (reached : UnitsByRegistration) → ((r a : List ℕ) → is_same_unit registration activity r a ≡ needs r a)
     → is_some (unit_at registration activity reached) ≡ true → (r a : List ℕ) → needs r a ≡ true → is_some (unit_at r a reached) ≡ true
 unit_there registration activity needs reached same there r a needed = by_parts (is_same registration r) (is_same activity a) refl refl (same r a ∙ needed)
@@ -129,9 +129,9 @@ unit_uncounted true true t off = off
 unit_uncounted true false t off = refl
 unit_uncounted false y t off = refl
 
--- a place with nothing in it is taken out
-pub units_emptied : (registration activity : List ℕ) (old new : UnitsByRegistration) → is_empty_place is_nothing_reached (unit_at registration activity old) ≡ true
-    → ChangesUnits (is_same_unit registration activity) (λ (place : Option Reached). None) old new → ChangesUnits (is_same_unit registration activity) (taken_back is_nothing_reached) old new
+-- a slot with nothing in it is taken out
+pub units_emptied : (registration activity : List ℕ) (old new : UnitsByRegistration) → is_empty_slot is_nothing_reached (unit_at registration activity old) ≡ true
+    → ChangesUnits (is_same_unit registration activity) (λ (slot : Option Reached). None) old new → ChangesUnits (is_same_unit registration activity) (taken_back is_nothing_reached) old new
 units_emptied registration activity old new empty changed = λ r a. changed r a ∙ by_parts r a (is_same registration r) (is_same activity a) refl refl
   where
     by_parts : (r a : List ℕ) (b c : Bool) → is_same registration r ≡ b → is_same activity a ≡ c
@@ -154,8 +154,8 @@ units_left registration activity change es is = λ r a. by_parts r a (is_same re
     by_parts r a true false e f = refl
     by_parts r a false c e f = refl
 
--- where there is no place, nothing can be filled
-pub none_filled : (change : Reached → Reached) (place : Option Reached) → is_some place ≡ false → option_map change place ≡ place
+-- where there is no slot, nothing can be filled
+pub none_filled : (change : Reached → Reached) (slot : Option Reached) → is_some slot ≡ false → option_map change slot ≡ slot
 none_filled change None off = refl
 none_filled change (Some r) off = absurd (false≢true (sym off))
 
@@ -219,7 +219,7 @@ none_less true false = refl
 none_less false true = refl
 none_less false false = refl
 
--- without a place nothing can be taken back
+-- without a slot nothing can be taken back
 kept_discounted : (j : Json) (o : Option Reached) → kept_in nothing_reached (option_map (reached_without j) o) ≡ reached_without j (kept_in nothing_reached o)
 kept_discounted j None = none_less (says completed j) (says passed j)
 kept_discounted j (Some r) = refl

@@ -140,7 +140,7 @@ pub of_none : (authority given : Authority) (o : Option (List ℕ)) → given �
 of_none authority given o same is told id =
     ap (λ (a : Authority). is_of_session id a) (sym same) ∙ (told id ∙ ap (λ (p : Option (List ℕ)). is_that_id id p) is)
 
--- a place of the session is one of each that passes
+-- a slot of the session is one of each that passes
 pub own_there : (session : List ℕ) (passes : List ℕ → Bool) (own : List (List ℕ × OwnSaid)) → ((id : List ℕ) → is_same session id ≡ passes id)
     → is_some (lookup (is_same session) own) ≡ true → (id : List ℕ) → passes id ≡ true → is_some (lookup (is_same id) own) ≡ true
 own_there session passes own same there id needed =

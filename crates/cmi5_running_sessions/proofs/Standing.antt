@@ -2,7 +2,7 @@
 use Rattle.std.proofs.Common.{◌+◌, ◌<◌, ◌^◌, true, false, List, [], ◌∷◌, ◌++◌, length, option_map, refl}
 use Rattle.cmi5_running_sessions.specs.Entries.{ChangesAt, ChangesUnits, Entries, UnitsByRegistration, own_behind, reached_behind, reached_without}
 use Rattle.cmi5_running_sessions.specs.Kept.{SeenSessions, SaidStandsFor}
-use Rattle.cmi5_running_sessions.specs.Room.{HasPlacesFor, KeepsPlaces, needs_own, needs_unit}
+use Rattle.cmi5_running_sessions.specs.Room.{HasSlotsFor, KeepsSlots, needs_own, needs_unit}
 use Rattle.cmi5_running_sessions.specs.declared.own.OwnSaid.{OwnSaid}
 use Rattle.cmi5_running_sessions.proofs.Counting.{counted_more, voided_more, voided_now}
 use Rattle.cmi5_running_sessions.proofs.Hearing.{heard, voided_same}
@@ -15,26 +15,26 @@ abbrev pub seen_of : Entries OwnSaid → UnitsByRegistration → SeenSessions
 seen_of own reached = record { own = own; reached = reached }
 
 -- a statement is taken in that is voided already
-module _ (s : StoredStatement) (own new : Entries OwnSaid) (reached : UnitsByRegistration) (places : HasPlacesFor (seen_of own reached) s) (changed : ChangesAt (λ id. needs_own id s) (option_map (own_behind s)) own new) where
+module _ (s : StoredStatement) (own new : Entries OwnSaid) (reached : UnitsByRegistration) (slots : HasSlotsFor (seen_of own reached) s) (changed : ChangesAt (λ id. needs_own id s) (option_map (own_behind s)) own new) where
   pub stands_voided : (those : List MarkedStatement) → SaidStandsFor (seen_of own reached) those → SaidStandsFor (seen_of new reached) (those ++ mark s true ∷ [])
   stands_voided those stands = record {
-    own = heard s (seen_of own reached) (seen_of new reached) changed places.own those true stands.own;
+    own = heard s (seen_of own reached) (seen_of new reached) changed slots.own those true stands.own;
     reached = voided_more s (seen_of own reached) (seen_of new reached) refl those stands.reached;
   }
 
-  pub places_voided : KeepsPlaces (seen_of own reached) (seen_of new reached)
+  pub places_voided : KeepsSlots (seen_of own reached) (seen_of new reached)
   places_voided = own_kept (λ id. needs_own id s) (own_behind s) own new reached changed
 
 -- a statement is taken in that counts
-module _ (s : StoredStatement) (own new : Entries OwnSaid) (reached more : UnitsByRegistration) (places : HasPlacesFor (seen_of own reached) s) (changed : ChangesAt (λ id. needs_own id s) (option_map (own_behind s)) own new)
+module _ (s : StoredStatement) (own new : Entries OwnSaid) (reached more : UnitsByRegistration) (slots : HasSlotsFor (seen_of own reached) s) (changed : ChangesAt (λ id. needs_own id s) (option_map (own_behind s)) own new)
     (counted : ChangesUnits (λ r a. needs_unit r a s) (option_map (reached_behind (view s.received))) reached more) where
   pub stands_counting : (those : List MarkedStatement) → length those + 1 < 2 ^ 64 → SaidStandsFor (seen_of own reached) those → SaidStandsFor (seen_of new more) (those ++ mark s false ∷ [])
   stands_counting those small stands = record {
-    own = heard s (seen_of own reached) (seen_of new more) changed places.own those false stands.own;
-    reached = counted_more s (seen_of own reached) (seen_of new more) counted places.unit those small stands.reached;
+    own = heard s (seen_of own reached) (seen_of new more) changed slots.own those false stands.own;
+    reached = counted_more s (seen_of own reached) (seen_of new more) counted slots.unit those small stands.reached;
   }
 
-  pub places_counting : KeepsPlaces (seen_of own reached) (seen_of new more)
+  pub places_counting : KeepsSlots (seen_of own reached) (seen_of new more)
   places_counting = filled_kept (λ id. needs_own id s) (λ r a. needs_unit r a s) (own_behind s) (reached_behind (view s.received)) (seen_of own reached) (seen_of new more) changed counted
 
 -- a statement is voided that was taken in
@@ -45,5 +45,5 @@ module _ (s : StoredStatement) (own : Entries OwnSaid) (reached less : UnitsByRe
     reached = voided_now s (seen_of own reached) (seen_of own less) changed before behind stands.reached;
   }
 
-  pub places_now_voided : KeepsPlaces (seen_of own reached) (seen_of own less)
+  pub places_now_voided : KeepsSlots (seen_of own reached) (seen_of own less)
   places_now_voided = units_kept (λ r a. needs_unit r a s) (reached_without (view s.received)) own reached less changed

@@ -22,11 +22,11 @@ UnitsByRegistration = Entries (Entries Reached)
 
 -- ---- what stands somewhere
 
--- what is kept in a place; where there is none, nothing is
+-- what is kept in a slot; where there is none, nothing is
 abbrev pub kept_in : {X : Type 0} → X → Option X → X
-kept_in nothing place = option_map_or (λ x. x) place nothing
+kept_in nothing slot = option_map_or (λ x. x) slot nothing
 
--- the place of an activity in a registration
+-- the slot of an activity in a registration
 abbrev pub unit_at : List ℕ → List ℕ → UnitsByRegistration → Option Reached
 unit_at registration activity reached = lookup (is_same activity) (units_of registration reached)
 
@@ -36,11 +36,11 @@ is_nothing_said said = is_none said.began && not said.ended && is_none said.last
 abbrev pub is_nothing_reached : Reached → Bool
 is_nothing_reached r = (r.completed == 0) && (r.passed == 0)
 
--- there is a place, and nothing is kept in it
-abbrev pub is_empty_place : {X : Type 0} → (X → Bool) → Option X → Bool
-is_empty_place is_nothing place = option_map_or is_nothing place false
+-- there is a slot, and nothing is kept in it
+abbrev pub is_empty_slot : {X : Type 0} → (X → Bool) → Option X → Bool
+is_empty_slot is_nothing slot = option_map_or is_nothing slot false
 
--- ---- what becomes of a place
+-- ---- what becomes of a slot
 
 -- it stays, or is made where it is needed
 abbrev pub IsMade : {X : Type 0} → X → Bool → Option X → Option X → Type 0
@@ -53,17 +53,17 @@ taken_back is_nothing (Some x) = if is_nothing x then None else Some x
 
 -- ---- what becomes of the entries
 
--- the place of each key stays, or is made where the key passes
+-- the slot of each key stays, or is made where the key passes
 abbrev pub MakesAt : {X : Type 0} → X → (List ℕ → Bool) → Entries X → Entries X → Type 0
 MakesAt nothing passes old new =
     (k : List ℕ) → IsMade nothing (passes k) (lookup (is_same k) old) (lookup (is_same k) new)
 
--- the place of each key that passes becomes another by a function, and no other
+-- the slot of each key that passes becomes another by a function, and no other
 abbrev pub ChangesAt : {X : Type 0} → (List ℕ → Bool) → (Option X → Option X) → Entries X → Entries X → Type 0
 ChangesAt passes change old new = (k : List ℕ) → lookup (is_same k) new
     ≡ (if passes k then change (lookup (is_same k) old) else lookup (is_same k) old)
 
--- the same of the places of units
+-- the same of the slots of units
 abbrev pub MakesUnits : (List ℕ → List ℕ → Bool) → UnitsByRegistration → UnitsByRegistration → Type 0
 MakesUnits passes old new =
     (r a : List ℕ) → IsMade nothing_reached (passes r a) (unit_at r a old) (unit_at r a new)
@@ -73,7 +73,7 @@ abbrev pub ChangesUnits : (List ℕ → List ℕ → Bool) → (Option Reached �
 ChangesUnits passes change old new = (r a : List ℕ) → unit_at r a new
     ≡ (if passes r a then change (unit_at r a old) else unit_at r a old)
 
--- a registration is kept only where it was, or where a unit in it has a place
+-- a registration is kept only where it was, or where a unit in it has a slot
 abbrev pub AddsFilled : UnitsByRegistration → UnitsByRegistration → Type 0
 AddsFilled old new = (r : List ℕ) → IsTrue (is_some (lookup (is_same r) new))
     → IsTrue (is_some (lookup (is_same r) old)) ⊎ ((a : List ℕ) × IsTrue (is_some (unit_at r a new)))
@@ -83,7 +83,7 @@ abbrev pub AddsNoRegistrations : UnitsByRegistration → UnitsByRegistration →
 AddsNoRegistrations old new = (r : List ℕ) → IsTrue (is_some (lookup (is_same r) new))
     → IsTrue (is_some (lookup (is_same r) old))
 
--- the registration is kept only where a unit in it has a place
+-- the registration is kept only where a unit in it has a slot
 abbrev pub HoldsUnits : List ℕ → UnitsByRegistration → Type 0
 HoldsUnits r reached = IsTrue (is_some (lookup (is_same r) reached))
     → (a : List ℕ) × IsTrue (is_some (unit_at r a reached))

@@ -1,4 +1,4 @@
--- Places that are made ahead for what statements say, so that taking them in takes no memory.
+-- Slots that are made ahead for what statements say, so that taking them in takes no memory.
 use Rattle.std.specs.Prelude.{◌≡◌, ◌⊎◌, ℕ, ◌&&◌, ◌||◌, Bool, true, List, IsTrue, is_some}
 use Rattle.std.specs.List.{AllByRecursion, list_any}
 use Rattle.std.specs.Map.{lookup}
@@ -11,22 +11,22 @@ use Rattle.cmi5_session.specs.XapiStatementStatements.{is_that_id}
 use Rattle.cmi5_session.specs.XapiStatementStatement.{activity_of, registration_of}
 use Rattle.cmi5_session.specs.XapiStatementStored.{StoredStatement}
 
--- ---- what has a place
+-- ---- what has a slot
 
-abbrev pub HasOwnPlace : List ℕ → SeenSessions → Type 0
-HasOwnPlace id s = IsTrue (is_some (lookup (is_same id) s.own))
+abbrev pub HasOwnSlot : List ℕ → SeenSessions → Type 0
+HasOwnSlot id s = IsTrue (is_some (lookup (is_same id) s.own))
 
-abbrev pub HasUnitPlace : List ℕ → List ℕ → SeenSessions → Type 0
-HasUnitPlace registration activity s =
+abbrev pub HasUnitSlot : List ℕ → List ℕ → SeenSessions → Type 0
+HasUnitSlot registration activity s =
     IsTrue (is_some (lookup (is_same activity) (units_of registration s.reached)))
 
 -- something is kept of the registration's units
-abbrev pub HasUnitsPlace : List ℕ → SeenSessions → Type 0
-HasUnitsPlace registration s = IsTrue (is_some (lookup (is_same registration) s.reached))
+abbrev pub HasUnitsSlot : List ℕ → SeenSessions → Type 0
+HasUnitsSlot registration s = IsTrue (is_some (lookup (is_same registration) s.reached))
 
--- the registration has a place only where a unit in it has one
+-- the registration has a slot only where a unit in it has one
 abbrev pub IsFilled : List ℕ → SeenSessions → Type 0
-IsFilled registration s = HasUnitsPlace registration s → (activity : List ℕ) × HasUnitPlace registration activity s
+IsFilled registration s = HasUnitsSlot registration s → (activity : List ℕ) × HasUnitSlot registration activity s
 
 -- ---- what a statement needs
 
@@ -40,14 +40,14 @@ needs_unit registration activity s =
     is_that_id registration (registration_of (view s.received)) && is_that_id activity (activity_of (view s.received))
     && (says completed (view s.received) || says passed (view s.received))
 
--- all that it says has a place
-pub record HasPlacesFor (s : SeenSessions) (statement : StoredStatement) : Type 0 where
-  pub own : (id : List ℕ) → needs_own id statement ≡ true → HasOwnPlace id s
+-- all that it says has a slot
+pub record HasSlotsFor (s : SeenSessions) (statement : StoredStatement) : Type 0 where
+  pub own : (id : List ℕ) → needs_own id statement ≡ true → HasOwnSlot id s
   pub unit : (registration activity : List ℕ) → needs_unit registration activity statement ≡ true
-      → HasUnitPlace registration activity s
+      → HasUnitSlot registration activity s
 
-abbrev pub HasPlacesForEach : SeenSessions → List StoredStatement → Type 0
-HasPlacesForEach s statements = AllByRecursion (HasPlacesFor s) statements
+abbrev pub HasSlotsForEach : SeenSessions → List StoredStatement → Type 0
+HasSlotsForEach s statements = AllByRecursion (HasSlotsFor s) statements
 
 -- ---- what changes
 
@@ -57,37 +57,37 @@ pub record KeepsSame (old new : SeenSessions) : Type 0 where
   pub reached : (registration activity : List ℕ)
       → reached_of registration activity new ≡ reached_of registration activity old
 
--- what had a place has one still
-pub record KeepsPlaces (old new : SeenSessions) : Type 0 where
-  pub own : (id : List ℕ) → HasOwnPlace id old → HasOwnPlace id new
-  pub unit : (registration activity : List ℕ) → HasUnitPlace registration activity old
-      → HasUnitPlace registration activity new
+-- what had a slot has one still
+pub record KeepsSlots (old new : SeenSessions) : Type 0 where
+  pub own : (id : List ℕ) → HasOwnSlot id old → HasOwnSlot id new
+  pub unit : (registration activity : List ℕ) → HasUnitSlot registration activity old
+      → HasUnitSlot registration activity new
 
--- nothing has a place that had none
-pub record AddsNoPlaces (old new : SeenSessions) : Type 0 where
-  pub own : (id : List ℕ) → HasOwnPlace id new → HasOwnPlace id old
-  pub unit : (registration activity : List ℕ) → HasUnitPlace registration activity new
-      → HasUnitPlace registration activity old
-  pub units : (registration : List ℕ) → HasUnitsPlace registration new → HasUnitsPlace registration old
+-- nothing has a slot that had none
+pub record AddsNoSlots (old new : SeenSessions) : Type 0 where
+  pub own : (id : List ℕ) → HasOwnSlot id new → HasOwnSlot id old
+  pub unit : (registration activity : List ℕ) → HasUnitSlot registration activity new
+      → HasUnitSlot registration activity old
+  pub units : (registration : List ℕ) → HasUnitsSlot registration new → HasUnitsSlot registration old
 
--- The same is kept, and places were made for what these statements need, and for nothing else.
-pub record MakesPlaces (statements : List StoredStatement) (old new : SeenSessions) : Type 0 where
+-- The same is kept, and slots were made for what these statements need, and for nothing else.
+pub record MakesSlots (statements : List StoredStatement) (old new : SeenSessions) : Type 0 where
   pub same : KeepsSame old new
-  pub own : (id : List ℕ) → HasOwnPlace id new
-      → HasOwnPlace id old ⊎ (list_any (needs_own id) statements ≡ true)
-  pub unit : (registration activity : List ℕ) → HasUnitPlace registration activity new
-      → HasUnitPlace registration activity old ⊎ (list_any (needs_unit registration activity) statements ≡ true)
-  pub units : (registration : List ℕ) → HasUnitsPlace registration new → HasUnitsPlace registration old
+  pub own : (id : List ℕ) → HasOwnSlot id new
+      → HasOwnSlot id old ⊎ (list_any (needs_own id) statements ≡ true)
+  pub unit : (registration activity : List ℕ) → HasUnitSlot registration activity new
+      → HasUnitSlot registration activity old ⊎ (list_any (needs_unit registration activity) statements ≡ true)
+  pub units : (registration : List ℕ) → HasUnitsSlot registration new → HasUnitsSlot registration old
       ⊎ ((activity : List ℕ) × (list_any (needs_unit registration activity) statements ≡ true))
   pub filled : (registration : List ℕ) → IsFilled registration old → IsFilled registration new
 
--- The same is kept. The places of what these statements need were taken back if nothing is kept there, and none was
+-- The same is kept. The slots of what these statements need were taken back if nothing is kept there, and none was
 -- made. With the last unit goes the registration.
-pub record TakesPlacesBack (statements : List StoredStatement) (old new : SeenSessions) : Type 0 where
+pub record TakesSlotsBack (statements : List StoredStatement) (old new : SeenSessions) : Type 0 where
   pub same : KeepsSame old new
-  pub fewer : AddsNoPlaces old new
+  pub fewer : AddsNoSlots old new
   pub filled : (registration : List ℕ) → IsFilled registration old → IsFilled registration new
   pub own : (id : List ℕ) → list_any (needs_own id) statements ≡ true → own_of id new ≡ nothing_said
-      → HasOwnPlace id new → ⊥
+      → HasOwnSlot id new → ⊥
   pub unit : (registration activity : List ℕ) → list_any (needs_unit registration activity) statements ≡ true
-      → reached_of registration activity new ≡ nothing_reached → HasUnitPlace registration activity new → ⊥
+      → reached_of registration activity new ≡ nothing_reached → HasUnitSlot registration activity new → ⊥

@@ -1,5 +1,5 @@
 //! What is kept of sessions from one statement to the next, so that none has to be read again: what each session's own
-//! statements said, and how many statements say that a unit was completed or passed. Places are made ahead, so taking a
+//! statements said, and how many statements say that a unit was completed or passed. Slots are made ahead, so taking a
 //! statement in needs no memory. Begin with `Sessions`.
 #![tactic(auto)]
 

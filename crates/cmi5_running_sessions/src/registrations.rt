@@ -1,6 +1,6 @@
 // What was reached, by registration and activity.
 ghost use Rattle.std.specs.Prelude.{◌≡◌, [], ℕ, List, IsTrue, true, is_some, nat_lt, length, option_map, None, OnOk};
-ghost use Rattle.cmi5_running_sessions.specs.Entries.{is_empty_place, is_nothing_reached, is_same_unit, kept_in};
+ghost use Rattle.cmi5_running_sessions.specs.Entries.{is_empty_slot, is_nothing_reached, is_same_unit, kept_in};
 ghost use Rattle.cmi5_running_sessions.specs.Entries.{reached_behind, reached_without, taken_back, unit_at};
 ghost use Rattle.cmi5_running_sessions.specs.Entries.{AddsFilled, AddsNoRegistrations, ChangesUnits};
 ghost use Rattle.cmi5_running_sessions.specs.Entries.{MakesUnits, StaysFilled};
@@ -18,7 +18,7 @@ use std::alloc::Global;
 use std::collections::BTreeMap;
 use std::marker::Model;
 
-/// What was reached in each registration. One in which no unit has a place isn't kept.
+/// What was reached in each registration. One in which no unit has a slot isn't kept.
 #[derive(Drop)]
 pub(crate) struct ReachedByRegistration {
     map: BTreeMap<Id, Units>,
@@ -51,7 +51,7 @@ impl ReachedByRegistration {
         }
     }
 
-    // The same, if there is a place.
+    // The same, if there is a slot.
     fn find(&self, registration: &Id, activity: &Text) -> Option<Reached>
         ensures { result ≡ unit_at registration.now activity.now self.now }
     {
@@ -61,9 +61,9 @@ impl ReachedByRegistration {
         }
     }
 
-    // ---- places
+    // ---- slots
 
-    /// Makes the place that a statement needs.
+    /// Makes the slot that a statement needs.
     pub(crate) fn ready(&mut self, statement: &StoredStatement) -> Result<(), Memory>
         ensures made { MakesUnits (λ r a. needs_unit r a statement.now) self.old self.new }
         ensures filled { AddsFilled self.old self.new }
@@ -87,7 +87,7 @@ impl ReachedByRegistration {
         }
     }
 
-    /// Takes the place back that a statement needs, if nothing is kept there.
+    /// Takes the slot back that a statement needs, if nothing is kept there.
     pub(crate) fn release(&mut self, statement: &StoredStatement)
         ensures changed { ChangesUnits (λ r a. needs_unit r a statement.now) (taken_back is_nothing_reached)
             self.old self.new }
@@ -111,7 +111,7 @@ impl ReachedByRegistration {
     }
 
     fn is_empty_at(&self, registration: &Id, activity: &Text) -> bool
-        ensures { result ≡ is_empty_place is_nothing_reached (unit_at registration.now activity.now self.now) }
+        ensures { result ≡ is_empty_slot is_nothing_reached (unit_at registration.now activity.now self.now) }
     {
         match self.map.get(registration) {
             Some(units) => units.is_empty_at(activity),
@@ -119,10 +119,10 @@ impl ReachedByRegistration {
         }
     }
 
-    // Takes a place out, and the registration with its last one.
+    // Takes a slot out, and the registration with its last one.
     fn take_out(&mut self, registration: &Id, activity: &Text)
         requires { IsTrue (is_some (unit_at registration.now activity.now self.old)) }
-        ensures changed { ChangesUnits (is_same_unit registration.now activity.now) (λ place. None) self.old self.new }
+        ensures changed { ChangesUnits (is_same_unit registration.now activity.now) (λ slot. None) self.old self.new }
         ensures fewer { AddsNoRegistrations self.old self.new }
         ensures filled { StaysFilled self.old self.new }
     {
@@ -134,7 +134,7 @@ impl ReachedByRegistration {
         }
     }
 
-    // Whether more than one activity has a place in the registration.
+    // Whether more than one activity has a slot in the registration.
     fn has_others(&self, registration: &Id) -> bool
         ensures { result ≡ nat_lt 1 (length (units_of registration.now self.now)) }
     {
@@ -146,7 +146,7 @@ impl ReachedByRegistration {
 
     fn take_from(&mut self, registration: &Id, activity: &Text)
         requires { nat_lt 1 (length (units_of registration.now self.old)) ≡ true }
-        ensures changed { ChangesUnits (is_same_unit registration.now activity.now) (λ place. None) self.old self.new }
+        ensures changed { ChangesUnits (is_same_unit registration.now activity.now) (λ slot. None) self.old self.new }
         ensures fewer { AddsNoRegistrations self.old self.new }
         ensures filled { StaysFilled self.old self.new }
     {
@@ -158,7 +158,7 @@ impl ReachedByRegistration {
 
     // ---- statements
 
-    /// Counts a statement that isn't voided and has a place. It takes no memory.
+    /// Counts a statement that isn't voided and has a slot. It takes no memory.
     pub(crate) fn install(&mut self, statement: &StoredStatement)
         requires { (r a : List ℕ) → needs_unit r a statement.now ≡ true
             → IsTrue (is_some (unit_at r a self.old)) }
@@ -195,12 +195,12 @@ impl ReachedByRegistration {
         ensures { ChangesUnits (is_same_unit registration.now activity.now)
             (option_map (reached_without (view statement.now))) self.old self.new }
     {
-        if self.has_place(registration, activity) {
+        if self.has_slot(registration, activity) {
             self.discount(registration, activity, statement);
         }
     }
 
-    fn has_place(&self, registration: &Id, activity: &Text) -> bool
+    fn has_slot(&self, registration: &Id, activity: &Text) -> bool
         ensures { result ≡ is_some (unit_at registration.now activity.now self.now) }
     {
         self.find(registration, activity).is_some()

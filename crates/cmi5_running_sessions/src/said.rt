@@ -1,7 +1,7 @@
 // What was said, session by session.
 ghost use Rattle.std.specs.Prelude.{◌≡◌, [], ℕ, List, IsTrue, true, is_some, option_map, OnOk};
 ghost use Rattle.std.specs.Map.{lookup};
-ghost use Rattle.cmi5_running_sessions.specs.Entries.{is_empty_place, is_nothing_said, kept_in, own_behind, taken_back};
+ghost use Rattle.cmi5_running_sessions.specs.Entries.{is_empty_slot, is_nothing_said, kept_in, own_behind, taken_back};
 ghost use Rattle.cmi5_running_sessions.specs.Entries.{ChangesAt, MakesAt};
 ghost use Rattle.cmi5_running_sessions.specs.Kept.{is_same, nothing_said};
 ghost use Rattle.cmi5_running_sessions.specs.Room.{needs_own};
@@ -49,9 +49,9 @@ impl SaidBySession {
         }
     }
 
-    // ---- places
+    // ---- slots
 
-    /// Makes the place that a statement needs.
+    /// Makes the slot that a statement needs.
     pub(crate) fn ready(&mut self, statement: &StoredStatement) -> Result<(), Memory>
         ensures made { MakesAt nothing_said (λ id. needs_own id statement.now) self.old self.new }
         ensures there { OnOk result ((id : List ℕ) → needs_own id statement.now ≡ true
@@ -80,7 +80,7 @@ impl SaidBySession {
         Ok(())
     }
 
-    /// Takes the place back that a statement needs, if nothing is kept there.
+    /// Takes the slot back that a statement needs, if nothing is kept there.
     pub(crate) fn release(&mut self, statement: &StoredStatement)
         ensures { ChangesAt (λ id. needs_own id statement.now) (taken_back is_nothing_said) self.old self.new }
     {
@@ -98,7 +98,7 @@ impl SaidBySession {
     }
 
     fn is_empty_at(&self, session: &Id) -> bool
-        ensures { result ≡ is_empty_place is_nothing_said (lookup (is_same session.now) self.now) }
+        ensures { result ≡ is_empty_slot is_nothing_said (lookup (is_same session.now) self.now) }
     {
         match self.map.get(session) {
             Some(said) => said.is_nothing(),
@@ -108,7 +108,7 @@ impl SaidBySession {
 
     // ---- statements
 
-    /// Takes a statement in that has a place. It takes no memory.
+    /// Takes a statement in that has a slot. It takes no memory.
     pub(crate) fn install(&mut self, statement: &StoredStatement)
         requires { (id : List ℕ) → needs_own id statement.now ≡ true
             → IsTrue (is_some (lookup (is_same id) self.old)) }

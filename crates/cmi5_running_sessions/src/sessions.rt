@@ -3,8 +3,8 @@ ghost use Rattle.std.specs.Prelude.{◌≡◌, ◌<◌, ◌+◌, ◌^◌, [], �
 ghost use Rattle.cmi5_session.specs.Cmi5LaunchNames.{terminated};
 ghost use Rattle.cmi5_running_sessions.specs.Entries.{phase_by};
 ghost use Rattle.cmi5_running_sessions.specs.Kept.{SaidStandsFor};
-ghost use Rattle.cmi5_running_sessions.specs.Room.{HasPlacesFor, HasPlacesForEach, KeepsPlaces, MakesPlaces};
-ghost use Rattle.cmi5_running_sessions.specs.Room.{TakesPlacesBack};
+ghost use Rattle.cmi5_running_sessions.specs.Room.{HasSlotsFor, HasSlotsForEach, KeepsSlots, MakesSlots};
+ghost use Rattle.cmi5_running_sessions.specs.Room.{TakesSlotsBack};
 ghost use Rattle.cmi5_session.specs.Marked.{MarkedStatement, mark, marked, statements_of};
 ghost use Rattle.cmi5_session.specs.Moments.{began_at, last_own};
 ghost use Rattle.cmi5_session.specs.Own.{has_own};
@@ -50,12 +50,12 @@ impl Sessions {
         }
     }
 
-    // ---- places
+    // ---- slots
 
-    /// Makes the places that statements need. Where memory runs out in the middle, `release` takes back what was made.
+    /// Makes the slots that statements need. Where memory runs out in the middle, `release` takes back what was made.
     pub fn ready(&mut self, statements: &[StoredStatement]) -> Result<(), Memory>
-        ensures made { MakesPlaces statements.now self.old self.new }
-        ensures ready { OnOk result (HasPlacesForEach self.new statements.now) }
+        ensures made { MakesSlots statements.now self.old self.new }
+        ensures ready { OnOk result (HasSlotsForEach self.new statements.now) }
     {
         for statement in statements {
             self.ready_one(statement)?;
@@ -64,17 +64,17 @@ impl Sessions {
     }
 
     fn ready_one(&mut self, statement: &StoredStatement) -> Result<(), Memory>
-        ensures made { MakesPlaces (statement.now ∷ []) self.old self.new }
-        ensures kept { KeepsPlaces self.old self.new }
-        ensures there { OnOk result (HasPlacesFor self.new statement.now) }
+        ensures made { MakesSlots (statement.now ∷ []) self.old self.new }
+        ensures kept { KeepsSlots self.old self.new }
+        ensures there { OnOk result (HasSlotsFor self.new statement.now) }
     {
         self.own.ready(statement)?;
         self.reached.ready(statement)
     }
 
-    /// Takes back the places that were made for statements which don't come. It takes no memory.
+    /// Takes back the slots that were made for statements which don't come. It takes no memory.
     pub fn release(&mut self, statements: &[StoredStatement])
-        ensures { TakesPlacesBack statements.now self.old self.new }
+        ensures { TakesSlotsBack statements.now self.old self.new }
     {
         for statement in statements {
             self.release_one(statement);
@@ -82,7 +82,7 @@ impl Sessions {
     }
 
     fn release_one(&mut self, statement: &StoredStatement)
-        ensures { TakesPlacesBack (statement.now ∷ []) self.old self.new }
+        ensures { TakesSlotsBack (statement.now ∷ []) self.old self.new }
     {
         self.own.release(statement);
         self.reached.release(statement);
@@ -90,13 +90,13 @@ impl Sessions {
 
     // ---- statements
 
-    /// Takes a statement in for which there are places. It can be voided already, by one that came before it. It takes
+    /// Takes a statement in for which there are slots. It can be voided already, by one that came before it. It takes
     /// no memory.
     pub fn install(&mut self, statement: &StoredStatement, voided: bool)
-        requires { HasPlacesFor self.old statement.now }
+        requires { HasSlotsFor self.old statement.now }
         ensures stands { (those : List MarkedStatement) → length those + 1 < 2 ^ 64 → SaidStandsFor self.old those
             → SaidStandsFor self.new (those ++ mark statement.now voided ∷ []) }
-        ensures places { KeepsPlaces self.old self.new }
+        ensures slots { KeepsSlots self.old self.new }
     {
         if voided {
             self.install_voided(statement);
@@ -106,19 +106,19 @@ impl Sessions {
     }
 
     fn install_voided(&mut self, statement: &StoredStatement)
-        requires { HasPlacesFor self.old statement.now }
+        requires { HasSlotsFor self.old statement.now }
         ensures stands { (those : List MarkedStatement) → SaidStandsFor self.old those
             → SaidStandsFor self.new (those ++ mark statement.now true ∷ []) }
-        ensures places { KeepsPlaces self.old self.new }
+        ensures slots { KeepsSlots self.old self.new }
     {
         self.own.install(statement);
     }
 
     fn install_counting(&mut self, statement: &StoredStatement)
-        requires { HasPlacesFor self.old statement.now }
+        requires { HasSlotsFor self.old statement.now }
         ensures stands { (those : List MarkedStatement) → length those + 1 < 2 ^ 64 → SaidStandsFor self.old those
             → SaidStandsFor self.new (those ++ mark statement.now false ∷ []) }
-        ensures places { KeepsPlaces self.old self.new }
+        ensures slots { KeepsSlots self.old self.new }
     {
         self.own.install(statement);
         self.reached.install(statement);
@@ -129,7 +129,7 @@ impl Sessions {
         ensures stands { (before behind : List MarkedStatement)
             → SaidStandsFor self.old (before ++ mark statement.now false ∷ behind)
             → SaidStandsFor self.new (before ++ mark statement.now true ∷ behind) }
-        ensures places { KeepsPlaces self.old self.new }
+        ensures slots { KeepsSlots self.old self.new }
     {
         self.reached.void(statement);
     }

@@ -1,7 +1,7 @@
 // What was reached of the units of one registration.
 ghost use Rattle.std.specs.Prelude.{◌≡◌, ◌<◌, ◌≤◌, [], IsTrue, is_some, nat_lt, length, option_map, None, IfOk, OnOk};
 ghost use Rattle.std.specs.Map.{lookup};
-ghost use Rattle.cmi5_running_sessions.specs.Entries.{is_empty_place, is_nothing_reached, one_less, one_more};
+ghost use Rattle.cmi5_running_sessions.specs.Entries.{is_empty_slot, is_nothing_reached, one_less, one_more};
 ghost use Rattle.cmi5_running_sessions.specs.Entries.{reached_behind, reached_without, ChangesAt, MakesAt};
 ghost use Rattle.cmi5_running_sessions.specs.Kept.{is_same, nothing_reached};
 ghost use Rattle.lrs_json.specs.View.{view};
@@ -86,7 +86,7 @@ impl Model for Units {
 }
 
 impl Units {
-    /// The place of one activity, in which nothing is kept.
+    /// The slot of one activity, in which nothing is kept.
     pub(crate) fn of(activity: &Text) -> Result<Units, Memory>
         ensures made { IfOk result (λ units. MakesAt nothing_reached (λ k. is_same activity.now k) [] units) }
         ensures there { IfOk result (λ units. IsTrue (is_some (lookup (is_same activity.now) units))) }
@@ -96,7 +96,7 @@ impl Units {
         Ok(Units { map })
     }
 
-    /// What was reached of an activity, if it has a place.
+    /// What was reached of an activity, if it has a slot.
     pub(crate) fn get(&self, activity: &Text) -> Option<Reached>
         ensures { result ≡ lookup (is_same activity.now) self.now }
     {
@@ -107,7 +107,7 @@ impl Units {
     }
 
     pub(crate) fn is_empty_at(&self, activity: &Text) -> bool
-        ensures { result ≡ is_empty_place is_nothing_reached (lookup (is_same activity.now) self.now) }
+        ensures { result ≡ is_empty_slot is_nothing_reached (lookup (is_same activity.now) self.now) }
     {
         match self.get(activity) {
             Some(reached) => reached.is_nothing(),
@@ -115,14 +115,14 @@ impl Units {
         }
     }
 
-    /// Whether more than one activity has a place.
+    /// Whether more than one activity has a slot.
     pub(crate) fn has_others(&self) -> bool
         ensures { result ≡ nat_lt 1 (length self.now) }
     {
         1 < self.map.len()
     }
 
-    /// Makes the place of an activity, if it has none.
+    /// Makes the slot of an activity, if it has none.
     pub(crate) fn make(&mut self, activity: &Text) -> Result<(), Memory>
         ensures made { MakesAt nothing_reached (λ k. is_same activity.now k) self.old self.new }
         ensures there { OnOk result (IsTrue (is_some (lookup (is_same activity.now) self.new))) }
@@ -130,16 +130,16 @@ impl Units {
         make_at(&mut self.map, activity)
     }
 
-    /// Takes the place of an activity out, which isn't the only one.
+    /// Takes the slot of an activity out, which isn't the only one.
     pub(crate) fn remove(&mut self, activity: &Text)
         requires { 1 < length self.old }
-        ensures changed { ChangesAt (λ k. is_same activity.now k) (λ place. None) self.old self.new }
+        ensures changed { ChangesAt (λ k. is_same activity.now k) (λ slot. None) self.old self.new }
         ensures some { 0 < length self.new }
     {
         self.map.remove(activity);
     }
 
-    /// Counts a statement for an activity that has a place. It takes no memory.
+    /// Counts a statement for an activity that has a slot. It takes no memory.
     pub(crate) fn count(&mut self, activity: &Text, statement: &Tree)
         requires { IsTrue (is_some (lookup (is_same activity.now) self.old)) }
         ensures { ChangesAt (λ k. is_same activity.now k) (option_map (reached_behind (view statement.now)))

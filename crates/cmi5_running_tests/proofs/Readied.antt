@@ -1,9 +1,9 @@
--- What is known of the nodes of a course, and of places that were made for one statement.
+-- What is known of the nodes of a course, and of indices that were made for one statement.
 use Rattle.std.proofs.Common.{◌≡◌, ◌∙◌, List, [], ◌∷◌, sym, ap, subst}
 use Rattle.cmi5_course.specs.Courses.{Course, course_of}
 use Rattle.cmi5_course.specs.declared.course.Node.{Node}
 use Rattle.cmi5_running_sessions.specs.Kept.{SeenSessions}
-use Rattle.cmi5_running_sessions.specs.Room.{HasPlacesFor, HasPlacesForEach}
+use Rattle.cmi5_running_sessions.specs.Room.{HasSlotsFor, HasSlotsForEach}
 use Rattle.cmi5_running_verdicts.specs.Holding.{StandBehindHolders}
 use Rattle.cmi5_running_verdicts.proofs.Courses.{behind_holders}
 use Rattle.lrs_json.specs.View.{view}
@@ -12,5 +12,5 @@ use Rattle.xapi_statement.specs.Stored.{StoredStatement}
 pub nodes_behind : (course : Course) (nodes : List Node) → nodes ≡ course.nodes → course ≡ course_of course.tree → StandBehindHolders nodes
 nodes_behind course nodes lent read = subst (λ ns. StandBehindHolders ns) (sym (lent ∙ ap (λ (c : Course). c.nodes) read)) (behind_holders (view course.tree))
 
-pub places_of_one : (sessions : SeenSessions) (statement : StoredStatement) (those : List StoredStatement) → those ≡ statement ∷ [] → HasPlacesForEach sessions those → HasPlacesFor sessions statement
-places_of_one sessions statement those one each = (subst (λ ss. HasPlacesForEach sessions ss) one each).0
+pub places_of_one : (sessions : SeenSessions) (statement : StoredStatement) (those : List StoredStatement) → those ≡ statement ∷ [] → HasSlotsForEach sessions those → HasSlotsFor sessions statement
+places_of_one sessions statement those one each = (subst (λ ss. HasSlotsForEach sessions ss) one each).0

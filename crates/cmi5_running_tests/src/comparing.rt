@@ -84,12 +84,12 @@ fn tells_same(
 }
 
 fn is_satisfied_alike(running: &Running, number: u32, told: &[bool]) -> bool {
-    let mut place = 0u32;
+    let mut index = 0u32;
     for verdict in told {
-        if running.is_satisfied(number, place) != *verdict {
+        if running.is_satisfied(number, index) != *verdict {
             return false;
         }
-        place = place.wrapping_add(1);
+        index = index.wrapping_add(1);
     }
     true
 }
@@ -101,8 +101,8 @@ fn is_waived_alike(
     statements: &Statements<'_>,
     enrolment: &Enrolment<'_>,
 ) -> Result<bool, Fail> {
-    for place in 0..NODES {
-        if running.is_waived(number, place) != waived(alloc, statements, enrolment, place)? {
+    for index in 0..NODES {
+        if running.is_waived(number, index) != waived(alloc, statements, enrolment, index)? {
             return Ok(false);
         }
     }

@@ -102,9 +102,9 @@ fn put_owed(
         new: &[],
     };
     let enrolment = setting.enrolment(0);
-    let places = store.running.owed(alloc, 0, &statements, &enrolment)?;
-    for place in places.as_slice() {
-        write!(told, " {place}")?;
+    let indices = store.running.owed(alloc, 0, &statements, &enrolment)?;
+    for index in indices.as_slice() {
+        write!(told, " {index}")?;
     }
     Ok(())
 }

@@ -1,7 +1,7 @@
 // A store, as it is written from one statement to the next.
 ghost use Rattle.std.specs.Prelude.{◌≡◌, [], OnOk};
 ghost use Rattle.std.specs.Vec.Iter.{into_iter_items};
-ghost use Rattle.cmi5_running_sessions.specs.Room.{HasPlacesFor};
+ghost use Rattle.cmi5_running_sessions.specs.Room.{HasSlotsFor};
 ghost use Rattle.cmi5_running_verdicts.specs.Holding.{StandBehindHolders};
 
 use crate::comparing::owe_same;
@@ -127,13 +127,13 @@ fn take_into_sessions(
     statement: &StoredStatement,
     voided: bool,
 ) -> Result<(), Fail> {
-    make_places(sessions, statement)?;
+    make_slots(sessions, statement)?;
     sessions.install(statement, voided);
     Ok(())
 }
 
-fn make_places(sessions: &mut Sessions, statement: &StoredStatement) -> Result<(), Memory>
-    ensures { OnOk result (HasPlacesFor sessions.new statement.now) }
+fn make_slots(sessions: &mut Sessions, statement: &StoredStatement) -> Result<(), Memory>
+    ensures { OnOk result (HasSlotsFor sessions.new statement.now) }
 {
     sessions.ready(from_ref(statement))
 }

@@ -1,4 +1,4 @@
--- How many pass a test: by one item more, and where the test changes at one place.
+-- How many pass a test: by one item more, and where the test changes at one index.
 use Rattle.std.proofs.Common.{◌≡◌, ◌∙◌, ◌==◌, ◌+◌, ◌-◌, ◌<◌, ◌≤◌, ℕ, zero, suc, Bool, false, List, [], ◌∷◌, ◌++◌, cond, refl, sym, ap, subst, arith, ⊎_elim}
 use Rattle.std.specs.List.{count_by, range_with_len}
 use Rattle.std.proofs.lemmas.Bool.{cases_lt, ne_eqb}
@@ -46,28 +46,28 @@ sum_here new old new_rest old_rest new_first old_first a b same = omega arith
 sum_later : (new old new_rest old_rest first less more : ℕ) → new ≡ first + new_rest → old ≡ first + old_rest → new_rest + less ≡ old_rest + more → new + less ≡ old + more
 sum_later new old new_rest old_rest first less more a b rest = omega arith
 
--- where they differ at one place alone
-pub count_moved : (p q : ℕ → Bool) (place a k : ℕ) → ((n : ℕ) → (place == n) ≡ false → n < a + k → q n ≡ p n) → a ≤ place → place < a + k
-    → count_by q (range_with_len a k) + one_if (p place) ≡ count_by p (range_with_len a k) + one_if (q place)
-count_moved p q place a zero same low high = absurd (omega arith)
-count_moved p q place a (suc k) same low high =
-    ⊎_elim (λ (less : a < place). later less (count_moved p q place (a + 1) k (λ n other few. same n other (omega arith)) (omega arith) (omega arith)))
-    (λ (end : place ≤ a). here (omega arith)) (cases_lt a place)
+-- where they differ at one index alone
+pub count_moved : (p q : ℕ → Bool) (index a k : ℕ) → ((n : ℕ) → (index == n) ≡ false → n < a + k → q n ≡ p n) → a ≤ index → index < a + k
+    → count_by q (range_with_len a k) + one_if (p index) ≡ count_by p (range_with_len a k) + one_if (q index)
+count_moved p q index a zero same low high = absurd (omega arith)
+count_moved p q index a (suc k) same low high =
+    ⊎_elim (λ (less : a < index). later less (count_moved p q index (a + 1) k (λ n other few. same n other (omega arith)) (omega arith) (omega arith)))
+    (λ (end : index ≤ a). here (omega arith)) (cases_lt a index)
   where
-    here : place ≡ a → count_by q (range_with_len a (suc k)) + one_if (p place) ≡ count_by p (range_with_len a (suc k)) + one_if (q place)
+    here : index ≡ a → count_by q (range_with_len a (suc k)) + one_if (p index) ≡ count_by p (range_with_len a (suc k)) + one_if (q index)
     here e =
         let rest : count_by q (range_with_len (a + 1) k) ≡ count_by p (range_with_len (a + 1) k) =
-        count_alike q p (a + 1) k (λ n behind few. same n (ne_eqb place n (λ f. omega arith)) (omega arith)) in
+        count_alike q p (a + 1) k (λ n behind few. same n (ne_eqb index n (λ f. omega arith)) (omega arith)) in
         sum_here (count_by q (range_with_len a (suc k))) (count_by p (range_with_len a (suc k))) (count_by q (range_with_len (a + 1) k)) (count_by p (range_with_len (a + 1) k))
-        (one_if (q place)) (one_if (p place))
+        (one_if (q index)) (one_if (p index))
         (count_cons q a (range_with_len (a + 1) k) ∙ ap (λ m. one_if (q m) + count_by q (range_with_len (a + 1) k)) (sym e))
         (count_cons p a (range_with_len (a + 1) k) ∙ ap (λ m. one_if (p m) + count_by p (range_with_len (a + 1) k)) (sym e)) rest
 
-    later : a < place → count_by q (range_with_len (a + 1) k) + one_if (p place) ≡ count_by p (range_with_len (a + 1) k) + one_if (q place)
-        → count_by q (range_with_len a (suc k)) + one_if (p place) ≡ count_by p (range_with_len a (suc k)) + one_if (q place)
+    later : a < index → count_by q (range_with_len (a + 1) k) + one_if (p index) ≡ count_by p (range_with_len (a + 1) k) + one_if (q index)
+        → count_by q (range_with_len a (suc k)) + one_if (p index) ≡ count_by p (range_with_len a (suc k)) + one_if (q index)
     later less rest =
-        let first : q a ≡ p a = same a (ne_eqb place a (λ e. omega arith)) (omega arith) in
+        let first : q a ≡ p a = same a (ne_eqb index a (λ e. omega arith)) (omega arith) in
         sum_later (count_by q (range_with_len a (suc k))) (count_by p (range_with_len a (suc k))) (count_by q (range_with_len (a + 1) k)) (count_by p (range_with_len (a + 1) k))
-        (one_if (p a)) (one_if (p place)) (one_if (q place))
+        (one_if (p a)) (one_if (p index)) (one_if (q index))
         (count_cons q a (range_with_len (a + 1) k) ∙ ap (λ b. one_if b + count_by q (range_with_len (a + 1) k)) first)
         (count_cons p a (range_with_len (a + 1) k)) rest

@@ -4,7 +4,7 @@ use Rattle.std.specs.Prelude.{if◌then◌else◌, option_and_then, option_map, 
 use Rattle.std.specs.Str.{bytes_eq}
 use Rattle.std.proofs.lemmas.Option.{none-some, same_Some, slice_get-map}
 use Rattle.cmi5_course.specs.Courses.{node_of, nodes_of}
-use Rattle.cmi5_course.specs.Places.{Placed, nodes_from, nodes_in, nodes_of_children, nodes_of_items, nodes_under, placed}
+use Rattle.cmi5_course.specs.SpelledNodes.{SpelledNode, nodes_from, nodes_in, nodes_of_children, nodes_of_items, nodes_under, spelled_node}
 use Rattle.cmi5_course.specs.declared.course.Node.{Node}
 use Rattle.cmi5_running_verdicts.specs.Holding.{StandBehindHolders}
 use Rattle.cmi5_verdict.specs.Nodes.{parent_of}
@@ -12,73 +12,73 @@ use Rattle.lrs_json.specs.Json.{Json, null, boolean, number, string, array, obje
 
 -- ---- nodes from a number on
 
-abbrev parent_at : List Placed → ℕ → Option ℕ
-parent_at nodes place = option_and_then (λ (node : Placed). node.parent) (slice_get nodes place)
+abbrev parent_at : List SpelledNode → ℕ → Option ℕ
+parent_at nodes index = option_and_then (λ (node : SpelledNode). node.parent) (slice_get nodes index)
 
 -- each is held by one before it, where the first has that number
-abbrev AreBehind : ℕ → List Placed → Type 0
-AreBehind first nodes = (place parent : ℕ) → parent_at nodes place ≡ Some parent → parent < first + place
+abbrev AreBehind : ℕ → List SpelledNode → Type 0
+AreBehind first nodes = (index parent : ℕ) → parent_at nodes index ≡ Some parent → parent < first + index
 
 -- that one, if there is one, stands before it
 abbrev IsBefore : Option ℕ → ℕ → Type 0
-IsBefore parent place = (holder : ℕ) → parent ≡ Some holder → holder < place
+IsBefore parent index = (holder : ℕ) → parent ≡ Some holder → holder < index
 
-none_before : (place : ℕ) → IsBefore None place
-none_before place = λ holder is. absurd (none-some holder is)
+none_before : (index : ℕ) → IsBefore None index
+none_before index = λ holder is. absurd (none-some holder is)
 
-one_before : (parent place : ℕ) → parent < place → IsBefore (Some parent) place
-one_before parent place lt = λ holder is. subst (λ k. k < place) (same_Some parent holder is) lt
+one_before : (parent index : ℕ) → parent < index → IsBefore (Some parent) index
+one_before parent index lt = λ holder is. subst (λ k. k < index) (same_Some parent holder is) lt
 
 none_behind : (first : ℕ) → AreBehind first []
-none_behind first = λ place parent is. absurd (none-some parent is)
+none_behind first = λ index parent is. absurd (none-some parent is)
 
 at_first : (parent first : ℕ) → parent < first → parent < first + zero
 at_first parent first lt = omega arith
 
-at_next : (parent first place : ℕ) → parent < first + 1 + place → parent < first + suc place
-at_next parent first place lt = omega arith
+at_next : (parent first index : ℕ) → parent < first + 1 + index → parent < first + suc index
+at_next parent first index lt = omega arith
 
-first_behind : (first : ℕ) (node : Placed) (nodes : List Placed) → IsBefore node.parent first → AreBehind (first + 1) nodes → (place parent : ℕ) → parent_at (node ∷ nodes) place ≡ Some parent → parent < first + place
+first_behind : (first : ℕ) (node : SpelledNode) (nodes : List SpelledNode) → IsBefore node.parent first → AreBehind (first + 1) nodes → (index parent : ℕ) → parent_at (node ∷ nodes) index ≡ Some parent → parent < first + index
 first_behind first node nodes before behind zero parent is = at_first parent first (before parent is)
-first_behind first node nodes before behind (suc place) parent is = at_next parent first place (behind place parent is)
+first_behind first node nodes before behind (suc index) parent is = at_next parent first index (behind index parent is)
 
-at_rest : (parent first place : ℕ) → parent < first + suc place → parent < first + 1 + place
-at_rest parent first place lt = omega arith
+at_rest : (parent first index : ℕ) → parent < first + suc index → parent < first + 1 + index
+at_rest parent first index lt = omega arith
 
-past_none : (parent first place : ℕ) → parent < first + 0 + place → parent < first + place
-past_none parent first place lt = omega arith
+past_none : (parent first index : ℕ) → parent < first + 0 + index → parent < first + index
+past_none parent first index lt = omega arith
 
-past_one : (parent first long place : ℕ) → parent < first + suc long + place → parent < first + 1 + long + place
-past_one parent first long place lt = omega arith
+past_one : (parent first long index : ℕ) → parent < first + suc long + index → parent < first + 1 + long + index
+past_one parent first long index lt = omega arith
 
-both_behind : (first : ℕ) (xs ys : List Placed) → AreBehind first xs → AreBehind (first + length xs) ys → (place parent : ℕ) → parent_at (xs ++ ys) place ≡ Some parent → parent < first + place
-both_behind first [] ys here rest place parent is = past_none parent first place (rest place parent is)
+both_behind : (first : ℕ) (xs ys : List SpelledNode) → AreBehind first xs → AreBehind (first + length xs) ys → (index parent : ℕ) → parent_at (xs ++ ys) index ≡ Some parent → parent < first + index
+both_behind first [] ys here rest index parent is = past_none parent first index (rest index parent is)
 both_behind first (x ∷ xs) ys here rest zero parent is = here zero parent is
-both_behind first (x ∷ xs) ys here rest (suc place) parent is =
-    at_next parent first place
-    (both_behind (first + 1) xs ys (λ q p e. at_rest p first q (here (suc q) p e)) (λ q p e. past_one p first (length xs) q (rest q p e)) place parent is)
+both_behind first (x ∷ xs) ys here rest (suc index) parent is =
+    at_next parent first index
+    (both_behind (first + 1) xs ys (λ q p e. at_rest p first q (here (suc q) p e)) (λ q p e. past_one p first (length xs) q (rest q p e)) index parent is)
 
-one_of_both : (first : ℕ) (b : Bool) (here other : List Placed) → AreBehind first here → AreBehind first other → AreBehind first (if b then here else other)
+one_of_both : (first : ℕ) (b : Bool) (here other : List SpelledNode) → AreBehind first here → AreBehind first other → AreBehind first (if b then here else other)
 one_of_both first true here other is at = is
 one_of_both first false here other is at = at
 
 grown : (parent next more : ℕ) → parent < next → parent < next + more
 grown parent next more lt = omega arith
 
-next_one : (place : ℕ) → place < place + 1
-next_one place = omega arith
+next_one : (index : ℕ) → index < index + 1
+next_one index = omega arith
 
 -- ---- the nodes that a value spells
 
 mutual
-  from_behind : (place : ℕ) (parent : Option ℕ) (depth : ℕ) (j : Json) → IsBefore parent place → AreBehind place (nodes_from place parent depth j)
-  from_behind place parent depth null before = first_behind place (placed null parent depth) [] before (none_behind (place + 1))
-  from_behind place parent depth (boolean b) before = first_behind place (placed (boolean b) parent depth) [] before (none_behind (place + 1))
-  from_behind place parent depth (number s) before = first_behind place (placed (number s) parent depth) [] before (none_behind (place + 1))
-  from_behind place parent depth (string s) before = first_behind place (placed (string s) parent depth) [] before (none_behind (place + 1))
-  from_behind place parent depth (array js) before = first_behind place (placed (array js) parent depth) [] before (none_behind (place + 1))
-  from_behind place parent depth (object ms) before =
-      first_behind place (placed (object ms) parent depth) (nodes_under (place + 1) place (depth + 1) ms) before (under_behind (place + 1) place (depth + 1) ms (next_one place))
+  from_behind : (index : ℕ) (parent : Option ℕ) (depth : ℕ) (j : Json) → IsBefore parent index → AreBehind index (nodes_from index parent depth j)
+  from_behind index parent depth null before = first_behind index (spelled_node null parent depth) [] before (none_behind (index + 1))
+  from_behind index parent depth (boolean b) before = first_behind index (spelled_node (boolean b) parent depth) [] before (none_behind (index + 1))
+  from_behind index parent depth (number s) before = first_behind index (spelled_node (number s) parent depth) [] before (none_behind (index + 1))
+  from_behind index parent depth (string s) before = first_behind index (spelled_node (string s) parent depth) [] before (none_behind (index + 1))
+  from_behind index parent depth (array js) before = first_behind index (spelled_node (array js) parent depth) [] before (none_behind (index + 1))
+  from_behind index parent depth (object ms) before =
+      first_behind index (spelled_node (object ms) parent depth) (nodes_under (index + 1) index (depth + 1) ms) before (under_behind (index + 1) index (depth + 1) ms (next_one index))
 
   under_behind : (next parent depth : ℕ) (ms : Members) → parent < next → AreBehind next (nodes_under next parent depth ms)
   under_behind next parent depth no_members lt = none_behind next
@@ -97,21 +97,21 @@ mutual
   items_behind : (next parent depth : ℕ) (js : Elements) → parent < next → AreBehind next (nodes_of_items next parent depth js)
   items_behind next parent depth no_elements lt = none_behind next
   items_behind next parent depth (element j js) lt =
-      let here : List Placed = nodes_from next (Some parent) depth j in
+      let here : List SpelledNode = nodes_from next (Some parent) depth j in
       both_behind next here (nodes_of_items (next + length here) parent depth js) (from_behind next (Some parent) depth j (one_before parent next lt))
       (items_behind (next + length here) parent depth js (grown parent next (length here) lt))
 
 -- ---- the nodes of a course
 
-same_parent : (o : Option Placed) → option_and_then (λ (node : Node). node.parent) (option_map node_of o) ≡ option_and_then (λ (node : Placed). node.parent) o
+same_parent : (o : Option SpelledNode) → option_and_then (λ (node : Node). node.parent) (option_map node_of o) ≡ option_and_then (λ (node : SpelledNode). node.parent) o
 unfolding node_of
 same_parent None = refl
 same_parent (Some node) = refl
 
 pub behind_holders : (j : Json) → StandBehindHolders (nodes_of j)
 unfolding nodes_of nodes_in
-behind_holders j = λ place parent is.
-    let same : parent_of (map node_of (nodes_in j)) place ≡ parent_at (nodes_in j) place =
-    ap (λ (o : Option Node). option_and_then (λ (node : Node). node.parent) o) (slice_get-map node_of (nodes_in j) place) ∙ same_parent (slice_get (nodes_in j) place) in
-    let behind : parent < 0 + place = from_behind 0 None 0 j (none_before 0) place parent (sym same ∙ is) in
+behind_holders j = λ index parent is.
+    let same : parent_of (map node_of (nodes_in j)) index ≡ parent_at (nodes_in j) index =
+    ap (λ (o : Option Node). option_and_then (λ (node : Node). node.parent) o) (slice_get-map node_of (nodes_in j) index) ∙ same_parent (slice_get (nodes_in j) index) in
+    let behind : parent < 0 + index = from_behind 0 None 0 j (none_before 0) index parent (sym same ∙ is) in
     omega (arith, behind)

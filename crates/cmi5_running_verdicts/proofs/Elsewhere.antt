@@ -13,13 +13,13 @@ use Rattle.cmi5_verdict.specs.XapiStatementStatements.{is_that_id}
 use Rattle.cmi5_verdict.specs.XapiStatementStatement.{activity_of, registration_of}
 use Rattle.cmi5_verdict.specs.XapiStatementStored.{StoredStatement}
 
-about_none : (e : SeenEnrolment) (j : Json) → is_that_id e.registration (registration_of j) ≡ false → (place : ℕ) → is_about e place j ≡ false
-about_none e j other place = ap (λ b. b && is_cmi5_defined j && is_that_id (activity_at e place) (activity_of j)) other
+about_none : (e : SeenEnrolment) (j : Json) → is_that_id e.registration (registration_of j) ≡ false → (index : ℕ) → is_about e index j ≡ false
+about_none e j other index = ap (λ b. b && is_cmi5_defined j && is_that_id (activity_at e index) (activity_of j)) other
 
 pub elsewhere_counted : (e : SeenEnrolment) → (those : List MarkedStatement) → (m : MarkedStatement) → (tallies : List Tally) → is_that_id e.registration (registration_of (view m.statement.received)) ≡ false
     → AreTallies e those tallies → AreTallies e (those ++ m ∷ []) tallies
-elsewhere_counted e those m tallies other are = none_counted e those m tallies (λ place lt. about_none e (view m.statement.received) other place) are
+elsewhere_counted e those m tallies other are = none_counted e those m tallies (λ index lt. about_none e (view m.statement.received) other index) are
 
 pub elsewhere_voided : (e : SeenEnrolment) → (before behind : List MarkedStatement) → (s : StoredStatement) → (tallies : List Tally) → is_that_id e.registration (registration_of (view s.received)) ≡ false
     → AreTallies e (before ++ mark s false ∷ behind) tallies → AreTallies e (before ++ mark s true ∷ behind) tallies
-elsewhere_voided e before behind s tallies other are = none_voided e before behind s tallies (λ place lt. about_none e (view s.received) other place) are
+elsewhere_voided e before behind s tallies other are = none_voided e before behind s tallies (λ index lt. about_none e (view s.received) other index) are

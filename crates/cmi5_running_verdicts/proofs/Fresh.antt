@@ -59,8 +59,8 @@ part_end test n i t end part =
 
 -- ---- all of them
 
-fresh_is : (e : SeenEnrolment) (place : ℕ) → IsTally e [] place (fresh_tally e.nodes place)
-fresh_is e place = record { waived = refl; completed = refl; passed = refl; satisfied = refl; unmet = refl }
+fresh_is : (e : SeenEnrolment) (index : ℕ) → IsTally e [] index (fresh_tally e.nodes index)
+fresh_is e index = record { waived = refl; completed = refl; passed = refl; satisfied = refl; unmet = refl }
 
 pub fresh_stand : (e : SeenEnrolment) (nodes : List Node) (old new : List Tally) → e.nodes ≡ nodes → old ≡ replicate (length nodes) untold → length new ≡ length old
     → ((holder : ℕ) → holder < length old → tally_of old holder ≡ untold → tally_of new holder ≡ fresh_tally nodes holder) → AreTallies e [] new
@@ -69,11 +69,11 @@ fresh_stand e nodes old new same none long raised = tallies_from e [] new (long 
     as_many : length old ≡ length e.nodes
     as_many = ap (λ (ts : List Tally). length ts) none ∙ (length-replicate (length nodes) untold ∙ sym (ap (λ (ns : List Node). length ns) same))
 
-    none_at : (place : ℕ) → place < length e.nodes → tally_of old place ≡ untold
-    none_at place lt =
-        ap (λ ts. tally_of ts place) none ∙ get_or-replicate (length nodes) place untold untold (subst (λ (ns : List Node). place < length ns) same lt)
+    none_at : (index : ℕ) → index < length e.nodes → tally_of old index ≡ untold
+    none_at index lt =
+        ap (λ ts. tally_of ts index) none ∙ get_or-replicate (length nodes) index untold untold (subst (λ (ns : List Node). index < length ns) same lt)
 
-    each : (place : ℕ) → place < length e.nodes → IsTally e [] place (tally_of new place)
-    each place lt =
-        subst (λ (t : Tally). IsTally e [] place t)
-        (sym (raised place (subst (λ n. place < n) (sym as_many) lt) (none_at place lt) ∙ ap (λ ns. fresh_tally ns place) (sym same))) (fresh_is e place)
+    each : (index : ℕ) → index < length e.nodes → IsTally e [] index (tally_of new index)
+    each index lt =
+        subst (λ (t : Tally). IsTally e [] index t)
+        (sym (raised index (subst (λ n. index < n) (sym as_many) lt) (none_at index lt) ∙ ap (λ ns. fresh_tally ns index) (sym same))) (fresh_is e index)

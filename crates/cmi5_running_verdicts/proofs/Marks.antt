@@ -26,20 +26,20 @@ use Rattle.cmi5_verdict.specs.XapiStatementStored.{StoredStatement}
 -- ---- what is said, as a tally counts it
 
 -- what is counted of what is said of the node
-pub record IsSaid (e : SeenEnrolment) (those : List MarkedStatement) (place : ℕ) (t : Tally) : Type 0 where
-  pub waived : t.waived ≡ how_many_say e those waived place
-  pub completed : t.completed ≡ how_many_say e those completed place
-  pub passed : t.passed ≡ how_many_say e those passed place
-  pub satisfied : t.satisfied ≡ list_any (says_of_node e satisfied place) those
+pub record IsSaid (e : SeenEnrolment) (those : List MarkedStatement) (index : ℕ) (t : Tally) : Type 0 where
+  pub waived : t.waived ≡ how_many_say e those waived index
+  pub completed : t.completed ≡ how_many_say e those completed index
+  pub passed : t.passed ≡ how_many_say e those passed index
+  pub satisfied : t.satisfied ≡ list_any (says_of_node e satisfied index) those
 
-pub said_part : (e : SeenEnrolment) (those : List MarkedStatement) (place : ℕ) (t : Tally) → IsTally e those place t → IsSaid e those place t
-said_part e those place t is = record { waived = is.waived; completed = is.completed; passed = is.passed; satisfied = is.satisfied }
+pub said_part : (e : SeenEnrolment) (those : List MarkedStatement) (index : ℕ) (t : Tally) → IsTally e those index t → IsSaid e those index t
+said_part e those index t is = record { waived = is.waived; completed = is.completed; passed = is.passed; satisfied = is.satisfied }
 
-said_alike : (e : SeenEnrolment) (those : List MarkedStatement) (place : ℕ) (t : Tally) → IsSaid e those place t → said_in_tally t ≡ said_by_all e those place
-said_alike e those place t is = same_said _ _ _ _ _ _ _ _ (ap (λ n. nat_lt 0 n) is.waived) (ap (λ n. nat_lt 0 n) is.completed) (ap (λ n. nat_lt 0 n) is.passed) is.satisfied
+said_alike : (e : SeenEnrolment) (those : List MarkedStatement) (index : ℕ) (t : Tally) → IsSaid e those index t → said_in_tally t ≡ said_by_all e those index
+said_alike e those index t is = same_said _ _ _ _ _ _ _ _ (ap (λ n. nat_lt 0 n) is.waived) (ap (λ n. nat_lt 0 n) is.completed) (ap (λ n. nat_lt 0 n) is.passed) is.satisfied
 
-pub met_alike : (e : SeenEnrolment) (those : List MarkedStatement) (place : ℕ) (t : Tally) → IsSaid e those place t → is_met_with e.nodes place t ≡ is_met_by_all e those place
-met_alike e those place t is = ap (λ (s : Said). option_map_or (λ unit. meets unit.move_on s) (unit_in e.nodes place) true) (said_alike e those place t is)
+pub met_alike : (e : SeenEnrolment) (those : List MarkedStatement) (index : ℕ) (t : Tally) → IsSaid e those index t → is_met_with e.nodes index t ≡ is_met_by_all e those index
+met_alike e those index t is = ap (λ (s : Said). option_map_or (λ unit. meets unit.move_on s) (unit_in e.nodes index) true) (said_alike e those index t is)
 
 -- ---- numbers
 
@@ -76,16 +76,16 @@ flag false true true false = refl
 flag false true false a = refl
 flag false false d a = refl
 
-module _ (e : SeenEnrolment) (place : ℕ) (m : MarkedStatement) (verb : List ℕ) where
-  says_if : says_of_node e verb place m ≡ (if is_about e place (view m.statement.received) then bytes_eq (verb_of (view m.statement.received)) verb else false)
+module _ (e : SeenEnrolment) (index : ℕ) (m : MarkedStatement) (verb : List ℕ) where
+  says_if : says_of_node e verb index m ≡ (if is_about e index (view m.statement.received) then bytes_eq (verb_of (view m.statement.received)) verb else false)
   says_if =
       flag (bytes_eq (verb_of (view m.statement.received)) verb) (is_that_id e.registration (registration_of (view m.statement.received))) (is_cmi5_defined (view m.statement.received))
-      (is_that_id (activity_at e place) (activity_of (view m.statement.received)))
+      (is_that_id (activity_at e index) (activity_of (view m.statement.received)))
 
-  says_none : is_about e place (view m.statement.received) ≡ false → says_of_node e verb place m ≡ false
+  says_none : is_about e index (view m.statement.received) ≡ false → says_of_node e verb index m ≡ false
   says_none elsewhere = says_if ∙ ap (λ b. if b then bytes_eq (verb_of (view m.statement.received)) verb else false) elsewhere
 
-  says_here : is_about e place (view m.statement.received) ≡ true → says_of_node e verb place m ≡ bytes_eq (verb_of (view m.statement.received)) verb
+  says_here : is_about e index (view m.statement.received) ≡ true → says_of_node e verb index m ≡ bytes_eq (verb_of (view m.statement.received)) verb
   says_here here = says_if ∙ ap (λ b. if b then bytes_eq (verb_of (view m.statement.received)) verb else false) here
 
 -- ---- one statement more
@@ -93,21 +93,21 @@ module _ (e : SeenEnrolment) (place : ℕ) (m : MarkedStatement) (verb : List �
 any_push : {A : Type 0} (test : A → Bool) (xs : List A) (x : A) → list_any test (xs ++ x ∷ []) ≡ list_any test xs || test x
 any_push test xs x = list_any-append test xs (x ∷ []) ∙ ap (λ b. list_any test xs || b) (or-false (test x))
 
-module _ (e : SeenEnrolment) (those : List MarkedStatement) (m : MarkedStatement) (place : ℕ) where
-  many_push : (verb : List ℕ) → how_many_say e (those ++ m ∷ []) verb place ≡ how_many_say e those verb place + one_if (says_of_node e verb place m && not m.voided)
-  many_push verb = count_push (says_still e verb place) those m
+module _ (e : SeenEnrolment) (those : List MarkedStatement) (m : MarkedStatement) (index : ℕ) where
+  many_push : (verb : List ℕ) → how_many_say e (those ++ m ∷ []) verb index ≡ how_many_say e those verb index + one_if (says_of_node e verb index m && not m.voided)
+  many_push verb = count_push (says_still e verb index) those m
 
-  many_same : (verb : List ℕ) → is_about e place (view m.statement.received) ≡ false → how_many_say e (those ++ m ∷ []) verb place ≡ how_many_say e those verb place
+  many_same : (verb : List ℕ) → is_about e index (view m.statement.received) ≡ false → how_many_say e (those ++ m ∷ []) verb index ≡ how_many_say e those verb index
   many_same verb elsewhere =
-      many_push verb ∙ (ap (λ b. how_many_say e those verb place + one_if (b && not m.voided)) (says_none e place m verb elsewhere) ∙ plus_none (how_many_say e those verb place))
+      many_push verb ∙ (ap (λ b. how_many_say e those verb index + one_if (b && not m.voided)) (says_none e index m verb elsewhere) ∙ plus_none (how_many_say e those verb index))
 
-  any_same : is_about e place (view m.statement.received) ≡ false → list_any (says_of_node e satisfied place) (those ++ m ∷ []) ≡ list_any (says_of_node e satisfied place) those
+  any_same : is_about e index (view m.statement.received) ≡ false → list_any (says_of_node e satisfied index) (those ++ m ∷ []) ≡ list_any (says_of_node e satisfied index) those
   any_same elsewhere =
-      any_push (says_of_node e satisfied place) those m
-      ∙ (ap (λ b. list_any (says_of_node e satisfied place) those || b) (says_none e place m satisfied elsewhere) ∙ or-false (list_any (says_of_node e satisfied place) those))
+      any_push (says_of_node e satisfied index) those m
+      ∙ (ap (λ b. list_any (says_of_node e satisfied index) those || b) (says_none e index m satisfied elsewhere) ∙ or-false (list_any (says_of_node e satisfied index) those))
 
   -- of another node nothing more is counted
-  pub counted_elsewhere : (t : Tally) → is_about e place (view m.statement.received) ≡ false → IsSaid e those place t → IsSaid e (those ++ m ∷ []) place t
+  pub counted_elsewhere : (t : Tally) → is_about e index (view m.statement.received) ≡ false → IsSaid e those index t → IsSaid e (those ++ m ∷ []) index t
   counted_elsewhere t elsewhere is = record {
     waived = is.waived ∙ sym (many_same waived elsewhere);
     completed = is.completed ∙ sym (many_same completed elsewhere);
@@ -115,23 +115,23 @@ module _ (e : SeenEnrolment) (those : List MarkedStatement) (m : MarkedStatement
     satisfied = is.satisfied ∙ sym (any_same elsewhere);
   }
 
-  many_more : (verb : List ℕ) (number : ℕ) → length those + 1 < 2 ^ 64 → is_about e place (view m.statement.received) ≡ true → number ≡ how_many_say e those verb place
-      → one_more number (bytes_eq (verb_of (view m.statement.received)) verb && not m.voided) ≡ how_many_say e (those ++ m ∷ []) verb place
+  many_more : (verb : List ℕ) (number : ℕ) → length those + 1 < 2 ^ 64 → is_about e index (view m.statement.received) ≡ true → number ≡ how_many_say e those verb index
+      → one_more number (bytes_eq (verb_of (view m.statement.received)) verb && not m.voided) ≡ how_many_say e (those ++ m ∷ []) verb index
   many_more verb number few here is =
       let counts : Bool = bytes_eq (verb_of (view m.statement.received)) verb && not m.voided in
-      one_more_is number counts (fits number (how_many_say e those verb place) (length those) is (count_by-le-length (says_still e verb place) those) few)
+      one_more_is number counts (fits number (how_many_say e those verb index) (length those) is (count_by-le-length (says_still e verb index) those) few)
       ∙ (ap (λ n. n + one_if counts) is
-      ∙ sym (many_push verb ∙ ap (λ b. how_many_say e those verb place + one_if (b && not m.voided)) (says_here e place m verb here)))
+      ∙ sym (many_push verb ∙ ap (λ b. how_many_say e those verb index + one_if (b && not m.voided)) (says_here e index m verb here)))
 
-  any_more : (said : Bool) → is_about e place (view m.statement.received) ≡ true → said ≡ list_any (says_of_node e satisfied place) those
-      → said || bytes_eq (verb_of (view m.statement.received)) satisfied ≡ list_any (says_of_node e satisfied place) (those ++ m ∷ [])
+  any_more : (said : Bool) → is_about e index (view m.statement.received) ≡ true → said ≡ list_any (says_of_node e satisfied index) those
+      → said || bytes_eq (verb_of (view m.statement.received)) satisfied ≡ list_any (says_of_node e satisfied index) (those ++ m ∷ [])
   any_more said here is =
       ap (λ b. b || bytes_eq (verb_of (view m.statement.received)) satisfied) is
-      ∙ sym (any_push (says_of_node e satisfied place) those m ∙ ap (λ b. list_any (says_of_node e satisfied place) those || b) (says_here e place m satisfied here))
+      ∙ sym (any_push (says_of_node e satisfied index) those m ∙ ap (λ b. list_any (says_of_node e satisfied index) those || b) (says_here e index m satisfied here))
 
   -- of its own what it says
-  pub counted_here : (t : Tally) → length those + 1 < 2 ^ 64 → is_about e place (view m.statement.received) ≡ true → IsSaid e those place t
-      → IsSaid e (those ++ m ∷ []) place (added (said_with (verb_of (view m.statement.received)) m.voided) t)
+  pub counted_here : (t : Tally) → length those + 1 < 2 ^ 64 → is_about e index (view m.statement.received) ≡ true → IsSaid e those index t
+      → IsSaid e (those ++ m ∷ []) index (added (said_with (verb_of (view m.statement.received)) m.voided) t)
   unfolding added said_with
   counted_here t few here is = record {
     waived = many_more waived t.waived few here is.waived;
@@ -146,28 +146,28 @@ added_unmet told t = refl
 
 -- ---- one statement that is voided
 
-module _ (e : SeenEnrolment) (before behind : List MarkedStatement) (s : StoredStatement) (place : ℕ) where
+module _ (e : SeenEnrolment) (before behind : List MarkedStatement) (s : StoredStatement) (index : ℕ) where
   abbrev marked_with : Bool → List MarkedStatement
   marked_with voided = before ++ mark s voided ∷ behind
 
-  many_around : (verb : List ℕ) (voided : Bool) → how_many_say e (marked_with voided) verb place
-      ≡ how_many_say e before verb place + (one_if (says_of_node e verb place (mark s voided) && not voided) + how_many_say e behind verb place)
-  many_around verb voided = count_around (says_still e verb place) before (mark s voided) behind
+  many_around : (verb : List ℕ) (voided : Bool) → how_many_say e (marked_with voided) verb index
+      ≡ how_many_say e before verb index + (one_if (says_of_node e verb index (mark s voided) && not voided) + how_many_say e behind verb index)
+  many_around verb voided = count_around (says_still e verb index) before (mark s voided) behind
 
-  many_known : (verb : List ℕ) (voided said : Bool) → says_of_node e verb place (mark s voided) ≡ said
-      → how_many_say e (marked_with voided) verb place ≡ how_many_say e before verb place + (one_if (said && not voided) + how_many_say e behind verb place)
+  many_known : (verb : List ℕ) (voided said : Bool) → says_of_node e verb index (mark s voided) ≡ said
+      → how_many_say e (marked_with voided) verb index ≡ how_many_say e before verb index + (one_if (said && not voided) + how_many_say e behind verb index)
   many_known verb voided said is =
-      many_around verb voided ∙ ap (λ b. how_many_say e before verb place + (one_if (b && not voided) + how_many_say e behind verb place)) is
+      many_around verb voided ∙ ap (λ b. how_many_say e before verb index + (one_if (b && not voided) + how_many_say e behind verb index)) is
 
-  many_kept : (verb : List ℕ) → is_about e place (view s.received) ≡ false → how_many_say e (marked_with false) verb place ≡ how_many_say e (marked_with true) verb place
+  many_kept : (verb : List ℕ) → is_about e index (view s.received) ≡ false → how_many_say e (marked_with false) verb index ≡ how_many_say e (marked_with true) verb index
   many_kept verb elsewhere =
-      many_known verb false false (says_none e place (mark s false) verb elsewhere) ∙ sym (many_known verb true false (says_none e place (mark s true) verb elsewhere))
+      many_known verb false false (says_none e index (mark s false) verb elsewhere) ∙ sym (many_known verb true false (says_none e index (mark s true) verb elsewhere))
 
-  any_kept : list_any (says_of_node e satisfied place) (marked_with false) ≡ list_any (says_of_node e satisfied place) (marked_with true)
+  any_kept : list_any (says_of_node e satisfied index) (marked_with false) ≡ list_any (says_of_node e satisfied index) (marked_with true)
   any_kept =
-      list_any-append (says_of_node e satisfied place) before (mark s false ∷ behind) ∙ sym (list_any-append (says_of_node e satisfied place) before (mark s true ∷ behind))
+      list_any-append (says_of_node e satisfied index) before (mark s false ∷ behind) ∙ sym (list_any-append (says_of_node e satisfied index) before (mark s true ∷ behind))
 
-  pub voided_elsewhere : (t : Tally) → is_about e place (view s.received) ≡ false → IsSaid e (before ++ mark s false ∷ behind) place t → IsSaid e (before ++ mark s true ∷ behind) place t
+  pub voided_elsewhere : (t : Tally) → is_about e index (view s.received) ≡ false → IsSaid e (before ++ mark s false ∷ behind) index t → IsSaid e (before ++ mark s true ∷ behind) index t
   voided_elsewhere t elsewhere is = record {
     waived = is.waived ∙ many_kept waived elsewhere;
     completed = is.completed ∙ many_kept completed elsewhere;
@@ -175,16 +175,16 @@ module _ (e : SeenEnrolment) (before behind : List MarkedStatement) (s : StoredS
     satisfied = is.satisfied ∙ any_kept;
   }
 
-  many_less : (verb : List ℕ) (number : ℕ) → is_about e place (view s.received) ≡ true → number ≡ how_many_say e (marked_with false) verb place
-      → one_less number (bytes_eq (verb_of (view s.received)) verb && not false) ≡ how_many_say e (marked_with true) verb place
+  many_less : (verb : List ℕ) (number : ℕ) → is_about e index (view s.received) ≡ true → number ≡ how_many_say e (marked_with false) verb index
+      → one_less number (bytes_eq (verb_of (view s.received)) verb && not false) ≡ how_many_say e (marked_with true) verb index
   many_less verb number here is =
       let said : Bool = bytes_eq (verb_of (view s.received)) verb in
-      one_less_is said number (how_many_say e before verb place) (how_many_say e behind verb place)
-      (is ∙ many_known verb false said (says_here e place (mark s false) verb here))
-      ∙ sym (many_known verb true said (says_here e place (mark s true) verb here))
+      one_less_is said number (how_many_say e before verb index) (how_many_say e behind verb index)
+      (is ∙ many_known verb false said (says_here e index (mark s false) verb here))
+      ∙ sym (many_known verb true said (says_here e index (mark s true) verb here))
 
-  pub voided_here : (t : Tally) → is_about e place (view s.received) ≡ true → IsSaid e (before ++ mark s false ∷ behind) place t
-      → IsSaid e (before ++ mark s true ∷ behind) place (removed (said_with (verb_of (view s.received)) false) t)
+  pub voided_here : (t : Tally) → is_about e index (view s.received) ≡ true → IsSaid e (before ++ mark s false ∷ behind) index t
+      → IsSaid e (before ++ mark s true ∷ behind) index (removed (said_with (verb_of (view s.received)) false) t)
   unfolding removed said_with
   voided_here t here is = record {
     waived = many_less waived t.waived here is.waived;

@@ -15,7 +15,7 @@ use Rattle.cmi5_running_verdicts.specs.Tallies.{AreTallies, is_met_by_all, said_
 use Rattle.cmi5_running_verdicts.specs.Told.{any_voids, is_all_met_at, is_waived_at, said_at, voids_one}
 use Rattle.cmi5_running_verdicts.specs.declared.tally.Tally.{Tally}
 use Rattle.cmi5_verdict.specs.Cmi5SessionMarked.{mark, marked}
-use Rattle.cmi5_verdict.specs.Nodes.{SeenEnrolment, activity_at, is_met_at, is_satisfied, is_under, places, under, unit_in, verdicts}
+use Rattle.cmi5_verdict.specs.Nodes.{SeenEnrolment, activity_at, is_met_at, is_satisfied, is_under, indices, under, unit_in, verdicts}
 use Rattle.cmi5_verdict.specs.Said.{counts_for, either, meets, said_among, said_in, said_of, unsaid}
 use Rattle.cmi5_verdict.specs.Units.{counts, stands}
 use Rattle.cmi5_verdict.specs.declared.said.Said.{Said}
@@ -58,65 +58,65 @@ none_fails inside passes (x ∷ xs) = by_tests (inside x) (passes x) refl (none_
 -- ---- what marked statements say of a node
 
 module _ (e : SeenEnrolment) (statements : List StoredStatement) where
-  still : (verb : List ℕ) (place : ℕ) → list_any (says_still e verb place) (marked statements) ≡ list_any (counts_for e statements false verb place) statements
-  still verb place = any_marked (says_still e verb place) (counts_for e statements false verb place) (λ s. mark s (is_voided statements s)) statements (λ s. refl)
+  still : (verb : List ℕ) (index : ℕ) → list_any (says_still e verb index) (marked statements) ≡ list_any (counts_for e statements false verb index) statements
+  still verb index = any_marked (says_still e verb index) (counts_for e statements false verb index) (λ s. mark s (is_voided statements s)) statements (λ s. refl)
 
-  ever : (place : ℕ) → list_any (says_of_node e satisfied place) (marked statements) ≡ list_any (counts_for e statements true satisfied place) statements
-  ever place =
-      any_marked (says_of_node e satisfied place) (counts_for e statements true satisfied place) (λ s. mark s (is_voided statements s)) statements
-      (λ s. sym (and-true (counts e.registration (activity_at e place) satisfied (view s.received))))
+  ever : (index : ℕ) → list_any (says_of_node e satisfied index) (marked statements) ≡ list_any (counts_for e statements true satisfied index) statements
+  ever index =
+      any_marked (says_of_node e satisfied index) (counts_for e statements true satisfied index) (λ s. mark s (is_voided statements s)) statements
+      (λ s. sym (and-true (counts e.registration (activity_at e index) satisfied (view s.received))))
 
-  many_still : (verb : List ℕ) (place : ℕ) (n : ℕ) → n ≡ length (filter (says_still e verb place) (marked statements)) → nat_lt 0 n ≡ list_any (counts_for e statements false verb place) statements
-  many_still verb place n is = ap (λ k. nat_lt 0 k) is ∙ (kept_any (says_still e verb place) (marked statements) ∙ still verb place)
+  many_still : (verb : List ℕ) (index : ℕ) (n : ℕ) → n ≡ length (filter (says_still e verb index) (marked statements)) → nat_lt 0 n ≡ list_any (counts_for e statements false verb index) statements
+  many_still verb index n is = ap (λ k. nat_lt 0 k) is ∙ (kept_any (says_still e verb index) (marked statements) ∙ still verb index)
 
-  said_marked : (place : ℕ) → said_by_all e (marked statements) place ≡ said_in e statements place
+  said_marked : (index : ℕ) → said_by_all e (marked statements) index ≡ said_in e statements index
   unfolding said_among
-  said_marked place =
-      same_said _ _ _ _ _ _ _ _ (many_still waived place _ (sym (length-filter (says_still e waived place) (marked statements))))
-      (many_still completed place _ (sym (length-filter (says_still e completed place) (marked statements))))
-      (many_still passed place _ (sym (length-filter (says_still e passed place) (marked statements)))) (ever place)
+  said_marked index =
+      same_said _ _ _ _ _ _ _ _ (many_still waived index _ (sym (length-filter (says_still e waived index) (marked statements))))
+      (many_still completed index _ (sym (length-filter (says_still e completed index) (marked statements))))
+      (many_still passed index _ (sym (length-filter (says_still e passed index) (marked statements)))) (ever index)
 
-  met_marked : (place : ℕ) → is_met_by_all e (marked statements) place ≡ is_met_at e statements place
+  met_marked : (index : ℕ) → is_met_by_all e (marked statements) index ≡ is_met_at e statements index
   unfolding said_among
-  met_marked place = ap (λ (s : Said). option_map_or (λ unit. meets unit.move_on s) (unit_in e.nodes place) true) (said_marked place)
+  met_marked index = ap (λ (s : Said). option_map_or (λ unit. meets unit.move_on s) (unit_in e.nodes index) true) (said_marked index)
 
   -- none under a node is unmet exactly where it is satisfied
   none_unmet : (holder : ℕ) → (unmet_under e (marked statements) holder == 0) ≡ is_satisfied e statements holder
   none_unmet holder =
-      ap (λ n. n == 0) (sym (length-filter (λ p. is_under e.nodes holder p && not (is_met_by_all e (marked statements) p)) (places e.nodes)))
-      ∙ (none_fails (is_under e.nodes holder) (is_met_by_all e (marked statements)) (places e.nodes)
+      ap (λ n. n == 0) (sym (length-filter (λ p. is_under e.nodes holder p && not (is_met_by_all e (marked statements) p)) (indices e.nodes)))
+      ∙ (none_fails (is_under e.nodes holder) (is_met_by_all e (marked statements)) (indices e.nodes)
       ∙ all_alike (is_met_by_all e (marked statements)) (is_met_at e statements) (under e.nodes holder) met_marked)
 
 -- ---- what tallies tell
 
 module _ (e : SeenEnrolment) (statements : List StoredStatement) (ts : List Tally) (are : AreTallies e (marked statements) ts) where
-  within : (place : ℕ) → place < length e.nodes → place < length ts
-  within place lt = subst (λ n. place < n) (sym are.long) lt
+  within : (index : ℕ) → index < length e.nodes → index < length ts
+  within index lt = subst (λ n. index < n) (sym are.long) lt
 
-  there : (place : ℕ) → place < length e.nodes → slice_get ts place ≡ Some (tally_of ts place)
-  there place lt = slice_get-get_or ts place untold (within place lt)
+  there : (index : ℕ) → index < length e.nodes → slice_get ts index ≡ Some (tally_of ts index)
+  there index lt = slice_get-get_or ts index untold (within index lt)
 
-  tally_said : (place : ℕ) (t : Tally) → slice_get ts place ≡ Some t → said_in_tally t ≡ said_in e statements place
-  tally_said place t at =
-      let is = are.each place t at in
-      same_said _ _ _ _ _ _ _ _ (ap (λ n. nat_lt 0 n) is.waived) (ap (λ n. nat_lt 0 n) is.completed) (ap (λ n. nat_lt 0 n) is.passed) is.satisfied ∙ said_marked e statements place
+  tally_said : (index : ℕ) (t : Tally) → slice_get ts index ≡ Some t → said_in_tally t ≡ said_in e statements index
+  tally_said index t at =
+      let is = are.each index t at in
+      same_said _ _ _ _ _ _ _ _ (ap (λ n. nat_lt 0 n) is.waived) (ap (λ n. nat_lt 0 n) is.completed) (ap (λ n. nat_lt 0 n) is.passed) is.satisfied ∙ said_marked e statements index
 
-  pub said_told : (place : ℕ) → place < length e.nodes → said_at ts place ≡ said_in e statements place
-  said_told place lt = tally_said place (tally_of ts place) (there place lt)
+  pub said_told : (index : ℕ) → index < length e.nodes → said_at ts index ≡ said_in e statements index
+  said_told index lt = tally_said index (tally_of ts index) (there index lt)
 
-  pub verdict_told : (place : ℕ) → place < length e.nodes → is_all_met_at ts place ≡ is_satisfied e statements place
-  verdict_told place lt =
-      let is = are.each place (tally_of ts place) (there place lt) in
-      ap (λ n. n == 0) is.unmet ∙ none_unmet e statements place
+  pub verdict_told : (index : ℕ) → index < length e.nodes → is_all_met_at ts index ≡ is_satisfied e statements index
+  verdict_told index lt =
+      let is = are.each index (tally_of ts index) (there index lt) in
+      ap (λ n. n == 0) is.unmet ∙ none_unmet e statements index
 
   pub verdicts_told : map (is_all_met_at ts) (range_with_len 0 (length ts)) ≡ verdicts e statements
   verdicts_told =
       ap (λ n. map (is_all_met_at ts) (range_with_len 0 n)) are.long
       ∙ map_alike (is_all_met_at ts) (is_satisfied e statements) 0 (length e.nodes) (λ p lt. verdict_told p (omega arith))
 
-  pub waiver_told : (place : ℕ) → place < length e.nodes → is_waived_at ts place ≡ stands statements e.registration (activity_at e place) waived
+  pub waiver_told : (index : ℕ) → index < length e.nodes → is_waived_at ts index ≡ stands statements e.registration (activity_at e index) waived
   unfolding said_among
-  waiver_told place lt = ap (λ (s : Said). s.waived) (said_told place lt)
+  waiver_told index lt = ap (λ (s : Said). s.waived) (said_told index lt)
 
 -- ---- new statements of which none is a voiding statement
 
@@ -134,23 +134,23 @@ module _ (e : SeenEnrolment) (held new : List StoredStatement) (none : any_voids
       ap (λ b. not (is_voiding (view s.received)) && b)
       (list_any-append (voids s.id) held new ∙ (ap (λ b. list_any (voids s.id) held || b) (none_targets s.id new none) ∙ or-false (list_any (voids s.id) held)))
 
-  counts_same : (even_voided : Bool) (verb : List ℕ) (place : ℕ) → list_any (counts_for e (held ++ new) even_voided verb place) held ≡ list_any (counts_for e held even_voided verb place) held
-  counts_same even_voided verb place =
-      any_alike (counts_for e (held ++ new) even_voided verb place) (counts_for e held even_voided verb place) held
-      (λ s. ap (λ b. counts e.registration (activity_at e place) verb (view s.received) && (even_voided || not b)) (same_voided s))
+  counts_same : (even_voided : Bool) (verb : List ℕ) (index : ℕ) → list_any (counts_for e (held ++ new) even_voided verb index) held ≡ list_any (counts_for e held even_voided verb index) held
+  counts_same even_voided verb index =
+      any_alike (counts_for e (held ++ new) even_voided verb index) (counts_for e held even_voided verb index) held
+      (λ s. ap (λ b. counts e.registration (activity_at e index) verb (view s.received) && (even_voided || not b)) (same_voided s))
 
-  same_held : (place : ℕ) → said_among e (held ++ new) place held ≡ said_in e held place
+  same_held : (index : ℕ) → said_among e (held ++ new) index held ≡ said_in e held index
   unfolding said_among
-  same_held place =
-      same_said _ _ _ _ _ _ _ _ (counts_same false waived place) (counts_same false completed place) (counts_same false passed place) (counts_same true satisfied place)
+  same_held index =
+      same_said _ _ _ _ _ _ _ _ (counts_same false waived index) (counts_same false completed index) (counts_same false passed index) (counts_same true satisfied index)
 
   -- what all say is what those said that are held, and what the new ones say
-  in_both : (place : ℕ) → said_in e (held ++ new) place ≡ either (said_in e held place) (said_among e (held ++ new) place new)
-  in_both place = among_both e (held ++ new) place held new ∙ ap (λ (s : Said). either s (said_among e (held ++ new) place new)) (same_held place)
+  in_both : (index : ℕ) → said_in e (held ++ new) index ≡ either (said_in e held index) (said_among e (held ++ new) index new)
+  in_both index = among_both e (held ++ new) index held new ∙ ap (λ (s : Said). either s (said_among e (held ++ new) index new)) (same_held index)
 
   -- what the tallies tell, and what the new ones add to it
   pub said_with_new : (ts : List Tally) (before after : List Said) → AreTallies e (marked held) ts → length ts ≤ 2 ^ 64 → before ≡ map (said_at ts) (range_with_len 0 (length ts)) → length after ≡ length before
-      → ((k : ℕ) → k < length before → k < 2 ^ 64 → said_of after k ≡ either (said_of before k) (said_among e (held ++ new) k new)) → after ≡ map (said_in e (held ++ new)) (places e.nodes)
+      → ((k : ℕ) → k < length before → k < 2 ^ 64 → said_of after k ≡ either (said_of before k) (said_among e (held ++ new) k new)) → after ≡ map (said_in e (held ++ new)) (indices e.nodes)
   said_with_new ts before after are few is same added =
       let long : length before ≡ length ts = ap (λ (ss : List Said). length ss) is ∙ length-map-range_with_len (said_at ts) 0 (length ts) in
       fill_by_all (said_in e (held ++ new)) after (length e.nodes) unsaid (same ∙ (long ∙ are.long))

@@ -15,7 +15,7 @@ use Rattle.cmi5_running_verdicts.specs.Tallies.{AreTallies, how_many_say, is_met
 use Rattle.cmi5_running_verdicts.specs.declared.tally.Tally.{Tally}
 use Rattle.cmi5_verdict.specs.Cmi5SessionMarked.{MarkedStatement, mark, marked, marked_by}
 use Rattle.cmi5_verdict.specs.Cmi5SessionOwn.{says}
-use Rattle.cmi5_verdict.specs.Nodes.{SeenEnrolment, activity_at, is_under, places, unit_in}
+use Rattle.cmi5_verdict.specs.Nodes.{SeenEnrolment, activity_at, is_under, indices, unit_in}
 use Rattle.cmi5_verdict.specs.Said.{meets}
 use Rattle.cmi5_verdict.specs.declared.said.Said.{Said}
 use Rattle.cmi5_verdict.proofs.Spoken.{same_said}
@@ -59,34 +59,34 @@ kept_of {A} {B} q mk p (x ∷ xs) others = by_test (p x) refl (kept_of q mk p xs
 -- ---- lists that say the same of each node
 
 pub record SaySame (e : SeenEnrolment) (a b : List MarkedStatement) : Type 0 where
-  pub many : (verb : List ℕ) → (place : ℕ) → how_many_say e a verb place ≡ how_many_say e b verb place
-  pub any : (verb : List ℕ) → (place : ℕ) → list_any (says_of_node e verb place) a ≡ list_any (says_of_node e verb place) b
+  pub many : (verb : List ℕ) → (index : ℕ) → how_many_say e a verb index ≡ how_many_say e b verb index
+  pub any : (verb : List ℕ) → (index : ℕ) → list_any (says_of_node e verb index) a ≡ list_any (says_of_node e verb index) b
 
 module _ (e : SeenEnrolment) (a b : List MarkedStatement) (same : SaySame e a b) where
-  said_alike : (place : ℕ) → said_by_all e a place ≡ said_by_all e b place
-  said_alike place =
-      same_said _ _ _ _ _ _ _ _ (ap (λ n. nat_lt 0 n) (same.many waived place)) (ap (λ n. nat_lt 0 n) (same.many completed place))
-      (ap (λ n. nat_lt 0 n) (same.many passed place)) (same.any satisfied place)
+  said_alike : (index : ℕ) → said_by_all e a index ≡ said_by_all e b index
+  said_alike index =
+      same_said _ _ _ _ _ _ _ _ (ap (λ n. nat_lt 0 n) (same.many waived index)) (ap (λ n. nat_lt 0 n) (same.many completed index))
+      (ap (λ n. nat_lt 0 n) (same.many passed index)) (same.any satisfied index)
 
-  met_alike : (place : ℕ) → is_met_by_all e a place ≡ is_met_by_all e b place
-  met_alike place = ap (λ (s : Said). option_map_or (λ unit. meets unit.move_on s) (unit_in e.nodes place) true) (said_alike place)
+  met_alike : (index : ℕ) → is_met_by_all e a index ≡ is_met_by_all e b index
+  met_alike index = ap (λ (s : Said). option_map_or (λ unit. meets unit.move_on s) (unit_in e.nodes index) true) (said_alike index)
 
   unmet_alike : (holder : ℕ) → unmet_under e a holder ≡ unmet_under e b holder
   unmet_alike holder =
-      counted_alike (λ p. is_under e.nodes holder p && not (is_met_by_all e a p)) (λ p. is_under e.nodes holder p && not (is_met_by_all e b p)) (places e.nodes)
+      counted_alike (λ p. is_under e.nodes holder p && not (is_met_by_all e a p)) (λ p. is_under e.nodes holder p && not (is_met_by_all e b p)) (indices e.nodes)
       (λ p. ap (λ t. is_under e.nodes holder p && not t) (met_alike p))
 
   pub same_tallies : (ts : List Tally) → AreTallies e a ts → AreTallies e b ts
   same_tallies ts are = record {
     long = are.long;
-    each = λ place t at.
-        let is = are.each place t at in
+    each = λ index t at.
+        let is = are.each index t at in
         record {
-          waived = is.waived ∙ same.many waived place;
-          completed = is.completed ∙ same.many completed place;
-          passed = is.passed ∙ same.many passed place;
-          satisfied = is.satisfied ∙ same.any satisfied place;
-          unmet = is.unmet ∙ unmet_alike place;
+          waived = is.waived ∙ same.many waived index;
+          completed = is.completed ∙ same.many completed index;
+          passed = is.passed ∙ same.many passed index;
+          satisfied = is.satisfied ∙ same.any satisfied index;
+          unmet = is.unmet ∙ unmet_alike index;
         };
   }
 
@@ -108,21 +108,21 @@ abbrev marking : List StoredStatement → StoredStatement → MarkedStatement
 marking statements s = mark s (is_voided statements s)
 
 -- a statement of another registration says nothing
-silent : (e : SeenEnrolment) (verb : List ℕ) (place : ℕ) (s : StoredStatement) (voided : Bool) → is_registered e s ≡ false → says_of_node e verb place (mark s voided) ≡ false
-silent e verb place s voided other =
-    off (says verb (view s.received)) (is_that_id e.registration (registration_of (view s.received))) (is_that_id (activity_at e place) (activity_of (view s.received)))
+silent : (e : SeenEnrolment) (verb : List ℕ) (index : ℕ) (s : StoredStatement) (voided : Bool) → is_registered e s ≡ false → says_of_node e verb index (mark s voided) ≡ false
+silent e verb index s voided other =
+    off (says verb (view s.received)) (is_that_id e.registration (registration_of (view s.received))) (is_that_id (activity_at e index) (activity_of (view s.received)))
     (same_registration e.registration (registration_of (view s.received)) ∙ other)
 
 registered_say_all : (e : SeenEnrolment) (statements : List StoredStatement) → SaySame e (marked_by statements (filter (is_registered e) statements)) (marked statements)
 registered_say_all e statements = record {
-  many = λ verb place.
-      let kept = kept_of (says_still e verb place) (marking statements) (is_registered e) statements (λ s other. ap (λ t. t && not (is_voided statements s)) (silent e verb place s (is_voided statements s) other)) in
-      sym (length-filter (says_still e verb place) (marked_by statements (filter (is_registered e) statements)))
-      ∙ (ap (λ (ms : List MarkedStatement). length ms) kept ∙ length-filter (says_still e verb place) (marked statements));
-  any = λ verb place.
-      let kept = kept_of (says_of_node e verb place) (marking statements) (is_registered e) statements (λ s other. silent e verb place s (is_voided statements s) other) in
-      sym (kept_any (says_of_node e verb place) (marked_by statements (filter (is_registered e) statements)))
-      ∙ (ap (λ (ms : List MarkedStatement). nat_lt 0 (length ms)) kept ∙ kept_any (says_of_node e verb place) (marked statements));
+  many = λ verb index.
+      let kept = kept_of (says_still e verb index) (marking statements) (is_registered e) statements (λ s other. ap (λ t. t && not (is_voided statements s)) (silent e verb index s (is_voided statements s) other)) in
+      sym (length-filter (says_still e verb index) (marked_by statements (filter (is_registered e) statements)))
+      ∙ (ap (λ (ms : List MarkedStatement). length ms) kept ∙ length-filter (says_still e verb index) (marked statements));
+  any = λ verb index.
+      let kept = kept_of (says_of_node e verb index) (marking statements) (is_registered e) statements (λ s other. silent e verb index s (is_voided statements s) other) in
+      sym (kept_any (says_of_node e verb index) (marked_by statements (filter (is_registered e) statements)))
+      ∙ (ap (λ (ms : List MarkedStatement). nat_lt 0 (length ms)) kept ∙ kept_any (says_of_node e verb index) (marked statements));
 }
 
 -- ---- statements by their positions
@@ -200,7 +200,7 @@ short statements (Some k) = by_place (slice_get statements k)
     by_place None = omega arith
     by_place (Some s) = omega arith
 
--- The tallies stand for the statements at the positions before that place.
+-- The tallies stand for the statements at the positions before that index.
 pub record Counting (e : SeenEnrolment) (statements : List StoredStatement) (ks : List ℕ) (nth : ℕ) (ts : List Tally) : Type 0 where
   pub those : List MarkedStatement
   pub few : length those ≤ nth

@@ -18,16 +18,16 @@ outward_none nodes zero = refl
 outward_none nodes (suc steps) = refl
 
 -- a walk meets none that stands behind its first
-none_behind : (nodes : List Node) → StandBehindHolders nodes → (steps place holder : ℕ) → place < holder → is_among holder (outward nodes steps (Some place)) ≡ false
-none_behind nodes behind zero place holder lt = refl
-none_behind nodes behind (suc steps) place holder lt =
-    ap (λ b. b || is_among holder (outward nodes steps (parent_of nodes place))) (ne_eqb place holder (λ e. omega arith))
-    ∙ by_parent (parent_of nodes place) refl (λ parent less. none_behind nodes behind steps parent holder less)
+none_behind : (nodes : List Node) → StandBehindHolders nodes → (steps index holder : ℕ) → index < holder → is_among holder (outward nodes steps (Some index)) ≡ false
+none_behind nodes behind zero index holder lt = refl
+none_behind nodes behind (suc steps) index holder lt =
+    ap (λ b. b || is_among holder (outward nodes steps (parent_of nodes index))) (ne_eqb index holder (λ e. omega arith))
+    ∙ by_parent (parent_of nodes index) refl (λ parent less. none_behind nodes behind steps parent holder less)
   where
-    by_parent : (o : Option ℕ) → parent_of nodes place ≡ o → ((parent : ℕ) → parent < holder → is_among holder (outward nodes steps (Some parent)) ≡ false) → is_among holder (outward nodes steps o) ≡ false
+    by_parent : (o : Option ℕ) → parent_of nodes index ≡ o → ((parent : ℕ) → parent < holder → is_among holder (outward nodes steps (Some parent)) ≡ false) → is_among holder (outward nodes steps o) ≡ false
     by_parent None is rest = ap (is_among holder) (outward_none nodes steps)
     by_parent (Some parent) is rest =
-        let less : parent < place = behind place parent is in
+        let less : parent < index = behind index parent is in
         rest parent (omega arith)
 
 -- so the rest of a walk doesn't meet its first again
@@ -40,18 +40,18 @@ not_again nodes behind steps here holder (Some parent) holds same =
 
 -- ---- one tally that is set
 
-pub set_at : (tallies : List Tally) (place holder : ℕ) (t : Tally) → holder < length tallies → tally_of (slice_set tallies place t) holder ≡ (if place == holder then t else tally_of tallies holder)
-set_at tallies place holder t lt = ⊎_elim there elsewhere (cases_eq place holder)
+pub set_at : (tallies : List Tally) (index holder : ℕ) (t : Tally) → holder < length tallies → tally_of (slice_set tallies index t) holder ≡ (if index == holder then t else tally_of tallies holder)
+set_at tallies index holder t lt = ⊎_elim there elsewhere (cases_eq index holder)
   where
-    there : place ≡ holder → tally_of (slice_set tallies place t) holder ≡ (if place == holder then t else tally_of tallies holder)
+    there : index ≡ holder → tally_of (slice_set tallies index t) holder ≡ (if index == holder then t else tally_of tallies holder)
     there e =
         ap (λ k. tally_of (slice_set tallies k t) holder) e
-        ∙ (get_or-set_same tallies holder t untold lt ∙ sym (ap (λ b. if b then t else tally_of tallies holder) (eq-eqb place holder e)))
+        ∙ (get_or-set_same tallies holder t untold lt ∙ sym (ap (λ b. if b then t else tally_of tallies holder) (eq-eqb index holder e)))
 
-    elsewhere : (place ≡ holder → ⊥) → tally_of (slice_set tallies place t) holder ≡ (if place == holder then t else tally_of tallies holder)
+    elsewhere : (index ≡ holder → ⊥) → tally_of (slice_set tallies index t) holder ≡ (if index == holder then t else tally_of tallies holder)
     elsewhere never =
-        get_or-set_other tallies place holder t untold (λ e. never (sym e))
-        ∙ sym (ap (λ b. if b then t else tally_of tallies holder) (ne_eqb place holder never))
+        get_or-set_other tallies index holder t untold (λ e. never (sym e))
+        ∙ sym (ap (λ b. if b then t else tally_of tallies holder) (ne_eqb index holder never))
 
 pub moved_at : (tallies : List Tally) (here holder : ℕ) (is_met : Bool) → holder < length tallies
     → tally_of (slice_set tallies here (moved is_met (tally_of tallies here))) holder ≡ moved_if (here == holder) is_met (tally_of tallies holder)
@@ -100,11 +100,11 @@ moved_over holder is_met ps now all none so_far = sym (ap (λ qs. moved_if (is_a
 
 -- ---- one tally that is set, and what follows
 
-pub settled_by : (nodes : List Node) (place holder : ℕ) (t : Tally) (old set : List Tally) (was now : Bool) → was ≡ is_met_with nodes place (tally_of old place) → now ≡ is_met_with nodes place t
-    → set ≡ slice_set old place t → holder < length old → moved_if (differ was now && is_under nodes holder place) now (tally_of set holder) ≡ settled nodes place t old holder
-settled_by nodes place holder t old set was now before after is lt =
-    let met : Bool = is_met_with nodes place (tally_of old place) in
-    let is_met : Bool = is_met_with nodes place t in
-    ap (λ b. moved_if (differ b now && is_under nodes holder place) now (tally_of set holder)) before
-    ∙ (ap (λ b. moved_if (differ met b && is_under nodes holder place) b (tally_of set holder)) after
-    ∙ ap (λ (s : Tally). moved_if (differ met is_met && is_under nodes holder place) is_met s) (ap (λ (ts : List Tally). tally_of ts holder) is ∙ set_at old place holder t lt))
+pub settled_by : (nodes : List Node) (index holder : ℕ) (t : Tally) (old set : List Tally) (was now : Bool) → was ≡ is_met_with nodes index (tally_of old index) → now ≡ is_met_with nodes index t
+    → set ≡ slice_set old index t → holder < length old → moved_if (differ was now && is_under nodes holder index) now (tally_of set holder) ≡ settled nodes index t old holder
+settled_by nodes index holder t old set was now before after is lt =
+    let met : Bool = is_met_with nodes index (tally_of old index) in
+    let is_met : Bool = is_met_with nodes index t in
+    ap (λ b. moved_if (differ b now && is_under nodes holder index) now (tally_of set holder)) before
+    ∙ (ap (λ b. moved_if (differ met b && is_under nodes holder index) b (tally_of set holder)) after
+    ∙ ap (λ (s : Tally). moved_if (differ met is_met && is_under nodes holder index) is_met s) (ap (λ (ts : List Tally). tally_of ts holder) is ∙ set_at old index holder t lt))

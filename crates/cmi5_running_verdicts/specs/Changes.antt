@@ -25,7 +25,7 @@ untold = only_unmet 0
 
 -- that of a node, where each has one
 abbrev pub tally_of : List Tally → ℕ → Tally
-tally_of tallies place = get_or tallies place untold
+tally_of tallies index = get_or tallies index untold
 
 -- the same of the node itself, with so many units under it that aren't met
 abbrev pub with_unmet : ℕ → Tally → Tally
@@ -41,9 +41,9 @@ with_unmet unmet t = record {
 
 -- the statement names the registration, cmi5 defines what it means, and it is about the node
 abbrev pub is_about : SeenEnrolment → ℕ → Json → Bool
-is_about e place j =
+is_about e index j =
     is_that_id e.registration (registration_of j) && is_cmi5_defined j
-    && is_that_id (activity_at e place) (activity_of j)
+    && is_that_id (activity_at e index) (activity_of j)
 
 abbrev pub one_if : Bool → ℕ
 one_if holds = cond holds 1 0
@@ -80,8 +80,8 @@ removed told t = record {
 
 -- the node is no unit, or is met by what its tally says
 abbrev pub is_met_with : List Node → ℕ → Tally → Bool
-is_met_with nodes place t =
-    option_map_or (λ unit. meets unit.move_on (said_in_tally t)) (unit_in nodes place) true
+is_met_with nodes index t =
+    option_map_or (λ unit. meets unit.move_on (said_in_tally t)) (unit_in nodes index) true
 
 -- one of the units is met that wasn't, or isn't that was
 abbrev pub next_unmet : Bool → ℕ → ℕ
@@ -98,20 +98,20 @@ differ first second = if first then not second else second
 
 -- that of each node, once that is the tally of one of them
 abbrev pub settled : List Node → ℕ → Tally → List Tally → ℕ → Tally
-settled nodes place t tallies holder =
-    moved_if (differ (is_met_with nodes place (tally_of tallies place)) (is_met_with nodes place t)
-    && is_under nodes holder place) (is_met_with nodes place t)
-    (if place == holder then t else tally_of tallies holder)
+settled nodes index t tallies holder =
+    moved_if (differ (is_met_with nodes index (tally_of tallies index)) (is_met_with nodes index t)
+    && is_under nodes holder index) (is_met_with nodes index t)
+    (if index == holder then t else tally_of tallies holder)
 
 -- ---- before anything is said
 
 -- the node is a unit that isn't met by nothing
 abbrev pub is_unmet_untold : List Node → ℕ → Bool
-is_unmet_untold nodes place = not (is_met_with nodes place untold)
+is_unmet_untold nodes index = not (is_met_with nodes index untold)
 
 -- it is one, and stands under that holder
 abbrev pub fails_untold : List Node → ℕ → ℕ → Bool
-fails_untold nodes holder place = is_under nodes holder place && is_unmet_untold nodes place
+fails_untold nodes holder index = is_under nodes holder index && is_unmet_untold nodes index
 
 abbrev pub fresh_tally : List Node → ℕ → Tally
-fresh_tally nodes holder = only_unmet (failing_under nodes (λ place. is_met_with nodes place untold) holder)
+fresh_tally nodes holder = only_unmet (failing_under nodes (λ index. is_met_with nodes index untold) holder)

@@ -2,12 +2,12 @@
 use Rattle.std.specs.Prelude.{◌≡◌, ◌<◌, ℕ, ◌&&◌, Bool, not, List, Some}
 use Rattle.std.specs.List.{count_by}
 use Rattle.cmi5_course.specs.declared.course.Node.{Node}
-use Rattle.cmi5_verdict.specs.Nodes.{is_under, parent_of, places}
+use Rattle.cmi5_verdict.specs.Nodes.{is_under, parent_of, indices}
 
 -- each node stands behind the one that holds it, so that none holds itself
 abbrev pub StandBehindHolders : List Node → Type 0
-StandBehindHolders nodes = (place parent : ℕ) → parent_of nodes place ≡ Some parent → parent < place
+StandBehindHolders nodes = (index parent : ℕ) → parent_of nodes index ≡ Some parent → parent < index
 
 -- how many nodes under that one, itself among them, don't pass
 abbrev pub failing_under : List Node → (ℕ → Bool) → ℕ → ℕ
-failing_under nodes passes holder = count_by (λ place. is_under nodes holder place && not (passes place)) (places nodes)
+failing_under nodes passes holder = count_by (λ index. is_under nodes holder index && not (passes index)) (indices nodes)

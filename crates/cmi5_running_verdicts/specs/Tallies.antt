@@ -17,29 +17,29 @@ use Rattle.lrs_json.specs.View.{view}
 
 -- it says so of the node, voided or not
 abbrev pub says_of_node : SeenEnrolment → List ℕ → ℕ → MarkedStatement → Bool
-says_of_node e verb place m = counts e.registration (activity_at e place) verb (view m.statement.received)
+says_of_node e verb index m = counts e.registration (activity_at e index) verb (view m.statement.received)
 
 -- it says so, and isn't voided
 abbrev pub says_still : SeenEnrolment → List ℕ → ℕ → MarkedStatement → Bool
-says_still e verb place m = says_of_node e verb place m && not m.voided
+says_still e verb index m = says_of_node e verb index m && not m.voided
 
 -- how many say so that aren't voided
 abbrev pub how_many_say : SeenEnrolment → List MarkedStatement → List ℕ → ℕ → ℕ
-how_many_say e those verb place = count_by (says_still e verb place) those
+how_many_say e those verb index = count_by (says_still e verb index) those
 
 -- what they say of it
 abbrev pub said_by_all : SeenEnrolment → List MarkedStatement → ℕ → Said
-said_by_all e those place = record {
-  waived = nat_lt 0 (how_many_say e those waived place);
-  completed = nat_lt 0 (how_many_say e those completed place);
-  passed = nat_lt 0 (how_many_say e those passed place);
-  satisfied = list_any (says_of_node e satisfied place) those;
+said_by_all e those index = record {
+  waived = nat_lt 0 (how_many_say e those waived index);
+  completed = nat_lt 0 (how_many_say e those completed index);
+  passed = nat_lt 0 (how_many_say e those passed index);
+  satisfied = list_any (says_of_node e satisfied index) those;
 }
 
 -- the node is no unit, or one that is met
 abbrev pub is_met_by_all : SeenEnrolment → List MarkedStatement → ℕ → Bool
-is_met_by_all e those place = option_map_or
-    (λ unit. meets unit.move_on (said_by_all e those place)) (unit_in e.nodes place) true
+is_met_by_all e those index = option_map_or
+    (λ unit. meets unit.move_on (said_by_all e those index)) (unit_in e.nodes index) true
 
 -- how many units under it aren't met, itself among them
 abbrev pub unmet_under : SeenEnrolment → List MarkedStatement → ℕ → ℕ
@@ -57,14 +57,14 @@ said_in_tally t = record {
 }
 
 -- the tally of a node
-pub record IsTally (e : SeenEnrolment) (those : List MarkedStatement) (place : ℕ) (t : Tally) : Type 0 where
-  pub waived : t.waived ≡ how_many_say e those waived place
-  pub completed : t.completed ≡ how_many_say e those completed place
-  pub passed : t.passed ≡ how_many_say e those passed place
-  pub satisfied : t.satisfied ≡ list_any (says_of_node e satisfied place) those
-  pub unmet : t.unmet ≡ unmet_under e those place
+pub record IsTally (e : SeenEnrolment) (those : List MarkedStatement) (index : ℕ) (t : Tally) : Type 0 where
+  pub waived : t.waived ≡ how_many_say e those waived index
+  pub completed : t.completed ≡ how_many_say e those completed index
+  pub passed : t.passed ≡ how_many_say e those passed index
+  pub satisfied : t.satisfied ≡ list_any (says_of_node e satisfied index) those
+  pub unmet : t.unmet ≡ unmet_under e those index
 
 -- one for each node, in the order of the text
 pub record AreTallies (e : SeenEnrolment) (those : List MarkedStatement) (tallies : List Tally) : Type 0 where
   pub long : length tallies ≡ length e.nodes
-  pub each : (place : ℕ) → (t : Tally) → slice_get tallies place ≡ Some t → IsTally e those place t
+  pub each : (index : ℕ) → (t : Tally) → slice_get tallies index ≡ Some t → IsTally e those index t

@@ -13,14 +13,14 @@ use Rattle.cmi5_verdict.specs.XapiStatementStored.{StoredStatement}
 
 -- no unit under it is unmet
 abbrev pub is_all_met_at : List Tally → ℕ → Bool
-is_all_met_at tallies place = (tally_of tallies place).unmet == 0
+is_all_met_at tallies index = (tally_of tallies index).unmet == 0
 
 abbrev pub is_waived_at : List Tally → ℕ → Bool
-is_waived_at tallies place = nat_lt 0 (tally_of tallies place).waived
+is_waived_at tallies index = nat_lt 0 (tally_of tallies index).waived
 
 -- what was said of it
 abbrev pub said_at : List Tally → ℕ → Said
-said_at tallies place = said_in_tally (tally_of tallies place)
+said_at tallies index = said_in_tally (tally_of tallies index)
 
 -- ---- voiding
 

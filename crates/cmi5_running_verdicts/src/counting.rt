@@ -8,7 +8,7 @@ ghost use Rattle.cmi5_running_verdicts.specs.Holding.{StandBehindHolders};
 ghost use Rattle.cmi5_running_verdicts.specs.Tallies.{AreTallies};
 ghost use Rattle.cmi5_verdict.specs.Cmi5SessionMarked.{MarkedStatement, mark};
 ghost use Rattle.cmi5_verdict.specs.Nodes.{SeenEnrolment, seen};
-ghost use Rattle.cmi5_verdict.specs.Places.{is_place};
+ghost use Rattle.cmi5_verdict.specs.FoundIndices.{is_index};
 ghost use Rattle.cmi5_verdict.specs.Said.{said_with};
 ghost use Rattle.lrs_json.specs.View.{view};
 ghost use Rattle.cmi5_verdict.specs.XapiStatementStatement.{verb_of};
@@ -18,7 +18,7 @@ use crate::tally::{Tally, tally_of};
 use cmi5_course::Node;
 use cmi5_verdict::cmi5_launch::names::{COMPLETED, PASSED, SATISFIED, WAIVED};
 use cmi5_verdict::xapi_statement::{StoredStatement, verb_of};
-use cmi5_verdict::{Enrolment, Said, place_meant};
+use cmi5_verdict::{Enrolment, Said, index_meant};
 use lrs_json::Memory;
 use std::alloc::Global;
 
@@ -47,26 +47,26 @@ fn raise_each(nodes: &[Node], tallies: &mut [Tally])
     ensures raised { (holder : ℕ) → holder < length tallies.old → tally_of tallies.old holder ≡ untold
         → tally_of tallies.new holder ≡ fresh_tally nodes.now holder }
 {
-    for place in 0..nodes.len() {
-        raise_over(nodes, place, tallies);
+    for index in 0..nodes.len() {
+        raise_over(nodes, index, tallies);
     }
 }
 
-fn raise_over(nodes: &[Node], place: usize, tallies: &mut [Tally])
+fn raise_over(nodes: &[Node], index: usize, tallies: &mut [Tally])
     requires { StandBehindHolders nodes.now }
     ensures long { length tallies.new ≡ length tallies.old }
     ensures raised { (holder : ℕ) → holder < length tallies.old → tally_of tallies.new holder
-        ≡ moved_if (fails_untold nodes.now holder place) false (tally_of tallies.old holder) }
+        ≡ moved_if (fails_untold nodes.now holder index) false (tally_of tallies.old holder) }
 {
-    if is_unmet_untold(nodes, place) {
-        follow(nodes, place, false, tallies);
+    if is_unmet_untold(nodes, index) {
+        follow(nodes, index, false, tallies);
     }
 }
 
-fn is_unmet_untold(nodes: &[Node], place: usize) -> bool
-    ensures { result ≡ is_unmet_untold nodes.now place }
+fn is_unmet_untold(nodes: &[Node], index: usize) -> bool
+    ensures { result ≡ is_unmet_untold nodes.now index }
 {
-    !is_met_with(nodes, place, Tally::nothing())
+    !is_met_with(nodes, index, Tally::nothing())
 }
 
 // ---- one statement
@@ -84,19 +84,19 @@ pub(crate) fn count(
         → AreTallies (seen enrolment.now) (those ++ mark statement.now voided ∷ []) tallies.new }
     ensures long { length tallies.new ≡ length tallies.old }
 {
-    if let Some(place) = place_within(enrolment, statement) {
-        count_at(enrolment.nodes, place, told_by(statement, voided), tallies);
+    if let Some(index) = index_within(enrolment, statement) {
+        count_at(enrolment.nodes, index, told_by(statement, voided), tallies);
     }
 }
 
-fn count_at(nodes: &[Node], place: usize, told: Said, tallies: &mut [Tally])
+fn count_at(nodes: &[Node], index: usize, told: Said, tallies: &mut [Tally])
     requires { StandBehindHolders nodes.now }
     ensures long { length tallies.new ≡ length tallies.old }
     ensures settled { (holder : ℕ) → holder < length tallies.old → tally_of tallies.new holder
-        ≡ settled nodes.now place (added told (tally_of tallies.old place)) tallies.old holder }
+        ≡ settled nodes.now index (added told (tally_of tallies.old index)) tallies.old holder }
 {
-    let tally = tally_of(tallies, place).added(told);
-    settle(nodes, place, tally, tallies);
+    let tally = tally_of(tallies, index).added(told);
+    settle(nodes, index, tally, tallies);
 }
 
 /// Takes back what a statement that was counted says, since another voids it now.
@@ -111,42 +111,42 @@ pub(crate) fn discount(
         → AreTallies (seen enrolment.now) (before ++ mark statement.now true ∷ behind) tallies.new }
     ensures long { length tallies.new ≡ length tallies.old }
 {
-    if let Some(place) = place_within(enrolment, statement) {
-        discount_at(enrolment.nodes, place, told_by(statement, false), tallies);
+    if let Some(index) = index_within(enrolment, statement) {
+        discount_at(enrolment.nodes, index, told_by(statement, false), tallies);
     }
 }
 
-fn discount_at(nodes: &[Node], place: usize, told: Said, tallies: &mut [Tally])
+fn discount_at(nodes: &[Node], index: usize, told: Said, tallies: &mut [Tally])
     requires { StandBehindHolders nodes.now }
     ensures long { length tallies.new ≡ length tallies.old }
     ensures settled { (holder : ℕ) → holder < length tallies.old → tally_of tallies.new holder
-        ≡ settled nodes.now place (removed told (tally_of tallies.old place)) tallies.old holder }
+        ≡ settled nodes.now index (removed told (tally_of tallies.old index)) tallies.old holder }
 {
-    let tally = tally_of(tallies, place).removed(told);
-    settle(nodes, place, tally, tallies);
+    let tally = tally_of(tallies, index).removed(told);
+    settle(nodes, index, tally, tallies);
 }
 
 // ---- what it says, and of which node
 
 // The number of the node that a statement is about, if the course has it. A list has no more nodes than 64 bits number.
-fn place_within(enrolment: &Enrolment<'_>, statement: &StoredStatement) -> Option<usize>
-    ensures within { IfSome result (λ place. place < length enrolment.now.nodes.now) }
-    ensures meant { (place : ℕ) → place < length enrolment.now.nodes.now → is_place place result
-        ≡ is_about (seen enrolment.now) place (view statement.now.received) }
+fn index_within(enrolment: &Enrolment<'_>, statement: &StoredStatement) -> Option<usize>
+    ensures within { IfSome result (λ index. index < length enrolment.now.nodes.now) }
+    ensures meant { (index : ℕ) → index < length enrolment.now.nodes.now → is_index index result
+        ≡ is_about (seen enrolment.now) index (view statement.now.received) }
     ensures few { length enrolment.now.nodes.now < 2 ^ 64 }
 {
     let count = enrolment.nodes.len();
-    match place_meant(enrolment, statement) {
-        Some(place) => if_below(count, place),
+    match index_meant(enrolment, statement) {
+        Some(index) => if_below(count, index),
         None => None,
     }
 }
 
-fn if_below(count: usize, place: usize) -> Option<usize>
+fn if_below(count: usize, index: usize) -> Option<usize>
     ensures within { IfSome result (λ found. found < count) }
-    ensures same { (other : ℕ) → other < count → is_place other result ≡ (place == other) }
+    ensures same { (other : ℕ) → other < count → is_index other result ≡ (index == other) }
 {
-    if place < count { Some(place) } else { None }
+    if index < count { Some(index) } else { None }
 }
 
 // What a statement says of the node that it is about.

@@ -9,10 +9,10 @@ use cmi5_course::Node;
 use cmi5_verdict::{parent_of, unit_in};
 
 /// Whether the node of that number is no unit, or one that is met by what the tally says.
-pub(crate) fn is_met_with(nodes: &[Node], place: usize, tally: Tally) -> bool
-    ensures { result ≡ is_met_with nodes.now place tally }
+pub(crate) fn is_met_with(nodes: &[Node], index: usize, tally: Tally) -> bool
+    ensures { result ≡ is_met_with nodes.now index tally }
 {
-    match unit_in(nodes, place) {
+    match unit_in(nodes, index) {
         Some(unit) => tally.said().meets(unit.move_on),
         None => true,
     }
@@ -20,26 +20,26 @@ pub(crate) fn is_met_with(nodes: &[Node], place: usize, tally: Tally) -> bool
 
 /// That is the tally of the node of that number from now on. Those that hold it follow, where it is met now and wasn't,
 /// or the other way.
-pub(crate) fn settle(nodes: &[Node], place: usize, tally: Tally, tallies: &mut [Tally])
+pub(crate) fn settle(nodes: &[Node], index: usize, tally: Tally, tallies: &mut [Tally])
     requires { StandBehindHolders nodes.now }
     ensures long { length tallies.new ≡ length tallies.old }
     ensures settled { (holder : ℕ) → holder < length tallies.old → tally_of tallies.new holder
-        ≡ settled nodes.now place tally tallies.old holder }
+        ≡ settled nodes.now index tally tallies.old holder }
 {
-    let was_met = is_met_with(nodes, place, tally_of(tallies, place));
-    let met_now = is_met_with(nodes, place, tally);
-    set(tallies, place, tally);
-    pass_on(nodes, place, was_met, met_now, tallies);
+    let was_met = is_met_with(nodes, index, tally_of(tallies, index));
+    let met_now = is_met_with(nodes, index, tally);
+    set(tallies, index, tally);
+    pass_on(nodes, index, was_met, met_now, tallies);
 }
 
-fn pass_on(nodes: &[Node], place: usize, was_met: bool, is_met: bool, tallies: &mut [Tally])
+fn pass_on(nodes: &[Node], index: usize, was_met: bool, is_met: bool, tallies: &mut [Tally])
     requires { StandBehindHolders nodes.now }
     ensures long { length tallies.new ≡ length tallies.old }
     ensures passed { (holder : ℕ) → holder < length tallies.old → tally_of tallies.new holder
-        ≡ moved_if (differ was_met is_met && is_under nodes.now holder place) is_met (tally_of tallies.old holder) }
+        ≡ moved_if (differ was_met is_met && is_under nodes.now holder index) is_met (tally_of tallies.old holder) }
 {
     if differ(was_met, is_met) {
-        follow(nodes, place, is_met, tallies);
+        follow(nodes, index, is_met, tallies);
     }
 }
 
@@ -51,13 +51,13 @@ fn differ(first: bool, second: bool) -> bool
 
 /// A node is met from now on, or no longer: it and all that hold it follow. Each stands behind the one that holds it,
 /// so that none is met twice.
-pub(crate) fn follow(nodes: &[Node], place: usize, is_met: bool, tallies: &mut [Tally])
+pub(crate) fn follow(nodes: &[Node], index: usize, is_met: bool, tallies: &mut [Tally])
     requires { StandBehindHolders nodes.now }
     ensures long { length tallies.new ≡ length tallies.old }
     ensures moved { (holder : ℕ) → holder < length tallies.old → tally_of tallies.new holder
-        ≡ moved_if (is_under nodes.now holder place) is_met (tally_of tallies.old holder) }
+        ≡ moved_if (is_under nodes.now holder index) is_met (tally_of tallies.old holder) }
 {
-    let mut here = place;
+    let mut here = index;
     for _ in 0..nodes.len() {
         move_at(tallies, here, is_met);
         match parent_of(nodes, here) {
@@ -67,9 +67,9 @@ pub(crate) fn follow(nodes: &[Node], place: usize, is_met: bool, tallies: &mut [
     }
 }
 
-fn move_at(tallies: &mut [Tally], place: usize, is_met: bool)
-    ensures { tallies.new ≡ slice_set tallies.old place (moved is_met (tally_of tallies.old place)) }
+fn move_at(tallies: &mut [Tally], index: usize, is_met: bool)
+    ensures { tallies.new ≡ slice_set tallies.old index (moved is_met (tally_of tallies.old index)) }
 {
-    let next = tally_of(tallies, place).moved(is_met);
-    set(tallies, place, next);
+    let next = tally_of(tallies, index).moved(is_met);
+    set(tallies, index, next);
 }

@@ -224,12 +224,12 @@ impl Running {
     // ---- what is told
 
     /// Whether the node of that number is satisfied in the registration of that number.
-    pub fn is_satisfied(&self, number: u32, place: u32) -> bool
+    pub fn is_satisfied(&self, number: u32, index: u32) -> bool
         ensures { (e : SeenEnrolment) → (statements : List SpecStatement)
-            → TalliesStandFor self.now (marked statements) number e → place < length e.nodes
-            → result ≡ is_satisfied e statements place }
+            → TalliesStandFor self.now (marked statements) number e → index < length e.nodes
+            → result ≡ is_satisfied e statements index }
     {
-        is_all_met_at(self.tallies(number), place as usize)
+        is_all_met_at(self.tallies(number), index as usize)
     }
 
     /// Whether each node is satisfied in the registration of that number, in the order of the text.
@@ -241,12 +241,12 @@ impl Running {
     }
 
     /// Whether the unit of that number was waived in the registration of that number.
-    pub fn is_waived(&self, number: u32, place: u32) -> bool
+    pub fn is_waived(&self, number: u32, index: u32) -> bool
         ensures { (e : SeenEnrolment) → (statements : List SpecStatement)
-            → TalliesStandFor self.now (marked statements) number e → place < length e.nodes
-            → result ≡ stands statements e.registration (activity_at e place) waived }
+            → TalliesStandFor self.now (marked statements) number e → index < length e.nodes
+            → result ≡ stands statements e.registration (activity_at e index) waived }
     {
-        is_waived_at(self.tallies(number), place as usize)
+        is_waived_at(self.tallies(number), index as usize)
     }
 
     /// The numbers of the nodes that are satisfied in the registration of that number and of which this was never said,
@@ -260,7 +260,7 @@ impl Running {
         enrolment: &Enrolment<'_>,
     ) -> Result<Vec<u32>, Memory>
         ensures { TalliesStandFor self.now (marked statements.now.held.now.held) number (seen enrolment.now)
-            → IfOk result (λ places. places.items ≡ owed (seen enrolment.now) (all_of statements.now)) }
+            → IfOk result (λ indices. indices.items ≡ owed (seen enrolment.now) (all_of statements.now)) }
     {
         if any_voids(statements.new) {
             owed(alloc, statements, enrolment)

@@ -130,20 +130,20 @@ fn next_unmet(unmet: usize, is_met: bool) -> usize
 // ---- of each node
 
 /// That of the node of that number.
-pub(crate) fn tally_of(tallies: &[Tally], place: usize) -> Tally
-    ensures { result ≡ tally_of tallies.now place }
+pub(crate) fn tally_of(tallies: &[Tally], index: usize) -> Tally
+    ensures { result ≡ tally_of tallies.now index }
 {
-    match tallies.get(place) {
+    match tallies.get(index) {
         Some(tally) => *tally,
         None => Tally::nothing(),
     }
 }
 
 /// That is the tally of the node of that number from now on.
-pub(crate) fn set(tallies: &mut [Tally], place: usize, tally: Tally)
-    ensures { tallies.new ≡ slice_set tallies.old place tally }
+pub(crate) fn set(tallies: &mut [Tally], index: usize, tally: Tally)
+    ensures { tallies.new ≡ slice_set tallies.old index tally }
 {
-    if place < tallies.len() {
-        tallies[place] = tally;
+    if index < tallies.len() {
+        tallies[index] = tally;
     }
 }

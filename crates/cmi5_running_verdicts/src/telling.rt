@@ -17,23 +17,23 @@ use std::alloc::Global;
 // ---- the node of a number
 
 /// Whether no unit under the node of that number is unmet.
-pub(crate) fn is_all_met_at(tallies: &[Tally], place: usize) -> bool
-    ensures { result ≡ is_all_met_at tallies.now place }
+pub(crate) fn is_all_met_at(tallies: &[Tally], index: usize) -> bool
+    ensures { result ≡ is_all_met_at tallies.now index }
 {
-    tally_of(tallies, place).unmet == 0
+    tally_of(tallies, index).unmet == 0
 }
 
 /// Whether the node of that number was waived.
-pub(crate) fn is_waived_at(tallies: &[Tally], place: usize) -> bool
-    ensures { result ≡ is_waived_at tallies.now place }
+pub(crate) fn is_waived_at(tallies: &[Tally], index: usize) -> bool
+    ensures { result ≡ is_waived_at tallies.now index }
 {
-    0 < tally_of(tallies, place).waived
+    0 < tally_of(tallies, index).waived
 }
 
-fn said_at(tallies: &[Tally], place: usize) -> Said
-    ensures { result ≡ said_at tallies.now place }
+fn said_at(tallies: &[Tally], index: usize) -> Said
+    ensures { result ≡ said_at tallies.now index }
 {
-    tally_of(tallies, place).said()
+    tally_of(tallies, index).said()
 }
 
 // ---- all nodes
@@ -44,8 +44,8 @@ pub(crate) fn verdicts(alloc: Global, tallies: &[Tally]) -> Result<Vec<bool>, Me
         told.items ≡ map (is_all_met_at tallies.now) (range_with_len 0 (length tallies.now))) }
 {
     let mut told = Vec::with_capacity(alloc, tallies.len())?;
-    for place in 0..tallies.len() {
-        told.push(is_all_met_at(tallies, place))?;
+    for index in 0..tallies.len() {
+        told.push(is_all_met_at(tallies, index))?;
     }
     Ok(told)
 }
@@ -56,8 +56,8 @@ fn said_of_each(alloc: Global, tallies: &[Tally]) -> Result<Vec<Said>, Memory>
     ensures few { OnOk result (length tallies.now < 2 ^ 64) }
 {
     let mut said = Vec::with_capacity(alloc, tallies.len())?;
-    for place in 0..tallies.len() {
-        said.push(said_at(tallies, place))?;
+    for index in 0..tallies.len() {
+        said.push(said_at(tallies, index))?;
     }
     Ok(said)
 }
@@ -86,7 +86,7 @@ pub(crate) fn owed_by_tallies(
 ) -> Result<Vec<u32>, Memory>
     requires { any_voids statements.now.new.now ≡ false }
     ensures { AreTallies (seen enrolment.now) (marked statements.now.held.now.held) tallies.now
-        → IfOk result (λ places. places.items ≡ owed (seen enrolment.now) (all_of statements.now)) }
+        → IfOk result (λ indices. indices.items ≡ owed (seen enrolment.now) (all_of statements.now)) }
 {
     let mut said = said_of_each(alloc, tallies)?;
     add_new(statements, enrolment, said.as_mut_slice());

@@ -9,18 +9,18 @@ use Rattle.cmi5_verdict.specs.Marks.{is_marked}
 
 -- ---- one mark less
 
-pub left : (marks : List Bool) (here place : ℕ) → place < length marks → is_marked (slice_set marks here false) place ≡ is_marked marks place && not (here == place)
-left marks here place lt = ⊎_elim same elsewhere (cases_eq here place)
+pub left : (marks : List Bool) (here index : ℕ) → index < length marks → is_marked (slice_set marks here false) index ≡ is_marked marks index && not (here == index)
+left marks here index lt = ⊎_elim same elsewhere (cases_eq here index)
   where
-    same : here ≡ place → is_marked (slice_set marks here false) place ≡ is_marked marks place && not (here == place)
+    same : here ≡ index → is_marked (slice_set marks here false) index ≡ is_marked marks index && not (here == index)
     same e =
-        ap (λ k. is_marked (slice_set marks k false) place) e ∙ (get_or-set_same marks place false false lt
-        ∙ sym (ap (λ b. is_marked marks place && not b) (eq-eqb here place e) ∙ and-false (is_marked marks place)))
+        ap (λ k. is_marked (slice_set marks k false) index) e ∙ (get_or-set_same marks index false false lt
+        ∙ sym (ap (λ b. is_marked marks index && not b) (eq-eqb here index e) ∙ and-false (is_marked marks index)))
 
-    elsewhere : (here ≡ place → ⊥) → is_marked (slice_set marks here false) place ≡ is_marked marks place && not (here == place)
+    elsewhere : (here ≡ index → ⊥) → is_marked (slice_set marks here false) index ≡ is_marked marks index && not (here == index)
     elsewhere never =
-        get_or-set_other marks here place false false (λ e. never (sym e))
-        ∙ sym (ap (λ b. is_marked marks place && not b) (ne_eqb here place never) ∙ and-true (is_marked marks place))
+        get_or-set_other marks here index false false (λ e. never (sym e))
+        ∙ sym (ap (λ b. is_marked marks index && not b) (ne_eqb here index never) ∙ and-true (is_marked marks index))
 
 -- ---- numbers of nodes
 

@@ -29,9 +29,9 @@ absent text whole b tail never w = differs text whole (λ e. never tail (e ∙ w
 
 -- ---- the id of a node
 
-module _ (id base : List ℕ) (course place : ℕ) where
+module _ (id base : List ℕ) (course index : ℕ) where
   abbrev digits_behind : List ℕ
-  digits_behind = codes "/" ++ decimal place
+  digits_behind = codes "/" ++ decimal index
 
   abbrev number_behind : List ℕ
   number_behind = decimal course ++ digits_behind
@@ -39,32 +39,32 @@ module _ (id base : List ℕ) (course place : ℕ) where
   abbrev path_behind : List ℕ
   path_behind = codes "activities/" ++ number_behind
 
-  whole : activity_text base course place ≡ base ++ path_behind
-  whole = pieces base (codes "activities/") (decimal course) (codes "/") (decimal place)
+  whole : activity_text base course index ≡ base ++ path_behind
+  whole = pieces base (codes "activities/") (decimal course) (codes "/") (decimal index)
 
-  pub no_base : ((rest : List ℕ) → id ≡ base ++ rest → ⊥) → false ≡ bytes_eq id (activity_text base course place)
-  no_base never = absent id (activity_text base course place) base path_behind never whole
+  pub no_base : ((rest : List ℕ) → id ≡ base ++ rest → ⊥) → false ≡ bytes_eq id (activity_text base course index)
+  no_base never = absent id (activity_text base course index) base path_behind never whole
 
-  at_base : (r0 : List ℕ) → id ≡ base ++ r0 → bytes_eq r0 path_behind ≡ bytes_eq id (activity_text base course place)
-  at_base r0 e = piece id (activity_text base course place) base r0 path_behind e whole
+  at_base : (r0 : List ℕ) → id ≡ base ++ r0 → bytes_eq r0 path_behind ≡ bytes_eq id (activity_text base course index)
+  at_base r0 e = piece id (activity_text base course index) base r0 path_behind e whole
 
-  pub no_path : (r0 : List ℕ) → id ≡ base ++ r0 → ((rest : List ℕ) → r0 ≡ codes "activities/" ++ rest → ⊥) → false ≡ bytes_eq id (activity_text base course place)
+  pub no_path : (r0 : List ℕ) → id ≡ base ++ r0 → ((rest : List ℕ) → r0 ≡ codes "activities/" ++ rest → ⊥) → false ≡ bytes_eq id (activity_text base course index)
   no_path r0 e never = absent r0 path_behind (codes "activities/") number_behind never refl ∙ at_base r0 e
 
-  at_path : (r0 r1 : List ℕ) → id ≡ base ++ r0 → r0 ≡ codes "activities/" ++ r1 → bytes_eq r1 number_behind ≡ bytes_eq id (activity_text base course place)
+  at_path : (r0 r1 : List ℕ) → id ≡ base ++ r0 → r0 ≡ codes "activities/" ++ r1 → bytes_eq r1 number_behind ≡ bytes_eq id (activity_text base course index)
   at_path r0 r1 e0 e1 = piece r0 path_behind (codes "activities/") r1 number_behind e1 refl ∙ at_base r0 e0
 
-  pub no_number : (r0 r1 : List ℕ) → id ≡ base ++ r0 → r0 ≡ codes "activities/" ++ r1 → ((rest : List ℕ) → r1 ≡ decimal course ++ rest → ⊥) → false ≡ bytes_eq id (activity_text base course place)
+  pub no_number : (r0 r1 : List ℕ) → id ≡ base ++ r0 → r0 ≡ codes "activities/" ++ r1 → ((rest : List ℕ) → r1 ≡ decimal course ++ rest → ⊥) → false ≡ bytes_eq id (activity_text base course index)
   no_number r0 r1 e0 e1 never = absent r1 number_behind (decimal course) digits_behind never refl ∙ at_path r0 r1 e0 e1
 
-  at_number : (r0 r1 r2 : List ℕ) → id ≡ base ++ r0 → r0 ≡ codes "activities/" ++ r1 → r1 ≡ decimal course ++ r2 → bytes_eq r2 digits_behind ≡ bytes_eq id (activity_text base course place)
+  at_number : (r0 r1 r2 : List ℕ) → id ≡ base ++ r0 → r0 ≡ codes "activities/" ++ r1 → r1 ≡ decimal course ++ r2 → bytes_eq r2 digits_behind ≡ bytes_eq id (activity_text base course index)
   at_number r0 r1 r2 e0 e1 e2 = piece r1 number_behind (decimal course) r2 digits_behind e2 refl ∙ at_path r0 r1 e0 e1
 
-  pub no_digits : (r0 r1 r2 : List ℕ) → id ≡ base ++ r0 → r0 ≡ codes "activities/" ++ r1 → r1 ≡ decimal course ++ r2 → ((rest : List ℕ) → r2 ≡ codes "/" ++ rest → ⊥) → false ≡ bytes_eq id (activity_text base course place)
-  no_digits r0 r1 r2 e0 e1 e2 never = absent r2 digits_behind (codes "/") (decimal place) never refl ∙ at_number r0 r1 r2 e0 e1 e2
+  pub no_digits : (r0 r1 r2 : List ℕ) → id ≡ base ++ r0 → r0 ≡ codes "activities/" ++ r1 → r1 ≡ decimal course ++ r2 → ((rest : List ℕ) → r2 ≡ codes "/" ++ rest → ⊥) → false ≡ bytes_eq id (activity_text base course index)
+  no_digits r0 r1 r2 e0 e1 e2 never = absent r2 digits_behind (codes "/") (decimal index) never refl ∙ at_number r0 r1 r2 e0 e1 e2
 
-  pub at_digits : (r0 r1 r2 digits : List ℕ) → id ≡ base ++ r0 → r0 ≡ codes "activities/" ++ r1 → r1 ≡ decimal course ++ r2 → r2 ≡ codes "/" ++ digits → bytes_eq digits (decimal place) ≡ bytes_eq id (activity_text base course place)
-  at_digits r0 r1 r2 digits e0 e1 e2 e3 = piece r2 digits_behind (codes "/") digits (decimal place) e3 refl ∙ at_number r0 r1 r2 e0 e1 e2
+  pub at_digits : (r0 r1 r2 digits : List ℕ) → id ≡ base ++ r0 → r0 ≡ codes "activities/" ++ r1 → r1 ≡ decimal course ++ r2 → r2 ≡ codes "/" ++ digits → bytes_eq digits (decimal index) ≡ bytes_eq id (activity_text base course index)
+  at_digits r0 r1 r2 digits e0 e1 e2 e3 = piece r2 digits_behind (codes "/") digits (decimal index) e3 refl ∙ at_number r0 r1 r2 e0 e1 e2
 
 -- ---- the number that digits print
 

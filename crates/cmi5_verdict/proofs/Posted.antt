@@ -62,30 +62,30 @@ at_passing p xs = passing_from (λ m. slice_get xs m) p 0 xs (λ k. ap (λ m. sl
 
 -- ---- what is said at positions, one after another
 
-module _ (e : SeenEnrolment) (all : List StoredStatement) (place : ℕ) where
+module _ (e : SeenEnrolment) (all : List StoredStatement) (index : ℕ) where
   at_more : (held : List StoredStatement) (k : ℕ) (ks : List ℕ)
-      → said_among e all place (at_positions held (k ∷ ks)) ≡ either (option_map_or (said_by e all place) (slice_get held k) unsaid) (said_among e all place (at_positions held ks))
+      → said_among e all index (at_positions held (k ∷ ks)) ≡ either (option_map_or (said_by e all index) (slice_get held k) unsaid) (said_among e all index (at_positions held ks))
   at_more held k ks = by_place (slice_get held k)
     where
       by_place : (o : Option StoredStatement)
-          → said_among e all place (cons_option o (at_positions held ks)) ≡ either (option_map_or (said_by e all place) o unsaid) (said_among e all place (at_positions held ks))
-      by_place (Some x) = among_more e all place x (at_positions held ks)
-      by_place None = sym (unsaid_either (said_among e all place (at_positions held ks)))
+          → said_among e all index (cons_option o (at_positions held ks)) ≡ either (option_map_or (said_by e all index) o unsaid) (said_among e all index (at_positions held ks))
+      by_place (Some x) = among_more e all index x (at_positions held ks)
+      by_place None = sym (unsaid_either (said_among e all index (at_positions held ks)))
 
   -- what is noted so far, and what is said at the positions that are left
   pub position_next : (held : List StoredStatement) (ks : List ℕ) (i : ℕ) (before now whole : Said) → i < length ks
-      → now ≡ either before (option_map_or (said_by e all place) (slice_get held (get_or ks i 0)) unsaid)
-      → either before (said_among e all place (at_positions held (drop i ks))) ≡ whole → either now (said_among e all place (at_positions held (drop (i + 1) ks))) ≡ whole
+      → now ≡ either before (option_map_or (said_by e all index) (slice_get held (get_or ks i 0)) unsaid)
+      → either before (said_among e all index (at_positions held (drop i ks))) ≡ whole → either now (said_among e all index (at_positions held (drop (i + 1) ks))) ≡ whole
   position_next held ks i before now whole less is so_far =
-      let told : Said = option_map_or (said_by e all place) (slice_get held (get_or ks i 0)) unsaid in
-      let rest : Said = said_among e all place (at_positions held (drop (i + 1) ks)) in
+      let told : Said = option_map_or (said_by e all index) (slice_get held (get_or ks i 0)) unsaid in
+      let rest : Said = said_among e all index (at_positions held (drop (i + 1) ks)) in
       ap (λ s. either s rest) is ∙ (either_assoc before told rest
-      ∙ (ap (λ s. either before s) (sym (ap (λ js. said_among e all place (at_positions held js)) (drop_more ks i 0 less) ∙ at_more held (get_or ks i 0) (drop (i + 1) ks))) ∙ so_far))
+      ∙ (ap (λ s. either before s) (sym (ap (λ js. said_among e all index (at_positions held js)) (drop_more ks i 0 less) ∙ at_more held (get_or ks i 0) (drop (i + 1) ks))) ∙ so_far))
 
   pub positions_end : (held : List StoredStatement) (ks : List ℕ) (i : ℕ) (now whole : Said) → length ks ≤ i
-      → either now (said_among e all place (at_positions held (drop i ks))) ≡ whole → now ≡ whole
+      → either now (said_among e all index (at_positions held (drop i ks))) ≡ whole → now ≡ whole
   positions_end held ks i now whole end so_far =
-      sym (ap (λ js. either now (said_among e all place (at_positions held js))) (drop_all i ks end) ∙ (ap (λ s. either now s) (among_none e all place) ∙ either_unsaid now)) ∙ so_far
+      sym (ap (λ js. either now (said_among e all index (at_positions held js))) (drop_all i ks end) ∙ (ap (λ s. either now s) (among_none e all index) ∙ either_unsaid now)) ∙ so_far
 
 -- ---- statements of other registrations say nothing
 
@@ -98,39 +98,39 @@ none_of v true a w other = absurd (true≢false other)
 none_of true false a w other = refl
 none_of false false a w other = refl
 
-silent : (e : SeenEnrolment) (all : List StoredStatement) (place : ℕ) (s : StoredStatement) → is_that_id e.registration (registration_of (view s.received)) ≡ false
-    → (even : Bool) (verb : List ℕ) → counts_for e all even verb place s ≡ false
-silent e all place s other even verb =
-    none_of (says verb (view s.received)) (is_that_id e.registration (registration_of (view s.received))) (is_that_id (activity_at e place) (activity_of (view s.received)))
+silent : (e : SeenEnrolment) (all : List StoredStatement) (index : ℕ) (s : StoredStatement) → is_that_id e.registration (registration_of (view s.received)) ≡ false
+    → (even : Bool) (verb : List ℕ) → counts_for e all even verb index s ≡ false
+silent e all index s other even verb =
+    none_of (says verb (view s.received)) (is_that_id e.registration (registration_of (view s.received))) (is_that_id (activity_at e index) (activity_of (view s.received)))
     (even || not (is_voided all s)) other
 
-pub said_elsewhere : (e : SeenEnrolment) (all : List StoredStatement) (place : ℕ) (s : StoredStatement) → is_that_id e.registration (registration_of (view s.received)) ≡ false
-    → said_by e all place s ≡ unsaid
+pub said_elsewhere : (e : SeenEnrolment) (all : List StoredStatement) (index : ℕ) (s : StoredStatement) → is_that_id e.registration (registration_of (view s.received)) ≡ false
+    → said_by e all index s ≡ unsaid
 unfolding said_by
-said_elsewhere e all place s other =
-    same_said _ _ _ _ _ _ _ _ (silent e all place s other false waived) (silent e all place s other false completed) (silent e all place s other false passed)
-    (silent e all place s other true satisfied)
+said_elsewhere e all index s other =
+    same_said _ _ _ _ _ _ _ _ (silent e all index s other false waived) (silent e all index s other false completed) (silent e all index s other false passed)
+    (silent e all index s other true satisfied)
 
-among_passing : (e : SeenEnrolment) (all : List StoredStatement) (place : ℕ) (p : StoredStatement → Bool) (xs : List StoredStatement) → ((x : StoredStatement) → p x ≡ false → said_by e all place x ≡ unsaid)
-    → said_among e all place (filter p xs) ≡ said_among e all place xs
-among_passing e all place p [] others = refl
-among_passing e all place p (x ∷ xs) others = by_test (p x) refl (among_passing e all place p xs others)
+among_passing : (e : SeenEnrolment) (all : List StoredStatement) (index : ℕ) (p : StoredStatement → Bool) (xs : List StoredStatement) → ((x : StoredStatement) → p x ≡ false → said_by e all index x ≡ unsaid)
+    → said_among e all index (filter p xs) ≡ said_among e all index xs
+among_passing e all index p [] others = refl
+among_passing e all index p (x ∷ xs) others = by_test (p x) refl (among_passing e all index p xs others)
   where
-    by_test : (b : Bool) → p x ≡ b → said_among e all place (filter p xs) ≡ said_among e all place xs
-        → said_among e all place (cond b (x ∷ filter p xs) (filter p xs)) ≡ said_among e all place (x ∷ xs)
+    by_test : (b : Bool) → p x ≡ b → said_among e all index (filter p xs) ≡ said_among e all index xs
+        → said_among e all index (cond b (x ∷ filter p xs) (filter p xs)) ≡ said_among e all index (x ∷ xs)
     by_test true is more =
-        among_more e all place x (filter p xs) ∙ (ap (λ s. either (said_by e all place x) s) more ∙ sym (among_more e all place x xs))
+        among_more e all index x (filter p xs) ∙ (ap (λ s. either (said_by e all index x) s) more ∙ sym (among_more e all index x xs))
     by_test false is more =
-        more ∙ sym (among_more e all place x xs ∙ (ap (λ s. either s (said_among e all place xs)) (others x is) ∙ unsaid_either (said_among e all place xs)))
+        more ∙ sym (among_more e all index x xs ∙ (ap (λ s. either s (said_among e all index xs)) (others x is) ∙ unsaid_either (said_among e all index xs)))
 
 -- what is said at the positions under the key of the registration is what all say that are held
-pub said_under_key : (e : SeenEnrolment) (all held : List StoredStatement) (place : ℕ) (positions : List ℕ)
+pub said_under_key : (e : SeenEnrolment) (all held : List StoredStatement) (index : ℕ) (positions : List ℕ)
     → below (length held) positions ≡ positions_with (has_key (key.Registration e.registration)) held
-    → said_among e all place (at_positions held positions) ≡ said_among e all place held
-said_under_key e all held place positions visible =
+    → said_among e all index (at_positions held positions) ≡ said_among e all index held
+said_under_key e all held index positions visible =
     let own : StoredStatement → Bool = has_key (key.Registration e.registration) in
-    ap (λ xs. said_among e all place xs) (sym (at_below held positions) ∙ (ap (λ ks. at_positions held ks) visible ∙ at_passing own held))
-    ∙ among_passing e all place own held (λ x is. said_elsewhere e all place x (named e.registration (registration_of (view x.received)) ∙ is))
+    ap (λ xs. said_among e all index xs) (sym (at_below held positions) ∙ (ap (λ ks. at_positions held ks) visible ∙ at_passing own held))
+    ∙ among_passing e all index own held (λ x is. said_elsewhere e all index x (named e.registration (registration_of (view x.received)) ∙ is))
 
 -- ---- what is noted of each node, told otherwise
 

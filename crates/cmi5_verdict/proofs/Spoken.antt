@@ -45,46 +45,46 @@ either_assoc a b c =
 
 -- ---- what some of all say of a node
 
-module _ (e : SeenEnrolment) (all : List StoredStatement) (place : ℕ) where
-  pub among_none : said_among e all place [] ≡ unsaid
+module _ (e : SeenEnrolment) (all : List StoredStatement) (index : ℕ) where
+  pub among_none : said_among e all index [] ≡ unsaid
   unfolding said_among
   among_none = refl
 
-  pub among_more : (x : StoredStatement) (xs : List StoredStatement) → said_among e all place (x ∷ xs) ≡ either (said_by e all place x) (said_among e all place xs)
+  pub among_more : (x : StoredStatement) (xs : List StoredStatement) → said_among e all index (x ∷ xs) ≡ either (said_by e all index x) (said_among e all index xs)
   unfolding either said_among said_by
   among_more x xs = refl
 
-  pub among_both : (xs ys : List StoredStatement) → said_among e all place (xs ++ ys) ≡ either (said_among e all place xs) (said_among e all place ys)
+  pub among_both : (xs ys : List StoredStatement) → said_among e all index (xs ++ ys) ≡ either (said_among e all index xs) (said_among e all index ys)
   unfolding either said_among
   among_both xs ys =
-      same_said _ _ _ _ _ _ _ _ (list_any-append (counts_for e all false waived place) xs ys) (list_any-append (counts_for e all false completed place) xs ys)
-      (list_any-append (counts_for e all false passed place) xs ys) (list_any-append (counts_for e all true satisfied place) xs ys)
+      same_said _ _ _ _ _ _ _ _ (list_any-append (counts_for e all false waived index) xs ys) (list_any-append (counts_for e all false completed index) xs ys)
+      (list_any-append (counts_for e all false passed index) xs ys) (list_any-append (counts_for e all true satisfied index) xs ys)
 
   -- what is noted so far, and what the rest of the list says
-  pub said_next : (xs : List StoredStatement) (i : ℕ) (x : StoredStatement) (before now whole : Said) → drop i xs ≡ x ∷ drop (i + 1) xs → now ≡ either before (said_by e all place x)
-      → either before (said_among e all place (drop i xs)) ≡ whole → either now (said_among e all place (drop (i + 1) xs)) ≡ whole
+  pub said_next : (xs : List StoredStatement) (i : ℕ) (x : StoredStatement) (before now whole : Said) → drop i xs ≡ x ∷ drop (i + 1) xs → now ≡ either before (said_by e all index x)
+      → either before (said_among e all index (drop i xs)) ≡ whole → either now (said_among e all index (drop (i + 1) xs)) ≡ whole
   said_next xs i x before now whole next is so_far =
-      ap (λ s. either s (said_among e all place (drop (i + 1) xs))) is ∙ (either_assoc before (said_by e all place x) (said_among e all place (drop (i + 1) xs))
-      ∙ (ap (λ s. either before s) (sym (ap (λ ys. said_among e all place ys) next ∙ among_more x (drop (i + 1) xs))) ∙ so_far))
+      ap (λ s. either s (said_among e all index (drop (i + 1) xs))) is ∙ (either_assoc before (said_by e all index x) (said_among e all index (drop (i + 1) xs))
+      ∙ (ap (λ s. either before s) (sym (ap (λ ys. said_among e all index ys) next ∙ among_more x (drop (i + 1) xs))) ∙ so_far))
 
-  pub said_end : (xs : List StoredStatement) (i : ℕ) (now whole : Said) → length xs ≤ i → either now (said_among e all place (drop i xs)) ≡ whole → now ≡ whole
+  pub said_end : (xs : List StoredStatement) (i : ℕ) (now whole : Said) → length xs ≤ i → either now (said_among e all index (drop i xs)) ≡ whole → now ≡ whole
   said_end xs i now whole end so_far =
-      sym (ap (λ ys. either now (said_among e all place ys)) (drop_all i xs end) ∙ (ap (λ s. either now s) among_none ∙ either_unsaid now)) ∙ so_far
+      sym (ap (λ ys. either now (said_among e all index ys)) (drop_all i xs end) ∙ (ap (λ s. either now s) among_none ∙ either_unsaid now)) ∙ so_far
 
 -- ---- what is said of one node more
 
-added : (said : List Said) (here place : ℕ) (more : Said) → place < length said → said_of (slice_set said here (either (said_of said here) more)) place ≡ either (said_of said place) (if here == place then more else unsaid)
-added said here place more lt = ⊎_elim there elsewhere (cases_eq here place)
+added : (said : List Said) (here index : ℕ) (more : Said) → index < length said → said_of (slice_set said here (either (said_of said here) more)) index ≡ either (said_of said index) (if here == index then more else unsaid)
+added said here index more lt = ⊎_elim there elsewhere (cases_eq here index)
   where
-    there : here ≡ place → said_of (slice_set said here (either (said_of said here) more)) place ≡ either (said_of said place) (if here == place then more else unsaid)
+    there : here ≡ index → said_of (slice_set said here (either (said_of said here) more)) index ≡ either (said_of said index) (if here == index then more else unsaid)
     there e =
-        ap (λ k. said_of (slice_set said k (either (said_of said k) more)) place) e ∙ (get_or-set_same said place (either (said_of said place) more) unsaid lt
-        ∙ sym (ap (λ b. either (said_of said place) (if b then more else unsaid)) (eq-eqb here place e)))
+        ap (λ k. said_of (slice_set said k (either (said_of said k) more)) index) e ∙ (get_or-set_same said index (either (said_of said index) more) unsaid lt
+        ∙ sym (ap (λ b. either (said_of said index) (if b then more else unsaid)) (eq-eqb here index e)))
 
-    elsewhere : (here ≡ place → ⊥) → said_of (slice_set said here (either (said_of said here) more)) place ≡ either (said_of said place) (if here == place then more else unsaid)
+    elsewhere : (here ≡ index → ⊥) → said_of (slice_set said here (either (said_of said here) more)) index ≡ either (said_of said index) (if here == index then more else unsaid)
     elsewhere never =
-        get_or-set_other said here place (either (said_of said here) more) unsaid (λ e. never (sym e))
-        ∙ sym (ap (λ b. either (said_of said place) (if b then more else unsaid)) (ne_eqb here place never) ∙ either_unsaid (said_of said place))
+        get_or-set_other said here index (either (said_of said here) more) unsaid (λ e. never (sym e))
+        ∙ sym (ap (λ b. either (said_of said index) (if b then more else unsaid)) (ne_eqb here index never) ∙ either_unsaid (said_of said index))
 
 -- where those from the first on are told of
 
@@ -125,16 +125,16 @@ unfolding said_with
 parts true verb voided = refl
 parts false verb voided = refl
 
-pub spoken : (e : SeenEnrolment) (all : List StoredStatement) (place : ℕ) (s : StoredStatement) (here : Bool)
-    → here ≡ is_that_id e.registration (registration_of (view s.received)) && is_cmi5_defined (view s.received) && is_that_id (activity_at e place) (activity_of (view s.received))
-    → (if here then said_with (verb_of (view s.received)) (is_voided all s) else unsaid) ≡ said_by e all place s
+pub spoken : (e : SeenEnrolment) (all : List StoredStatement) (index : ℕ) (s : StoredStatement) (here : Bool)
+    → here ≡ is_that_id e.registration (registration_of (view s.received)) && is_cmi5_defined (view s.received) && is_that_id (activity_at e index) (activity_of (view s.received))
+    → (if here then said_with (verb_of (view s.received)) (is_voided all s) else unsaid) ≡ said_by e all index s
 unfolding said_by
-spoken e all place s here is =
+spoken e all index s here is =
     let verb : List ℕ = verb_of (view s.received) in
     let kept : Bool = not (is_voided all s) in
     let r : Bool = is_that_id e.registration (registration_of (view s.received)) in
     let d : Bool = is_cmi5_defined (view s.received) in
-    let a : Bool = is_that_id (activity_at e place) (activity_of (view s.received)) in
+    let a : Bool = is_that_id (activity_at e index) (activity_of (view s.received)) in
     ap (λ b. if b then said_with verb (is_voided all s) else unsaid) is ∙ (parts ((r && d) && a) verb (is_voided all s)
     ∙ same_said _ _ _ _ _ _ _ _ (flag (bytes_eq verb waived) kept r d a) (flag (bytes_eq verb completed) kept r d a) (flag (bytes_eq verb passed) kept r d a)
     (ap (λ b. if (r && d) && a then b else false) (sym (and-true (bytes_eq verb satisfied))) ∙ flag (bytes_eq verb satisfied) true r d a))

@@ -24,7 +24,7 @@ pub use Rattle.xapi_index.specs.Index as XapiIndexIndex
 pub use Rattle.xapi_index.specs.XapiPostingsAscending as XapiPostingsAscending
 pub use Rattle.xapi_index.specs.XapiStatementKeysKeyKeyTheVariants as XapiStatementKeysKeyKeyTheVariants
 pub use Rattle.xapi_index.specs.XapiStatementKeysKeys as XapiStatementKeysKeys
-pub mod Places
+pub mod FoundIndices
 pub mod Statements
 pub mod Units
 pub mod Nodes

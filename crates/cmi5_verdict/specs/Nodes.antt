@@ -28,81 +28,81 @@ seen e = record { registration = e.registration.now; base = e.base.now; course =
 -- ---- nodes
 
 -- their numbers
-abbrev pub places : List Node → List ℕ
-places nodes = range_with_len 0 (length nodes)
+abbrev pub indices : List Node → List ℕ
+indices nodes = range_with_len 0 (length nodes)
 
 -- the node that holds that one
 abbrev pub parent_of : List Node → ℕ → Option ℕ
-parent_of nodes place = option_and_then (λ node. node.parent) (slice_get nodes place)
+parent_of nodes index = option_and_then (λ node. node.parent) (slice_get nodes index)
 
 -- a node and those that hold it, from the inner to the outer, with at most so many steps
 abbrev pub outward : List Node → ℕ → Option ℕ → List ℕ
-outward nodes zero place = []
+outward nodes zero index = []
 outward nodes (suc steps) None = []
-outward nodes (suc steps) (Some place) = place ∷ outward nodes steps (parent_of nodes place)
+outward nodes (suc steps) (Some index) = index ∷ outward nodes steps (parent_of nodes index)
 
 -- all of them: there are no more than there are nodes
 abbrev pub holders : List Node → ℕ → List ℕ
-holders nodes place = outward nodes (length nodes) (Some place)
+holders nodes index = outward nodes (length nodes) (Some index)
 
 -- the node is that one, or stands below it
 abbrev pub is_under : List Node → ℕ → ℕ → Bool
-is_under nodes holder place = list_any (λ p. p == holder) (holders nodes place)
+is_under nodes holder index = list_any (λ p. p == holder) (holders nodes index)
 
 -- the numbers of that node and of those below it
 abbrev pub under : List Node → ℕ → List ℕ
-under nodes holder = filter (is_under nodes holder) (places nodes)
+under nodes holder = filter (is_under nodes holder) (indices nodes)
 
 -- how deep it stands: the course itself counts 1
 abbrev pub depth_of : List Node → ℕ → ℕ
-depth_of nodes place = length (holders nodes place)
+depth_of nodes index = length (holders nodes index)
 
 -- what a unit has, if the node is one
 abbrev pub unit_in : List Node → ℕ → Option AssignableUnit
-unit_in nodes place = option_and_then (λ node. node.unit) (slice_get nodes place)
+unit_in nodes index = option_and_then (λ node. node.unit) (slice_get nodes index)
 
 abbrev pub is_unit_in : List Node → ℕ → Bool
-is_unit_in nodes place = is_some (unit_in nodes place)
+is_unit_in nodes index = is_some (unit_in nodes index)
 
 -- ---- verdicts
 
 -- the id under which the store knows it
 abbrev pub activity_at : SeenEnrolment → ℕ → List ℕ
-activity_at e place = activity_text e.base e.course place
+activity_at e index = activity_text e.base e.course index
 
 -- the node is no unit, or a unit that is met
 abbrev pub is_met_at : SeenEnrolment → List StoredStatement → ℕ → Bool
-is_met_at e statements place = option_map_or
-    (λ unit. is_met statements e.registration (activity_at e place) unit.move_on) (unit_in e.nodes place) true
+is_met_at e statements index = option_map_or
+    (λ unit. is_met statements e.registration (activity_at e index) unit.move_on) (unit_in e.nodes index) true
 
 -- Every unit under it is met, or it is itself one that is.
 abbrev pub is_satisfied : SeenEnrolment → List StoredStatement → ℕ → Bool
-is_satisfied e statements place = list_all (is_met_at e statements) (under e.nodes place)
+is_satisfied e statements index = list_all (is_met_at e statements) (under e.nodes index)
 
 -- that of each node, in the order of the text
 abbrev pub verdicts : SeenEnrolment → List StoredStatement → List Bool
-verdicts e statements = map (is_satisfied e statements) (places e.nodes)
+verdicts e statements = map (is_satisfied e statements) (indices e.nodes)
 
 -- ---- what is still to be said
 
 -- A block or the course that is satisfied, of which this was never said. A voided statement said it, too.
 abbrev pub is_owed : SeenEnrolment → List StoredStatement → ℕ → Bool
-is_owed e statements place =
-    not (is_unit_in e.nodes place) && is_satisfied e statements place
-    && not (was_said statements e.registration (activity_at e place) satisfied)
+is_owed e statements index =
+    not (is_unit_in e.nodes index) && is_satisfied e statements index
+    && not (was_said statements e.registration (activity_at e index) satisfied)
 
 abbrev pub at_depth : List Node → List ℕ → ℕ → List ℕ
-at_depth nodes places depth = filter (λ place. depth_of nodes place == depth) places
+at_depth nodes indices depth = filter (λ index. depth_of nodes index == depth) indices
 
 -- those of a depth, then those that stand less deep
 abbrev pub from_depth : List Node → List ℕ → ℕ → List ℕ
-from_depth nodes places zero = []
-from_depth nodes places (suc depth) = at_depth nodes places (suc depth) ++ from_depth nodes places depth
+from_depth nodes indices zero = []
+from_depth nodes indices (suc depth) = at_depth nodes indices (suc depth) ++ from_depth nodes indices depth
 
 -- Deeper ones first; those of one depth keep their order. None stands deeper than there are nodes.
 abbrev pub deeper_first : List Node → List ℕ → List ℕ
-deeper_first nodes places = from_depth nodes places (length nodes)
+deeper_first nodes indices = from_depth nodes indices (length nodes)
 
 -- those of which it is to be said, in the order in which it is said
 abbrev pub owed : SeenEnrolment → List StoredStatement → List ℕ
-owed e statements = deeper_first e.nodes (filter (is_owed e statements) (places e.nodes))
+owed e statements = deeper_first e.nodes (filter (is_owed e statements) (indices e.nodes))

@@ -11,7 +11,7 @@ use Rattle.cmi5_session.specs.XapiStatementStored.{StoredStatement}
 
 -- a statement of that verb counts, among all, for the node of that number
 abbrev pub counts_for : SeenEnrolment → List StoredStatement → Bool → List ℕ → ℕ → StoredStatement → Bool
-counts_for e all even_voided verb place = counts_among even_voided all e.registration (activity_at e place) verb
+counts_for e all even_voided verb index = counts_among even_voided all e.registration (activity_at e index) verb
 
 -- nothing
 abbrev pub unsaid : Said
@@ -37,25 +37,25 @@ said_with verb is_voided = record {
 
 -- what one statement says, among all, of the node of that number
 unfoldable pub said_by : SeenEnrolment → List StoredStatement → ℕ → StoredStatement → Said
-said_by e all place s = record {
-  waived = counts_for e all false waived place s;
-  completed = counts_for e all false completed place s;
-  passed = counts_for e all false passed place s;
-  satisfied = counts_for e all true satisfied place s;
+said_by e all index s = record {
+  waived = counts_for e all false waived index s;
+  completed = counts_for e all false completed index s;
+  passed = counts_for e all false passed index s;
+  satisfied = counts_for e all true satisfied index s;
 }
 
 -- what those say of it, among all
 unfoldable pub said_among : SeenEnrolment → List StoredStatement → ℕ → List StoredStatement → Said
-said_among e all place those = record {
-  waived = list_any (counts_for e all false waived place) those;
-  completed = list_any (counts_for e all false completed place) those;
-  passed = list_any (counts_for e all false passed place) those;
-  satisfied = list_any (counts_for e all true satisfied place) those;
+said_among e all index those = record {
+  waived = list_any (counts_for e all false waived index) those;
+  completed = list_any (counts_for e all false completed index) those;
+  passed = list_any (counts_for e all false passed index) those;
+  satisfied = list_any (counts_for e all true satisfied index) those;
 }
 
 -- what all of them say of it
 abbrev pub said_in : SeenEnrolment → List StoredStatement → ℕ → Said
-said_in e all place = said_among e all place all
+said_in e all index = said_among e all index all
 
 -- the statements at these positions, where there are some
 abbrev pub at_positions : List StoredStatement → List ℕ → List StoredStatement
@@ -63,7 +63,7 @@ at_positions statements positions = filter_map (λ at. slice_get statements at) 
 
 -- what was said of it, where that of each node stands in a list
 abbrev pub said_of : List Said → ℕ → Said
-said_of said place = get_or said place unsaid
+said_of said index = get_or said index unsaid
 
 -- a unit that asks for this is met by what was said of it
 abbrev pub meets : MoveOn → Said → Bool

@@ -1,6 +1,6 @@
 //! What a learner has reached in a course (cmi5 Quartz, section 13.1.4, `moveOn`, and section 9.3.9): which units are
 //! met, which nodes are satisfied, and of which of these that is still to be said. Begin with `verdicts`. Who keeps
-//! what was said of each node from one statement to the next begins with `place_meant`. `push_if` fills lists of
+//! what was said of each node from one statement to the next begins with `index_meant`. `push_if` fills lists of
 //! numbers.
 #![tactic(auto)]
 
@@ -18,7 +18,7 @@ pub use cmi5_session;
 pub use cmi5_session::{cmi5_launch, xapi_statement};
 pub use enrolment::Enrolment;
 pub use marking::verdicts;
-pub use names::place_meant;
+pub use names::index_meant;
 pub use nodes::{parent_of, unit_in};
 pub use numbers::push_if;
 pub use owing::{owed, owed_by_said};

@@ -2,7 +2,7 @@
 ghost use Rattle.std.specs.Prelude.{◌≡◌, ◌<◌, ◌&&◌, ℕ, false, not, IfOk, length, map, replicate, slice_set, true};
 ghost use Rattle.std.specs.List.{list_all};
 ghost use Rattle.cmi5_verdict.specs.Marks.{is_marked, is_met_by, is_met_or_elsewhere, is_satisfied_by};
-ghost use Rattle.cmi5_verdict.specs.Nodes.{is_under, places, seen, verdicts};
+ghost use Rattle.cmi5_verdict.specs.Nodes.{is_under, indices, seen, verdicts};
 ghost use Rattle.cmi5_verdict.specs.Statements.{all_of};
 
 use crate::nodes::{parent_of, unit_in};
@@ -33,7 +33,7 @@ pub(crate) fn satisfied_each(
     said: &[Said],
 ) -> Result<Vec<bool>, Memory>
     ensures { IfOk result (λ satisfied.
-        satisfied.items ≡ map (is_satisfied_by nodes.now said.now) (places nodes.now)) }
+        satisfied.items ≡ map (is_satisfied_by nodes.now said.now) (indices nodes.now)) }
 {
     let mut satisfied = all_marked(alloc, nodes.len())?;
     clear_each(nodes, said, satisfied.as_mut_slice());
@@ -46,20 +46,20 @@ fn all_marked(alloc: Global, count: usize) -> Result<Vec<bool>, Memory>
     Ok(vec![in alloc; true; count]?)
 }
 
-fn is_met_by(nodes: &[Node], said: &[Said], place: usize) -> bool
-    ensures { result ≡ is_met_by nodes.now said.now place }
+fn is_met_by(nodes: &[Node], said: &[Said], index: usize) -> bool
+    ensures { result ≡ is_met_by nodes.now said.now index }
 {
-    match unit_in(nodes, place) {
-        Some(unit) => said_of(said, place).meets(unit.move_on),
+    match unit_in(nodes, index) {
+        Some(unit) => said_of(said, index).meets(unit.move_on),
         None => true,
     }
 }
 
-/// Whether that place is marked.
-pub(crate) fn is_marked(marks: &[bool], place: usize) -> bool
-    ensures { result ≡ is_marked marks.now place }
+/// Whether that index is marked.
+pub(crate) fn is_marked(marks: &[bool], index: usize) -> bool
+    ensures { result ≡ is_marked marks.now index }
 {
-    match marks.get(place) {
+    match marks.get(index) {
         Some(marked) => *marked,
         None => false,
     }
@@ -68,31 +68,31 @@ pub(crate) fn is_marked(marks: &[bool], place: usize) -> bool
 // What isn't met clears itself and all that hold it.
 fn clear_each(nodes: &[Node], said: &[Said], satisfied: &mut [bool])
     ensures long { length satisfied.new ≡ length satisfied.old }
-    ensures cleared { (place : ℕ) → place < length satisfied.old → is_marked satisfied.new place
-        ≡ is_marked satisfied.old place && is_satisfied_by nodes.now said.now place }
+    ensures cleared { (index : ℕ) → index < length satisfied.old → is_marked satisfied.new index
+        ≡ is_marked satisfied.old index && is_satisfied_by nodes.now said.now index }
 {
-    for place in 0..nodes.len() {
-        clear_over(nodes, said, place, satisfied);
+    for index in 0..nodes.len() {
+        clear_over(nodes, said, index, satisfied);
     }
 }
 
-fn clear_over(nodes: &[Node], said: &[Said], place: usize, satisfied: &mut [bool])
+fn clear_over(nodes: &[Node], said: &[Said], index: usize, satisfied: &mut [bool])
     ensures long { length satisfied.new ≡ length satisfied.old }
     ensures cleared { (holder : ℕ) → holder < length satisfied.old → is_marked satisfied.new holder
-        ≡ is_marked satisfied.old holder && is_met_or_elsewhere nodes.now said.now holder place }
+        ≡ is_marked satisfied.old holder && is_met_or_elsewhere nodes.now said.now holder index }
 {
-    if !is_met_by(nodes, said, place) {
-        clear_holders(nodes, place, satisfied);
+    if !is_met_by(nodes, said, index) {
+        clear_holders(nodes, index, satisfied);
     }
 }
 
 // The node and all that hold it lose their marks.
-fn clear_holders(nodes: &[Node], place: usize, satisfied: &mut [bool])
+fn clear_holders(nodes: &[Node], index: usize, satisfied: &mut [bool])
     ensures long { length satisfied.new ≡ length satisfied.old }
     ensures cleared { (holder : ℕ) → holder < length satisfied.old → is_marked satisfied.new holder
-        ≡ is_marked satisfied.old holder && not (is_under nodes.now holder place) }
+        ≡ is_marked satisfied.old holder && not (is_under nodes.now holder index) }
 {
-    let mut here = place;
+    let mut here = index;
     for _ in 0..nodes.len() {
         clear(satisfied, here);
         match parent_of(nodes, here) {
@@ -102,10 +102,10 @@ fn clear_holders(nodes: &[Node], place: usize, satisfied: &mut [bool])
     }
 }
 
-fn clear(marks: &mut [bool], place: usize)
-    ensures { marks.new ≡ slice_set marks.old place false }
+fn clear(marks: &mut [bool], index: usize)
+    ensures { marks.new ≡ slice_set marks.old index false }
 {
-    if place < marks.len() {
-        marks[place] = false;
+    if index < marks.len() {
+        marks[index] = false;
     }
 }

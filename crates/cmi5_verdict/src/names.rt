@@ -6,7 +6,7 @@ ghost use Rattle.std.specs.Str.{bytes_eq};
 ghost use Rattle.cmi5_session.specs.Cmi5LaunchActivities.{activity_text};
 ghost use Rattle.cmi5_session.specs.Own.{is_cmi5_defined};
 ghost use Rattle.cmi5_verdict.specs.Nodes.{activity_at, seen};
-ghost use Rattle.cmi5_verdict.specs.Places.{is_place};
+ghost use Rattle.cmi5_verdict.specs.FoundIndices.{is_index};
 ghost use Rattle.lrs_json.specs.View.{view};
 ghost use Rattle.cmi5_session.specs.XapiStatementStatements.{is_that_id};
 ghost use Rattle.cmi5_session.specs.XapiStatementStatement.{activity_of, registration_of};
@@ -19,17 +19,17 @@ use lrs_json::Tree;
 use lrs_names::Id;
 
 /// The number of the node that a statement is about, if it names that registration and cmi5 defines what it means.
-pub fn place_meant(enrolment: &Enrolment<'_>, statement: &StoredStatement) -> Option<usize>
-    ensures { (place : ℕ) → place < 2 ^ 64 → is_place place result
+pub fn index_meant(enrolment: &Enrolment<'_>, statement: &StoredStatement) -> Option<usize>
+    ensures { (index : ℕ) → index < 2 ^ 64 → is_index index result
         ≡ is_that_id enrolment.now.registration.now (registration_of (view statement.now.received))
         && is_cmi5_defined (view statement.now.received)
-        && is_that_id (activity_at (seen enrolment.now) place) (activity_of (view statement.now.received)) }
+        && is_that_id (activity_at (seen enrolment.now) index) (activity_of (view statement.now.received)) }
 {
     let received = statement.received();
     if !is_meant(enrolment.registration, received) {
         return None;
     }
-    place_about(enrolment, received)
+    index_about(enrolment, received)
 }
 
 fn is_meant(registration: &Id, statement: &Tree) -> bool
@@ -40,12 +40,12 @@ fn is_meant(registration: &Id, statement: &Tree) -> bool
 }
 
 // The number of the node that is its object.
-fn place_about(enrolment: &Enrolment<'_>, statement: &Tree) -> Option<usize>
-    ensures { (place : ℕ) → place < 2 ^ 64 → is_place place result
-        ≡ is_that_id (activity_at (seen enrolment.now) place) (activity_of (view statement.now)) }
+fn index_about(enrolment: &Enrolment<'_>, statement: &Tree) -> Option<usize>
+    ensures { (index : ℕ) → index < 2 ^ 64 → is_index index result
+        ≡ is_that_id (activity_at (seen enrolment.now) index) (activity_of (view statement.now)) }
 {
     match activity_of(statement) {
-        Some(id) => place_named(
+        Some(id) => index_named(
             enrolment.base.text().as_str(),
             enrolment.course,
             id.as_str(),
@@ -56,15 +56,15 @@ fn place_about(enrolment: &Enrolment<'_>, statement: &Tree) -> Option<usize>
 
 // The number of the node that is known under that id in the course of that number. `base` is the address that the
 // store's own names begin with.
-fn place_named(base: &str, course: u32, id: &str) -> Option<usize>
-    ensures { (place : ℕ) → place < 2 ^ 64 → is_place place result
-        ≡ bytes_eq id.now (activity_text base.now course place) }
+fn index_named(base: &str, course: u32, id: &str) -> Option<usize>
+    ensures { (index : ℕ) → index < 2 ^ 64 → is_index index result
+        ≡ bytes_eq id.now (activity_text base.now course index) }
 {
     let mut buffer = Buffer::new();
     let path = behind(id, base)?;
     let numbers = behind(path, "activities/")?;
-    let place = behind(numbers, buffer.format(course))?;
-    let digits = behind(place, "/")?;
+    let index = behind(numbers, buffer.format(course))?;
+    let digits = behind(index, "/")?;
     number_of(digits)
 }
 
@@ -78,7 +78,7 @@ fn behind<'a>(text: &'a str, beginning: &str) -> Option<&'a str>
 
 // The number that is printed so.
 fn number_of(digits: &str) -> Option<usize>
-    ensures { (number : ℕ) → number < 2 ^ 64 → is_place number result ≡ bytes_eq digits.now (decimal number) }
+    ensures { (number : ℕ) → number < 2 ^ 64 → is_index number result ≡ bytes_eq digits.now (decimal number) }
 {
     match digits.parse::<usize>() {
         Ok(number) => if is_printed(number, digits) {

@@ -3,7 +3,7 @@ ghost use Rattle.std.specs.Prelude.{◌≡◌, ◌<◌, ◌+◌, ◌^◌, ◌==�
 ghost use Rattle.std.specs.Prelude.{replicate, slice_get, slice_set, OnOk};
 ghost use Rattle.std.specs.Option.{option_map_or};
 ghost use Rattle.std.specs.Str.{bytes_eq};
-ghost use Rattle.cmi5_verdict.specs.Nodes.{places, seen};
+ghost use Rattle.cmi5_verdict.specs.Nodes.{indices, seen};
 ghost use Rattle.cmi5_verdict.specs.Said.{at_positions, either, meets, said_among, said_by, said_in, said_of};
 ghost use Rattle.cmi5_verdict.specs.Said.{said_with, unsaid};
 ghost use Rattle.cmi5_verdict.specs.Statements.{all_of};
@@ -12,7 +12,7 @@ ghost use Rattle.lrs_json.specs.View.{view};
 ghost use Rattle.cmi5_session.specs.XapiStatementStatements.{is_voided};
 ghost use Rattle.cmi5_session.specs.XapiStatementStatement.{verb_of};
 
-use crate::names::place_meant;
+use crate::names::index_meant;
 use crate::{Enrolment, Statements};
 use cmi5_course::MoveOn;
 use cmi5_session::cmi5_launch::names::{COMPLETED, PASSED, SATISFIED, WAIVED};
@@ -90,7 +90,7 @@ pub(crate) fn said_of_each(
     enrolment: &Enrolment<'_>,
 ) -> Result<Vec<Said>, Memory>
     ensures { IfOk result (λ said. said.items ≡ map (said_in (seen enrolment.now) (all_of statements.now))
-        (places enrolment.now.nodes.now)) }
+        (indices enrolment.now.nodes.now)) }
 {
     let mut said = nothing_of_each(alloc, enrolment.nodes.len())?;
     note_all(alloc, statements, enrolment, 0, said.as_mut_slice())?;
@@ -108,20 +108,20 @@ pub(crate) fn said_at(
     alloc: Global,
     statements: &Statements<'_>,
     enrolment: &Enrolment<'_>,
-    place: usize,
+    index: usize,
 ) -> Result<Said, Memory>
-    ensures { IfOk result (λ said. said ≡ said_in (seen enrolment.now) (all_of statements.now) place) }
+    ensures { IfOk result (λ said. said ≡ said_in (seen enrolment.now) (all_of statements.now) index) }
 {
     let mut said = [Said::nothing()];
-    note_all(alloc, statements, enrolment, place, &mut said)?;
+    note_all(alloc, statements, enrolment, index, &mut said)?;
     Ok(said_of(&said, 0))
 }
 
 /// What was said of the node of that number.
-pub(crate) fn said_of(said: &[Said], place: usize) -> Said
-    ensures { result ≡ said_of said.now place }
+pub(crate) fn said_of(said: &[Said], index: usize) -> Said
+    ensures { result ≡ said_of said.now index }
 {
-    match said.get(place) {
+    match said.get(index) {
         Some(told) => *told,
         None => Said::nothing(),
     }
@@ -273,21 +273,21 @@ fn note(
         ≡ either (said_of said.old k)
         (said_by (seen enrolment.now) (all_of statements.now) (first + k) statement.now) }
 {
-    if let Some(place) = place_meant(enrolment, statement) {
-        add(said, first, place, told_by(statements, statement));
+    if let Some(index) = index_meant(enrolment, statement) {
+        add(said, first, index, told_by(statements, statement));
     }
 }
 
 // Adds what is said of the node of that number, if it isn't before the first.
-fn add(said: &mut [Said], first: usize, place: usize, more: Said)
+fn add(said: &mut [Said], first: usize, index: usize, more: Said)
     ensures long { length said.new ≡ length said.old }
     ensures added { (k : ℕ) → k < length said.old → said_of said.new k
-        ≡ either (said_of said.old k) (if place == (first + k) then more else unsaid) }
+        ≡ either (said_of said.old k) (if index == (first + k) then more else unsaid) }
 {
-    if place < first {
+    if index < first {
         return;
     }
-    add_at(said, place - first, more);
+    add_at(said, index - first, more);
 }
 
 fn add_at(said: &mut [Said], at: usize, more: Said)

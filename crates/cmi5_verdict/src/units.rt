@@ -16,11 +16,11 @@ pub fn waived(
     alloc: Global,
     statements: &Statements<'_>,
     enrolment: &Enrolment<'_>,
-    place: u32,
+    index: u32,
 ) -> Result<bool, Memory>
     ensures { IfOk result (λ told. told ≡ stands (all_of statements.now) enrolment.now.registration.now
-        (activity_at (seen enrolment.now) place) waived) }
+        (activity_at (seen enrolment.now) index) waived) }
 {
-    let said = said_at(alloc, statements, enrolment, place as usize)?;
+    let said = said_at(alloc, statements, enrolment, index as usize)?;
     Ok(said.waived)
 }

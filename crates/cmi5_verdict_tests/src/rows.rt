@@ -156,9 +156,9 @@ fn put_owed(
     enrolment: &Enrolment<'_>,
     told: &mut String,
 ) -> Result<(), Fail> {
-    let places = owed(alloc, statements, enrolment)?;
-    for place in places.as_slice() {
-        write!(told, " {place}")?;
+    let indices = owed(alloc, statements, enrolment)?;
+    for index in indices.as_slice() {
+        write!(told, " {index}")?;
     }
     Ok(())
 }

@@ -13,7 +13,7 @@ use Rattle.lrs_generator.specs.Generated.{batch, batch_count, statement_json}
 use Rattle.lrs_generator.specs.declared.generator.TheConstants.{BATCH}
 use Rattle.lrs_generator.proofs.Lawful.{distinct_batch, each_of_batch, few_trees, no_context_activity, not_too_long, unbroken}
 use Rattle.lrs_hall.specs.LrsHistoryEffects.{effect}
-use Rattle.lrs_hall.specs.LrsHistoryHistory.{Answer, answer_of, end_place, need, next_entry, outcome_by, refused, state}
+use Rattle.lrs_hall.specs.LrsHistoryHistory.{Answer, answer_of, end_offset, need, next_entry, outcome_by, refused, state}
 use Rattle.lrs_hall.specs.LrsHistoryOccasions.{Occasion, occasion}
 use Rattle.lrs_hall.specs.LrsHistoryRefusals.{before_next, broken_in, forbidden, refused_batch, refused_in, refused_over, refused_under, refusal, told_forbidden}
 use Rattle.lrs_hall.specs.LrsHistoryAnswers.{write_said}
@@ -48,7 +48,7 @@ use Rattle.lrs_app.proofs.Readable.{readable}
 -- ---- sound statements
 
 -- nothing of a statement itself keeps it from being taken
-pub record IsSound (j : Json) : Type 0 where
+pub record IsSoundStatement (j : Json) : Type 0 where
   short : is_too_long j ≡ false
   fits_rules : broken_rule j ≡ None
   allows : broken_outside true j ≡ None
@@ -59,7 +59,7 @@ may_say : (defined voids : Bool) → defined ≡ false → first_some {A = ℕ} 
 may_say defined true none = rw none refl
 may_say defined false none = rw none refl
 
-sound_at : (seed i : ℕ) → IsSound (statement_json seed i)
+sound_at : (seed i : ℕ) → IsSoundStatement (statement_json seed i)
 sound_at seed i = record {
   short = not_too_long seed i;
   fits_rules = unbroken seed i;
@@ -68,22 +68,22 @@ sound_at seed i = record {
 }
 
 -- such are all of these
-abbrev AreSound : List Tree → Type 0
-AreSound trees = AllByRecursion (λ (t : Tree). IsSound (view t)) trees
+abbrev AreSoundStatements : List Tree → Type 0
+AreSoundStatements trees = AllByRecursion (λ (t : Tree). IsSoundStatement (view t)) trees
 
-none_long : (trees : List Tree) → AreSound trees → list_any (λ (t : Tree). is_too_long (view t)) trees ≡ false
+none_long : (trees : List Tree) → AreSoundStatements trees → list_any (λ (t : Tree). is_too_long (view t)) trees ≡ false
 none_long [] all = refl
 none_long (t ∷ ts) all = rw all.0.short (none_long ts all.1)
 
-none_broken : (trees : List Tree) → AreSound trees → broken_in trees ≡ None
+none_broken : (trees : List Tree) → AreSoundStatements trees → broken_in trees ≡ None
 none_broken [] all = refl
 none_broken (t ∷ ts) all = rw all.0.fits_rules (none_broken ts all.1)
 
-all_allowed : (trees : List Tree) → AreSound trees → AllByRecursion (λ (t : Tree). broken_outside true (view t) ≡ None) trees
+all_allowed : (trees : List Tree) → AreSoundStatements trees → AllByRecursion (λ (t : Tree). broken_outside true (view t) ≡ None) trees
 all_allowed [] all = tt
 all_allowed (t ∷ ts) all = (all.0.allows, all_allowed ts all.1)
 
-all_read : (trees : List Tree) → AreSound trees → AreLawfulTrees trees
+all_read : (trees : List Tree) → AreSoundStatements trees → AreLawfulTrees trees
 all_read [] all = tt
 all_read (t ∷ ts) all = (all.0.reads, all_read ts all.1)
 
@@ -130,7 +130,7 @@ with_all supply (t ∷ ts) all = (all.0, with_all (supply_behind supply (own_id 
 few_enough : (n : ℕ) → n ≤ 100 → nat_lt 500 n ≡ false
 few_enough n few = grind (arith, common_steps)
 
-sound_form : (trees : List Tree) → length trees ≤ BATCH → AreSound trees → are_distinct (given_ids trees) ≡ true → refused_batch trees ≡ None
+sound_form : (trees : List Tree) → length trees ≤ BATCH → AreSoundStatements trees → are_distinct (given_ids trees) ≡ true → refused_batch trees ≡ None
 sound_form trees few sound distinct = rw (few_enough (length trees) few, none_long trees sound, none_broken trees sound, distinct) refl
 
 -- ---- what is said
@@ -150,18 +150,18 @@ calm_says (said.Refused r) entry calm = absurd calm
 abbrev Says : Answer → Type 0
 Says a = SaysOfBatch a.said a.entry
 
-by_refusal : (o : Option Refusal) (nothing : Bool) (e : Entry) (s : Answered) (limit place : ℕ) → MayMeet o → IsCalm s
-    → Says (answer_of limit place (outcome_by (option_or (option_map refused o) (when nothing s)) e s))
-by_refusal (Some r) nothing e s limit place may calm = (may, refl)
-by_refusal None true e s limit place may calm = calm_says s None calm
-by_refusal None false e s limit place may calm = by_room (nat_lt limit (need place e))
+by_refusal : (o : Option Refusal) (nothing : Bool) (e : Entry) (s : Answered) (limit offset : ℕ) → MayMeet o → IsCalm s
+    → Says (answer_of limit offset (outcome_by (option_or (option_map refused o) (when nothing s)) e s))
+by_refusal (Some r) nothing e s limit offset may calm = (may, refl)
+by_refusal None true e s limit offset may calm = calm_says s None calm
+by_refusal None false e s limit offset may calm = by_room (nat_lt limit (need offset e))
   where
-    by_room : (b : Bool) → Says (if b then no_room limit place e else kept_answer s e)
+    by_room : (b : Bool) → Says (if b then no_room limit offset e else kept_answer s e)
     by_room true = (tt, refl)
     by_room false = calm_says s (Some e) calm
 
 -- sound statements of ids of their own, posted by the operator
-pub sound_says : (limit : ℕ) (h : List Entry) (clock : ℕ) (draw : Draw) (trees : List Tree) → length trees ≤ BATCH → AreSound trees
+pub sound_says : (limit : ℕ) (h : List Entry) (clock : ℕ) (draw : Draw) (trees : List Tree) → length trees ≤ BATCH → AreSoundStatements trees
     → are_distinct (given_ids trees) ≡ true → Says (post_answer limit h clock draw trees)
 sound_says limit h clock draw trees few sound distinct =
     let st = state h in
@@ -169,7 +169,7 @@ sound_says limit h clock draw trees few sound distinct =
     let at : Occasion = occasion st e in
     let met : MayMeet (refused_in st at st.statements (with_ids at.supply trees)) =
     may_in st at st.statements (with_ids at.supply trees) refl (with_all at.supply trees (all_allowed trees sound)) in
-    by_refusal (refusal st e) (changes_nothing (effect st e)) e (write_said (effect st e)) limit (end_place limit h)
+    by_refusal (refusal st e) (changes_nothing (effect st e)) e (write_said (effect st e)) limit (end_offset limit h)
     (may_or (refused_batch trees) (option_or (refused_in st at st.statements (with_ids at.supply trees)) None)
     (subst MayMeet (sym (sound_form trees few sound distinct)) tt)
     (may_or (refused_in st at st.statements (with_ids at.supply trees)) None met tt)) tt
@@ -177,8 +177,8 @@ sound_says limit h clock draw trees few sound distinct =
 -- ---- generated statements
 
 module _ (seed n j : ℕ) (wide : seed < 2 ^ 64) (many : n < 2 ^ 32) (left : j < batch_count n) (trees : List Tree) (made : map view trees ≡ batch seed n j) where
-  batch_sound : AreSound trees
-  batch_sound = each_of_batch IsSound seed n j trees left (λ i less. sound_at seed i) made
+  batch_sound : AreSoundStatements trees
+  batch_sound = each_of_batch IsSoundStatement seed n j trees left (λ i less. sound_at seed i) made
 
   -- what the store says to a batch of generated statements
   pub batch_says : (limit : ℕ) (h : List Entry) (clock : ℕ) (draw : Draw) → SaysOfBatch (post_answer limit h clock draw trees).said (post_answer limit h clock draw trees).entry

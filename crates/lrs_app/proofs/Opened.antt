@@ -10,7 +10,7 @@ use Rattle.lrs_json.specs.declared.tree.Tree.{Tree}
 use Rattle.lrs_record.specs.Entries.{written_entry}
 use Rattle.lrs_record.specs.declared.entry.Entry.{Entry}
 use Rattle.lrs_hall.specs.LrsHistoryHistory.{Answer, IsLegal, with_entry}
-use Rattle.lrs_hall.specs.LrsMachineActs.{Acts, HasDiskCause, Receipt, line_behind, made_by, place_where, record_of}
+use Rattle.lrs_hall.specs.LrsMachineActs.{Acts, HasDiskCause, Receipt, line_behind, made_by, index_where, record_of}
 use Rattle.lrs_hall.specs.LrsMachineDesk.{Desk, HoldsPrefix, LeavesStore, history}
 use Rattle.lrs_hall.specs.LrsMachineLine.{BeginsWith, Record, entries, in_doubt, sure}
 use Rattle.lrs_replies.specs.declared.answered.Answered.{Answered}
@@ -48,33 +48,33 @@ pub acts_begin : (a : Answer) (receipt : Receipt) (old new : List Record) → ne
 acts_begin a receipt old new line = by_change (record_of (made_by a receipt) receipt) old new (is_some receipt.entry || is_some receipt.landed) line
 
 module _ (a : Answer) (receipt : Receipt) (old new : List Record) (settled : in_doubt old ≡ false) (line : new ≡ line_behind old a receipt)
-    (landed : receipt.landed ≡ place_where (in_doubt old && not (in_doubt new && not (is_some receipt.entry))) (receipt.point - 1)) where
+    (landed : receipt.landed ≡ index_where (in_doubt old && not (in_doubt new && not (is_some receipt.entry))) (receipt.point - 1)) where
   none_landed : receipt.landed ≡ None
-  none_landed = landed ∙ ap (λ (b : Bool). place_where (b && not (in_doubt new && not (is_some receipt.entry))) (receipt.point - 1)) settled
+  none_landed = landed ∙ ap (λ (b : Bool). index_where (b && not (in_doubt new && not (is_some receipt.entry))) (receipt.point - 1)) settled
 
   pub unchanged : receipt.entry ≡ None → entries new ≡ entries old
   unchanged none = ap entries (line ∙ by_none receipt.entry receipt.landed (old ++ record_of (made_by a receipt) receipt ∷ []) old none none_landed)
 
-  added : (place : ℕ) (e : Entry) → receipt.entry ≡ Some place → a.entry ≡ Some e → entries new ≡ entries old ++ e ∷ []
-  added place e own is =
+  added : (index : ℕ) (e : Entry) → receipt.entry ≡ Some index → a.entry ≡ Some e → entries new ≡ entries old ++ e ∷ []
+  added index e own is =
       let r = record_of (made_by a receipt) receipt in
       let made : r.made ≡ Some e = ap (λ (o : Option ℕ). if is_some o then a.entry else None) own ∙ is in
       ap entries (line ∙ ap (λ (o : Option ℕ). if is_some o || is_some receipt.landed then old ++ r ∷ [] else old) own) ∙ entries_append old (r ∷ [])
       ∙ ap (λ (l : List Entry). entries old ++ l) (entries_one r ∙ ap one_of made)
 
-  pub kept : receipt.entry ≡ place_where (is_some a.entry) receipt.point → entries new ≡ with_entry (entries old) a.entry
+  pub kept : receipt.entry ≡ index_where (is_some a.entry) receipt.point → entries new ≡ with_entry (entries old) a.entry
   kept own = by_entry a.entry refl own
     where
-      by_entry : (o : Option Entry) → a.entry ≡ o → receipt.entry ≡ place_where (is_some o) receipt.point → entries new ≡ with_entry (entries old) o
+      by_entry : (o : Option Entry) → a.entry ≡ o → receipt.entry ≡ index_where (is_some o) receipt.point → entries new ≡ with_entry (entries old) o
       by_entry None is own = unchanged own
       by_entry (Some e) is own = added receipt.point e own is
 
-  pub doubtful_one : (place : ℕ) → receipt.entry ≡ Some place → IsSome a.entry → (e : Entry) × (a.entry ≡ Some e) × (entries new ≡ entries old ++ e ∷ [])
-  doubtful_one place own some = by_entry a.entry refl some
+  pub doubtful_one : (index : ℕ) → receipt.entry ≡ Some index → IsSome a.entry → (e : Entry) × (a.entry ≡ Some e) × (entries new ≡ entries old ++ e ∷ [])
+  doubtful_one index own some = by_entry a.entry refl some
     where
       by_entry : (o : Option Entry) → a.entry ≡ o → IsSome o → (e : Entry) × (a.entry ≡ Some e) × (entries new ≡ entries old ++ e ∷ [])
       by_entry None is some = absurd (cc)
-      by_entry (Some e) is some = (e, is, added place e own is)
+      by_entry (Some e) is some = (e, is, added index e own is)
 
 -- ---- what a put is answered
 

@@ -1,7 +1,7 @@
 //! Runs over the outside in memory.
 ghost use Rattle.std.specs.Prelude.{All, IfOk};
 ghost use Rattle.lrs_in_memory_doors.specs.MemDoor.{IsUntouched};
-ghost use Rattle.lrs_in_memory_doors.specs.MemLink.{IsUnused};
+ghost use Rattle.lrs_in_memory_doors.specs.MemLink.{IsUnusedLink};
 
 use lrs_app::lrs_hall::Talk;
 use lrs_app::{Ended, Report, run};
@@ -163,7 +163,7 @@ fn shelf(alloc: Global, around: &Around<'_>) -> Result<MemShelf, Fail> {
 }
 
 fn link(alloc: Global, stream: &str, cuts: &[usize]) -> Result<MemLink, Fail>
-    ensures { IfOk result IsUnused }
+    ensures { IfOk result IsUnusedLink }
 {
     let input = stream.as_bytes().to_vec(alloc)?;
     Ok(MemLink::new(alloc, input, cuts.to_vec(alloc)?, 4_096, Vec::new(alloc))?)

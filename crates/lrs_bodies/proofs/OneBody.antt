@@ -10,7 +10,7 @@ use Rattle.lrs_json.specs.declared.limits.TheConstants.{DEPTH}
 use Rattle.lrs_json.proofs.Back.{same_tree}
 use Rattle.lrs_json_reader.specs.Flaws.{earliest, out_of_range_numbers, repeated_names}
 use Rattle.lrs_json_reader.specs.Grammar.{IsText}
-use Rattle.lrs_json_reader.specs.Placed.{Placed, plain}
+use Rattle.lrs_json_reader.specs.Located.{Located, plain}
 use Rattle.lrs_json_reader.specs.Refusals.{Spells, is_too_deep}
 use Rattle.lrs_json_reader.proofs.Scan.{shallow-scan}
 use Rattle.lrs_names.specs.Members.{text_under}
@@ -29,7 +29,7 @@ use Rattle.lrs_bodies.proofs.DeskBodies.{one_enrolment, one_launch, one_waiver, 
 
 -- a JSON text spells one value, each of its parts at one place
 abbrev pub OneJson : Type 0
-OneJson = (bytes : List ℕ) (p q : Placed) → IsText p bytes → IsText q bytes → p ≡ q
+OneJson = (bytes : List ℕ) (p q : Located) → IsText p bytes → IsText q bytes → p ≡ q
 
 abbrev Broken : Type 0
 Broken = Option Rule
@@ -42,19 +42,19 @@ no_earliest places left e s = none_some left (sym (ap earliest e) ∙ s)
 
 module _ (one : OneJson) (bytes : List ℕ) where
   one_value : (j k : Json) → Spells DEPTH bytes j → Spells DEPTH bytes k → j ≡ k
-  one_value j k a b = sym a.is ∙ ap plain (one bytes a.placed b.placed a.spelled b.spelled) ∙ b.is
+  one_value j k a b = sym a.is ∙ ap plain (one bytes a.located b.located a.spelled b.spelled) ∙ b.is
 
   not_deep : (j : Json) → Spells DEPTH bytes j → is_too_deep DEPTH bytes ≡ false
-  not_deep j s = shallow-scan DEPTH bytes s.placed s.spelled (subst (λ (k : Json). depth k ≤ DEPTH) (sym s.is) s.shallow)
+  not_deep j s = shallow-scan DEPTH bytes s.located s.spelled (subst (λ (k : Json). depth k ≤ DEPTH) (sym s.is) s.shallow)
 
   spelled_unbroken : (j : Json) (r : Rule) → Spells DEPTH bytes j → BreaksJson bytes r → ⊥
   spelled_unbroken j r s h = elim h [
     | inl deep ↦ false≢true (sym (not_deep j s) ∙ deep.1)
     | inr later ↦ elim later [
-      | inl bad ↦ bad.1.no_text s.placed s.spelled
+      | inl bad ↦ bad.1.no_text s.located s.spelled
       | inr others ↦ elim others [
-        | inl twice ↦ no_earliest (repeated_names s.placed) twice.1.1.left s.distinct (ap (λ (p : Placed). earliest (repeated_names p)) (one bytes s.placed twice.1.1.placed s.spelled twice.1.1.spelled) ∙ twice.1.1.first)
-        | inr out ↦ no_earliest (out_of_range_numbers s.placed) out.1.1.left s.in_range (ap (λ (p : Placed). earliest (out_of_range_numbers p)) (one bytes s.placed out.1.1.placed s.spelled out.1.1.spelled) ∙ out.1.1.first)
+        | inl twice ↦ no_earliest (repeated_names s.located) twice.1.1.left s.distinct (ap (λ (p : Located). earliest (repeated_names p)) (one bytes s.located twice.1.1.located s.spelled twice.1.1.spelled) ∙ twice.1.1.first)
+        | inr out ↦ no_earliest (out_of_range_numbers s.located) out.1.1.left s.in_range (ap (λ (p : Located). earliest (out_of_range_numbers p)) (one bytes s.located out.1.1.located s.spelled out.1.1.spelled) ∙ out.1.1.first)
       ]
     ]
   ]
@@ -77,8 +77,8 @@ module _ (one : OneJson) (bytes : List ℕ) where
         | inr x ↦ elim x [
           | inl y ↦ bad.0 ∙ sym y.0
           | inr y ↦ elim y [
-            | inl twice ↦ absurd (bad.1.no_text twice.1.1.placed twice.1.1.spelled)
-            | inr out ↦ absurd (bad.1.no_text out.1.1.placed out.1.1.spelled)
+            | inl twice ↦ absurd (bad.1.no_text twice.1.1.located twice.1.1.spelled)
+            | inr out ↦ absurd (bad.1.no_text out.1.1.located out.1.1.spelled)
           ]
         ]
       ]
@@ -86,19 +86,19 @@ module _ (one : OneJson) (bytes : List ℕ) where
         | inl twice ↦ elim k [
           | inl deep ↦ absurd (false≢true (sym twice.1.1.shallow ∙ deep.1))
           | inr x ↦ elim x [
-            | inl bad ↦ absurd (bad.1.no_text twice.1.1.placed twice.1.1.spelled)
+            | inl bad ↦ absurd (bad.1.no_text twice.1.1.located twice.1.1.spelled)
             | inr y ↦ elim y [
               | inl z ↦ twice.0 ∙ sym z.0
-              | inr out ↦ absurd (no_earliest (repeated_names out.1.1.placed) twice.1.1.left out.1.1.distinct (ap (λ (p : Placed). earliest (repeated_names p)) (one bytes out.1.1.placed twice.1.1.placed out.1.1.spelled twice.1.1.spelled) ∙ twice.1.1.first))
+              | inr out ↦ absurd (no_earliest (repeated_names out.1.1.located) twice.1.1.left out.1.1.distinct (ap (λ (p : Located). earliest (repeated_names p)) (one bytes out.1.1.located twice.1.1.located out.1.1.spelled twice.1.1.spelled) ∙ twice.1.1.first))
             ]
           ]
         ]
         | inr out ↦ elim k [
           | inl deep ↦ absurd (false≢true (sym out.1.1.shallow ∙ deep.1))
           | inr x ↦ elim x [
-            | inl bad ↦ absurd (bad.1.no_text out.1.1.placed out.1.1.spelled)
+            | inl bad ↦ absurd (bad.1.no_text out.1.1.located out.1.1.spelled)
             | inr y ↦ elim y [
-              | inl twice ↦ absurd (no_earliest (repeated_names out.1.1.placed) twice.1.1.left out.1.1.distinct (ap (λ (p : Placed). earliest (repeated_names p)) (one bytes out.1.1.placed twice.1.1.placed out.1.1.spelled twice.1.1.spelled) ∙ twice.1.1.first))
+              | inl twice ↦ absurd (no_earliest (repeated_names out.1.1.located) twice.1.1.left out.1.1.distinct (ap (λ (p : Located). earliest (repeated_names p)) (one bytes out.1.1.located twice.1.1.located out.1.1.spelled twice.1.1.spelled) ∙ twice.1.1.first))
               | inr z ↦ out.0 ∙ sym z.0
             ]
           ]

@@ -16,13 +16,13 @@ abbrev Answer : Type 0
 Answer = Result Tree ReadRefused
 
 module _ (bytes : List ℕ) (r : Answer) (deep : (r ≡ Err read.TooDeep) ↔ IsTrue (is_too_deep DEPTH bytes)) (bad : Refuses r read.Bad (IsBad DEPTH bytes))
-    (repeated : (place : ℕ) → Refuses r (read.Repeated place) (RepeatedAt DEPTH bytes place)) (range : (place : ℕ) → Refuses r (read.NumberRange place) (OutOfRangeAt DEPTH bytes place)) where
+    (repeated : (offset : ℕ) → Refuses r (read.Repeated offset) (RepeatedAt DEPTH bytes offset)) (range : (offset : ℕ) → Refuses r (read.NumberRange offset) (OutOfRangeAt DEPTH bytes offset)) where
   told : (x : ReadRefused) (n : ℕ) → r ≡ Err x → json_rule x ≡ Some (rule.J n) → Finds (OnlySpelled bytes) (IsTreeOf bytes) (Err (form_refused.Broken (rule.J n)))
   told x n is means = (inr (rule.J n, breaks_json bytes r deep bad repeated range x (rule.J n) is means, refl), refl)
 
   pub tree_missed : (x : ReadRefused) → r ≡ Err x → Finds (OnlySpelled bytes) (IsTreeOf bytes) (Err (refused_of_json x))
   tree_missed read.TooDeep is = told read.TooDeep 1 is refl
   tree_missed read.Bad is = told read.Bad 2 is refl
-  tree_missed (read.Repeated place) is = told (read.Repeated place) 3 is refl
-  tree_missed (read.NumberRange place) is = told (read.NumberRange place) 4 is refl
+  tree_missed (read.Repeated offset) is = told (read.Repeated offset) 3 is refl
+  tree_missed (read.NumberRange offset) is = told (read.NumberRange offset) 4 is refl
   tree_missed read.Memory is = tt

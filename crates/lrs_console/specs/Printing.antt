@@ -8,8 +8,8 @@ HasTaken text n start now = now ≡ option_map (λ taken. taken ++ take n text) 
 
 -- if so many bytes of the text were taken since some start, there are more now
 abbrev pub TakesUpTo : List ℕ → ℕ → ℕ → Option (List ℕ) → Option (List ℕ) → Type 0
-TakesUpTo text done place old new = (start : Option (List ℕ)) → HasTaken text done start old
-    → HasTaken text place start new
+TakesUpTo text done offset old new = (start : Option (List ℕ)) → HasTaken text done start old
+    → HasTaken text offset start new
 
 -- of the text a proper part was taken
 abbrev pub TakesPart : List ℕ → Option (List ℕ) → Option (List ℕ) → Type 0

@@ -6,11 +6,11 @@ ghost use Rattle.lrs_console.specs.Printing.{Prints, TakesPart, TakesUpTo};
 use crate::Ending;
 use lrs_disk::{Failed, Sink};
 
-// Writes a piece of the bytes from a place on, and gives the place after it.
+// Writes a piece of the bytes from an offset on, and gives the offset after it.
 fn print_from<O: Sink>(out: &mut O, bytes: &[u8], done: usize) -> Result<usize, Failed>
     requires { done < length bytes.now }
-    ensures more { IfOk result (λ place. (done < place) × (place ≤ length bytes.now)) }
-    ensures taken { IfOk result (λ place. TakesUpTo bytes.now done place (O.taken out.old) (O.taken out.new)) }
+    ensures more { IfOk result (λ offset. (done < offset) × (offset ≤ length bytes.now)) }
+    ensures taken { IfOk result (λ offset. TakesUpTo bytes.now done offset (O.taken out.old) (O.taken out.new)) }
     ensures failed { OnErr result (O.taken out.new ≡ O.taken out.old) }
     ensures cause { HasCause (O.fault_count out.old) (O.fault_count out.new) result }
 {

@@ -2,16 +2,16 @@
 use Rattle.std.specs.Prelude.{◌≡◌, ◌⊎◌, ◌^◌, ◌-◌, ℕ, ◌+◌, ◌≤◌, max, min, List, ◌++◌, length, take, drop, Option, Some}
 use Rattle.std.specs.Prelude.{None}
 
--- old with these bytes at this place
+-- old with these bytes at this offset
 abbrev pub written : List ℕ → ℕ → List ℕ → List ℕ
-written old place bytes = take place old ++ bytes ++ drop (place + length bytes) old
+written old offset bytes = take offset old ++ bytes ++ drop (offset + length bytes) old
 
 -- after a write of n bytes that a crash cuts short: any bytes in the range and past the old end, the same elsewhere
-pub record Torn (place n : ℕ) (old new : List ℕ) : Type 0 where
-  pub before : take place new ≡ take place old
-  pub after : drop (place + n) new ≡ drop (place + n) old
+pub record Torn (offset n : ℕ) (old new : List ℕ) : Type 0 where
+  pub before : take offset new ≡ take offset old
+  pub after : drop (offset + n) new ≡ drop (offset + n) old
   pub no_shorter : length old ≤ length new
-  pub no_longer : length new ≤ max (length old) (place + n)
+  pub no_longer : length new ≤ max (length old) (offset + n)
 
 -- after a cut that a crash may undo: the old bytes up to some length between
 pub record Cut (n : ℕ) (old new : List ℕ) : Type 0 where

@@ -33,11 +33,11 @@ pub trait Disk: Drop {
             (image self.new) }
         ensures cause { HasCause (fault_count self.old) (fault_count self.new) result };
 
-    /// Reads from a place on, and answers how many bytes there were. They are fewer than asked for only at the end.
-    fn read_at(&mut self, place: u64, into: &mut [u8]) -> Result<usize, Failed>
+    /// Reads from an offset on, and answers how many bytes there were. They are fewer than asked for only at the end.
+    fn read_at(&mut self, offset: u64, into: &mut [u8]) -> Result<usize, Failed>
         ensures room { IfOk result (λ n. n ≤ length into.old) }
-        ensures number { IfOk result (λ n. IfSome (told self.old) (λ b. n ≡ min (length into.old) (length b - place))) }
-        ensures bytes { IfOk result (λ n. IfSome (told self.old) (λ b. take n into.new ≡ take n (drop place b))) }
+        ensures number { IfOk result (λ n. IfSome (told self.old) (λ b. n ≡ min (length into.old) (length b - offset))) }
+        ensures bytes { IfOk result (λ n. IfSome (told self.old) (λ b. take n into.new ≡ take n (drop offset b))) }
         ensures still { told self.new ≡ told self.old }
         ensures crash { Within (image self.old) (image self.new) }
         ensures time { Elapses (time self.old) (time self.new) (image_since self.old) (image_since self.new)
@@ -45,11 +45,11 @@ pub trait Disk: Drop {
         ensures cause { HasCause (fault_count self.old) (fault_count self.new) result };
 
     /// Writes over what is there, and past the end. Until a sync, a crash may leave any bytes in the range.
-    fn write_at(&mut self, place: u64, bytes: &[u8]) -> Result<(), Failed>
-        requires { (b : List ℕ) → told self.old ≡ Some b → place ≤ length b }
-        ensures written { OnOk result (told self.new ≡ option_map (λ b. written b place bytes.now) (told self.old)) }
-        ensures failed { OnErr result (BothTold (Torn place (length bytes.now)) (told self.old) (told self.new)) }
-        ensures crash { Follows (Torn place (length bytes.now)) (image self.old) (image self.new) }
+    fn write_at(&mut self, offset: u64, bytes: &[u8]) -> Result<(), Failed>
+        requires { (b : List ℕ) → told self.old ≡ Some b → offset ≤ length b }
+        ensures written { OnOk result (told self.new ≡ option_map (λ b. written b offset bytes.now) (told self.old)) }
+        ensures failed { OnErr result (BothTold (Torn offset (length bytes.now)) (told self.old) (told self.new)) }
+        ensures crash { Follows (Torn offset (length bytes.now)) (image self.old) (image self.new) }
         ensures time { Elapses (time self.old) (time self.new) (image_since self.old) (image_since self.new)
             (image self.new) }
         ensures cause { HasCause (fault_count self.old) (fault_count self.new) result };

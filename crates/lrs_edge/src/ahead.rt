@@ -11,20 +11,20 @@ use std::marker::Model;
 /// How many bytes of a file are read at once, where a read asks for fewer.
 pub const READ_AHEAD: usize = 262_144;
 
-// Bytes that are read and written by place.
+// Bytes that are read and written by offset.
 pub(crate) trait Bytes: Drop {
     // What a read gives, if it is told.
     ghost told: { Self → Option (List ℕ) };
 
-    // Reads from a place on, and answers how many bytes there were. They are fewer than asked for only at the end.
-    fn read_at(&self, place: u64, into: &mut [u8]) -> io::Result<usize>
+    // Reads from an offset on, and answers how many bytes there were. They are fewer than asked for only at the end.
+    fn read_at(&self, offset: u64, into: &mut [u8]) -> io::Result<usize>
         ensures room { IfOk result (λ n. n ≤ length into.old) }
         ensures number { IfOk result (λ n. IfSome (told self.now)
-            (λ b. n ≡ min (length into.old) (length b - place))) }
-        ensures bytes { IfOk result (λ n. IfSome (told self.now) (λ b. take n into.new ≡ take n (drop place b))) };
+            (λ b. n ≡ min (length into.old) (length b - offset))) }
+        ensures bytes { IfOk result (λ n. IfSome (told self.now) (λ b. take n into.new ≡ take n (drop offset b))) };
 
     // No clause says what these three leave.
-    fn write_at(&mut self, place: u64, bytes: &[u8]) -> io::Result<()>;
+    fn write_at(&mut self, offset: u64, bytes: &[u8]) -> io::Result<()>;
 
     fn cut(&mut self, to: u64) -> io::Result<()>;
 
@@ -35,7 +35,7 @@ pub(crate) trait Bytes: Drop {
 #[derive(Drop)]
 pub(crate) struct ReadAhead<B: Bytes> {
     inner: B,
-    // The place of the piece's first byte.
+    // The offset of the piece's first byte.
     start: u64,
     piece: Vec<u8>,
 }
@@ -77,19 +77,19 @@ impl<B: Bytes> ReadAhead<B> {
     }
 
     // Answers as a read of the bytes does. It fails only where that fails.
-    pub(crate) fn read_at(&mut self, place: u64, into: &mut [u8]) -> io::Result<usize>
+    pub(crate) fn read_at(&mut self, offset: u64, into: &mut [u8]) -> io::Result<usize>
         ensures room { IfOk result (λ n. n ≤ length into.old) }
         ensures number { IfOk result (λ n. IfSome (B.told self.old)
-            (λ b. n ≡ min (length into.old) (length b - place))) }
-        ensures bytes { IfOk result (λ n. IfSome (B.told self.old) (λ b. take n into.new ≡ take n (drop place b))) }
+            (λ b. n ≡ min (length into.old) (length b - offset))) }
+        ensures bytes { IfOk result (λ n. IfSome (B.told self.old) (λ b. take n into.new ≡ take n (drop offset b))) }
         ensures same { self.new ≡ self.old }
     {
-        read_through(&self.inner, &mut self.start, &mut self.piece, place, into)
+        read_through(&self.inner, &mut self.start, &mut self.piece, offset, into)
     }
 
-    pub(crate) fn write_at(&mut self, place: u64, bytes: &[u8]) -> io::Result<()> {
+    pub(crate) fn write_at(&mut self, offset: u64, bytes: &[u8]) -> io::Result<()> {
         forget(&mut self.piece);
-        self.inner.write_at(place, bytes)
+        self.inner.write_at(offset, bytes)
     }
 
     pub(crate) fn cut(&mut self, to: u64) -> io::Result<()> {
@@ -112,82 +112,82 @@ fn forget(piece: &mut Vec<u8>)
     piece.shrink_to_fit();
 }
 
-// Reads from a place on, from the piece if it can be made to have what is asked for.
+// Reads from an offset on, from the piece if it can be made to have what is asked for.
 fn read_through<B: Bytes>(
     inner: &B,
     start: &mut u64,
     piece: &mut Vec<u8>,
-    place: u64,
+    offset: u64,
     into: &mut [u8],
 ) -> io::Result<usize>
     requires { IsPiece (B.told inner.now) start.old piece.old.items }
     ensures piece { IsPiece (B.told inner.now) start.new piece.new.items }
     ensures room { IfOk result (λ n. n ≤ length into.old) }
     ensures number { IfOk result (λ n. IfSome (B.told inner.now)
-        (λ b. n ≡ min (length into.old) (length b - place))) }
-    ensures bytes { IfOk result (λ n. IfSome (B.told inner.now) (λ b. take n into.new ≡ take n (drop place b))) }
+        (λ b. n ≡ min (length into.old) (length b - offset))) }
+    ensures bytes { IfOk result (λ n. IfSome (B.told inner.now) (λ b. take n into.new ≡ take n (drop offset b))) }
 {
-    match reach(inner, start, piece, place, into.len()) {
-        Some(offset) => Ok(copied(piece, offset, into)),
-        None => inner.read_at(place, into),
+    match reach(inner, start, piece, offset, into.len()) {
+        Some(within) => Ok(copied(piece, within, into)),
+        None => inner.read_at(offset, into),
     }
 }
 
-// Where a read of so many bytes from a place on begins in the piece. If they aren't all in it, a new piece is read from
-// that place on. Nothing, if the bytes have to be read without a piece.
+// Where a read of so many bytes from an offset on begins in the piece. If they aren't all in it, a new piece is read from
+// that offset on. Nothing, if the bytes have to be read without a piece.
 fn reach<B: Bytes>(
     inner: &B,
     start: &mut u64,
     piece: &mut Vec<u8>,
-    place: u64,
+    offset: u64,
     count: usize,
 ) -> Option<u64>
     requires { IsPiece (B.told inner.now) start.old piece.old.items }
     ensures piece { IsPiece (B.told inner.now) start.new piece.new.items }
-    ensures reached { IfSome result (λ offset. ForSome (B.told inner.now)
-        (λ b. take count (drop offset piece.new.items) ≡ take count (drop place b))) }
+    ensures reached { IfSome result (λ within. ForSome (B.told inner.now)
+        (λ b. take count (drop within piece.new.items) ≡ take count (drop offset b))) }
 {
-    match offset_of(*start, piece.len(), place, count) {
-        Some(offset) => Some(offset),
-        None => refill(inner, start, piece, place, count),
+    match begin_within(*start, piece.len(), offset, count) {
+        Some(within) => Some(within),
+        None => refill(inner, start, piece, offset, count),
     }
 }
 
-// Where a read of `count` bytes from a place on begins in a piece of `size` bytes from `start` on. Nothing, if they
+// Where a read of `count` bytes from an offset on begins in a piece of `size` bytes from `start` on. Nothing, if they
 // aren't all in it.
-fn offset_of(start: u64, size: usize, place: u64, count: usize) -> Option<u64>
-    ensures { IfSome result (λ offset. (start + offset ≡ place) × (offset + count ≤ size)) }
+fn begin_within(start: u64, size: usize, offset: u64, count: usize) -> Option<u64>
+    ensures { IfSome result (λ within. (start + within ≡ offset) × (within + count ≤ size)) }
 {
-    if place < start {
+    if offset < start {
         return None;
     }
-    let offset = place - start;
+    let within = offset - start;
     let end = size as u64;
-    if offset > end || count as u64 > end - offset {
+    if within > end || count as u64 > end - within {
         return None;
     }
-    Some(offset)
+    Some(within)
 }
 
-// Reads a new piece from a place on, where a read of `count` bytes then begins. Nothing, if they are more than a piece
+// Reads a new piece from an offset on, where a read of `count` bytes then begins. Nothing, if they are more than a piece
 // has, or if there is no memory for it or it can't be read: what is asked for alone may still be read.
 fn refill<B: Bytes>(
     inner: &B,
     start: &mut u64,
     piece: &mut Vec<u8>,
-    place: u64,
+    offset: u64,
     count: usize,
 ) -> Option<u64>
     requires { IsPiece (B.told inner.now) start.old piece.old.items }
     ensures piece { IsPiece (B.told inner.now) start.new piece.new.items }
-    ensures reached { IfSome result (λ offset. ForSome (B.told inner.now)
-        (λ b. take count (drop offset piece.new.items) ≡ take count (drop place b))) }
+    ensures reached { IfSome result (λ within. ForSome (B.told inner.now)
+        (λ b. take count (drop within piece.new.items) ≡ take count (drop offset b))) }
 {
     if count > READ_AHEAD {
         return None;
     }
-    *start = place;
-    match read_piece(inner, place, piece) {
+    *start = offset;
+    match read_piece(inner, offset, piece) {
         Ok(()) => Some(0),
         Err(_) => {
             forget(piece);
@@ -196,12 +196,12 @@ fn refill<B: Bytes>(
     }
 }
 
-// Reads a piece from a place on.
-fn read_piece<B: Bytes>(inner: &B, place: u64, piece: &mut Vec<u8>) -> io::Result<()>
-    ensures { OnOk result (ForSome (B.told inner.now) (λ b. piece.new.items ≡ take READ_AHEAD (drop place b))) }
+// Reads a piece from an offset on.
+fn read_piece<B: Bytes>(inner: &B, offset: u64, piece: &mut Vec<u8>) -> io::Result<()>
+    ensures { OnOk result (ForSome (B.told inner.now) (λ b. piece.new.items ≡ take READ_AHEAD (drop offset b))) }
 {
     widen(piece)?;
-    let number = fill(inner, place, piece)?;
+    let number = fill(inner, offset, piece)?;
     piece.truncate(number);
     Ok(())
 }
@@ -214,13 +214,13 @@ fn widen(piece: &mut Vec<u8>) -> Result<(), AllocError>
     Ok(())
 }
 
-// Fills a vector from a place on, and answers how many bytes there were.
-fn fill<B: Bytes>(inner: &B, place: u64, into: &mut Vec<u8>) -> io::Result<usize>
+// Fills a vector from an offset on, and answers how many bytes there were.
+fn fill<B: Bytes>(inner: &B, offset: u64, into: &mut Vec<u8>) -> io::Result<usize>
     ensures number { IfOk result (λ n. ForSome (B.told inner.now)
-        (λ b. n ≡ min (length into.old.items) (length b - place))) }
+        (λ b. n ≡ min (length into.old.items) (length b - offset))) }
     ensures bytes { IfOk result (λ n. ForSome (B.told inner.now)
-        (λ b. take n into.new.items ≡ take n (drop place b))) }
+        (λ b. take n into.new.items ≡ take n (drop offset b))) }
 {
-    let number = inner.read_at(place, into)?;
+    let number = inner.read_at(offset, into)?;
     Ok(number)
 }

@@ -101,18 +101,18 @@ impl<R: Files<File = File> + Eprint + Copy> Disk for FileDisk<R> {
         }
     }
 
-    fn read_at(&mut self, place: u64, into: &mut [u8]) -> Result<usize, Failed> {
+    fn read_at(&mut self, offset: u64, into: &mut [u8]) -> Result<usize, Failed> {
         self.tick();
-        match self.content.file.read_at(place, into) {
+        match self.content.file.read_at(offset, into) {
             Ok(number) => Ok(number),
             Err(error) => self.failed("read", &error),
         }
     }
 
-    fn write_at(&mut self, place: u64, bytes: &[u8]) -> Result<(), Failed> {
+    fn write_at(&mut self, offset: u64, bytes: &[u8]) -> Result<(), Failed> {
         self.tick();
         let action = self.content.write_action();
-        match self.content.write_at(place, bytes) {
+        match self.content.write_at(offset, bytes) {
             Ok(()) => Ok(()),
             Err(error) => self.failed(action, &error),
         }
@@ -154,12 +154,12 @@ impl<R: Files<File = File> + Eprint + Copy> Content<R> {
     }
 
     // Makes the file first, if there is none.
-    fn write_at(&mut self, place: u64, bytes: &[u8]) -> io::Result<()> {
+    fn write_at(&mut self, offset: u64, bytes: &[u8]) -> io::Result<()> {
         if !self.file.inner().is_there() {
             let file = make(&self.rt, self.name.as_str())?;
             self.file.replace(OptionalFile::new(Some(file)));
         }
-        self.file.write_at(place, bytes)
+        self.file.write_at(offset, bytes)
     }
 }
 

@@ -31,17 +31,17 @@ impl OptionalFile {
 impl Bytes for OptionalFile {
     ghost told = { λ f. None };
 
-    fn read_at(&self, place: u64, into: &mut [u8]) -> io::Result<usize> {
+    fn read_at(&self, offset: u64, into: &mut [u8]) -> io::Result<usize> {
         match &self.file {
-            Some(file) => Ok(read_on(file, place, into)?),
+            Some(file) => Ok(read_on(file, offset, into)?),
             None => Ok(0),
         }
     }
 
     // A file has to be there.
-    fn write_at(&mut self, place: u64, bytes: &[u8]) -> io::Result<()> {
+    fn write_at(&mut self, offset: u64, bytes: &[u8]) -> io::Result<()> {
         match &self.file {
-            Some(file) => file.write_all_at(bytes, place),
+            Some(file) => file.write_all_at(bytes, offset),
             None => Err(io::Error::from(ErrorKind::NotFound)),
         }
     }
@@ -62,7 +62,7 @@ impl Bytes for OptionalFile {
 }
 
 // Reads until there is no room left or the file ends, since one call may give fewer bytes than there are.
-fn read_on(file: &File, place: u64, into: &mut [u8]) -> io::Result<usize>
+fn read_on(file: &File, offset: u64, into: &mut [u8]) -> io::Result<usize>
     ensures { IfOk result (λ n. n ≤ length into.old) }
 {
     let mut number = 0;
@@ -70,7 +70,7 @@ fn read_on(file: &File, place: u64, into: &mut [u8]) -> io::Result<usize>
         if number == into.len() {
             return Ok(number);
         }
-        match file.read_at(&mut into[number..], place.saturating_add(number as u64)) {
+        match file.read_at(&mut into[number..], offset.saturating_add(number as u64)) {
             Ok(0) => return Ok(number),
             Ok(more) => number += more,
             Err(error) if error.kind() == ErrorKind::Interrupted => (),

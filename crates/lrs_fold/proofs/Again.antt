@@ -5,7 +5,7 @@ use Rattle.lrs_command.specs.declared.command.Command.{Command}
 use Rattle.lrs_command.specs.declared.command.Command.TheVariants as command
 use Rattle.lrs_reads.specs.LrsHistoryAnswers.{acceptance_said, write_said}
 use Rattle.lrs_reads.specs.LrsHistoryEffects.{effect}
-use Rattle.lrs_reads.specs.LrsHistoryHistory.{Accepted, answer, answer_of, end_place, need, state, outcome, ComesNext, IsLegal}
+use Rattle.lrs_reads.specs.LrsHistoryHistory.{Accepted, answer, answer_of, end_offset, need, state, outcome, ComesNext, IsLegal}
 use Rattle.lrs_reads.specs.LrsHistoryRoomProofs.{room_is}
 use Rattle.lrs_reads.specs.LrsHistoryOutcomesProofs.{accepts, again}
 use Rattle.lrs_names.specs.declared.draw.Draw.{Draw}
@@ -30,10 +30,10 @@ next_of limit (x ∷ h) e legal is = is
 
 -- asked again at its own moment, a kept entry is kept
 pub kept_again : (limit : ℕ) (h : List Entry) (caller : Caller) (c : Command) (clock : ℕ) (draw : Draw) (e : Entry) (said : Answered) → IsLegal limit h → outcome (state h) caller c clock draw ≡ Accepted e said
-    → need (end_place limit h) e ≤ limit → e.moment ≤ LATEST → ComesNext limit h e
+    → need (end_offset limit h) e ≤ limit → e.moment ≤ LATEST → ComesNext limit h e
 kept_again limit h caller c clock draw e said legal is fits early =
     next_of limit h e legal
-    (ap (λ v. (answer_of limit (end_place limit h) v).entry) (again (state h) caller c clock draw e said is early) ∙ ap (λ a. a.entry) (room_is limit (end_place limit h) said e fits))
+    (ap (λ v. (answer_of limit (end_offset limit h) v).entry) (again (state h) caller c clock draw e said is early) ∙ ap (λ a. a.entry) (room_is limit (end_offset limit h) said e fits))
 
 -- what is said of a write by its effect is no refusal
 no_refusal : (x : Effect) → IsRefusal (Ok (write_said x)) → ⊥

@@ -153,7 +153,7 @@ impl Fold {
         }
     }
 
-    // A provider, whose token tells the place of its entry.
+    // A provider, whose token tells the index of its entry.
     fn provider(
         &self,
         alloc: Global,
@@ -166,10 +166,10 @@ impl Fold {
     {
         let token = token_text(alloc, self.parts.length, draw.secret)?;
         let told = token.clone()?;
-        let place = self.parts.providers.len();
+        let index = self.parts.providers.len();
         let mut effect = Effect::no_change(alloc, moment);
         effect.providers = ProvidersChange::of_new(HeldProvider { name, token });
-        effect.acceptance = Acceptance::Provider { place, token: told };
+        effect.acceptance = Acceptance::Provider { index, token: told };
         Ok(effect)
     }
 

@@ -1,5 +1,5 @@
 ghost use Rattle.std.specs.Prelude.{◌≡◌, OnOk};
-ghost use Rattle.lrs_learning.specs.LrsPartsParts.{state_of, AddsNoPlaces, IsReadyFor, MakesPlacesFor};
+ghost use Rattle.lrs_learning.specs.LrsPartsParts.{state_of, AddsNoSlots, IsReadyFor, MakesSlotsFor};
 ghost use Rattle.lrs_learning.specs.LrsPartsParts.{SeenParts as SpecParts};
 ghost use Rattle.std.specs.Vec.Iter.{into_iter_items};
 ghost use Rattle.xapi_index.specs.Ahead.{AreTextsOf};
@@ -37,16 +37,16 @@ impl Fold {
         requires { AreTextsOf (into_iter_items texts.old) effect.now.statements }
         ensures same { state_of self.new.parts ≡ state_of self.old.parts }
         ensures ready { OnOk result (IsReadyFor self.new.parts effect.now) }
-        ensures made { MakesPlacesFor self.old.parts self.new.parts effect.now }
+        ensures made { MakesSlotsFor self.old.parts self.new.parts effect.now }
     {
         self.parts.ready(texts, effect)
     }
 
-    /// Takes back the places that were made for an effect which doesn't come: then there are none but those before.
+    /// Takes back the slots that were made for an effect which doesn't come: then there are none but those before.
     pub fn release(&mut self, effect: &Effect)
         ensures same { state_of self.new.parts ≡ state_of self.old.parts }
-        ensures undone { (before : SpecParts) → MakesPlacesFor before self.old.parts effect.now
-            → AddsNoPlaces before self.new.parts }
+        ensures undone { (before : SpecParts) → MakesSlotsFor before self.old.parts effect.now
+            → AddsNoSlots before self.new.parts }
     {
         self.parts.release(effect);
     }

@@ -14,18 +14,18 @@ none_made seed first trees number none is =
     let here : first ≡ first + 0 = omega arith in
     record { made = ap (map view) none; behind = is ∙ ap (number_at seed) here }
 
-pub one_more_made : (seed first done place : ℕ) (trees more : List Tree) (number next : ℕ) → first + done ≡ place → map view more ≡ map view trees ++ statement_of seed place number ∷ []
+pub one_more_made : (seed first done index : ℕ) (trees more : List Tree) (number next : ℕ) → first + done ≡ index → map view more ≡ map view trees ++ statement_of seed index number ∷ []
     → next ≡ (number * 6364136223846793005 + 1442695040888963407) % 2 ^ 64 → AreMade seed first done trees number → AreMade seed first (done + 1) more next
-one_more_made seed first done place trees more number next at pushed moved so_far =
-    let known : number ≡ number_at seed place = so_far.behind ∙ ap (number_at seed) at in
-    let on : suc place ≡ first + (done + 1) = omega arith in
-    let last : statement_of seed place number ≡ statement_json seed place = ap (statement_of seed place) known in
-    let step : next ≡ number_at seed (suc place) = moved ∙ ap (λ x. (x * 6364136223846793005 + 1442695040888963407) % 2 ^ 64) known in
+one_more_made seed first done index trees more number next at pushed moved so_far =
+    let known : number ≡ number_at seed index = so_far.behind ∙ ap (number_at seed) at in
+    let on : suc index ≡ first + (done + 1) = omega arith in
+    let last : statement_of seed index number ≡ statement_json seed index = ap (statement_of seed index) known in
+    let step : next ≡ number_at seed (suc index) = moved ∙ ap (λ x. (x * 6364136223846793005 + 1442695040888963407) % 2 ^ 64) known in
     record {
       made =
-          pushed ∙ ap (λ js. js ++ statement_of seed place number ∷ []) so_far.made
+          pushed ∙ ap (λ js. js ++ statement_of seed index number ∷ []) so_far.made
           ∙ ap (λ j. map (statement_json seed) (range_with_len first done) ++ j ∷ []) last
-          ∙ sym (map-range_with_len_more (statement_json seed) first done place at);
+          ∙ sym (map-range_with_len_more (statement_json seed) first done index at);
       behind = step ∙ ap (number_at seed) on;
     }
 

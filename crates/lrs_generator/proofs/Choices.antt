@@ -1,4 +1,4 @@
--- What the place of a statement makes of its verb and of its object.
+-- What the index of a statement makes of its verb and of its object.
 use Rattle.std.proofs.Common.{◌≡◌, ℕ, ◌-◌, ◌/◌, ◌%◌, ◌^◌, ◌++◌, true, false, codes, refl, arith}
 use Rattle.std.specs.Fmt.{decimal}
 use Rattle.std.specs.Prelude.{◌==◌}

@@ -16,7 +16,7 @@ number_at seed (suc i) = (number_at seed i * 6364136223846793005 + 1442695040888
 abbrev pub id_at : ℕ → ℕ → List ℕ
 id_at seed i = id_of_word (seed * 2 ^ 32 + i)
 
--- it voids the one two places before it
+-- it voids the one two indices before it
 abbrev pub is_voiding : ℕ → Bool
 is_voiding i = i % 50 == 49
 

@@ -19,7 +19,7 @@ untaken seed count = record { seed = seed; count = count; taken = 0 }
 pub record IsProgress (seed count taken number : ℕ) : Type 0 where
   pub ahead : taken * 100 < count → number ≡ number_at seed (taken * 100)
 
--- These are the statements from a place on, so many, and the number is that of the one behind them.
+-- These are the statements from an index on, so many, and the number is that of the one behind them.
 pub record AreMade (seed first many : ℕ) (trees : List Tree) (number : ℕ) : Type 0 where
   pub made : map view trees ≡ map (statement_json seed) (range_with_len first many)
   pub behind : number ≡ number_at seed (first + many)

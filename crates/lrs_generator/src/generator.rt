@@ -84,7 +84,7 @@ fn next_length(left: u64) -> u64
     (BATCH as u64).min(left)
 }
 
-// So many statements from that place on. The number is that of the first, and afterwards that of the one behind the
+// So many statements from that index on. The number is that of the first, and afterwards that of the one behind the
 // last.
 fn make(
     alloc: Global,
@@ -105,9 +105,9 @@ fn make(
     Ok(trees)
 }
 
-fn push_statement(seed: u64, place: u64, number: u64, trees: &mut Items<Tree>) -> Result<(), Memory>
-    ensures { OnOk result (map view trees.new ≡ map view trees.old ++ statement_of seed place number ∷ []) }
+fn push_statement(seed: u64, index: u64, number: u64, trees: &mut Items<Tree>) -> Result<(), Memory>
+    ensures { OnOk result (map view trees.new ≡ map view trees.old ++ statement_of seed index number ∷ []) }
 {
-    let tree = statement(trees.allocator(), seed, place, number)?;
+    let tree = statement(trees.allocator(), seed, index, number)?;
     trees.push(tree)
 }

@@ -19,22 +19,22 @@ pub fn next_number(number: u64) -> u64
     (next % (1 << 64)) as u64
 }
 
-/// The statement at that place of a seed, which is made from that number.
-pub fn statement(alloc: Global, seed: u64, place: u64, number: u64) -> Result<Tree, Memory>
-    ensures { IfOk result (λ tree. view tree ≡ statement_of seed place number) }
+/// The statement at that index of a seed, which is made from that number.
+pub fn statement(alloc: Global, seed: u64, index: u64, number: u64) -> Result<Tree, Memory>
+    ensures { IfOk result (λ tree. view tree ≡ statement_of seed index number) }
 {
     let mut built = Items::new(alloc);
-    push_id("id", &id_at(seed, place), &mut built)?;
+    push_id("id", &id_at(seed, index), &mut built)?;
     push("actor", actor(alloc, number)?, &mut built)?;
-    push("verb", verb(alloc, place, number)?, &mut built)?;
-    push("object", object_of(alloc, seed, place, number)?, &mut built)?;
+    push("verb", verb(alloc, index, number)?, &mut built)?;
+    push("object", object_of(alloc, seed, index, number)?, &mut built)?;
     Ok(whole(built))
 }
 
-fn id_at(seed: u64, place: u64) -> Id
-    ensures { result ≡ id_at seed place }
+fn id_at(seed: u64, index: u64) -> Id
+    ensures { result ≡ id_at seed index }
 {
-    Id::of_word(seed as u128 * (1 << 32) + place as u128)
+    Id::of_word(seed as u128 * (1 << 32) + index as u128)
 }
 
 // One member more, which holds the text of the id.
@@ -71,10 +71,10 @@ fn account(alloc: Global, number: u64) -> Result<Tree, Memory>
 // ---- what
 
 #[tactic(auto, using(crate::proofs::Choices::voided_verb, crate::proofs::Choices::other_verb))]
-fn verb(alloc: Global, place: u64, number: u64) -> Result<Tree, Memory>
-    ensures { IfOk result (λ tree. view tree ≡ id_json (verb_iri place number)) }
+fn verb(alloc: Global, index: u64, number: u64) -> Result<Tree, Memory>
+    ensures { IfOk result (λ tree. view tree ≡ id_json (verb_iri index number)) }
 {
-    if place % 50 == 49 {
+    if index % 50 == 49 {
         named(alloc, "http://adlnet.gov/expapi/verbs/voided")
     } else {
         numbered(alloc, "http://v.invalid/", number / (1 << 33) % 7)
@@ -82,13 +82,13 @@ fn verb(alloc: Global, place: u64, number: u64) -> Result<Tree, Memory>
 }
 
 #[tactic(auto, using(crate::proofs::Choices::voided_object, crate::proofs::Choices::referred_object, crate::proofs::Choices::other_object))]
-fn object_of(alloc: Global, seed: u64, place: u64, number: u64) -> Result<Tree, Memory>
-    ensures { IfOk result (λ tree. view tree ≡ object_json seed place number) }
+fn object_of(alloc: Global, seed: u64, index: u64, number: u64) -> Result<Tree, Memory>
+    ensures { IfOk result (λ tree. view tree ≡ object_json seed index number) }
 {
-    if place % 50 == 49 {
-        reference(alloc, &id_at(seed, place - 2))
-    } else if place % 10 == 9 {
-        reference(alloc, &id_at(seed, place - 1))
+    if index % 50 == 49 {
+        reference(alloc, &id_at(seed, index - 2))
+    } else if index % 10 == 9 {
+        reference(alloc, &id_at(seed, index - 1))
     } else {
         numbered(alloc, "http://a.invalid/", number / (1 << 40) % 50)
     }

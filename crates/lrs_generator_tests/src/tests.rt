@@ -2,7 +2,7 @@ use lrs_generator::{Generator, Memory};
 use lrs_json::{Items, Tree, write};
 use std::alloc::Global;
 
-// Seeds, places, and what is written of the statement there. The number of statement 9 of seed 7 is beyond 2^63.
+// Seeds, indices, and what is written of the statement there. The number of statement 9 of seed 7 is beyond 2^63.
 const STATEMENTS: [(u64, usize, &str); 10] = [
     (
         7,
@@ -74,26 +74,26 @@ fn is_written(alloc: Global, tree: &Tree, wanted: &str) -> Result<bool, Memory> 
 fn is_among(
     alloc: Global,
     batch: &Items<Tree>,
-    place: usize,
+    index: usize,
     wanted: &str,
 ) -> Result<bool, Memory> {
-    match batch.get(place) {
+    match batch.get(index) {
         Some(tree) => is_written(alloc, tree, wanted),
         None => Ok(false),
     }
 }
 
-fn is_made(alloc: Global, seed: u64, place: usize, wanted: &str) -> Result<bool, Memory> {
-    match batch_at(alloc, seed, place / 100)? {
-        Some(batch) => is_among(alloc, &batch, place % 100, wanted),
+fn is_made(alloc: Global, seed: u64, index: usize, wanted: &str) -> Result<bool, Memory> {
+    match batch_at(alloc, seed, index / 100)? {
+        Some(batch) => is_among(alloc, &batch, index % 100, wanted),
         None => Ok(false),
     }
 }
 
-// The place of the first row that is wrong.
+// The index of the first row that is wrong.
 fn wrong_statement(alloc: Global) -> Option<usize> {
-    for (i, (seed, place, wanted)) in STATEMENTS.iter().enumerate() {
-        if is_made(alloc, *seed, *place, wanted) != Ok(true) {
+    for (i, (seed, index, wanted)) in STATEMENTS.iter().enumerate() {
+        if is_made(alloc, *seed, *index, wanted) != Ok(true) {
             return Some(i);
         }
     }
@@ -133,7 +133,7 @@ fn has_lengths(alloc: Global, count: u32, lengths: &[usize]) -> Result<bool, Mem
     Ok(behind.is_none())
 }
 
-// The place of the first row that is wrong.
+// The index of the first row that is wrong.
 fn wrong_lengths(alloc: Global) -> Option<usize> {
     for (i, (count, lengths)) in LENGTHS.iter().enumerate() {
         if has_lengths(alloc, *count, lengths) != Ok(true) {

@@ -242,12 +242,12 @@ module _ {D O : Type 0} (code : Coded D) (state : O → DoorState) (faults time 
       all_and (λ (of_one : List Talk). AreWithin from to (all_receipts of_one)) (backwards talks_held vs) v.talks (all_told ws vs pairs.1) (tides_told w v pairs.0)
 
 -- each entry is that of as many responses as its record is the own of workers
-entries_total : (limit : ℕ) (line : List Record) (opened : ℕ) (from to : Tide) (connections : ℕ) (seed : List ℕ) (place k : ℕ) → Makes line place k → (n : ℕ) (ss : List Stint) → AreStints limit line opened from to connections seed n ss
-    → total (λ (of_one : List Talk). entries_at place (all_receipts of_one)) (map (λ (s : Stint). s.talks) ss) ≡ total (λ (s : Stint). times k s.reach.own) ss
-entries_total limit line opened from to connections seed place k makes n [] all = refl
-entries_total limit line opened from to connections seed place k makes n (s ∷ ss) all =
-    let here : entries_at place (all_receipts s.talks) + 0 ≡ times k s.reach.own = entries_once limit line place k s.talks all.0.links _ _ makes all.0.on_links in
-    let rest = entries_total limit line opened from to connections seed place k makes (n + 1) ss all.1 in
+entries_total : (limit : ℕ) (line : List Record) (opened : ℕ) (from to : Tide) (connections : ℕ) (seed : List ℕ) (index k : ℕ) → Makes line index k → (n : ℕ) (ss : List Stint) → AreStints limit line opened from to connections seed n ss
+    → total (λ (of_one : List Talk). entries_at index (all_receipts of_one)) (map (λ (s : Stint). s.talks) ss) ≡ total (λ (s : Stint). times k s.reach.own) ss
+entries_total limit line opened from to connections seed index k makes n [] all = refl
+entries_total limit line opened from to connections seed index k makes n (s ∷ ss) all =
+    let here : entries_at index (all_receipts s.talks) + 0 ≡ times k s.reach.own = entries_once limit line index k s.talks all.0.links _ _ makes all.0.on_links in
+    let rest = entries_total limit line opened from to connections seed index k makes (n + 1) ss all.1 in
     omega (arith, here, rest)
 
 -- ---- the passes are back
@@ -311,12 +311,12 @@ module _ {D O : Type 0} (code : Coded D) (state : O → DoorState) (faults time 
         all_talks = all;
         ended = end_is ∙ ap end_of (sym (map_second code state faults time turns connections own.0 old final (λ (s : Stint). s.end) end_held (λ w v. refl) ws vs backs));
         owned = owned;
-        once = λ place high low.
-            let m = makes_at final.line place low in
-            let from = makes_behind final.line old.line begins.0 place m.0 begins.1 high m.1 in
+        once = λ index high low.
+            let m = makes_at final.line index low in
+            let from = makes_behind final.line old.line begins.0 index m.0 begins.1 high m.1 in
             let to = slice_get_within final.line m.0 m.1.made m.1.stands in
-            subst (λ (ts : List (List Talk)). total (λ (of_one : List Talk). entries_at place (all_receipts of_one)) ts ≡ 1) all
-            (entries_total old.limit final.line (length old.line) (tide_at faults time old.disk) (tide_at faults time final.disk) connections seed place m.0 m.1 1 stints are ∙ owned m.0 from to);
+            subst (λ (ts : List (List Talk)). total (λ (of_one : List Talk). entries_at index (all_receipts of_one)) ts ≡ 1) all
+            (entries_total old.limit final.line (length old.line) (tide_at faults time old.disk) (tide_at faults time final.disk) connections seed index m.0 m.1 1 stints are ∙ owned m.0 from to);
       }
 
   marks_are : 0 < length doors → marks_of code final ≡ marks_of code old

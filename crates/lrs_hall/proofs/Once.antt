@@ -8,7 +8,7 @@ use Rattle.std.proofs.lemmas.List.{take-append-drop}
 use prog.Atomic.{either}
 use Rattle.lrs_machine.specs.LrsHistoryHistory.{Answer, answer}
 use Rattle.lrs_machine.specs.Line.{Record, entries, sure, with_made}
-use Rattle.lrs_machine.specs.Acts.{Receipt, Tells, changed, made_by, place_where, record_of}
+use Rattle.lrs_machine.specs.Acts.{Receipt, Tells, changed, made_by, index_where, record_of}
 use Rattle.lrs_machine.specs.Desk.{KeepsLine, Tide}
 use Rattle.lrs_machine.specs.Steps.{one_of}
 use Rattle.lrs_machine.proofs.Lines.{entries_append, entries_one, none_some, some_same}
@@ -86,15 +86,15 @@ none_is None is some = cc
 none_is (Some e) is some = none_some e (sym is)
 
 -- an act's own entry stands at its point, and is the answer's
-entry_is : (a : Answer) (point place : ℕ) (old new : Bool) (own : Option ℕ) (said : Result Answered Trouble) → Tells a point old new own said → own ≡ Some place → (place ≡ point) × IsSome a.entry
-entry_is a point place old new own (Ok said) tells is = by_entry a.entry (sym is ∙ tells.1)
+entry_is : (a : Answer) (point index : ℕ) (old new : Bool) (own : Option ℕ) (said : Result Answered Trouble) → Tells a point old new own said → own ≡ Some index → (index ≡ point) × IsSome a.entry
+entry_is a point index old new own (Ok said) tells is = by_entry a.entry (sym is ∙ tells.1)
   where
-    by_entry : (e : Option Entry) → Some place ≡ place_where (is_some e) point → (place ≡ point) × IsSome e
-    by_entry None e = absurd (none_some place (sym e))
-    by_entry (Some x) e = (some_same place point e, refl)
-entry_is a point place old new own (Err Memory) tells is = absurd (none_some place (sym tells.0 ∙ is))
-entry_is a point place old new own (Err Disk) (inl none) is = absurd (none_some place (sym none.0 ∙ is))
-entry_is a point place old new own (Err Disk) (inr doubtful) is = (some_same place point (sym is ∙ doubtful.1), doubtful.0)
+    by_entry : (e : Option Entry) → Some index ≡ index_where (is_some e) point → (index ≡ point) × IsSome e
+    by_entry None e = absurd (none_some index (sym e))
+    by_entry (Some x) e = (some_same index point e, refl)
+entry_is a point index old new own (Err Memory) tells is = absurd (none_some index (sym tells.0 ∙ is))
+entry_is a point index old new own (Err Disk) (inl none) is = absurd (none_some index (sym none.0 ∙ is))
+entry_is a point index old new own (Err Disk) (inr doubtful) is = (some_same index point (sym is ∙ doubtful.1), doubtful.0)
 
 -- ---- one act
 
@@ -154,11 +154,11 @@ module _ (limit : ℕ) (line : List Record) (caller : Caller) (command : Command
       ∙ ap (λ (n : ℕ). slice_get (take on.at line ++ made ∷ []) n) (sym len) ∙ get_last (take on.at line) made
 
   -- it stands at its point, and the history is one longer by it
-  step_some : (place : ℕ) → receipt.entry ≡ Some place
-      → (changed receipt ≡ true) × (place ≡ entries_in on.at line) × (entries_in (suc on.at) line ≡ entries_in on.at line + 1)
-  step_some place own =
+  step_some : (index : ℕ) → receipt.entry ≡ Some index
+      → (changed receipt ≡ true) × (index ≡ entries_in on.at line) × (entries_in (suc on.at) line ≡ entries_in on.at line + 1)
+  step_some index own =
       let is : changed receipt ≡ true = ap (λ (o : Option ℕ). is_some o || is_some receipt.landed) own in
-      let told = entry_is a receipt.point place _ _ receipt.entry on.said on.acts.tells own in
+      let told = entry_is a receipt.point index _ _ receipt.entry on.said on.acts.tells own in
       let same : made.made ≡ a.entry = ap (λ (o : Option ℕ). if is_some o then a.entry else None) own in
       let one : length (one_of made.made) ≡ 1 = ap (λ (o : Option Entry). length (one_of o)) same ∙ one_length a.entry told.1 in (
         is,
@@ -172,8 +172,8 @@ module _ (limit : ℕ) (line : List Record) (caller : Caller) (command : Command
     where
       by_entry : (o : Option ℕ) → receipt.entry ≡ o → IsSome o → receipt.point < entries_in new.records line
       by_entry None none some = absurd (cc)
-      by_entry (Some place) own some =
-          let s = step_some place own in
+      by_entry (Some index) own some =
+          let s = step_some index own in
           let next = s.2 in
           let point = on.acts.point in
           let more = step_more s.0 in
@@ -188,15 +188,15 @@ module _ (limit : ℕ) (line : List Record) (caller : Caller) (command : Command
           let point = on.acts.point in
           let count = count_more line on.at new.records at_within in
           omega (arith, point, count)
-      by_entry (Some place) own =
-          let s = step_some place own in
+      by_entry (Some index) own =
+          let s = step_some index own in
           let here = s.1 in
           let next = s.2 in
           let more = step_more s.0 in
           let count = count_more line (suc on.at) new.records (omega (arith, more)) in
           omega (arith, here, next, count)
 
-  module _ (place k : ℕ) (makes : Makes line place k) where
+  module _ (index k : ℕ) (makes : Makes line index k) where
     step_none_made : receipt.entry ≡ None → 0 ≡ times k (own_step (changed receipt) on.at)
     step_none_made none = by_change (changed receipt) refl
       where
@@ -210,7 +210,7 @@ module _ (limit : ℕ) (line : List Record) (caller : Caller) (command : Command
           | inr other ↦ sym other.1
         ]
 
-    step_some_made : (p : ℕ) → receipt.entry ≡ Some p → (if p == place then 1 else 0) ≡ times k (own_step (changed receipt) on.at)
+    step_some_made : (p : ℕ) → receipt.entry ≡ Some p → (if p == index then 1 else 0) ≡ times k (own_step (changed receipt) on.at)
     step_some_made p own =
         let s = step_some p own in
         let here = s.1 in
@@ -218,48 +218,48 @@ module _ (limit : ℕ) (line : List Record) (caller : Caller) (command : Command
         let next : entries_in (suc k) line ≡ entries_in k line + 1 = count_next line k makes.made makes.stands ∙ ap (λ (n : ℕ). entries_in k line + n) (one_length makes.made.made makes.some) in
         (elim (once_or k on.at) [
           | inl same ↦ (
-              let hit : p ≡ place = here ∙ ap (λ (n : ℕ). entries_in n line) (sym same.0) ∙ makes.before in
-              ap (λ (b : Bool). if b then 1 else 0) (eq-eqb p place hit) ∙ sym same.1)
+              let hit : p ≡ index = here ∙ ap (λ (n : ℕ). entries_in n line) (sym same.0) ∙ makes.before in
+              ap (λ (b : Bool). if b then 1 else 0) (eq-eqb p index hit) ∙ sym same.1)
           | inr other ↦ (
-              let miss : p ≢ place = (λ hit. elim (apart k on.at other.0) [
+              let miss : p ≢ index = (λ hit. elim (apart k on.at other.0) [
                 | inl low ↦ (let m = count_more line (suc k) on.at (omega (arith, low)) in let b = makes.before in omega (arith, m, next, here, hit, b))
                 | inr high ↦ (let m = count_more line (suc on.at) k (omega (arith, high)) in let b = makes.before in omega (arith, m, after, here, hit, b))
               ]) in
-              ap (λ (b : Bool). if b then 1 else 0) (ne_eqb p place miss) ∙ sym other.1)
+              ap (λ (b : Bool). if b then 1 else 0) (ne_eqb p index miss) ∙ sym other.1)
         ]) ∙ ap (λ (b : Bool). times k (own_step b on.at)) (sym s.0)
 
-    step_once : (if is_at receipt.entry place then 1 else 0) ≡ times k (own_step (changed receipt) on.at)
+    step_once : (if is_at receipt.entry index then 1 else 0) ≡ times k (own_step (changed receipt) on.at)
     step_once = by_entry receipt.entry refl
       where
-        by_entry : (o : Option ℕ) → receipt.entry ≡ o → (if is_at o place then 1 else 0) ≡ times k (own_step (changed receipt) on.at)
+        by_entry : (o : Option ℕ) → receipt.entry ≡ o → (if is_at o index then 1 else 0) ≡ times k (own_step (changed receipt) on.at)
         by_entry None none = step_none_made none
         by_entry (Some p) own = step_some_made p own
 
 -- ---- each entry once
 
-module _ (limit : ℕ) (line : List Record) (place k : ℕ) (makes : Makes line place k) where
+module _ (limit : ℕ) (line : List Record) (index k : ℕ) (makes : Makes line index k) where
   abbrev OnceIn : List Receipt → Reach → Reach → Type 0
-  OnceIn receipts old new = entries_at place receipts + times k old.own ≡ times k new.own
+  OnceIn receipts old new = entries_at index receipts + times k old.own ≡ times k new.own
 
   once_in : Carries (ActsIn limit line) OnceIn
   once_in = record {
     none = λ x. omega arith;
     plain = λ status receipt receipts old new none more.
-        let nothing : ◌≡◌ {A = ℕ} (if is_at receipt.entry place then 1 else 0) 0 = ap (λ (r : Receipt). if is_at r.entry place then 1 else 0) none in
+        let nothing : ◌≡◌ {A = ℕ} (if is_at receipt.entry index then 1 else 0) 0 = ap (λ (r : Receipt). if is_at r.entry index then 1 else 0) none in
         omega (arith, nothing, more);
     act = λ caller command draw reply receipt receipts old mid new on more.
-        let here = step_once limit line caller command draw reply receipt old mid on place k makes in
+        let here = step_once limit line caller command draw reply receipt old mid on index k makes in
         let own = step_times limit line caller command draw reply receipt old mid on k in
         omega (arith, here, own, more);
   }
 
 pub entries_once : EntriesOnce
-entries_once limit line place k talks links old new makes over = over_all (ActsIn limit line) (OnceIn limit line place k makes) (once_in limit line place k makes) talks links old new over
+entries_once limit line index k talks links old new makes over = over_all (ActsIn limit line) (OnceIn limit line index k makes) (once_in limit line index k makes) talks links old new over
 
 -- ---- the record of an entry
 
-one_more : (line : List Record) (r : Record) (place k : ℕ) → Makes line place k → Makes (r ∷ line) (length (one_of r.made) + place) (suc k)
-one_more line r place k makes = record {
+one_more : (line : List Record) (r : Record) (index k : ℕ) → Makes line index k → Makes (r ∷ line) (length (one_of r.made) + index) (suc k)
+one_more line r index k makes = record {
   made = makes.made;
   stands = makes.stands;
   some = makes.some;
@@ -267,22 +267,22 @@ one_more line r place k makes = record {
 }
 
 -- each entry was made by some record
-pub makes_at : (line : List Record) (place : ℕ) → place < length (entries line) → (k : ℕ) × Makes line place k
-makes_at [] place low = absurd (omega (arith, low))
-makes_at (r ∷ line) place low = by_made r.made refl place low (λ rest lower. makes_at line rest lower)
+pub makes_at : (line : List Record) (index : ℕ) → index < length (entries line) → (k : ℕ) × Makes line index k
+makes_at [] index low = absurd (omega (arith, low))
+makes_at (r ∷ line) index low = by_made r.made refl index low (λ rest lower. makes_at line rest lower)
   where
-    by_made : (made : Option Entry) → r.made ≡ made → (place : ℕ) → place < length (with_made made (entries line)) → ((rest : ℕ) → rest < length (entries line) → (k : ℕ) × Makes line rest k) → (k : ℕ) × Makes (r ∷ line) place k
-    by_made None is place low more =
-        let m = more place low in
-        (suc m.0, subst (λ (n : ℕ). Makes (r ∷ line) n (suc m.0)) (let l : length (one_of r.made) ≡ 0 = ap (λ (o : Option Entry). length (one_of o)) is in omega (arith, l)) (one_more line r place m.0 m.1))
+    by_made : (made : Option Entry) → r.made ≡ made → (index : ℕ) → index < length (with_made made (entries line)) → ((rest : ℕ) → rest < length (entries line) → (k : ℕ) × Makes line rest k) → (k : ℕ) × Makes (r ∷ line) index k
+    by_made None is index low more =
+        let m = more index low in
+        (suc m.0, subst (λ (n : ℕ). Makes (r ∷ line) n (suc m.0)) (let l : length (one_of r.made) ≡ 0 = ap (λ (o : Option Entry). length (one_of o)) is in omega (arith, l)) (one_more line r index m.0 m.1))
     by_made (Some e) is zero low more = (0, record { made = r; stands = refl; some = subst (λ (o : Option Entry). IsSome o) (sym is) refl; before = refl })
-    by_made (Some e) is (suc place) low more =
-        let m = more place (omega (arith, low)) in
-        (suc m.0, subst (λ (n : ℕ). Makes (r ∷ line) n (suc m.0)) (let l : length (one_of r.made) ≡ 1 = ap (λ (o : Option Entry). length (one_of o)) is in omega (arith, l)) (one_more line r place m.0 m.1))
+    by_made (Some e) is (suc index) low more =
+        let m = more index (omega (arith, low)) in
+        (suc m.0, subst (λ (n : ℕ). Makes (r ∷ line) n (suc m.0)) (let l : length (one_of r.made) ≡ 1 = ap (λ (o : Option Entry). length (one_of o)) is in omega (arith, l)) (one_more line r index m.0 m.1))
 
 -- an entry after those of the first records was made by a later record
-pub makes_behind : (line opened rest : List Record) (place k : ℕ) → opened ++ rest ≡ line → length (entries opened) ≤ place → Makes line place k → length opened ≤ k
-makes_behind line opened rest place k is high makes = elim (low_or (length opened) k) [
+pub makes_behind : (line opened rest : List Record) (index k : ℕ) → opened ++ rest ≡ line → length (entries opened) ≤ index → Makes line index k → length opened ≤ k
+makes_behind line opened rest index k is high makes = elim (low_or (length opened) k) [
   | inl le ↦ le
   | inr low ↦ (
       let next : entries_in (suc k) line ≡ entries_in k line + 1 = count_next line k makes.made makes.stands ∙ ap (λ (n : ℕ). entries_in k line + n) (one_length makes.made.made makes.some) in
@@ -472,10 +472,10 @@ keeps_promises now since later limit line talks links old new kept some over =
 -- ---- an act's own entry
 
 pub own_entries : OwnEntries
-own_entries limit line caller command draw reply receipt old new place on own =
+own_entries limit line caller command draw reply receipt old new index on own =
     let answered : Answer = a limit line caller command draw reply receipt old new on in
     let r : Record = made limit line caller command draw reply receipt old new on in
-    let told = entry_is answered receipt.point place _ _ receipt.entry on.said on.acts.tells own in
+    let told = entry_is answered receipt.point index _ _ receipt.entry on.said on.acts.tells own in
     let is : changed receipt ≡ true = ap (λ (o : Option ℕ). is_some o || is_some receipt.landed) own in
     let same : r.made ≡ answered.entry = ap (λ (o : Option ℕ). if is_some o then answered.entry else None) own in
     let front : entries (take (suc on.at) line) ≡ entries (take on.at line) ++ one_of r.made =
@@ -485,9 +485,9 @@ own_entries limit line caller command draw reply receipt old new place on own =
     let whole : entries line ≡ entries (take on.at line) ++ (one_of r.made ++ rest) =
     ap entries (sym (take-append-drop (suc on.at) line)) ∙ entries_append (take (suc on.at) line) (drop (suc on.at) line) ∙ ap (λ (l : List Entry). l ++ rest) front
     ∙ append_assoc (entries (take on.at line)) (one_of r.made) rest in
-    let here : place ≡ entries_in on.at line = told.0 ∙ on.acts.point in
+    let here : index ≡ entries_in on.at line = told.0 ∙ on.acts.point in
     let some : IsSome r.made = subst (λ (o : Option Entry). IsSome o) (sym same) told.1 in (
       told.0,
-      ap (λ (h : List Entry). slice_get h place) whole ∙ ap (λ (n : ℕ). slice_get (entries (take on.at line) ++ (one_of r.made ++ rest)) n) here
+      ap (λ (h : List Entry). slice_get h index) whole ∙ ap (λ (n : ℕ). slice_get (entries (take on.at line) ++ (one_of r.made ++ rest)) n) here
           ∙ get_past (entries (take on.at line)) (one_of r.made ++ rest) ∙ one_has r.made rest some ∙ same,
     )

@@ -14,7 +14,7 @@ use Rattle.lrs_replies.specs.declared.reply.Reply.{Reply}
 use Rattle.lrs_replies.specs.declared.reply.Trouble.{Trouble}
 use Rattle.lrs_replies.specs.declared.reply.Trouble.TheVariants.{Memory, Disk}
 use Rattle.lrs_machine.specs.Line.{BeginsWith, Record, entries, in_doubt}
-use Rattle.lrs_machine.specs.Acts.{Receipt, Tells, changed, line_behind, made_by, place_where, record_of}
+use Rattle.lrs_machine.specs.Acts.{Receipt, Tells, changed, line_behind, made_by, index_where, record_of}
 use Rattle.lrs_machine.specs.LrsHistoryHistory.{Answer, answer, with_entry}
 use Rattle.lrs_replies.specs.Replies.{Says, body_bytes}
 use Rattle.lrs_names.specs.declared.draw.Draw.{Draw}
@@ -92,18 +92,18 @@ with_one : (h : List Entry) (o : Option Entry) → h ++ one_of o ≡ with_entry 
 with_one h None = append-nil h
 with_one h (Some e) = refl
 
-made_where : (o : Option Entry) (n : ℕ) → (if is_some (place_where (is_some o) n) then o else None) ≡ o
+made_where : (o : Option Entry) (n : ℕ) → (if is_some (index_where (is_some o) n) then o else None) ≡ o
 made_where None n = refl
 made_where (Some e) n = refl
 
-none_where : (o : Option Entry) (own landed : Option ℕ) (n : ℕ) → own ≡ place_where (is_some o) n → (is_some own || is_some landed) ≡ false → o ≡ None
+none_where : (o : Option Entry) (own landed : Option ℕ) (n : ℕ) → own ≡ index_where (is_some o) n → (is_some own || is_some landed) ≡ false → o ≡ None
 none_where None own landed n told is = refl
 none_where (Some e) own landed n told is =
     let both : true ≡ false = sym (ap (λ (w : Option ℕ). is_some w || is_some landed) told) ∙ is in
     let no : ⊥ = cc both in
     absurd no
 
-entries_behind : (line : List Record) (a : Answer) (receipt : Receipt) (n : ℕ) → receipt.entry ≡ place_where (is_some a.entry) n → entries (line_behind line a receipt) ≡ with_entry (entries line) a.entry
+entries_behind : (line : List Record) (a : Answer) (receipt : Receipt) (n : ℕ) → receipt.entry ≡ index_where (is_some a.entry) n → entries (line_behind line a receipt) ≡ with_entry (entries line) a.entry
 entries_behind line a receipt n own = by_change (changed receipt) refl
   where
     by_change : (b : Bool) → changed receipt ≡ b → entries (if b then line ++ record_of (made_by a receipt) receipt ∷ [] else line) ≡ with_entry (entries line) a.entry

@@ -19,7 +19,7 @@ use Rattle.lrs_turn.specs.Passes.{HasTurn, IsIdle, Pass, Turns, committed, given
 use Rattle.lrs_turn.proofs.Steps.{none_falls_same, none_falls_then}
 use Rattle.lrs_hall.specs.Acts.{ActsAt, ActsOn, IsSince, limit_in, own_behind, seen_of, tide_in}
 use Rattle.lrs_hall.specs.Serving.{KeepsPass}
-use Rattle.lrs_hall.specs.Steps.{IsTaken, pass_behind, seen_with}
+use Rattle.lrs_hall.specs.Steps.{IsInTurn, pass_behind, seen_with}
 
 -- what the desk says of the act: what was said over which answer
 abbrev pub SaysActs : {D : Type 0} → Desk D → Desk D → Caller → Command → ℕ → Draw → Reply → Receipt → Type 0
@@ -89,7 +89,7 @@ module _ (line : List Record) (receipt : Receipt) (pass : Pass Record) where
 -- ---- the desk was taken
 
 pub is_taken : {D : Type 0} (code : Coded D) (faults time : D → ℕ) (turns : Turns) (desk : Desk D) (old new : Pass Record) → HasTurn turns new → new ≡ taken desk.line (tide_of faults time desk) old
-    → BeginsWith old.front desk.line → marks_of code desk ≡ old.marks → NoneFalls old.tide (tide_of faults time desk) → IsTaken code faults time turns desk new
+    → BeginsWith old.front desk.line → marks_of code desk ≡ old.marks → NoneFalls old.tide (tide_of faults time desk) → IsInTurn code faults time turns desk new
 is_taken code faults time turns desk old new turn is goes_on marks tide = record {
   turn = turn;
   line = sym (ap (λ (p : Pass Record). p.line) is);
@@ -118,7 +118,7 @@ may_put_back line tide old mid is = sym (ap (λ (p : Pass Record). p.level) is)
 
 -- ---- an act on the desk that was taken
 
-module _ {D : Type 0} (code : Coded D) (time faults : D → ℕ) (turns : Turns) (old next : Desk D) (pass after : Pass Record) (taken_as : IsTaken code faults time turns old pass)
+module _ {D : Type 0} (code : Coded D) (time faults : D → ℕ) (turns : Turns) (old next : Desk D) (pass after : Pass Record) (taken_as : IsInTurn code faults time turns old pass)
     (caller : Caller) (command : Command) (clock : ℕ) (draw : Draw) (reply : Reply) (receipt : Receipt)
     (acts : SaysActs old next caller command clock draw reply receipt) (receipt_is : receipt ≡ receipt_of time faults old next reply.status clock)
     (goes : LineGoesOn receipt old.line next.line) (later : time old.disk ≤ time next.disk) (is : after ≡ given (tide_of faults time next) (pass_behind next.line receipt pass)) where
@@ -163,7 +163,7 @@ module _ {D : Type 0} (code : Coded D) (time faults : D → ℕ) (turns : Turns)
   }
 
 -- what giving the desk back asks for
-pub may_give : {D : Type 0} (code : Coded D) (faults time : D → ℕ) (turns : Turns) (old next : Desk D) (pass mid : Pass Record) (receipt : Receipt) → IsTaken code faults time turns old pass
+pub may_give : {D : Type 0} (code : Coded D) (faults time : D → ℕ) (turns : Turns) (old next : Desk D) (pass mid : Pass Record) (receipt : Receipt) → IsInTurn code faults time turns old pass
     → LineGoesOn receipt old.line next.line → marks_of code next ≡ marks_of code old → faults old.disk ≤ faults next.disk → time old.disk ≤ time next.disk → mid ≡ pass_behind next.line receipt pass
     → (next.line ≡ mid.line) × (marks_of code next ≡ mid.marks) × NoneFalls mid.level (tide_of faults time next)
 may_give code faults time turns old next pass mid receipt taken_as goes marks rise later is =

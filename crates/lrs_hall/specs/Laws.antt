@@ -40,36 +40,36 @@ Points = (line : List Record) (n : ℕ) → entries (take n line) ≡ take (entr
 abbrev pub OwnEntries : Type 0
 OwnEntries =
     (limit : ℕ) (line : List Record) (caller : Caller) (command : Command) (draw : Draw) (reply : Reply)
-    (receipt : Receipt) (old new : Reach) (place : ℕ)
-    → ActsIn limit line caller command draw reply receipt old new → receipt.entry ≡ Some place
-    → (place ≡ receipt.point)
-    × (slice_get (entries line) place
+    (receipt : Receipt) (old new : Reach) (index : ℕ)
+    → ActsIn limit line caller command draw reply receipt old new → receipt.entry ≡ Some index
+    → (index ≡ receipt.point)
+    × (slice_get (entries line) index
     ≡ (answer limit (take receipt.point (entries line)) caller command receipt.clock draw).entry)
 
 -- ---- each entry once
 
 abbrev pub is_at : Option ℕ → ℕ → Bool
-is_at None place = false
-is_at (Some own) place = own == place
+is_at None index = false
+is_at (Some own) index = own == index
 
--- how many receipts have their own entry at this place
+-- how many receipts have their own entry at this index
 abbrev pub entries_at : ℕ → List Receipt → ℕ
-entries_at place [] = 0
-entries_at place (receipt ∷ receipts) = (if is_at receipt.entry place then 1 else 0) + entries_at place receipts
+entries_at index [] = 0
+entries_at index (receipt ∷ receipts) = (if is_at receipt.entry index then 1 else 0) + entries_at index receipts
 
--- The record of this number made the entry at this place.
-pub record Makes (line : List Record) (place k : ℕ) : Type 0 where
+-- The record of this number made the entry at this index.
+pub record Makes (line : List Record) (index k : ℕ) : Type 0 where
   pub made : Record
   pub stands : slice_get line k ≡ Some made
   pub some : IsSome made.made
-  pub before : entries_in k line ≡ place
+  pub before : entries_in k line ≡ index
 
 -- An entry is that of as many receipts of a worker as its record stands among those that became the worker's own.
 abbrev pub EntriesOnce : Type 0
 EntriesOnce =
-    (limit : ℕ) (line : List Record) (place k : ℕ) (talks : List Talk) (links : List Returned) (old new : Worker Reach)
-    → Makes line place k → AreOnLinks (ActsIn limit line) talks links old new
-    → entries_at place (all_receipts talks) + times k old.reached.own ≡ times k new.reached.own
+    (limit : ℕ) (line : List Record) (index k : ℕ) (talks : List Talk) (links : List Returned) (old new : Worker Reach)
+    → Makes line index k → AreOnLinks (ActsIn limit line) talks links old new
+    → entries_at index (all_receipts talks) + times k old.reached.own ≡ times k new.reached.own
 
 -- ---- one worker
 

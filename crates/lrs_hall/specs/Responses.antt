@@ -10,7 +10,7 @@ use Rattle.lrs_machine.specs.Acts.{Receipt, plain_receipt}
 use Rattle.lrs_replies.specs.Replies.{body_bytes, error_body}
 use Rattle.lrs_routes.specs.declared.asked.RouteRefused.{RouteRefused}
 use Rattle.lrs_routes.specs.declared.asked.RouteRefused.TheVariants as route
-use Rattle.lrs_routes.specs.Table.{listed, methods_of}
+use Rattle.lrs_routes.specs.Table.{method_names, methods_of}
 use Rattle.lrs_time.specs.Timestamp.{IsMomentText}
 
 abbrev pub media_text : Media → List ℕ
@@ -50,7 +50,7 @@ memory_response = fixed 503 (codes "memory")
 -- what a request is answered that the routes refuse
 abbrev pub route_response : RouteRefused → FixedResponse
 route_response route.NoRoute = fixed 404 (codes "404")
-route_response (route.NoMethod allow) = record { status = 405; error = codes "405"; allow = listed (methods_of allow) }
+route_response (route.NoMethod allow) = record { status = 405; error = codes "405"; allow = method_names (methods_of allow) }
 route_response route.NoVersion = fixed 400 (codes "V1")
 route_response route.Memory = memory_response
 

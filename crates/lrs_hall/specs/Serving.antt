@@ -59,7 +59,7 @@ pub record KeepsPass (turns : Turns) (old new : Pass Record) : Type 0 where
   pub opening : new.opening ≡ old.opening
   pub tide : NoneFalls old.tide new.tide
 
--- a worker over the one line: the place of its next draw, how many records it has seen, which are its own, and how its
+-- a worker over the one line: the point of its next draw, how many records it has seen, which are its own, and how its
 -- last act left the disk
 abbrev pub worker_at : Draws → ℕ → List ℕ → Tide → Worker Reach
 worker_at draws records own tide =

@@ -50,7 +50,7 @@ worker draws pass readings = record { draws = draws; reached = seen_with pass re
 -- ---- acts under the turn
 
 -- The desk was taken with this pass, which has the turn.
-pub record IsTaken {D : Type 0} (code : Coded D) (faults time : D → ℕ) (turns : Turns) (desk : Desk D)
+pub record IsInTurn {D : Type 0} (code : Coded D) (faults time : D → ℕ) (turns : Turns) (desk : Desk D)
     (pass : Pass Record) : Type 0 where
   pub turn : HasTurn turns pass
   pub line : desk.line ≡ pass.line

@@ -67,8 +67,8 @@ pub record ServesDoors (limit : ℕ) (opened line : List Record) (opening closin
   -- each further record is the own of one worker
   pub owned : (n : ℕ) → length opened ≤ n → n < length line → total (λ (s : Stint). times n s.reach.own) stints ≡ 1
   -- each further entry is that of just one response of all workers
-  pub once : (place : ℕ) → length (entries opened) ≤ place → place < length (entries line)
-      → total (λ (of_one : List Talk). entries_at place (all_receipts of_one)) talks ≡ 1
+  pub once : (index : ℕ) → length (entries opened) ≤ index → index < length (entries line)
+      → total (λ (of_one : List Talk). entries_at index (all_receipts of_one)) talks ≡ 1
 
 -- What no act changes of a desk: its limit, and of its opening the moment, the number of entries, and the disk.
 pub record HasSameOpening {D : Type 0} (old new : Desk D) : Type 0 where

@@ -7,7 +7,7 @@ ghost use Rattle.lrs_turn.specs.Passes.{HasTurn, IsIdle};
 ghost use Rattle.lrs_hall.specs.Acts.{ActsAt, ActsOn, limit_in, seen_of};
 ghost use Rattle.lrs_hall.specs.Draws.{draw_at, next_draws};
 ghost use Rattle.lrs_hall.specs.Serving.{KeepsPass};
-ghost use Rattle.lrs_hall.specs.Steps.{IsSaid, IsTaken, Looks, pass_behind, seen_with, worker};
+ghost use Rattle.lrs_hall.specs.Steps.{IsSaid, IsInTurn, Looks, pass_behind, seen_with, worker};
 
 use crate::Draws;
 use lrs_command::Command;
@@ -46,7 +46,7 @@ fn act_and_give<D: Disk>(
     clock: u64,
     draw: &Draw,
 ) -> (Reply, Receipt, Spent)
-    requires taken { IsTaken D.row.coded D.fault_count D.time turns.now desk pass.old }
+    requires taken { IsInTurn D.row.coded D.fault_count D.time turns.now desk pass.old }
     requires caller { IsLawfulCaller caller }
     requires command { HasReadTrees command }
     ensures pass { KeepsPass turns.now pass.old pass.new }

@@ -3,7 +3,7 @@
 //! show is that each caller is answered as if it were alone.
 ghost use Rattle.std.specs.Prelude.{◌≡◌, None, All, IfOk, length};
 ghost use Rattle.lrs_in_memory_doors.specs.MemDoor.{out_of};
-ghost use Rattle.lrs_in_memory_doors.specs.MemLink.{IsUnused};
+ghost use Rattle.lrs_in_memory_doors.specs.MemLink.{IsUnusedLink};
 
 use crate::desks::{NOW, founded};
 use lrs_hall::lrs_machine::Desk;
@@ -98,7 +98,7 @@ fn told(alloc: Global, talk: &Talk) -> Result<String, Fail> {
 }
 
 fn link_of(alloc: Global, connection: u8) -> Result<MemLink, Fail>
-    ensures { IfOk result IsUnused }
+    ensures { IfOk result IsUnusedLink }
 {
     let input = stream(alloc, connection)?.as_bytes().to_vec(alloc)?;
     Ok(MemLink::new(alloc, input, Vec::new(alloc), 9_999, Vec::new(alloc))?)

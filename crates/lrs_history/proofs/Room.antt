@@ -10,27 +10,27 @@ use Rattle.lrs_journal.specs.Store.{need_told}
 use Rattle.lrs_record.specs.Entries.{written_entry}
 
 abbrev pub no_room : ℕ → ℕ → Entry → Answer
-no_room limit place e = only (refused (refusal.Full (need_told place (written_entry e)) limit))
+no_room limit offset e = only (refused (refusal.Full (need_told offset (written_entry e)) limit))
 
 abbrev pub kept_answer : Answered → Entry → Answer
 kept_answer t e = record { said = t; entry = Some e }
 
-pub room_is : (limit place : ℕ) (t : Answered) (e : Entry) → need place e ≤ limit → if_room limit place t e ≡ kept_answer t e
-room_is limit place t e fits = by_test (nat_lt limit (need place e)) refl
+pub room_is : (limit offset : ℕ) (t : Answered) (e : Entry) → need offset e ≤ limit → if_room limit offset t e ≡ kept_answer t e
+room_is limit offset t e fits = by_test (nat_lt limit (need offset e)) refl
   where
-    no : nat_lt limit (need place e) ≡ true → ⊥
+    no : nat_lt limit (need offset e) ≡ true → ⊥
     no is = grind (arith, common_steps)
 
-    by_test : (b : Bool) → nat_lt limit (need place e) ≡ b → (if b then no_room limit place e else kept_answer t e) ≡ kept_answer t e
+    by_test : (b : Bool) → nat_lt limit (need offset e) ≡ b → (if b then no_room limit offset e else kept_answer t e) ≡ kept_answer t e
     by_test true is = absurd (no is)
     by_test false is = refl
 
-pub full_is : (limit place : ℕ) (t : Answered) (e : Entry) → limit < need place e → if_room limit place t e ≡ no_room limit place e
-full_is limit place t e exceeds = by_test (nat_lt limit (need place e)) refl
+pub full_is : (limit offset : ℕ) (t : Answered) (e : Entry) → limit < need offset e → if_room limit offset t e ≡ no_room limit offset e
+full_is limit offset t e exceeds = by_test (nat_lt limit (need offset e)) refl
   where
-    no : nat_lt limit (need place e) ≡ false → ⊥
+    no : nat_lt limit (need offset e) ≡ false → ⊥
     no is = grind (arith, common_steps)
 
-    by_test : (b : Bool) → nat_lt limit (need place e) ≡ b → (if b then no_room limit place e else kept_answer t e) ≡ no_room limit place e
+    by_test : (b : Bool) → nat_lt limit (need offset e) ≡ b → (if b then no_room limit offset e else kept_answer t e) ≡ no_room limit offset e
     by_test true is = refl
     by_test false is = absurd (no is)

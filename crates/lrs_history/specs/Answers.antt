@@ -41,7 +41,7 @@ use Rattle.xapi_pages.specs.XapiStatementShown.{shown_text}
 abbrev pub acceptance_said : Acceptance → Answered → Answered
 acceptance_said Plain said = said
 acceptance_said (acceptance.Ids ids) said = Shown (ids_body ids) None
-acceptance_said (Provider place token) said = Shown (provider_body place token) None
+acceptance_said (Provider index token) said = Shown (provider_body index token) None
 acceptance_said (acceptance.Course id) said = Shown (course_body id) None
 acceptance_said (acceptance.Registration id) said = Shown (registration_body id) None
 acceptance_said (acceptance.Launch session method url) said = Shown (launch_body session method url) None

@@ -66,7 +66,7 @@ abbrev pub enrolling_as : State → Occasion → HeldRegistration → Effect
 enrolling_as st at r = enrolling_with at r
     (owed_made st (at.supply 1) (rest_of (rest_of at.supply)) at.moment [] (enrolled_as st r))
 
--- a learner is enrolled in the course of that place, if there is one; the registration's id is told
+-- a learner is enrolled in the course of that index, if there is one; the registration's id is told
 abbrev pub enrolling : State → Occasion → Agent → Option ℕ → Effect
 enrolling st at actor None = no_change at.moment
 enrolling st at actor (Some course) =

@@ -8,8 +8,8 @@ use Rattle.lrs_history.specs.Enrolments.{enrolled}
 use Rattle.lrs_history.specs.Launches.{target}
 use Rattle.lrs_history.specs.Made.{owed_made}
 use Rattle.lrs_history.specs.Whose.{authority_of, launch_of}
-use Rattle.lrs_state.specs.Courses.{place_of_course}
-use Rattle.lrs_state.specs.Launches.{key_under, place_of_session}
+use Rattle.lrs_state.specs.Courses.{index_of_course}
+use Rattle.lrs_state.specs.Launches.{key_under, index_of_session}
 use Rattle.lrs_state.specs.Providers.{unchanged_providers}
 use Rattle.lrs_state.specs.State.{State, no_change}
 use Rattle.lrs_state.specs.declared.acceptance.Acceptance.TheVariants as acceptance
@@ -71,7 +71,7 @@ keeping_all st at supply ns = record (keeping st at supply ns) { acceptance = ac
 
 -- ---- providers
 
--- a provider of that name with that token; its place and its token are told
+-- a provider of that name with that token; its index and its token are told
 abbrev pub making : State → ℕ → List ℕ → List ℕ → Effect
 making st moment name token = record (no_change moment) {
   providers = record unchanged_providers { new = Some (record { name = name; token = token }) };
@@ -108,12 +108,12 @@ effect_of st at (Post statements) =
 effect_of st at (write.State h key media bytes) = writing st at.moment h key media bytes
 effect_of st at (Drop activity agent registration state) = dropping st at.moment activity agent registration state
 effect_of st at (write.Course tree) = taking st at.moment (course_of tree)
-effect_of st at (Enrol course actor) = enrolling st at actor (place_of_course course st.courses)
+effect_of st at (Enrol course actor) = enrolling st at actor (index_of_course course st.courses)
 effect_of st at (write.Launch registration unit mode return_url) =
     launching st at mode return_url (target st registration unit)
 effect_of st at (Fetch key) = fetching st at (key_under key st.keys)
 effect_of st at (Waive registration unit reason) = waiving st at reason (target st registration unit)
-effect_of st at (Abandon session) = abandoning_one st at (place_of_session session st.launches)
+effect_of st at (Abandon session) = abandoning_one st at (index_of_session session st.launches)
 effect_of st at (Sweep idle) = sweeping st at idle
 
 abbrev pub effect : State → Entry → Effect

@@ -57,17 +57,17 @@ refused_or None said = said
 refused_or (Some refusal) said = refused refusal
 
 -- where the end gate stands after a history's frames
-abbrev pub end_place : ℕ → List Entry → ℕ
-end_place limit entries = length (store limit (map written_entry entries))
+abbrev pub end_offset : ℕ → List Entry → ℕ
+end_offset limit entries = length (store limit (map written_entry entries))
 
 -- the bytes that a file whose end gate stands there has with one entry more
 abbrev pub need : ℕ → Entry → ℕ
-need place e = need_at place (written_entry e)
+need offset e = need_at offset (written_entry e)
 
 -- if there is room for its entry, a write is accepted
 abbrev pub if_room : ℕ → ℕ → Answered → Entry → Answer
-if_room limit place said e =
-    if nat_lt limit (need place e) then only (refused (Full (need_told place (written_entry e)) limit))
+if_room limit offset said e =
+    if nat_lt limit (need offset e) then only (refused (Full (need_told offset (written_entry e)) limit))
     else record { said = said; entry = Some e }
 
 -- What is said to a write whatever room there is, or None if it is to have its entry: why it is refused, or what is
@@ -113,17 +113,17 @@ outcome st caller (command.Refused area status rule) clock draw =
     Said (refused_or (barred area (who_is st caller)) (refused (refused_with status rule)))
 
 abbrev pub answer_of : ℕ → ℕ → Outcome → Answer
-answer_of limit place (Said said) = only said
-answer_of limit place (Accepted e said) = if_room limit place said e
+answer_of limit offset (Said said) = only said
+answer_of limit offset (Accepted e said) = if_room limit offset said e
 
 -- the answer over a store of this limit whose end gate stands there
 abbrev pub answer_in : ℕ → ℕ → State → Caller → Command → ℕ → Draw → Answer
-answer_in limit place st caller command clock draw = answer_of limit place (outcome st caller command clock draw)
+answer_in limit offset st caller command clock draw = answer_of limit offset (outcome st caller command clock draw)
 
 -- The abstract store: what it answers a command over a history.
 abbrev pub answer : ℕ → List Entry → Caller → Command → ℕ → Draw → Answer
 answer limit entries caller command clock draw =
-    answer_in limit (end_place limit entries) (state entries) caller command clock draw
+    answer_in limit (end_offset limit entries) (state entries) caller command clock draw
 
 -- the history after an answer
 abbrev pub with_entry : List Entry → Option Entry → List Entry

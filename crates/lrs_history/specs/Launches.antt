@@ -1,6 +1,6 @@
 -- What a launch brings: the unit that it is of, its session, its statement and its data.
 use Rattle.std.specs.Prelude.{ℕ, List, [], ◌∷◌, Option, Some, option_and_then, option_map, slice_get, codes}
-use Rattle.cmi5_course.specs.Courses.{Course, place_of_unit, unit_at}
+use Rattle.cmi5_course.specs.Courses.{Course, index_of_unit, unit_at}
 use Rattle.cmi5_course.specs.Units.{AssignableUnit}
 use Rattle.cmi5_course.specs.declared.launch.Launch.{Launch}
 use Rattle.cmi5_course.specs.declared.launch.Mode.{Mode}
@@ -23,26 +23,26 @@ use Rattle.xapi_pages.specs.XapiStatementStored.{StoredStatement}
 
 -- ---- the unit
 
--- a unit of a registration's course, and its place among the nodes
+-- a unit of a registration's course, and its index among the nodes
 pub record Target : Type 0 where
   -- the address that the store's own names begin with
   pub base : List ℕ
   pub registration : HeldRegistration
-  pub place : ℕ
+  pub index : ℕ
   -- the id that its publisher gave it
   pub publisher : List ℕ
   pub unit : AssignableUnit
 
--- the unit of that place
+-- the unit of that index
 abbrev pub target_at : List ℕ → HeldRegistration → List ℕ → Course → ℕ → Option Target
-target_at base r publisher course place = option_map
-    (λ unit. record { base = base; registration = r; place = place; publisher = publisher; unit = unit })
-    (unit_at place course)
+target_at base r publisher course index = option_map
+    (λ unit. record { base = base; registration = r; index = index; publisher = publisher; unit = unit })
+    (unit_at index course)
 
 -- the unit of that id
 abbrev pub target_in : List ℕ → HeldRegistration → List ℕ → Course → Option Target
 target_in base r publisher course =
-    option_and_then (target_at base r publisher course) (place_of_unit publisher course)
+    option_and_then (target_at base r publisher course) (index_of_unit publisher course)
 
 abbrev pub target_of : State → List ℕ → HeldRegistration → Founding → Option Target
 target_of st publisher r founding =
@@ -60,7 +60,7 @@ target st registration publisher = option_and_then (target_under st registration
 
 -- the id under which the store knows the unit
 abbrev pub activity_at : Target → List ℕ
-activity_at t = activity_text t.base t.registration.course t.place
+activity_at t = activity_text t.base t.registration.course t.index
 
 -- ---- what comes of it
 

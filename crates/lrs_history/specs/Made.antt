@@ -33,11 +33,11 @@ left_behind supply (x ∷ xs) = left_behind (rest_of supply) xs
 
 -- that a node is satisfied, in that session
 abbrev pub satisfied_json : Enrolled → List ℕ → ℕ → Node → Json
-satisfied_json e session place node = saying_json (said_satisfied node.kind) e.registration.actor
-    (activity_of_node (enrolment_of e) place) node.id e.registration.id session
+satisfied_json e session index node = saying_json (said_satisfied node.kind) e.registration.actor
+    (activity_of_node (enrolment_of e) index) node.id e.registration.id session
 
 abbrev pub satisfied_at : Enrolled → List ℕ → ℕ → Option Json
-satisfied_at e session place = option_map (satisfied_json e session place) (node_at place e.course)
+satisfied_at e session index = option_map (satisfied_json e session index) (node_at index e.course)
 
 -- what is to be said behind these new statements, in that session
 abbrev pub owed_jsons : State → List ℕ → List StoredStatement → Enrolled → List Json

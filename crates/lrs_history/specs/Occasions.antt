@@ -28,7 +28,7 @@ given_in other = []
 abbrev pub supply_in : State → Write → Draw → Supply
 supply_in st write draw = supply_of (used_in st) (given_in write) draw.name
 
--- The token tells the place of the entry.
+-- The token tells the index of the entry.
 abbrev pub occasion : State → Entry → Occasion
 occasion st e = record {
   by = who_is st e.caller;

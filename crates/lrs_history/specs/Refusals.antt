@@ -40,8 +40,8 @@ use Rattle.lrs_history.specs.declared.admitting.TheConstants.{LONGEST_DOCUMENT, 
 use Rattle.lrs_json.specs.Json.{Json}
 use Rattle.lrs_json.specs.View.{view}
 use Rattle.lrs_json.specs.declared.tree.Tree.{Tree}
-use Rattle.lrs_state.specs.Courses.{course_under, place_of_course}
-use Rattle.lrs_state.specs.Launches.{key_under, place_of_session}
+use Rattle.lrs_state.specs.Courses.{course_under, index_of_course}
+use Rattle.lrs_state.specs.Launches.{key_under, index_of_session}
 use Rattle.lrs_state.specs.Learners.{is_learner}
 use Rattle.lrs_state.specs.Providers.{is_name}
 use Rattle.lrs_state.specs.State.{State}
@@ -178,11 +178,11 @@ unless_there (Some a) = None
 -- What a write speaks of isn't there: the course of an enrolment, the registration or the unit of a launch or a waiver,
 -- the key of a fetch, the session that is abandoned.
 abbrev pub missing : State → Write → Option Refusal
-missing st (Enrol course actor) = unless_there (place_of_course course st.courses)
+missing st (Enrol course actor) = unless_there (index_of_course course st.courses)
 missing st (write.Launch registration unit mode return_url) = unless_there (target st registration unit)
 missing st (Fetch key) = unless_there (key_under key st.keys)
 missing st (Waive registration unit reason) = unless_there (target st registration unit)
-missing st (Abandon session) = unless_there (place_of_session session st.launches)
+missing st (Abandon session) = unless_there (index_of_session session st.launches)
 missing st other = None
 
 -- ---- what a document meets in the store

@@ -16,7 +16,7 @@ use Rattle.lrs_rules.specs.declared.rule.Rule.TheVariants as rule
 
 -- ---- whether a session is closed
 
--- the session of the launch of that place was abandoned
+-- the session of the launch of that index was abandoned
 abbrev pub is_abandoned : State → ℕ → Bool
 is_abandoned st k = is_abandoned_in st.sessions k
 

@@ -4,7 +4,7 @@ use Rattle.lrs_command.specs.declared.who.Who.{Who}
 use Rattle.lrs_command.specs.declared.who.Who.TheVariants as who
 use Rattle.cmi5_course.specs.declared.launch.Launch.{Launch}
 use Rattle.lrs_state.specs.Launches.{launch_of_token}
-use Rattle.lrs_state.specs.Providers.{place_of_token}
+use Rattle.lrs_state.specs.Providers.{index_of_token}
 use Rattle.lrs_state.specs.Founding.{is_admin}
 use Rattle.lrs_state.specs.State.{State}
 use Rattle.lrs_record.specs.declared.entry.Caller.{Caller}
@@ -14,7 +14,7 @@ use Rattle.xapi_format.specs.declared.authority.Authority.TheVariants.{Admin, Pr
 use Rattle.xapi_pages.specs.XapiQuerySightSight.{Sight}
 use Rattle.xapi_pages.specs.XapiQuerySightSightTheVariants as sight
 
--- the provider of that place, or the session of that launch
+-- the provider of that index, or the session of that launch
 abbrev pub known_as : Option ℕ → Option ℕ → Who
 known_as (Some provider) launch = who.Provider provider
 known_as None (Some launch) = who.Session launch
@@ -23,7 +23,7 @@ known_as None None = who.Unknown
 -- whose the token is: the admin's, that of a provider, or that of a session
 abbrev pub who_presents : State → List ℕ → Who
 who_presents st token = if is_admin st.founding token then who.Admin
-    else known_as (place_of_token token st.providers) (launch_of_token token st.tokens)
+    else known_as (index_of_token token st.providers) (launch_of_token token st.tokens)
 
 -- what a store makes of a caller
 abbrev pub who_is : State → Caller → Who

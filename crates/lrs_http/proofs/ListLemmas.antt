@@ -7,7 +7,7 @@ use Rattle.httparse.specs.Grammar.{RequestHead, print_request, HasNoRequest}
 use Rattle.httparse.proofs.GrammarLemmas.{request_unique}
 use Rattle.lrs_http.specs.declared.request.Request.{Request}
 use Rattle.lrs_http.specs.declared.request.RequestRefused.{RequestRefused}
-use Rattle.lrs_http.specs.Stream.{Front, stands, blank, wrong, long, short, IsFront, IsNoHead, Item, IsItem, item_of, Spells, window, longest_head}
+use Rattle.lrs_http.specs.Stream.{Front, stands, blank, wrong, long, short, IsFront, IsNoHead, Item, IsItem, item_of, SpellsRequests, window, longest_head}
 use Rattle.lrs_http.specs.OneList.{OneItem, OneList}
 
 -- a head that stands at the front stands in the window
@@ -93,10 +93,10 @@ one_list most stream (r ∷ rs) [] x (Some f) p q = absurd (never_both stream r 
 one_list most stream (r ∷ rs) (s ∷ ss) x y p q =
     let next = same_next stream r s p.0 q.0 p.1 q.1 in
     let test : (s.closes || most == 1) ≡ (r.closes || most == 1) = ap (λ (t : Request). t.closes || most == 1) (sym next.0) in
-    let tail = go (r.closes || most == 1) p.2 (subst (λ (b : Bool). MatchBool b ((ss ≡ []) × (y ≡ None)) (Spells (most - 1) q.0 ss y)) test q.2) next.1 (λ u v. one_list (most - 1) q.0 rs ss x y u v) in
+    let tail = go (r.closes || most == 1) p.2 (subst (λ (b : Bool). MatchBool b ((ss ≡ []) × (y ≡ None)) (SpellsRequests (most - 1) q.0 ss y)) test q.2) next.1 (λ u v. one_list (most - 1) q.0 rs ss x y u v) in
     ((λ i. next.0 i ∷ tail.0 i), tail.1)
   where
-    go : (b : Bool) → MatchBool b ((rs ≡ []) × (x ≡ None)) (Spells (most - 1) p.0 rs x) → MatchBool b ((ss ≡ []) × (y ≡ None)) (Spells (most - 1) q.0 ss y) → p.0 ≡ q.0
-        → (Spells (most - 1) q.0 rs x → Spells (most - 1) q.0 ss y → (rs ≡ ss) × (x ≡ y)) → (rs ≡ ss) × (x ≡ y)
+    go : (b : Bool) → MatchBool b ((rs ≡ []) × (x ≡ None)) (SpellsRequests (most - 1) p.0 rs x) → MatchBool b ((ss ≡ []) × (y ≡ None)) (SpellsRequests (most - 1) q.0 ss y) → p.0 ≡ q.0
+        → (SpellsRequests (most - 1) q.0 rs x → SpellsRequests (most - 1) q.0 ss y → (rs ≡ ss) × (x ≡ y)) → (rs ≡ ss) × (x ≡ y)
     go true u v e rest = (u.0 ∙ sym v.0, u.1 ∙ sym v.1)
-    go false u v e rest = rest (subst (λ (l : List ℕ). Spells (most - 1) l rs x) e u) v
+    go false u v e rest = rest (subst (λ (l : List ℕ). SpellsRequests (most - 1) l rs x) e u) v

@@ -37,7 +37,7 @@ sends_more a b r t u first = (first.0, sym (append_assoc first.0 r b) ∙ ap (λ
 pub sends_then : (a b r q : List ℕ) (t u v : Option (List ℕ)) → Sends a r t u → Sends (r ++ b) q u v → Sends (a ++ b) q t v
 sends_then a b r q t u v first second = sends_on (a ++ b) (r ++ b) q t u v (sends_more a b r t u first) second
 
--- a piece of a text that begins at a place
+-- a piece of a text that begins at an offset
 pub sends_piece : (bytes piece : List ℕ) (done n : ℕ) (t u : Option (List ℕ)) → piece ≡ drop done bytes
     → u ≡ option_map (λ taken. taken ++ take n piece) t → Sends (drop done bytes) (drop (done + n) bytes) t u
 sends_piece bytes piece done n t u is taken = (

@@ -80,10 +80,10 @@ most_requests = MOST_REQUESTS
 
 -- The requests of a stream, one after the other, and how they end: by a refusal, or with none if the last request is
 -- one that ends the connection.
-abbrev pub Spells : ℕ → List ℕ → List Request → Option RequestRefused → Type 0
-Spells most stream [] None = ⊥
-Spells most stream [] (Some refusal) = IsItem stream (Err refusal)
-Spells most stream (request ∷ requests) ending =
+abbrev pub SpellsRequests : ℕ → List ℕ → List Request → Option RequestRefused → Type 0
+SpellsRequests most stream [] None = ⊥
+SpellsRequests most stream [] (Some refusal) = IsItem stream (Err refusal)
+SpellsRequests most stream (request ∷ requests) ending =
     (rest : List ℕ) × IsItem stream (Ok (request, rest))
     × MatchBool (request.closes || most == 1) ((requests ≡ []) × (ending ≡ None))
-    (Spells (most - 1) rest requests ending)
+    (SpellsRequests (most - 1) rest requests ending)

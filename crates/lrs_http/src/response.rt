@@ -35,9 +35,9 @@ struct Output {
 
 fn write_from<L: Link>(link: &mut L, bytes: &[u8], done: usize) -> Result<usize, Failed>
     requires { done < length bytes.now }
-    ensures more { IfOk result (λ place. (done < place) × (place ≤ length bytes.now)) }
+    ensures more { IfOk result (λ offset. (done < offset) × (offset ≤ length bytes.now)) }
     ensures taken { IfOk result
-        (λ place. Sends (drop done bytes.now) (drop place bytes.now) (L.taken link.old) (L.taken link.new)) }
+        (λ offset. Sends (drop done bytes.now) (drop offset bytes.now) (L.taken link.old) (L.taken link.new)) }
     ensures failed { OnErr result (L.taken link.new ≡ L.taken link.old) }
     ensures left_kept { L.left link.new ≡ L.left link.old }
     ensures stream_kept { L.stream link.new ≡ L.stream link.old }

@@ -10,7 +10,7 @@ use Rattle.std.proofs.lemmas.Bool.{cases_lt, false≢true, or_cases}
 use Rattle.std.proofs.lemmas.Cmp.{nat_list_eq_equiv}
 use Rattle.std.proofs.lemmas.Map.Made.{length-le_from_is_member}
 use Rattle.std.proofs.lemmas.Map.Text.{is_eq-slice_cmp}
-use Rattle.lrs_ids.specs.Fresh.{IsFresh}
+use Rattle.lrs_ids.specs.Fresh.{IsFreshId}
 use Rattle.lrs_names.specs.Ids.{bits_of, id_of_word}
 use Rattle.lrs_names.specs.Members.{is_one_of}
 use Rattle.lrs_names.proofs.WordBytes.{same_remainder}
@@ -89,5 +89,5 @@ not_all_used ids w n small more all =
     sym (is_one_of-is_member ids q) ∙ ap (λ id. is_one_of ids id) found.2 ∙ all.used found.0 found.1) in
     omega (arith, fits, length-row w n)
 
-pub first_fresh : (ids : List (List ℕ)) (w n : ℕ) (id : List ℕ) → AllUsed ids w n → id ≡ id_of_word (w % WORDS + n) → is_one_of ids id ≡ false → IsFresh ids w id
+pub first_fresh : (ids : List (List ℕ)) (w n : ℕ) (id : List ℕ) → AllUsed ids w n → id ≡ id_of_word (w % WORDS + n) → is_one_of ids id ≡ false → IsFreshId ids w id
 first_fresh ids w n id all made unused = record { skipped = n; made = made ∙ id_of_word-mod w n; unused = unused; earlier = all.used }

@@ -8,14 +8,14 @@ use Rattle.std.proofs.lemmas.List.Elements.{All-append, All-drop, All-take}
 use Rattle.std.proofs.lemmas.List.Folds.{find_at}
 use Rattle.std.proofs.lemmas.Option.{slice_get_read, slice_get_past, slice_get-get_or}
 
-pub found : {X : Type 0} (p : X → Bool) (xs : List X) (place : ℕ) (x : X) → place ≡ position_or_len p xs → place < length xs → x ≡ get_or xs place x → find p xs ≡ Some x
-found p xs place x is lt at = find_at p xs ∙ ap (slice_get xs) (sym is) ∙ slice_get_read xs (length xs) place x refl lt at
+pub found : {X : Type 0} (p : X → Bool) (xs : List X) (offset : ℕ) (x : X) → offset ≡ position_or_len p xs → offset < length xs → x ≡ get_or xs offset x → find p xs ≡ Some x
+found p xs offset x is lt at = find_at p xs ∙ ap (slice_get xs) (sym is) ∙ slice_get_read xs (length xs) offset x refl lt at
 
 pub not_none : {X : Type 0} {A : Type 0} (o : Option X) (x : X) → o ≡ Some x → IsNone o → A
 not_none o x some none = absurd (cc (subst IsNone some none))
 
-pub missing : {X : Type 0} (p : X → Bool) (xs : List X) (place : ℕ) → place ≡ position_or_len p xs → length xs ≤ place → find p xs ≡ None
-missing p xs place is le = find_at p xs ∙ ap (slice_get xs) (sym is) ∙ slice_get_past xs place le
+pub missing : {X : Type 0} (p : X → Bool) (xs : List X) (offset : ℕ) → offset ≡ position_or_len p xs → length xs ≤ offset → find p xs ≡ None
+missing p xs offset is le = find_at p xs ∙ ap (slice_get xs) (sym is) ∙ slice_get_past xs offset le
 
 pub remove_past : {X : Type 0} (xs : List X) (i : ℕ) → length xs ≤ i → remove xs i ≡ xs
 remove_past xs i le = ap (λ l. l ++ drop (suc i) xs) (take_all i xs le) ∙ ap (λ l. xs ++ l) (drop_all (suc i) xs (omega arith)) ∙ append-nil xs

@@ -60,16 +60,16 @@ time_same old new first now later same kept fits is =
     }
 
 -- a write that reached the disk is one that was torn
-pub torn_whole : (place : ℕ) (read bytes : List ℕ) → place ≤ length read → Torn place (length bytes) read (written read place bytes)
-torn_whole place read bytes le =
-    let front : length (take place read) ≡ place = omega (arith, length-take place read) in
-    let both : length (take place read ++ bytes) ≡ place + length bytes = omega (arith, front, length-append (take place read) bytes) in
-    let back = drop (place + length bytes) read in
+pub torn_whole : (offset : ℕ) (read bytes : List ℕ) → offset ≤ length read → Torn offset (length bytes) read (written read offset bytes)
+torn_whole offset read bytes le =
+    let front : length (take offset read) ≡ offset = omega (arith, length-take offset read) in
+    let both : length (take offset read ++ bytes) ≡ offset + length bytes = omega (arith, front, length-append (take offset read) bytes) in
+    let back = drop (offset + length bytes) read in
     record {
-      before = ap (λ (l : List ℕ). take place l) (append_assoc (take place read) bytes back) ∙ take_at (take place read) (bytes ++ back) place front;
-      after = drop_at (take place read ++ bytes) back (place + length bytes) both;
-      no_shorter = omega (arith, both, length-append (take place read ++ bytes) back, length-drop (place + length bytes) read);
-      no_longer = omega (arith, both, length-append (take place read ++ bytes) back, length-drop (place + length bytes) read);
+      before = ap (λ (l : List ℕ). take offset l) (append_assoc (take offset read) bytes back) ∙ take_at (take offset read) (bytes ++ back) offset front;
+      after = drop_at (take offset read ++ bytes) back (offset + length bytes) both;
+      no_shorter = omega (arith, both, length-append (take offset read ++ bytes) back, length-drop (offset + length bytes) read);
+      no_longer = omega (arith, both, length-append (take offset read ++ bytes) back, length-drop (offset + length bytes) read);
     }
 
 pub cut_whole : (to : ℕ) (read : List ℕ) → Cut to read (take to read)
@@ -106,13 +106,13 @@ kept_within old new first may c left = ⊎_elim (λ same. same) (λ same. same) 
 pub looked_within : (old new : List Step) (first : List ℕ) → new ≡ old ++ Nothing ∷ [] → Within (IsImage old first) (IsImage new first)
 looked_within old new first more c left = images_push old new first Nothing more c left
 
-pub kept_write : (old new : List Step) (first : List ℕ) (place : ℕ) (bytes : List ℕ) → MayAdd old new (FailedWrite place bytes) → Follows (Torn place (length bytes)) (IsImage old first) (IsImage new first)
-kept_write old new first place bytes may c left = ⊎_elim (λ torn. torn) (λ same. (c, same, torn_nothing place (length bytes) c)) (kept_images old new first (FailedWrite place bytes) may c left)
+pub kept_write : (old new : List Step) (first : List ℕ) (offset : ℕ) (bytes : List ℕ) → MayAdd old new (FailedWrite offset bytes) → Follows (Torn offset (length bytes)) (IsImage old first) (IsImage new first)
+kept_write old new first offset bytes may c left = ⊎_elim (λ torn. torn) (λ same. (c, same, torn_nothing offset (length bytes) c)) (kept_images old new first (FailedWrite offset bytes) may c left)
 
-pub wrote_follows : (old new : List Step) (first : List ℕ) (place : ℕ) (bytes : List ℕ) → place ≤ length (reads_after old first) → new ≡ old ++ Wrote place bytes ∷ [] → Follows (Torn place (length bytes)) (IsImage old first) (IsImage new first)
-wrote_follows old new first place bytes le more c left = ⊎_elim
-    (λ is. (reads_after old first, reads_image old first (reads_after old first) refl, subst (Torn place (length bytes) (reads_after old first)) (sym is) (torn_whole place (reads_after old first) bytes le)))
-    (λ torn. torn) (images_push old new first (Wrote place bytes) more c left)
+pub wrote_follows : (old new : List Step) (first : List ℕ) (offset : ℕ) (bytes : List ℕ) → offset ≤ length (reads_after old first) → new ≡ old ++ Wrote offset bytes ∷ [] → Follows (Torn offset (length bytes)) (IsImage old first) (IsImage new first)
+wrote_follows old new first offset bytes le more c left = ⊎_elim
+    (λ is. (reads_after old first, reads_image old first (reads_after old first) refl, subst (Torn offset (length bytes) (reads_after old first)) (sym is) (torn_whole offset (reads_after old first) bytes le)))
+    (λ torn. torn) (images_push old new first (Wrote offset bytes) more c left)
 
 pub kept_cut : (old new : List Step) (first : List ℕ) (to : ℕ) → MayAdd old new (FailedCut to) → Follows (Cut to) (IsImage old first) (IsImage new first)
 kept_cut old new first to may c left = ⊎_elim (λ torn. torn) (λ same. (c, same, cut_nothing to c)) (kept_images old new first (FailedCut to) may c left)
@@ -125,14 +125,14 @@ cut_follows old new first to more c left = ⊎_elim
 pub synced_within : (old new : List Step) (first : List ℕ) → new ≡ old ++ Synced ∷ [] → Within (IsImage old first) (IsImage new first)
 synced_within old new first more c left = reads_image old first c (images_push old new first Synced more c left)
 
-torn_if : (place n : ℕ) (bytes left : List ℕ) (b : Bool) → nat_le place (length left) ≡ b → length bytes ≡ n → Torn place n left (if b then written left place bytes else left)
-torn_if place n bytes left true le size = subst (λ (k : ℕ). Torn place k left (written left place bytes)) size (torn_whole place left bytes (leb-true place (length left) le))
-torn_if place n bytes left false le size = torn_nothing place n left
+torn_if : (offset n : ℕ) (bytes left : List ℕ) (b : Bool) → nat_le offset (length left) ≡ b → length bytes ≡ n → Torn offset n left (if b then written left offset bytes else left)
+torn_if offset n bytes left true le size = subst (λ (k : ℕ). Torn offset k left (written left offset bytes)) size (torn_whole offset left bytes (leb-true offset (length left) le))
+torn_if offset n bytes left false le size = torn_nothing offset n left
 
-torn_write_is : (pending : Pending) (place : ℕ) (bytes left : List ℕ) → Torn place (length bytes) left (torn_write pending place bytes left)
-torn_write_is pendings.Lost place bytes left = torn_nothing place (length bytes) left
-torn_write_is pendings.Landed place bytes left = torn_if place (length bytes) bytes left (nat_le place (length left)) refl refl
-torn_write_is (pendings.Torn byte) place bytes left = torn_if place (length bytes) (replicate (length bytes) byte) left (nat_le place (length left)) refl (length-replicate (length bytes) byte)
+torn_write_is : (pending : Pending) (offset : ℕ) (bytes left : List ℕ) → Torn offset (length bytes) left (torn_write pending offset bytes left)
+torn_write_is pendings.Lost offset bytes left = torn_nothing offset (length bytes) left
+torn_write_is pendings.Landed offset bytes left = torn_if offset (length bytes) bytes left (nat_le offset (length left)) refl refl
+torn_write_is (pendings.Torn byte) offset bytes left = torn_if offset (length bytes) (replicate (length bytes) byte) left (nat_le offset (length left)) refl (length-replicate (length bytes) byte)
 
 torn_cut_is : (pending : Pending) (to : ℕ) (left : List ℕ) → Cut to left (torn_cut pending to left)
 torn_cut_is pendings.Lost to left = cut_nothing to left
@@ -141,8 +141,8 @@ torn_cut_is (pendings.Torn byte) to left = cut_whole to left
 
 image_after_is : (pending : Pending) (step : Step) (read left : List ℕ) (old : List ℕ → Type 0) → old left → Leaves step read old (image_after pending step read left)
 image_after_is pending Nothing read left old was = was
-image_after_is pending (Wrote place bytes) read left old was = inr (left, was, torn_write_is pending place bytes left)
-image_after_is pending (FailedWrite place bytes) read left old was = (left, was, torn_write_is pending place bytes left)
+image_after_is pending (Wrote offset bytes) read left old was = inr (left, was, torn_write_is pending offset bytes left)
+image_after_is pending (FailedWrite offset bytes) read left old was = (left, was, torn_write_is pending offset bytes left)
 image_after_is pending (CutTo to) read left old was = inr (left, was, torn_cut_is pending to left)
 image_after_is pending (FailedCut to) read left old was = (left, was, torn_cut_is pending to left)
 image_after_is pending Synced read left old was = refl
@@ -152,8 +152,8 @@ pub crash_image_is : (pending : Pending) (steps : List Step) (read left : List �
 crash_image_is pending [] read left old was = was
 crash_image_is pending (step ∷ steps) read left old was = crash_image_is pending steps (read_after step read) (image_after pending step read left) (Leaves step read old) (image_after_is pending step read left old was)
 
-pub length-written : (place : ℕ) (read bytes : List ℕ) → place ≤ length read → length (written read place bytes) ≤ length read + length bytes
-length-written place read bytes le = omega (arith, (torn_whole place read bytes le).no_longer)
+pub length-written : (offset : ℕ) (read bytes : List ℕ) → offset ≤ length read → length (written read offset bytes) ≤ length read + length bytes
+length-written offset read bytes le = omega (arith, (torn_whole offset read bytes le).no_longer)
 
 -- each image after a sync is what a read gives
 pub synced_is : (old new : List Step) (first : List ℕ) → new ≡ old ++ Synced ∷ [] → (c : List ℕ) → IsImage new first c → c ≡ reads_after new first

@@ -9,14 +9,14 @@ use Rattle.lrs_in_memory.specs.declared.call.Call.{Call}
 -- of an act over these bytes
 abbrev pub made : Act → List ℕ → Step
 made acts.Look bytes = Nothing
-made (acts.Write place) bytes = Wrote place bytes
+made (acts.Write offset) bytes = Wrote offset bytes
 made (acts.Cut to) bytes = CutTo to
 made acts.Sync bytes = Synced
 
 -- of an act that failed
 abbrev pub tried : Act → List ℕ → Step
 tried acts.Look bytes = Nothing
-tried (acts.Write place) bytes = FailedWrite place bytes
+tried (acts.Write offset) bytes = FailedWrite offset bytes
 tried (acts.Cut to) bytes = FailedCut to
 tried acts.Sync bytes = Nothing
 

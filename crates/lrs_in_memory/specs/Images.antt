@@ -6,8 +6,8 @@ use Rattle.lrs_disk.specs.Disk.{Torn, Cut}
 use Rattle.lrs_in_memory.specs.Steps.{Step, Nothing, Wrote, FailedWrite, CutTo, FailedCut, Synced, read_after}
 use Rattle.lrs_in_memory.specs.Steps.{reads_after, Leaves, AllLeave, IsImage, IsImageSince}
 
-pub torn_nothing : (place n : ℕ) (c : List ℕ) → Torn place n c c
-torn_nothing place n c = record { before = refl; after = refl; no_shorter = omega arith; no_longer = omega arith }
+pub torn_nothing : (offset n : ℕ) (c : List ℕ) → Torn offset n c c
+torn_nothing offset n c = record { before = refl; after = refl; no_shorter = omega arith; no_longer = omega arith }
 
 pub cut_nothing : (n : ℕ) (c : List ℕ) → Cut n c c
 cut_nothing n c = record { no_shorter = omega arith; front = take_all (length c) c (omega arith) }
@@ -15,8 +15,8 @@ cut_nothing n c = record { no_shorter = omega arith; front = take_all (length c)
 leaves_read : (step : Step) (read : List ℕ) (old : List ℕ → Type 0) → old read
     → Leaves step read old (read_after step read)
 leaves_read Nothing read old here = here
-leaves_read (Wrote place bytes) read old here = inl refl
-leaves_read (FailedWrite place bytes) read old here = (read, here, torn_nothing place (length bytes) read)
+leaves_read (Wrote offset bytes) read old here = inl refl
+leaves_read (FailedWrite offset bytes) read old here = (read, here, torn_nothing offset (length bytes) read)
 leaves_read (CutTo to) read old here = inl refl
 leaves_read (FailedCut to) read old here = (read, here, cut_nothing to read)
 leaves_read Synced read old here = refl

@@ -16,8 +16,8 @@ pub data Step : Type 0 where
 -- what a read gives after a step
 abbrev pub read_after : Step → List ℕ → List ℕ
 read_after Nothing read = read
-read_after (Wrote place bytes) read = written read place bytes
-read_after (FailedWrite place bytes) read = read
+read_after (Wrote offset bytes) read = written read offset bytes
+read_after (FailedWrite offset bytes) read = read
 read_after (CutTo to) read = take to read
 read_after (FailedCut to) read = read
 read_after Synced read = read
@@ -33,8 +33,8 @@ From old R c = (d : List ℕ) × old d × R d c
 -- the images after a step, if these were the images before it and this is what a read gave
 abbrev pub Leaves : Step → List ℕ → (List ℕ → Type 0) → List ℕ → Type 0
 Leaves Nothing read old c = old c
-Leaves (Wrote place bytes) read old c = (c ≡ written read place bytes) ⊎ From old (Torn place (length bytes)) c
-Leaves (FailedWrite place bytes) read old c = From old (Torn place (length bytes)) c
+Leaves (Wrote offset bytes) read old c = (c ≡ written read offset bytes) ⊎ From old (Torn offset (length bytes)) c
+Leaves (FailedWrite offset bytes) read old c = From old (Torn offset (length bytes)) c
 Leaves (CutTo to) read old c = (c ≡ take to read) ⊎ From old (Cut to) c
 Leaves (FailedCut to) read old c = From old (Cut to) c
 Leaves Synced read old c = c ≡ read
@@ -57,10 +57,10 @@ MayAdd old new step = (new ≡ old ++ step ∷ []) ⊎ (new ≡ old ++ Nothing �
 
 -- a write of which nothing reached the disk, or all of it, or all of its range with another byte
 abbrev pub torn_write : Pending → ℕ → List ℕ → List ℕ → List ℕ
-torn_write pendings.Lost place bytes left = left
-torn_write pendings.Landed place bytes left = if nat_le place (length left) then written left place bytes else left
-torn_write (pendings.Torn byte) place bytes left =
-    if nat_le place (length left) then written left place (replicate (length bytes) byte) else left
+torn_write pendings.Lost offset bytes left = left
+torn_write pendings.Landed offset bytes left = if nat_le offset (length left) then written left offset bytes else left
+torn_write (pendings.Torn byte) offset bytes left =
+    if nat_le offset (length left) then written left offset (replicate (length bytes) byte) else left
 
 -- a cut that was undone, or not
 abbrev pub torn_cut : Pending → ℕ → List ℕ → List ℕ
@@ -70,8 +70,8 @@ torn_cut (pendings.Torn byte) to left = take to left
 
 abbrev pub image_after : Pending → Step → List ℕ → List ℕ → List ℕ
 image_after pending Nothing read left = left
-image_after pending (Wrote place bytes) read left = torn_write pending place bytes left
-image_after pending (FailedWrite place bytes) read left = torn_write pending place bytes left
+image_after pending (Wrote offset bytes) read left = torn_write pending offset bytes left
+image_after pending (FailedWrite offset bytes) read left = torn_write pending offset bytes left
 image_after pending (CutTo to) read left = torn_cut pending to left
 image_after pending (FailedCut to) read left = torn_cut pending to left
 image_after pending Synced read left = read

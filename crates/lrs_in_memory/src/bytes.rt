@@ -7,17 +7,17 @@ use crate::call::{Act, Call, Pending};
 use std::alloc::{AllocError, Global};
 
 // Writes over what is there, and past the end. With room for it, no memory is taken.
-pub(crate) fn overwrite(bytes: &mut Vec<u8>, place: u64, piece: &[u8]) -> Result<(), AllocError>
-    ensures written { OnOk result (bytes.new.items ≡ written bytes.old.items place piece.now) }
+pub(crate) fn overwrite(bytes: &mut Vec<u8>, offset: u64, piece: &[u8]) -> Result<(), AllocError>
+    ensures written { OnOk result (bytes.new.items ≡ written bytes.old.items offset piece.now) }
     ensures capacity { vec_capacity bytes.old ≤ vec_capacity bytes.new }
-    ensures room { place ≤ length bytes.old.items → place + length piece.now ≤ vec_capacity bytes.old → IsOk result }
+    ensures room { offset ≤ length bytes.old.items → offset + length piece.now ≤ vec_capacity bytes.old → IsOk result }
 {
-    let place = place.min(bytes.len() as u64) as usize;
-    if piece.len() <= bytes.len() - place {
-        bytes[place..place + piece.len()].copy_from_slice(piece);
+    let offset = offset.min(bytes.len() as u64) as usize;
+    if piece.len() <= bytes.len() - offset {
+        bytes[offset..offset + piece.len()].copy_from_slice(piece);
         return Ok(());
     }
-    bytes.truncate(place);
+    bytes.truncate(offset);
     bytes.extend_from_slice(piece)
 }
 
@@ -35,7 +35,7 @@ fn read_on(read: &mut Vec<u8>, call: Call, piece: &[u8]) -> Result<(), AllocErro
             cut_back(read, to);
             Ok(())
         }
-        Act::Write { place } => overwrite(read, place, piece),
+        Act::Write { offset } => overwrite(read, offset, piece),
     }
 }
 
@@ -49,22 +49,22 @@ fn cut_back(bytes: &mut Vec<u8>, to: u64)
 fn tear(
     alloc: Global,
     left: &mut Vec<u8>,
-    place: u64,
+    offset: u64,
     piece: &[u8],
     pending: Pending,
 ) -> Result<(), AllocError>
-    ensures { OnOk result (left.new.items ≡ torn_write pending place piece.now left.old.items) }
+    ensures { OnOk result (left.new.items ≡ torn_write pending offset piece.now left.old.items) }
 {
-    if place > left.len() as u64 {
+    if offset > left.len() as u64 {
         return Ok(());
     }
     match pending {
         Pending::Lost => Ok(()),
-        Pending::Landed => overwrite(left, place, piece),
+        Pending::Landed => overwrite(left, offset, piece),
         Pending::Torn(byte) => {
             let mut other = Vec::new(alloc);
             other.resize(piece.len(), byte)?;
-            overwrite(left, place, &other)
+            overwrite(left, offset, &other)
         }
     }
 }
@@ -95,7 +95,7 @@ fn leave(
             }
             Ok(())
         }
-        Act::Write { place } => tear(alloc, left, place, piece, pending),
+        Act::Write { offset } => tear(alloc, left, offset, piece, pending),
     }
 }
 

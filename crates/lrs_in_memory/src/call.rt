@@ -13,7 +13,7 @@ pub enum Pending {
 #[derive(Clone, Copy)]
 pub(crate) enum Act {
     Look,
-    Write { place: u64 },
+    Write { offset: u64 },
     Cut { to: u64 },
     Sync,
 }

@@ -123,10 +123,10 @@ impl Disk for MemDisk {
         Ok(self.bytes.len() as u64)
     }
 
-    fn read_at(&mut self, place: u64, into: &mut [u8]) -> Result<usize, Failed>
+    fn read_at(&mut self, offset: u64, into: &mut [u8]) -> Result<usize, Failed>
         ensures room { IfOk result (λ n. n ≤ length into.old) }
-        ensures number { IfOk result (λ n. n ≡ min (length into.old) (length (bytes_of self.old) - place)) }
-        ensures bytes { IfOk result (λ n. take n into.new ≡ take n (drop place (bytes_of self.old))) }
+        ensures number { IfOk result (λ n. n ≡ min (length into.old) (length (bytes_of self.old) - offset)) }
+        ensures bytes { IfOk result (λ n. take n into.new ≡ take n (drop offset (bytes_of self.old))) }
         ensures still { bytes_of self.new ≡ bytes_of self.old }
         ensures crash { Within (Leaves self.old) (Leaves self.new) }
         ensures time { Elapses (moment_of self.old) (moment_of self.new) (LeavesSince self.old) (LeavesSince self.new)
@@ -135,22 +135,22 @@ impl Disk for MemDisk {
         ensures takes { Takes self.old self.new Nothing Nothing 0 result }
     {
         self.ledger.enter(Act::Look, &[])?;
-        Ok(copied(&self.bytes, place, into))
+        Ok(copied(&self.bytes, offset, into))
     }
 
-    fn write_at(&mut self, place: u64, bytes: &[u8]) -> Result<(), Failed>
-        requires { place ≤ length (bytes_of self.old) }
-        ensures written { OnOk result (bytes_of self.new ≡ written (bytes_of self.old) place bytes.now) }
+    fn write_at(&mut self, offset: u64, bytes: &[u8]) -> Result<(), Failed>
+        requires { offset ≤ length (bytes_of self.old) }
+        ensures written { OnOk result (bytes_of self.new ≡ written (bytes_of self.old) offset bytes.now) }
         ensures failed { OnErr result (bytes_of self.new ≡ bytes_of self.old) }
-        ensures crash { Follows (Torn place (length bytes.now)) (Leaves self.old) (Leaves self.new) }
+        ensures crash { Follows (Torn offset (length bytes.now)) (Leaves self.old) (Leaves self.new) }
         ensures time { Elapses (moment_of self.old) (moment_of self.new) (LeavesSince self.old) (LeavesSince self.new)
             (Leaves self.new) }
         ensures cause { HasCause (faults_of self.old) (faults_of self.new) result }
-        ensures takes { Takes self.old self.new (Wrote place bytes.now) (FailedWrite place bytes.now) (length bytes.now)
+        ensures takes { Takes self.old self.new (Wrote offset bytes.now) (FailedWrite offset bytes.now) (length bytes.now)
             result }
     {
-        self.ledger.enter(Act::Write { place }, bytes)?;
-        overwrite(&mut self.bytes, place, bytes).unwrap();
+        self.ledger.enter(Act::Write { offset }, bytes)?;
+        overwrite(&mut self.bytes, offset, bytes).unwrap();
         Ok(())
     }
 

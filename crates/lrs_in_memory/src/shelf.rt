@@ -84,12 +84,12 @@ fn note(taken: &mut Option<Vec<String>>, name: &str)
 }
 
 // Where the first disk of a name lies, or the number of disks.
-fn place_of(disks: &[(String, MemDisk)], name: &str) -> usize
+fn index_of(disks: &[(String, MemDisk)], name: &str) -> usize
     ensures { result ≡ position_or_len (is_named name.now) disks.now }
 {
-    for (place, entry) in disks.iter().enumerate() {
+    for (index, entry) in disks.iter().enumerate() {
         if entry.0.as_str() == name {
-            return place;
+            return index;
         }
     }
     disks.len()
@@ -109,9 +109,9 @@ fn take_named(
     ensures settled { All (λ entry. IsSettled entry.1) disks.old.items → All IsSettled spare.old.items
         → IfSome result IsSettled }
 {
-    let place = place_of(disks, name);
-    if place < disks.len() {
-        let (_, disk) = disks.remove(place);
+    let index = index_of(disks, name);
+    if index < disks.len() {
+        let (_, disk) = disks.remove(index);
         return Some(disk);
     }
     spare.pop()

@@ -4,4 +4,4 @@ use Rattle.lrs_in_memory_doors.specs.declared.input.Input.{Input}
 
 -- what is left to read
 abbrev pub left_of : Input → List ℕ
-left_of i = drop i.place i.bytes.items
+left_of i = drop i.offset i.bytes.items

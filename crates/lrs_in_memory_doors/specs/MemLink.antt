@@ -8,8 +8,8 @@ abbrev pub stream_of : MemLink → List ℕ
 stream_of l = l.input.bytes.items
 
 -- how much of it was read
-abbrev pub place_of : MemLink → ℕ
-place_of l = l.input.place
+abbrev pub offset_of : MemLink → ℕ
+offset_of l = l.input.offset
 
 -- where reads end
 abbrev pub cuts_of : MemLink → List ℕ
@@ -17,7 +17,7 @@ cuts_of l = l.input.cuts.items
 
 -- what is left to read
 abbrev pub left_of : MemLink → List ℕ
-left_of l = drop (place_of l) (stream_of l)
+left_of l = drop (offset_of l) (stream_of l)
 
 -- what it took
 abbrev pub taken_of : MemLink → List ℕ
@@ -39,14 +39,14 @@ abbrev pub faults_of : MemLink → ℕ
 faults_of l = l.plan.faults
 
 -- the same link, whatever was read and written
-pub record IsSame (old new : MemLink) : Type 0 where
+pub record IsSameLink (old new : MemLink) : Type 0 where
   pub stream : stream_of new ≡ stream_of old
   pub cuts : cuts_of new ≡ cuts_of old
   pub name : name_of new ≡ name_of old
 
 -- nothing was read of it, nothing was written to it, and no call has failed
-pub record IsUnused (l : MemLink) : Type 0 where
-  pub unread : place_of l ≡ 0
+pub record IsUnusedLink (l : MemLink) : Type 0 where
+  pub unread : offset_of l ≡ 0
   pub unwritten : taken_of l ≡ []
   pub unfailed : faults_of l ≡ 0
 

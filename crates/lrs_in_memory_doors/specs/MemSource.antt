@@ -8,8 +8,8 @@ abbrev pub input_of : MemSource → List ℕ
 input_of s = s.input.bytes.items
 
 -- how much of it was read
-abbrev pub place_of : MemSource → ℕ
-place_of s = s.input.place
+abbrev pub offset_of : MemSource → ℕ
+offset_of s = s.input.offset
 
 -- where reads end
 abbrev pub cuts_of : MemSource → List ℕ
@@ -17,7 +17,7 @@ cuts_of s = s.input.cuts.items
 
 -- what is left to read
 abbrev pub left_of : MemSource → List ℕ
-left_of s = drop (place_of s) (input_of s)
+left_of s = drop (offset_of s) (input_of s)
 
 abbrev pub schedule_of : MemSource → Schedule
 schedule_of s = record { failing = s.plan.failing.items; number = s.plan.number }

@@ -1,7 +1,7 @@
 ghost use Rattle.std.specs.Prelude.{◌≡◌, ◌≤◌, ◌+◌, ◌-◌, ◌^◌, ◌↔◌, ◌++◌, ◌∷◌, [], Some, None, All, length, min, option_to_list, vec_capacity, IfOk};
 ghost use Rattle.lrs_in_memory_doors.specs.Clock.{reading_at};
 ghost use Rattle.lrs_disk.specs.Door.{IfJoined, Brings, HasNextCause, name_joined, is_closed, link_returned, with_returned, IsFailed};
-ghost use Rattle.lrs_in_memory_doors.specs.MemLink.{IsUnused};
+ghost use Rattle.lrs_in_memory_doors.specs.MemLink.{IsUnusedLink};
 ghost use Rattle.lrs_disk.specs.Readings.{AddsReading};
 ghost use Rattle.lrs_in_memory.specs.Schedule.{IsDue, IsNext};
 
@@ -21,7 +21,7 @@ pub struct MemDoor {
     clock: Clock,
     plan: Plan,
     closed: bool,
-    ghost unused: { All IsUnused coming.items },
+    ghost unused: { All IsUnusedLink coming.items },
     ghost room: { length returned.items + length (option_to_list out) + length coming.items ≤ vec_capacity returned },
 }
 
@@ -37,7 +37,7 @@ impl MemDoor {
         clock: Vec<u64>,
         failing: Vec<u64>,
     ) -> Result<Self, Memory>
-        requires unused { All IsUnused links.items }
+        requires unused { All IsUnusedLink links.items }
         ensures coming { IfOk result (λ d. coming_of d ≡ links.items) }
         ensures returned { IfOk result (λ d. returned_of d ≡ []) }
         ensures clock { IfOk result (λ d. clock_of d ≡ clock.items) }

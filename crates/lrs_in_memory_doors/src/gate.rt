@@ -67,8 +67,8 @@ impl Until {
 #[derive(Drop)]
 enum Held {
     Nothing,
-    // What comes from this place on.
-    Input { place: usize, until: Until },
+    // What comes from this offset on.
+    Input { offset: usize, until: Until },
     // All that goes out.
     Output { until: Until },
 }
@@ -89,11 +89,11 @@ impl Gate {
         }
     }
 
-    /// A gate past which no byte from this place of the stream on is given until then.
-    pub fn input(own: Sign, place: usize, until: Until) -> Self {
+    /// A gate past which no byte from this offset of the stream on is given until then.
+    pub fn input(own: Sign, offset: usize, until: Until) -> Self {
         Gate {
             own,
-            held: Held::Input { place, until },
+            held: Held::Input { offset, until },
         }
     }
 
@@ -117,12 +117,12 @@ impl Gate {
         false
     }
 
-    // How many bytes may be given from a place on, if none past another one may until then.
-    fn most_until(&self, place: usize, shut: usize, until: &Until) -> Option<usize>
+    // How many bytes may be given from an offset on, if none past another one may until then.
+    fn most_until(&self, offset: usize, shut: usize, until: &Until) -> Option<usize>
         ensures { IfSome result (λ most. 0 < most) }
     {
-        if place < shut {
-            return Some(shut - place);
+        if offset < shut {
+            return Some(shut - offset);
         }
         if self.opens(until) {
             return Some(usize::MAX);
@@ -130,12 +130,15 @@ impl Gate {
         None
     }
 
-    // How many bytes may be given from a place on. None may if the gate stays shut.
-    fn most_given(&self, place: usize) -> Option<usize>
+    // How many bytes may be given from an offset on. None may if the gate stays shut.
+    fn most_given(&self, offset: usize) -> Option<usize>
         ensures { IfSome result (λ most. 0 < most) }
     {
         match &self.held {
-            Held::Input { place: shut, until } => self.most_until(place, *shut, until),
+            Held::Input {
+                offset: shut,
+                until,
+            } => self.most_until(offset, *shut, until),
             Held::Nothing | Held::Output { .. } => Some(usize::MAX),
         }
     }
@@ -149,12 +152,12 @@ impl Gate {
     }
 }
 
-// How many bytes a link with this gate may give from a place on. None may if the gate stays shut.
-pub(crate) fn most_given(gate: &Option<Gate>, place: usize) -> Option<usize>
+// How many bytes a link with this gate may give from an offset on. None may if the gate stays shut.
+pub(crate) fn most_given(gate: &Option<Gate>, offset: usize) -> Option<usize>
     ensures { IfSome result (λ most. 0 < most) }
 {
     match gate {
-        Some(gate) => gate.most_given(place),
+        Some(gate) => gate.most_given(offset),
         None => Some(usize::MAX),
     }
 }

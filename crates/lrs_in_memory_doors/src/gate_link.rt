@@ -1,12 +1,12 @@
 ghost use Rattle.std.specs.Prelude.{◌≡◌, ◌<◌, ◌≤◌, [], ◌++◌, Some, length, take, IfOk, OnErr};
 ghost use Rattle.lrs_disk.specs.Faults.{HasCause};
-ghost use Rattle.lrs_in_memory_doors.specs.MemLink.{IsSame, faults_of, left_of, name_of, place_of, stream_of, taken_of};
+ghost use Rattle.lrs_in_memory_doors.specs.MemLink.{IsSameLink, faults_of, left_of, name_of, offset_of, stream_of, taken_of};
 
 use crate::gate::{Gate, may_take, most_given, show_answered};
 use crate::link::MemLink;
 use lrs_disk::{Failed, Link};
 
-/// A connection in memory that may wait for another one, in another thread: it gives no byte past a place, or takes
+/// A connection in memory that may wait for another one, in another thread: it gives no byte past an offset, or takes
 /// none, until its gate opens. A call for which the gate stays shut fails. All else is as of the link that it wraps.
 #[derive(Drop)]
 pub struct GateLink {
@@ -42,7 +42,7 @@ fn read_most(link: &mut MemLink, into: &mut [u8], most: usize) -> Result<usize, 
     ensures given { IfOk result (λ n. left_of link.old ≡ take n into.new ++ left_of link.new) }
     ensures end { IfOk result (λ n. n ≡ 0 → 0 < length into.old → left_of link.old ≡ []) }
     ensures failed { OnErr result (left_of link.new ≡ left_of link.old) }
-    ensures same { IsSame link.old link.new }
+    ensures same { IsSameLink link.old link.new }
     ensures taken { taken_of link.new ≡ taken_of link.old }
     ensures cause { HasCause (faults_of link.old) (faults_of link.new) result }
 {
@@ -65,7 +65,7 @@ impl Link for GateLink {
 
     ghost fault_count = { λ l. faults_of (link_of l) };
 
-    ghost tells_stream = { λ l rest is. ends_in (place_of (link_of l)) (stream_of (link_of l)) rest is };
+    ghost tells_stream = { λ l rest is. ends_in (offset_of (link_of l)) (stream_of (link_of l)) rest is };
 
     fn read(&mut self, into: &mut [u8]) -> Result<usize, Failed>
         ensures room { IfOk result (λ n. n ≤ length into.old) }
@@ -73,12 +73,12 @@ impl Link for GateLink {
             (λ n. left_of (link_of self.old) ≡ take n into.new ++ left_of (link_of self.new)) }
         ensures end { IfOk result (λ n. n ≡ 0 → 0 < length into.old → left_of (link_of self.old) ≡ []) }
         ensures failed { OnErr result (left_of (link_of self.new) ≡ left_of (link_of self.old)) }
-        ensures same { IsSame (link_of self.old) (link_of self.new) }
+        ensures same { IsSameLink (link_of self.old) (link_of self.new) }
         ensures taken { taken_of (link_of self.new) ≡ taken_of (link_of self.old) }
         ensures cause { HasCause (faults_of (link_of self.old)) (faults_of (link_of self.new)) result }
     {
-        let place = self.link.input.place;
-        match most_given(&self.gate, place) {
+        let offset = self.link.input.offset;
+        match most_given(&self.gate, offset) {
             Some(most) => read_most(&mut self.link, into, most),
             None => Err(self.link.plan.fail()),
         }
@@ -90,8 +90,8 @@ impl Link for GateLink {
         ensures taken { IfOk result
             (λ n. taken_of (link_of self.new) ≡ taken_of (link_of self.old) ++ take n bytes.now) }
         ensures failed { OnErr result (taken_of (link_of self.new) ≡ taken_of (link_of self.old)) }
-        ensures same { IsSame (link_of self.old) (link_of self.new) }
-        ensures place { place_of (link_of self.new) ≡ place_of (link_of self.old) }
+        ensures same { IsSameLink (link_of self.old) (link_of self.new) }
+        ensures offset { offset_of (link_of self.new) ≡ offset_of (link_of self.old) }
         ensures cause { HasCause (faults_of (link_of self.old)) (faults_of (link_of self.new)) result }
     {
         if !may_take(&self.gate) {

@@ -1,12 +1,12 @@
 ghost use Rattle.std.specs.Prelude.{◌≡◌, ◌⊎◌, ◌<◌, ◌≤◌, ◌+◌, [], ◌++◌, length, take, Contains, All};
 
-// Bytes that are read in pieces. A read ends at each of some places.
+// Bytes that are read in pieces. A read ends at each of some offsets.
 #[derive(Drop)]
 pub(crate) struct Input {
     pub(crate) bytes: Vec<u8>,
-    pub(crate) place: usize,
+    pub(crate) offset: usize,
     pub(crate) cuts: Vec<usize>,
-    ghost within: { place ≤ length bytes.items },
+    ghost within: { offset ≤ length bytes.items },
 }
 
 impl Input {
@@ -14,12 +14,12 @@ impl Input {
 
     pub(crate) fn new(bytes: Vec<u8>, cuts: Vec<usize>) -> Self
         ensures bytes { result.bytes.items ≡ bytes.items }
-        ensures place { result.place ≡ 0 }
+        ensures offset { result.offset ≡ 0 }
         ensures cuts { result.cuts.items ≡ cuts.items }
     {
         Input {
             bytes,
-            place: 0,
+            offset: 0,
             cuts,
         }
     }
@@ -31,32 +31,32 @@ impl Input {
         ensures end { result ≡ 0 → 0 < length into.old → left_of self.old ≡ [] }
         ensures bytes { self.new.bytes.items ≡ self.old.bytes.items }
         ensures cuts { self.new.cuts.items ≡ self.old.cuts.items }
-        ensures place { self.new.place ≡ self.old.place + result }
-        ensures pieces { All (λ cut. self.old.place < cut → self.new.place ≤ cut) self.old.cuts.items }
-        ensures filled { (result ≡ length into.old) ⊎ (self.new.place ≡ length self.old.bytes.items)
-            ⊎ Contains self.old.cuts.items self.new.place }
+        ensures offset { self.new.offset ≡ self.old.offset + result }
+        ensures pieces { All (λ cut. self.old.offset < cut → self.new.offset ≤ cut) self.old.cuts.items }
+        ensures filled { (result ≡ length into.old) ⊎ (self.new.offset ≡ length self.old.bytes.items)
+            ⊎ Contains self.old.cuts.items self.new.offset }
     {
-        let place = self.place;
-        let stop = stop_after(&self.cuts, place, self.bytes.len());
-        let number = into.len().min(stop - place);
-        into[..number].copy_from_slice(&self.bytes[place..place + number]);
-        self.place = place + number;
+        let offset = self.offset;
+        let stop = stop_after(&self.cuts, offset, self.bytes.len());
+        let number = into.len().min(stop - offset);
+        into[..number].copy_from_slice(&self.bytes[offset..offset + number]);
+        self.offset = offset + number;
         number
     }
 }
 
-// Where a read from a place on ends: at the next cut, or at the end.
-fn stop_after(cuts: &[usize], place: usize, end: usize) -> usize
-    requires { place ≤ end }
+// Where a read from an offset on ends: at the next cut, or at the end.
+fn stop_after(cuts: &[usize], offset: usize, end: usize) -> usize
+    requires { offset ≤ end }
     ensures within { result ≤ end }
-    ensures later { place < end → place < result }
-    ensures least { place ≤ result }
-    ensures next { All (λ cut. place < cut → result ≤ cut) cuts.now }
+    ensures later { offset < end → offset < result }
+    ensures least { offset ≤ result }
+    ensures next { All (λ cut. offset < cut → result ≤ cut) cuts.now }
     ensures stop { (result ≡ end) ⊎ Contains cuts.now result }
 {
     let mut stop = end;
     for cut in cuts {
-        if place < *cut && *cut < stop {
+        if offset < *cut && *cut < stop {
             stop = *cut;
         }
     }

@@ -6,7 +6,7 @@ use crate::input::Input;
 use lrs_disk::{Failed, Source};
 use lrs_in_memory::Plan;
 
-/// An input in memory. A read ends at each of some places, so that a reader can be tried on input in pieces.
+/// An input in memory. A read ends at each of some offsets, so that a reader can be tried on input in pieces.
 #[derive(Drop)]
 pub struct MemSource {
     input: Input,
@@ -14,12 +14,12 @@ pub struct MemSource {
 }
 
 impl MemSource {
-    ghost use Rattle.lrs_in_memory_doors.specs.MemSource.{input_of, place_of, cuts_of, schedule_of, faults_of};
+    ghost use Rattle.lrs_in_memory_doors.specs.MemSource.{input_of, offset_of, cuts_of, schedule_of, faults_of};
 
-    /// The input of these bytes. Reads end at the places in `cuts`, and the calls with the numbers in `failing` fail.
+    /// The input of these bytes. Reads end at the offsets in `cuts`, and the calls with the numbers in `failing` fail.
     pub fn new(bytes: Vec<u8>, cuts: Vec<usize>, failing: Vec<u64>) -> Self
         ensures input { input_of result ≡ bytes.items }
-        ensures place { place_of result ≡ 0 }
+        ensures offset { offset_of result ≡ 0 }
         ensures cuts { cuts_of result ≡ cuts.items }
         ensures schedule { schedule_of result ≡ record { failing = failing.items; number = 0 } }
         ensures faults { faults_of result ≡ 0 }
@@ -32,7 +32,7 @@ impl MemSource {
 }
 
 impl Source for MemSource {
-    ghost use Rattle.lrs_in_memory_doors.specs.MemSource.{input_of, place_of, cuts_of, left_of, schedule_of, faults_of};
+    ghost use Rattle.lrs_in_memory_doors.specs.MemSource.{input_of, offset_of, cuts_of, left_of, schedule_of, faults_of};
 
     ghost left = { λ s. Some (left_of s) };
 
@@ -47,10 +47,10 @@ impl Source for MemSource {
         ensures fails { IsErr result ↔ IsDue (schedule_of self.old) }
         ensures schedule { IsNext (schedule_of self.old) (schedule_of self.new) }
         ensures same { (input_of self.new ≡ input_of self.old) × (cuts_of self.new ≡ cuts_of self.old) }
-        ensures place { IfOk result (λ n. place_of self.new ≡ place_of self.old + n) }
-        ensures pieces { All (λ cut. place_of self.old < cut → place_of self.new ≤ cut) (cuts_of self.old) }
-        ensures filled { IfOk result (λ n. (n ≡ length into.old) ⊎ (place_of self.new ≡ length (input_of self.old))
-            ⊎ Contains (cuts_of self.old) (place_of self.new)) }
+        ensures offset { IfOk result (λ n. offset_of self.new ≡ offset_of self.old + n) }
+        ensures pieces { All (λ cut. offset_of self.old < cut → offset_of self.new ≤ cut) (cuts_of self.old) }
+        ensures filled { IfOk result (λ n. (n ≡ length into.old) ⊎ (offset_of self.new ≡ length (input_of self.old))
+            ⊎ Contains (cuts_of self.old) (offset_of self.new)) }
     {
         if self.plan.is_due() {
             return Err(self.plan.fail());

@@ -2,7 +2,7 @@ ghost use Rattle.std.specs.Prelude.{◌≡◌, None, IfOk};
 ghost use Rattle.lrs_in_memory_doors.specs.GateDoor.{door_of};
 ghost use Rattle.lrs_in_memory_doors.specs.GateLink.{link_of};
 ghost use Rattle.lrs_in_memory_doors.specs.MemDoor.{out_of};
-ghost use Rattle.lrs_in_memory_doors.specs.MemLink.{IsUnused, name_of};
+ghost use Rattle.lrs_in_memory_doors.specs.MemLink.{IsUnusedLink, name_of};
 
 use lrs_disk::{Door, Link, Next};
 use lrs_in_memory::Memory;
@@ -13,13 +13,13 @@ use std::thread;
 
 // A connection that brings four bytes.
 fn link(alloc: Global) -> Result<MemLink, Memory>
-    ensures { IfOk result IsUnused }
+    ensures { IfOk result IsUnusedLink }
 {
     let input = b"asks".to_vec(alloc)?;
     MemLink::new(alloc, input, Vec::new(alloc), 9, Vec::new(alloc))
 }
 
-// The place of the first step that went otherwise than expected.
+// The offset of the first step that went otherwise than expected.
 fn first_wrong(steps: &[bool]) -> Option<usize> {
     steps.iter().position(|step| !*step)
 }
@@ -88,7 +88,7 @@ fn a_link_takes_nothing_until_another_one_was_answered(rt: HostRuntime) -> Resul
     Ok(())
 }
 
-// A door whose one link has a gate at a place, which waits for itself.
+// A door whose one link has a gate at an offset, which waits for itself.
 fn gated_door(alloc: Global) -> Result<GateDoor, Memory>
     ensures { IfOk result (λ door. out_of (door_of door) ≡ None) }
 {

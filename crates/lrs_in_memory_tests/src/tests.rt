@@ -1,6 +1,6 @@
 ghost use Rattle.std.specs.Prelude.{◌≡◌, ◌≤◌, ◌∷◌, [], None, IfOk};
 ghost use Rattle.lrs_in_memory_doors.specs.MemDoor.{out_of};
-ghost use Rattle.lrs_in_memory_doors.specs.MemLink.{IsUnused};
+ghost use Rattle.lrs_in_memory_doors.specs.MemLink.{IsUnusedLink};
 
 use lrs_disk::{Disk, Door, Failed, Link, Lobby, Next, Shelf, Sink, Source};
 use lrs_in_memory::{MemDisk, MemShelf, Memory, Pending};
@@ -20,7 +20,7 @@ fn one<T: Drop>(alloc: Global, item: T) -> Result<Vec<T>, Memory>
     Ok(items)
 }
 
-// The place of the first step that went otherwise than expected.
+// The offset of the first step that went otherwise than expected.
 fn first_wrong(steps: &[bool]) -> Option<usize> {
     steps.iter().position(|step| !*step)
 }
@@ -68,10 +68,10 @@ fn leaves_now(disk: &MemDisk, pending: Pending, left: &[u8]) -> Result<bool, Mem
     Ok(disk.image(disk.moment(), pending)?.as_slice() == left)
 }
 
-// Whether these bytes, and no more, are read from a place on.
-fn reads(disk: &mut MemDisk, place: u64, bytes: [u8; 4], number: usize) -> bool {
+// Whether these bytes, and no more, are read from an offset on.
+fn reads(disk: &mut MemDisk, offset: u64, bytes: [u8; 4], number: usize) -> bool {
     let mut read = [0; 4];
-    disk.read_at(place, &mut read) == Ok(number) && read == bytes
+    disk.read_at(offset, &mut read) == Ok(number) && read == bytes
 }
 
 fn failing_at_first(disk: &mut MemDisk) -> Result<Option<usize>, Memory> {
@@ -178,7 +178,7 @@ fn a_connection_moves_bytes_both_ways(rt: HostRuntime) -> Result<(), Fail> {
 }
 
 fn link(alloc: Global, bytes: &[u8]) -> Result<MemLink, Memory>
-    ensures { IfOk result IsUnused }
+    ensures { IfOk result IsUnusedLink }
 {
     MemLink::new(
         alloc,

@@ -3,7 +3,7 @@ use Rattle.std.proofs.Common.{◌≡◌, inl, inr, ℕ, ◌+◌, ◌≤◌, ◌<
 use Rattle.std.proofs.lemmas.Bool.{cases_eq}
 use Rattle.std.proofs.lemmas.List.{take-take, drop_all, append-nil}
 use Rattle.lrs_disk.specs.Disk.{written, Torn, Cut}
-use Rattle.lrs_journal.specs.Steps.{KeepsUpTo, AtRest, IsPlaced, IsBlank, IsShort, behind_gate}
+use Rattle.lrs_journal.specs.Steps.{KeepsUpTo, AtRest, IsEndOffset, IsBlank, IsShort, behind_gate}
 use Rattle.lrs_journal.specs.Store.{magic, store, header, body, frames, HasHeader}
 use Rattle.lrs_journal.specs.Create.{IsStore, IsOpenTo, IsMade}
 use Rattle.lrs_journal.specs.declared.sizes.TheConstants.{LEAST_BYTES, MOST_BYTES, FRAME_HEAD, HEADER}
@@ -97,7 +97,7 @@ pub looked_store : (x head : List ℕ) → head ≡ take 8 x → IsStore x → I
 looked_store x head is store = ap (λ (l : List ℕ). take 8 l) is ∙ take-take 8 8 x (omega arith) ∙ store
 
 -- a store of one frame
-pub one_placed : (limit : ℕ) (first : List ℕ) → LEAST_BYTES ≤ limit → limit ≤ MOST_BYTES → length first < 2 ^ 32 → IsPlaced limit (HEADER + FRAME_HEAD + length first) (first ∷ [])
+pub one_placed : (limit : ℕ) (first : List ℕ) → LEAST_BYTES ≤ limit → limit ≤ MOST_BYTES → length first < 2 ^ 32 → IsEndOffset limit (HEADER + FRAME_HEAD + length first) (first ∷ [])
 one_placed limit first least most small = record {
   least = least;
   most = most;

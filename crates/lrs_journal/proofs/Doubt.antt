@@ -5,7 +5,7 @@ use Rattle.std.proofs.lemmas.List.{take_at, take_all, drop_at, drop-drop, drop_m
 use Rattle.std.specs.Int.{w32, to_be_bytes}
 use Rattle.std.specs.List.{AllByRecursion}
 use Rattle.lrs_disk.specs.Disk.{written}
-use Rattle.lrs_journal.specs.Steps.{AtRest, InDoubt, IsPlaced}
+use Rattle.lrs_journal.specs.Steps.{AtRest, InDoubt, IsEndOffset}
 use Rattle.lrs_journal.specs.Store.{store, header, frames, body, Stands, IsPayload, IsEnd, IsBeforeOrAfter}
 
 pub frames-push : (ps : List (List ℕ)) (p : List ℕ) → frames (ps ++ p ∷ []) ≡ frames ps ++ 1 ∷ body p
@@ -27,7 +27,7 @@ pub length-body : (p : List ℕ) → length (body p) ≡ 4 + length p
 length-body p = omega arith
 
 -- a closed gate ends the list
-pub rest_stands : (limit end : ℕ) (ps : List (List ℕ)) (c : List ℕ) → IsPlaced limit end ps → AtRest limit ps c → Stands c limit ps
+pub rest_stands : (limit end : ℕ) (ps : List (List ℕ)) (c : List ℕ) → IsEndOffset limit end ps → AtRest limit ps c → Stands c limit ps
 rest_stands limit end ps c placed at_rest = record { least = placed.least; most = placed.most; sizes = placed.sizes; rest = 0 ∷ at_rest.0; split = at_rest.1; ends = closed at_rest.0 }
   where
     closed : (rest : List ℕ) → IsEnd (0 ∷ rest)
@@ -35,7 +35,7 @@ rest_stands limit end ps c placed at_rest = record { least = placed.least; most 
     closed (b ∷ rest) = λ e. omega arith
 
 -- a frame after any gate counts or it doesn't
-pub doubt_stands : (limit end : ℕ) (ps : List (List ℕ)) (p c : List ℕ) → IsPlaced limit end ps → length p < 2 ^ 32 → InDoubt limit ps p c → IsBeforeOrAfter limit ps p c
+pub doubt_stands : (limit end : ℕ) (ps : List (List ℕ)) (p c : List ℕ) → IsEndOffset limit end ps → length p < 2 ^ 32 → InDoubt limit ps p c → IsBeforeOrAfter limit ps p c
 doubt_stands limit end ps p c placed small doubt = elim (cases_eq doubt.0 1) [
   | inl is_open ↦ inr (record {
     least = placed.least;
@@ -127,11 +127,11 @@ module _ (limit : ℕ) (ps : List (List ℕ)) (p : List ℕ) (end : ℕ) (is : e
       )
 
 -- there are no more frames than bytes
-pub number_small : (limit end : ℕ) (ps : List (List ℕ)) → IsPlaced limit end ps → length ps ≤ end
+pub number_small : (limit end : ℕ) (ps : List (List ℕ)) → IsEndOffset limit end ps → length ps ≤ end
 number_small limit end ps placed = omega (arith, placed.behind, number_le ps, length-append (header limit) (frames ps))
 
 -- one frame more
-pub placed_push : (limit end len : ℕ) (ps : List (List ℕ)) (p : List ℕ) → IsPlaced limit end ps → len ≡ length p → len < 2 ^ 32 → IsPlaced limit (end + (5 + len)) (ps ++ p ∷ [])
+pub placed_push : (limit end len : ℕ) (ps : List (List ℕ)) (p : List ℕ) → IsEndOffset limit end ps → len ≡ length p → len < 2 ^ 32 → IsEndOffset limit (end + (5 + len)) (ps ++ p ∷ [])
 placed_push limit end len ps p placed is small = record {
   least = placed.least;
   most = placed.most;
@@ -140,18 +140,18 @@ placed_push limit end len ps p placed is small = record {
 }
 
 -- a frame that was read: five bytes, and the payload
-pub frame_read : (limit place : ℕ) (ps : List (List ℕ)) (f head into word : List ℕ) (n m len : ℕ) → f ≡ store limit ps ++ drop place f
-    → take n head ≡ take n (drop place f) → n ≡ 5 → head ≡ 1 ∷ word → length word ≡ 4 → to_be_bytes w32 len ≡ word → length into ≡ len → take m into ≡ take m (drop (place + 5) f) → m ≡ len
-    → f ≡ store limit (ps ++ into ∷ []) ++ drop (place + (5 + len)) f
-frame_read limit place ps f head into word n m len split same five head_is four spelled long same2 all =
-    let rest = drop (place + (5 + len)) f in
-    let first : take 5 (drop place f) ≡ 1 ∷ word = ap (λ (k : ℕ). take k (drop place f)) (sym five) ∙ sym same ∙ ap (λ (l : List ℕ). take n l) head_is ∙ take_all n (1 ∷ word) (omega (arith, five, four)) in
-    let second : take len (drop (place + 5) f) ≡ into = ap (λ (k : ℕ). take k (drop (place + 5) f)) (sym all) ∙ sym same2 ∙ take_all m into (omega arith) in
-    let far : place + 5 + len ≡ place + (5 + len) = omega arith in
-    let behind : drop (place + 5) f ≡ into ++ rest =
-    sym (take-append-drop len (drop (place + 5) f)) ∙ ap (λ (l : List ℕ). l ++ drop len (drop (place + 5) f)) second ∙ ap (λ (l : List ℕ). into ++ l) (drop-drop len (place + 5) f ∙ ap (λ (k : ℕ). drop k f) far) in
-    let whole : drop place f ≡ 1 ∷ word ++ (into ++ rest) =
-    sym (take-append-drop 5 (drop place f)) ∙ ap (λ (l : List ℕ). l ++ drop 5 (drop place f)) first ∙ ap (λ (l : List ℕ). 1 ∷ word ++ l) (drop-drop 5 place f ∙ behind) in
+pub frame_read : (limit offset : ℕ) (ps : List (List ℕ)) (f head into word : List ℕ) (n m len : ℕ) → f ≡ store limit ps ++ drop offset f
+    → take n head ≡ take n (drop offset f) → n ≡ 5 → head ≡ 1 ∷ word → length word ≡ 4 → to_be_bytes w32 len ≡ word → length into ≡ len → take m into ≡ take m (drop (offset + 5) f) → m ≡ len
+    → f ≡ store limit (ps ++ into ∷ []) ++ drop (offset + (5 + len)) f
+frame_read limit offset ps f head into word n m len split same five head_is four spelled long same2 all =
+    let rest = drop (offset + (5 + len)) f in
+    let first : take 5 (drop offset f) ≡ 1 ∷ word = ap (λ (k : ℕ). take k (drop offset f)) (sym five) ∙ sym same ∙ ap (λ (l : List ℕ). take n l) head_is ∙ take_all n (1 ∷ word) (omega (arith, five, four)) in
+    let second : take len (drop (offset + 5) f) ≡ into = ap (λ (k : ℕ). take k (drop (offset + 5) f)) (sym all) ∙ sym same2 ∙ take_all m into (omega arith) in
+    let far : offset + 5 + len ≡ offset + (5 + len) = omega arith in
+    let behind : drop (offset + 5) f ≡ into ++ rest =
+    sym (take-append-drop len (drop (offset + 5) f)) ∙ ap (λ (l : List ℕ). l ++ drop len (drop (offset + 5) f)) second ∙ ap (λ (l : List ℕ). into ++ l) (drop-drop len (offset + 5) f ∙ ap (λ (k : ℕ). drop k f) far) in
+    let whole : drop offset f ≡ 1 ∷ word ++ (into ++ rest) =
+    sym (take-append-drop 5 (drop offset f)) ∙ ap (λ (l : List ℕ). l ++ drop 5 (drop offset f)) first ∙ ap (λ (l : List ℕ). 1 ∷ word ++ l) (drop-drop 5 offset f ∙ behind) in
     let spelled_body : 1 ∷ word ++ into ≡ 1 ∷ body into = ap (λ (l : List ℕ). 1 ∷ l ++ into) (sym spelled ∙ ap (λ (k : ℕ). to_be_bytes w32 k) (sym long)) in
     split ∙ ap (λ (l : List ℕ). store limit ps ++ l) (whole ∙ sym (append_assoc (1 ∷ word) into rest) ∙ ap (λ (l : List ℕ). l ++ rest) spelled_body)
     ∙ sym (append_assoc (store limit ps) (1 ∷ body into) rest) ∙ ap (λ (l : List ℕ). l ++ rest) (sym (store-push limit ps into))

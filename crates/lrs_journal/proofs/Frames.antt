@@ -5,7 +5,7 @@ use Rattle.std.proofs.lemmas.Nat.{from_be_bytes-to_be_bytes_4}
 use Rattle.std.specs.Int.{w32, to_be_bytes, from_be_bytes}
 use Rattle.lrs_journal.specs.Store.{store, header, body, Stands, HasHeader, IsDamaged, IsEnd, IsPayload, payloads_in}
 use Rattle.lrs_journal.specs.Replay.{HasReadTo, IsWholeFrame, IsTorn}
-use Rattle.lrs_journal.specs.Steps.{Reads, IsPlaced, IsSettled, IsSound, IsReplay, IsClosed, IsCutBack}
+use Rattle.lrs_journal.specs.Steps.{Reads, IsEndOffset, IsSettled, IsSound, IsReplay, IsClosed, IsCutBack}
 use Rattle.lrs_journal.specs.Journal.{settled, frames_of, TellsAlike}
 use Rattle.lrs_journal.proofs.Told.{told_on, told_back}
 use Rattle.lrs_journal.proofs.Doubt.{placed_push, frame_read}
@@ -47,20 +47,20 @@ read_none bytes limit h = record {
 
 -- ---- a frame
 
-pub placed_of : (bytes : List ℕ) (limit place number : ℕ) (ps : List (List ℕ)) → HasReadTo bytes limit place number ps → IsPlaced limit place ps
-placed_of bytes limit place number ps h = record { least = h.least; most = h.most; sizes = h.sizes; behind = h.behind }
+pub placed_of : (bytes : List ℕ) (limit offset number : ℕ) (ps : List (List ℕ)) → HasReadTo bytes limit offset number ps → IsEndOffset limit offset ps
+placed_of bytes limit offset number ps h = record { least = h.least; most = h.most; sizes = h.sizes; behind = h.behind }
 
 -- a whole frame more was read
-pub read_more : (bytes : List ℕ) (limit place number : ℕ) (ps : List (List ℕ)) (head into word : List ℕ) (n m len : ℕ) → HasReadTo bytes limit place number ps
-    → take n head ≡ take n (drop place bytes) → n ≡ 5 → head ≡ 1 ∷ word → length word ≡ 4 → to_be_bytes w32 len ≡ word → length into ≡ len → len < 2 ^ 32
-    → take m into ≡ take m (drop (place + 5) bytes) → m ≡ len → HasReadTo bytes limit (place + (5 + len)) (number + 1) (ps ++ into ∷ [])
-read_more bytes limit place number ps head into word n m len h same five head_is four spelled long small same2 all =
-    let placed = placed_push limit place len ps into (placed_of bytes limit place number ps h) (sym long) small in
+pub read_more : (bytes : List ℕ) (limit offset number : ℕ) (ps : List (List ℕ)) (head into word : List ℕ) (n m len : ℕ) → HasReadTo bytes limit offset number ps
+    → take n head ≡ take n (drop offset bytes) → n ≡ 5 → head ≡ 1 ∷ word → length word ≡ 4 → to_be_bytes w32 len ≡ word → length into ≡ len → len < 2 ^ 32
+    → take m into ≡ take m (drop (offset + 5) bytes) → m ≡ len → HasReadTo bytes limit (offset + (5 + len)) (number + 1) (ps ++ into ∷ [])
+read_more bytes limit offset number ps head into word n m len h same five head_is four spelled long small same2 all =
+    let placed = placed_push limit offset len ps into (placed_of bytes limit offset number ps h) (sym long) small in
     record {
       least = h.least;
       most = h.most;
       sizes = placed.sizes;
-      begins = frame_read limit place ps bytes head into word n m len h.begins same five head_is four spelled long same2 all;
+      begins = frame_read limit offset ps bytes head into word n m len h.begins same five head_is four spelled long same2 all;
       behind = placed.behind;
       counts = omega (arith, h.counts, length-append ps (into ∷ []));
     }
@@ -89,27 +89,27 @@ whole_ahead tail head word n len same five head_is four spelled long = (
     front = ap (λ (k : ℕ). take k tail) (sym five) ∙ sym same ∙ ap (λ (l : List ℕ). take n l) head_is ∙ take_all n (1 ∷ word) (omega (arith, five, four)) ∙ ap (λ (l : List ℕ). 1 ∷ l) (sym spelled)
 
 -- a whole frame more was read
-pub read_whole : (bytes : List ℕ) (limit place number : ℕ) (ps : List (List ℕ)) (into : List ℕ) (len : ℕ) → HasReadTo bytes limit place number ps → len < 2 ^ 32
-    → IsWholeFrame (drop place bytes) len → length into ≡ len → into ≡ take len (drop (place + 5) bytes) → HasReadTo bytes limit (place + (5 + len)) (number + 1) (ps ++ into ∷ [])
-read_whole bytes limit place number ps into len h small whole long is =
+pub read_whole : (bytes : List ℕ) (limit offset number : ℕ) (ps : List (List ℕ)) (into : List ℕ) (len : ℕ) → HasReadTo bytes limit offset number ps → len < 2 ^ 32
+    → IsWholeFrame (drop offset bytes) len → length into ≡ len → into ≡ take len (drop (offset + 5) bytes) → HasReadTo bytes limit (offset + (5 + len)) (number + 1) (ps ++ into ∷ [])
+read_whole bytes limit offset number ps into len h small whole long is =
     let word : List ℕ = to_be_bytes w32 len in
-    read_more bytes limit place number ps (1 ∷ word) into word 5 len len h (sym (ap (λ (l : List ℕ). take 5 l) whole.1)) refl refl (omega arith) refl long small
+    read_more bytes limit offset number ps (1 ∷ word) into word 5 len len h (sym (ap (λ (l : List ℕ). take 5 l) whole.1)) refl refl (omega arith) refl long small
     (take_all len into (omega (arith, long)) ∙ is) refl
 
 -- no open gate after those that were read
-pub ended_stands : (bytes : List ℕ) (limit place number : ℕ) (ps : List (List ℕ)) → HasReadTo bytes limit place number ps → IsEnd (drop place bytes) → Stands bytes limit ps
-ended_stands bytes limit place number ps h ends = record {
+pub ended_stands : (bytes : List ℕ) (limit offset number : ℕ) (ps : List (List ℕ)) → HasReadTo bytes limit offset number ps → IsEnd (drop offset bytes) → Stands bytes limit ps
+ended_stands bytes limit offset number ps h ends = record {
   least = h.least;
   most = h.most;
   sizes = h.sizes;
-  rest = drop place bytes;
+  rest = drop offset bytes;
   split = h.begins;
   ends = ends;
 }
 
 -- a frame that isn't whole after those that were read
-pub damaged_behind : (bytes : List ℕ) (limit place number : ℕ) (ps : List (List ℕ)) → HasReadTo bytes limit place number ps → IsTorn (drop place bytes) → IsDamaged bytes limit ps
-damaged_behind bytes limit place number ps h torn = record {
+pub damaged_behind : (bytes : List ℕ) (limit offset number : ℕ) (ps : List (List ℕ)) → HasReadTo bytes limit offset number ps → IsTorn (drop offset bytes) → IsDamaged bytes limit ps
+damaged_behind bytes limit offset number ps h torn = record {
   sizes = h.sizes;
   rest = torn.0;
   split = h.begins ∙ ap (λ (l : List ℕ). store limit ps ++ l) torn.1;
@@ -151,9 +151,9 @@ torn_ahead tail head word n len is same some head_is four spelled small short = 
 -- ---- the fields of a replay
 
 -- calls that leave what a read gives, and no new image
-pub replay_kept : (old new : Option (List ℕ)) (before after : List ℕ → Type 0) (limit size place number : ℕ) (ended : Bool) → IsReplay old before limit size place number ended → new ≡ old
-    → ((c : List ℕ) → after c → before c) → IsReplay new after limit size place number ended
-replay_kept old new before after limit size place number ended r same within = record {
+pub replay_kept : (old new : Option (List ℕ)) (before after : List ℕ → Type 0) (limit size offset number : ℕ) (ended : Bool) → IsReplay old before limit size offset number ended → new ≡ old
+    → ((c : List ℕ) → after c → before c) → IsReplay new after limit size offset number ended
+replay_kept old new before after limit size offset number ended r same within = record {
   least = r.least;
   most = r.most;
   few = r.few;
@@ -164,35 +164,35 @@ replay_kept old new before after limit size place number ended r same within = r
 }
 
 -- one more frame was read
-pub replay_more : (told : Option (List ℕ)) (image : List ℕ → Type 0) (limit size place number : ℕ) (ended : Bool) (into : List ℕ) (len : ℕ) → IsReplay told image limit size place number ended
-    → len < 2 ^ 32 → length into ≡ len → ((b : List ℕ) → told ≡ Some b → IsWholeFrame (drop place b) len) → ((b : List ℕ) → told ≡ Some b → into ≡ take len (drop (place + 5) b))
-    → IsReplay told image limit size (place + (5 + len)) (number + 1) false
-replay_more told image limit size place number ended into len r small long whole is = record {
+pub replay_more : (told : Option (List ℕ)) (image : List ℕ → Type 0) (limit size offset number : ℕ) (ended : Bool) (into : List ℕ) (len : ℕ) → IsReplay told image limit size offset number ended
+    → len < 2 ^ 32 → length into ≡ len → ((b : List ℕ) → told ≡ Some b → IsWholeFrame (drop offset b) len) → ((b : List ℕ) → told ≡ Some b → into ≡ take len (drop (offset + 5) b))
+    → IsReplay told image limit size (offset + (5 + len)) (number + 1) false
+replay_more told image limit size offset number ended into len r small long whole is = record {
   least = r.least;
   most = r.most;
   few = omega (arith, r.few);
   synced = r.synced;
   size_is = r.size_is;
-  tied = λ b told_b. let tied = r.tied b told_b in (tied.0 ++ into ∷ [], read_whole b limit place number tied.0 into len tied.1 small (whole b told_b) long (is b told_b));
+  tied = λ b told_b. let tied = r.tied b told_b in (tied.0 ++ into ∷ [], read_whole b limit offset number tied.0 into len tied.1 small (whole b told_b) long (is b told_b));
   ends = λ b told_b no. cc no;
 }
 
 -- ---- the end
 
-module _ {D : Type 0} (told : D → Option (List ℕ)) (image : D → List ℕ → Type 0) (reads : (disk : D) (b : List ℕ) → told disk ≡ Some b → image disk b) (d0 d1 : D) (limit place number : ℕ) where
-  pub closed_settled : (x : List ℕ) (payloads : List (List ℕ)) → told d0 ≡ Some x → HasReadTo x limit place number payloads → ((c : List ℕ) → image d1 c → IsClosed place (Reads told d0) c)
-      → IsSettled (image d1) limit place number payloads
+module _ {D : Type 0} (told : D → Option (List ℕ)) (image : D → List ℕ → Type 0) (reads : (disk : D) (b : List ℕ) → told disk ≡ Some b → image disk b) (d0 d1 : D) (limit offset number : ℕ) where
+  pub closed_settled : (x : List ℕ) (payloads : List (List ℕ)) → told d0 ≡ Some x → HasReadTo x limit offset number payloads → ((c : List ℕ) → image d1 c → IsClosed offset (Reads told d0) c)
+      → IsSettled (image d1) limit offset number payloads
   closed_settled x payloads told_x h closed = record {
-    placed = placed_of x limit place number payloads h;
+    placed = placed_of x limit offset number payloads h;
     each = λ c left.
         let from = closed c left in
         let same : x ≡ from.0 = same_told (told d0) x from.0 told_x from.1 in
-        closed_rests limit place payloads c from.0 from.3 (placed_of x limit place number payloads h) (subst (λ (b : List ℕ). b ≡ store limit payloads ++ drop place b) same h.begins) from.2 from.4;
+        closed_rests limit offset payloads c from.0 from.3 (placed_of x limit offset number payloads h) (subst (λ (b : List ℕ). b ≡ store limit payloads ++ drop offset b) same h.begins) from.2 from.4;
     counts = h.counts;
   }
 
-  pub after_closed : (size : ℕ) (ended : Bool) → IsReplay (told d0) (image d0) limit size place number ended → TellsAlike (told d0) (told d1) → ((c : List ℕ) → image d1 c → IsClosed place (Reads told d0) c)
-      → IsSound (told d1) (image d1) limit place number None
+  pub after_closed : (size : ℕ) (ended : Bool) → IsReplay (told d0) (image d0) limit size offset number ended → TellsAlike (told d0) (told d1) → ((c : List ℕ) → image d1 c → IsClosed offset (Reads told d0) c)
+      → IsSound (told d1) (image d1) limit offset number None
   after_closed size ended r alike closed = record {
     least = r.least;
     most = r.most;
@@ -203,16 +203,16 @@ module _ {D : Type 0} (told : D → Option (List ℕ)) (image : D → List ℕ �
         (tied.0, closed_settled old.0 tied.0 old.1 tied.1 closed);
   }
 
-  pub closed_frames : (x : List ℕ) (payloads : List (List ℕ)) → told d0 ≡ Some x → HasReadTo x limit place number payloads → TellsAlike (told d0) (told d1) → ((c : List ℕ) → image d1 c → IsClosed place (Reads told d0) c)
-      → frames_of told (seen d1 limit place number None) ≡ Some payloads
+  pub closed_frames : (x : List ℕ) (payloads : List (List ℕ)) → told d0 ≡ Some x → HasReadTo x limit offset number payloads → TellsAlike (told d0) (told d1) → ((c : List ℕ) → image d1 c → IsClosed offset (Reads told d0) c)
+      → frames_of told (seen d1 limit offset number None) ≡ Some payloads
   closed_frames x payloads told_x h alike closed =
       let new = told_on (told d0) (told d1) x alike told_x in
-      ap (λ (o : Option (List ℕ)). option_map (λ bytes. payloads_in (settled false place bytes)) o) new.1
-      ∙ ap Some (settled_read (image d1) limit place number payloads new.0 (closed_settled x payloads told_x h closed) (reads d1 new.0 new.1))
+      ap (λ (o : Option (List ℕ)). option_map (λ bytes. payloads_in (settled false offset bytes)) o) new.1
+      ∙ ap Some (settled_read (image d1) limit offset number payloads new.0 (closed_settled x payloads told_x h closed) (reads d1 new.0 new.1))
 
-  pub cut_stands : (size : ℕ) → IsReplay (told d0) (image d0) limit size place number true → (x : List ℕ) (payloads : List (List ℕ)) → told d0 ≡ Some x → HasReadTo x limit place number payloads
-      → (c : List ℕ) → IsCutBack place (image d0) c → Stands c limit payloads
+  pub cut_stands : (size : ℕ) → IsReplay (told d0) (image d0) limit size offset number true → (x : List ℕ) (payloads : List (List ℕ)) → told d0 ≡ Some x → HasReadTo x limit offset number payloads
+      → (c : List ℕ) → IsCutBack offset (image d0) c → Stands c limit payloads
   cut_stands size r x payloads told_x h c back =
       let told_d : told d0 ≡ Some back.0 = r.synced back.0 back.1 in
       let same : x ≡ back.0 = same_told (told d0) x back.0 told_x told_d in
-      cut_back_stands limit place payloads c back.0 (placed_of x limit place number payloads h) (subst (λ (b : List ℕ). b ≡ store limit payloads ++ drop place b) same h.begins) (r.ends back.0 told_d refl) back.2 back.3 back.4
+      cut_back_stands limit offset payloads c back.0 (placed_of x limit offset number payloads h) (subst (λ (b : List ℕ). b ≡ store limit payloads ++ drop offset b) same h.begins) (r.ends back.0 told_d refl) back.2 back.3 back.4

@@ -91,7 +91,7 @@ module _ {D : Type 0} (told : D → Option (List ℕ)) (image : D → List ℕ �
         subst (IsHolding told image (seen disk limit end number None)) (sym whole) (record {
           reads = λ c told_c. rest_stands limit end tied.0 c tied.1.placed (tied.1.each c (reads disk c told_c));
           each = λ c left. rest_stands limit end tied.0 c tied.1.placed (tied.1.each c left);
-          place = tied.1.placed.behind;
+          offset = tied.1.placed.behind;
           counts = tied.1.counts;
         });
   }
@@ -111,7 +111,7 @@ module _ {D : Type 0} (told : D → Option (List ℕ)) (image : D → List ℕ �
         subst (IsHolding told image (seen disk limit end number (Some size))) (sym whole) (record {
           reads = λ c told_c. (ps, p, refl, doubt_stands limit end ps p c d.placed small (d.each c (reads disk c told_c)));
           each = λ c left. (ps, p, refl, doubt_stands limit end ps p c d.placed small (d.each c left));
-          place = (placed_push limit end size ps p d.placed tied.2 (omega (arith, sound.fits.2, sound.most))).behind;
+          offset = (placed_push limit end size ps p d.placed tied.2 (omega (arith, sound.fits.2, sound.most))).behind;
           counts = d.counts ∙ sym (length-append ps (p ∷ []));
         });
   }

@@ -16,23 +16,23 @@ written_on b p q xs ys le is =
     let size : length (take p b ++ xs) ≡ q = written_front b p xs le ∙ sym is in
     let front : take q (written b p xs) ≡ take p b ++ xs = take_at (take p b ++ xs) (drop (p + length xs) b) q size in
     let behind : drop q (written b p xs) ≡ drop (p + length xs) b = drop_at (take p b ++ xs) (drop (p + length xs) b) q size in
-    let place : p + length xs + length ys ≡ p + length (xs ++ ys) = omega (arith, length-append xs ys) in
+    let offset : p + length xs + length ys ≡ p + length (xs ++ ys) = omega (arith, length-append xs ys) in
     let back : drop (q + length ys) (written b p xs) ≡ drop (p + length (xs ++ ys)) b =
-    sym (drop-drop (length ys) q (written b p xs)) ∙ ap (λ (l : List ℕ). drop (length ys) l) behind ∙ drop-drop (length ys) (p + length xs) b ∙ ap (λ (n : ℕ). drop n b) place in
+    sym (drop-drop (length ys) q (written b p xs)) ∙ ap (λ (l : List ℕ). drop (length ys) l) behind ∙ drop-drop (length ys) (p + length xs) b ∙ ap (λ (n : ℕ). drop n b) offset in
     ap (λ (l : List ℕ). l ++ ys ++ drop (q + length ys) (written b p xs)) front
     ∙ ap (λ (l : List ℕ). take p b ++ xs ++ ys ++ l) back
     ∙ ap (λ (l : List ℕ). l ++ drop (p + length (xs ++ ys)) b) (append_assoc (take p b) xs ys)
 
--- the same up to a place is the same up to a lower one
+-- the same up to an offset is the same up to a lower one
 pub same_front : (m n : ℕ) (c d : List ℕ) → m ≤ n → take n c ≡ take n d → take m c ≡ take m d
 same_front m n c d le same = sym (take-take m n c le) ∙ ap (λ (l : List ℕ). take m l) same ∙ take-take m n d le
 
--- a torn write after a place keeps what is before it
-pub torn_behind : (place at n : ℕ) (old : List ℕ → Type 0) → place ≤ at → (d c : List ℕ) → KeepsUpTo place old d → Torn at n d c → KeepsUpTo place old c
-torn_behind place at n old le d c was torn = (was.0, was.1, same_front place at c d le torn.before ∙ was.2)
+-- a torn write after an offset keeps what is before it
+pub torn_behind : (offset at n : ℕ) (old : List ℕ → Type 0) → offset ≤ at → (d c : List ℕ) → KeepsUpTo offset old d → Torn at n d c → KeepsUpTo offset old c
+torn_behind offset at n old le d c was torn = (was.0, was.1, same_front offset at c d le torn.before ∙ was.2)
 
-pub torn_gate : (place : ℕ) (old : List ℕ → Type 0) (d c : List ℕ) → IsAtGate place old d → Torn place 1 d c → IsAtGate place old c
-torn_gate place old d c was torn = (was.0, was.1, torn.before ∙ was.2, torn.after ∙ was.3)
+pub torn_gate : (offset : ℕ) (old : List ℕ → Type 0) (d c : List ℕ) → IsAtGate offset old d → Torn offset 1 d c → IsAtGate offset old c
+torn_gate offset old d c was torn = (was.0, was.1, torn.before ∙ was.2, torn.after ∙ was.3)
 
 -- a length, a payload and a closed gate, written one after the other
 pub staged_is : (b b1 b2 b3 : List ℕ) (p : ℕ) (payload : List ℕ) → p < length b → b1 ≡ written b (p + 1) (to_be_bytes w32 (length payload)) → b2 ≡ written b1 (p + 5) payload

@@ -5,7 +5,7 @@ use Rattle.std.proofs.lemmas.Nat.{from_be_bytes-to_be_bytes_4, from_be_bytes-to_
 use Rattle.std.specs.List.{AllByRecursion}
 use Rattle.std.specs.Int.{w32, w64, to_be_bytes, from_be_bytes}
 use Rattle.lrs_journal.specs.Store.{store, header, frames, body, HasHeader, Stands, IsDamaged, IsEnd, IsPayload}
-use Rattle.lrs_journal.specs.Replay.{Replay, HasRead, HasReadTo, IsSamePlace}
+use Rattle.lrs_journal.specs.Replay.{Replay, HasRead, HasReadTo, HasSameOffset}
 use Rattle.lrs_journal.specs.declared.sizes.TheConstants.{FRAME_HEAD, HEADER}
 
 pub no_end : (q : List ℕ) (qs : List (List ℕ)) (r s : List ℕ) → IsEnd r → r ≡ frames (q ∷ qs) ++ s → ⊥
@@ -58,10 +58,10 @@ pub stands_whole : (bytes : List ℕ) (l m : ℕ) (ps qs : List (List ℕ)) → 
 stands_whole bytes l m ps qs s d = frames_whole ps qs s.rest d.rest s.sizes d.sizes s.ends d.more d.torn (ap (λ (x : List ℕ). drop HEADER x) (sym s.split ∙ d.split))
 
 -- a replay that went no further has read the same
-pub same_place_read : {D : Type 0} (bytes : List ℕ) (old new : Replay D) (ps : List (List ℕ)) → IsSamePlace old new → new.limit ≡ old.limit → HasRead bytes old ps → HasRead bytes new ps
+pub same_place_read : {D : Type 0} (bytes : List ℕ) (old new : Replay D) (ps : List (List ℕ)) → HasSameOffset old new → new.limit ≡ old.limit → HasRead bytes old ps → HasRead bytes new ps
 same_place_read bytes old new ps same limit read =
-    subst (λ (l : ℕ). HasReadTo bytes l new.place new.number ps) (sym limit)
-    (subst (λ (p : ℕ). HasReadTo bytes old.limit p new.number ps) (sym same.0) (subst (λ (n : ℕ). HasReadTo bytes old.limit old.place n ps) (sym same.1) read))
+    subst (λ (l : ℕ). HasReadTo bytes l new.offset new.number ps) (sym limit)
+    (subst (λ (p : ℕ). HasReadTo bytes old.limit p new.number ps) (sym same.0) (subst (λ (n : ℕ). HasReadTo bytes old.limit old.offset n ps) (sym same.1) read))
 
 -- the bytes that these payloads take in frames
 abbrev pub frame_bytes : List (List ℕ) → ℕ

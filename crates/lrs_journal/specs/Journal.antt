@@ -42,7 +42,7 @@ pub record IsHolding {D : Type 0} (told : D → Option (List ℕ)) (image : D �
   pub reads : (bytes : List ℕ) → told journal.disk ≡ Some bytes
       → StandsForFrames journal.limit journal.doubt payloads bytes
   pub each : (bytes : List ℕ) → image journal.disk bytes → StandsForFrames journal.limit journal.doubt payloads bytes
-  pub place : journal.end ≡ length (store journal.limit payloads)
+  pub offset : journal.end ≡ length (store journal.limit payloads)
   pub counts : journal.number ≡ length payloads
 
 -- What is true of every journal.

@@ -16,32 +16,32 @@ pub record Replay (D : Type 0) : Type 0 where
   -- the bytes that the header allows
   pub limit : ℕ
   -- where the next gate stands
-  pub place : ℕ
+  pub offset : ℕ
   -- how many frames were read
   pub number : ℕ
   -- the list's end was met
   pub ended : Bool
 
--- The bytes begin with a header of this limit and the whole open frames of these payloads, and there the place is.
-pub record HasReadTo (bytes : List ℕ) (limit place number : ℕ) (payloads : List (List ℕ)) : Type 0 where
+-- The bytes begin with a header of this limit and the whole open frames of these payloads, and there the offset is.
+pub record HasReadTo (bytes : List ℕ) (limit offset number : ℕ) (payloads : List (List ℕ)) : Type 0 where
   pub least : LEAST_BYTES ≤ limit
   pub most : limit ≤ MOST_BYTES
   pub sizes : AllByRecursion IsPayload payloads
-  pub begins : bytes ≡ store limit payloads ++ drop place bytes
-  pub behind : place ≡ length (store limit payloads)
+  pub begins : bytes ≡ store limit payloads ++ drop offset bytes
+  pub behind : offset ≡ length (store limit payloads)
   pub counts : number ≡ length payloads
 
 -- the replay has read these payloads of the bytes
 abbrev pub HasRead : {D : Type 0} → List ℕ → Replay D → List (List ℕ) → Type 0
-HasRead bytes replay payloads = HasReadTo bytes replay.limit replay.place replay.number payloads
+HasRead bytes replay payloads = HasReadTo bytes replay.limit replay.offset replay.number payloads
 
 -- nothing more was read
-abbrev pub IsSamePlace : {D : Type 0} → Replay D → Replay D → Type 0
-IsSamePlace old new = (new.place ≡ old.place) × (new.number ≡ old.number)
+abbrev pub HasSameOffset : {D : Type 0} → Replay D → Replay D → Type 0
+HasSameOffset old new = (new.offset ≡ old.offset) × (new.number ≡ old.number)
 
 -- one frame more was read, of this payload
-abbrev pub IsNextPlace : {D : Type 0} → Replay D → Replay D → List ℕ → Type 0
-IsNextPlace old new payload = (new.place ≡ old.place + (FRAME_HEAD + length payload)) × (new.number ≡ old.number + 1)
+abbrev pub HasNextOffset : {D : Type 0} → Replay D → Replay D → List ℕ → Type 0
+HasNextOffset old new payload = (new.offset ≡ old.offset + (FRAME_HEAD + length payload)) × (new.number ≡ old.number + 1)
 
 -- these bytes begin with an open gate and a whole frame with a payload of this length
 abbrev pub IsWholeFrame : List ℕ → ℕ → Type 0
@@ -58,24 +58,24 @@ IsAhead bytes ahead.End = IsEnd bytes
 IsAhead bytes ahead.Torn = IsTorn bytes
 IsAhead bytes (ahead.Frame size) = IsWholeFrame bytes size
 
--- what these bytes have at a place, and the payload if that is a whole frame
+-- what these bytes have at an offset, and the payload if that is a whole frame
 abbrev pub IsFetched : List ℕ → ℕ → Ahead → List ℕ → Type 0
-IsFetched bytes place found payload = IsAhead (drop place bytes) found
-    × ((size : ℕ) → found ≡ ahead.Frame size → payload ≡ take size (drop (place + FRAME_HEAD) bytes))
+IsFetched bytes offset found payload = IsAhead (drop offset bytes) found
+    × ((size : ℕ) → found ≡ ahead.Frame size → payload ≡ take size (drop (offset + FRAME_HEAD) bytes))
 
--- A frame of this length at a place of a disk of so many bytes, and its payload.
-pub record IsFrameWithin (place total size : ℕ) (payload : List ℕ) : Type 0 where
+-- A frame of this length at an offset of a disk of so many bytes, and its payload.
+pub record IsFrameWithin (offset total size : ℕ) (payload : List ℕ) : Type 0 where
   pub small : size < 2 ^ 32
-  pub fits : place + FRAME_HEAD + size ≤ total
+  pub fits : offset + FRAME_HEAD + size ≤ total
   pub long : length payload ≡ size
 
--- What becomes of the place, the number of frames and the end by what was fetched, and what is answered.
+-- What becomes of the offset, the number of frames and the end by what was fetched, and what is answered.
 abbrev pub IsPassed : Result Ahead ReplayRefused → ℕ → ℕ → Bool → ℕ → ℕ → Bool → Result Bool ReplayRefused → Type 0
-IsPassed (Ok ahead.End) place number ended p n e said =
-    (p ≡ place) × (n ≡ number) × (e ≡ true) × (said ≡ Ok false)
-IsPassed (Ok ahead.Torn) place number ended p n e said =
-    (p ≡ place) × (n ≡ number) × (e ≡ ended) × (said ≡ Err (refused.Damaged number))
-IsPassed (Ok (ahead.Frame size)) place number ended p n e said =
-    (p ≡ place + (FRAME_HEAD + size)) × (n ≡ number + 1) × (e ≡ false) × (said ≡ Ok true)
-IsPassed (Err failure) place number ended p n e said =
-    (p ≡ place) × (n ≡ number) × (e ≡ ended) × (said ≡ Err failure)
+IsPassed (Ok ahead.End) offset number ended p n e said =
+    (p ≡ offset) × (n ≡ number) × (e ≡ true) × (said ≡ Ok false)
+IsPassed (Ok ahead.Torn) offset number ended p n e said =
+    (p ≡ offset) × (n ≡ number) × (e ≡ ended) × (said ≡ Err (refused.Damaged number))
+IsPassed (Ok (ahead.Frame size)) offset number ended p n e said =
+    (p ≡ offset + (FRAME_HEAD + size)) × (n ≡ number + 1) × (e ≡ false) × (said ≡ Ok true)
+IsPassed (Err failure) offset number ended p n e said =
+    (p ≡ offset) × (n ≡ number) × (e ≡ ended) × (said ≡ Err failure)

@@ -12,23 +12,23 @@ use Rattle.lrs_journal.specs.declared.sizes.TheConstants.{FRAME_HEAD, LEAST_BYTE
 abbrev pub Reads : {D : Type 0} → (D → Option (List ℕ)) → D → List ℕ → Type 0
 Reads told disk bytes = told disk ≡ Some bytes
 
--- one of the old images up to this place, and after it anything
+-- one of the old images up to this offset, and after it anything
 abbrev pub KeepsUpTo : ℕ → (List ℕ → Type 0) → List ℕ → Type 0
-KeepsUpTo place old c = (d : List ℕ) × old d × (take place c ≡ take place d)
+KeepsUpTo offset old c = (d : List ℕ) × old d × (take offset c ≡ take offset d)
 
--- one of the old images, but for the byte at this place
+-- one of the old images, but for the byte at this offset
 abbrev pub IsAtGate : ℕ → (List ℕ → Type 0) → List ℕ → Type 0
-IsAtGate place old c = (d : List ℕ) × old d × (take place c ≡ take place d) × (drop (place + 1) c ≡ drop (place + 1) d)
+IsAtGate offset old c = (d : List ℕ) × old d × (take offset c ≡ take offset d) × (drop (offset + 1) c ≡ drop (offset + 1) d)
 
--- one of the old images, cut at this place or after it, or up to this place and with at most one byte after
+-- one of the old images, cut at this offset or after it, or up to this offset and with at most one byte after
 abbrev pub IsCutBack : ℕ → (List ℕ → Type 0) → List ℕ → Type 0
-IsCutBack place old c = (d : List ℕ) × old d × (take place c ≡ take place d) × (place ≤ length c)
-    × ((take (length c) d ≡ c) ⊎ (length c ≤ place + 1))
+IsCutBack offset old c = (d : List ℕ) × old d × (take offset c ≡ take offset d) × (offset ≤ length c)
+    × ((take (length c) d ≡ c) ⊎ (length c ≤ offset + 1))
 
--- the old one up to this place, and there a 0
+-- the old one up to this offset, and there a 0
 abbrev pub IsClosed : ℕ → (List ℕ → Type 0) → List ℕ → Type 0
-IsClosed place old c = (d : List ℕ) × old d × (take place c ≡ take place d) × (rest : List ℕ)
-    × (drop place c ≡ 0 ∷ rest)
+IsClosed offset old c = (d : List ℕ) × old d × (take offset c ≡ take offset d) × (rest : List ℕ)
+    × (drop offset c ≡ 0 ∷ rest)
 
 -- the frames of these payloads, and a closed gate
 abbrev pub AtRest : ℕ → List (List ℕ) → List ℕ → Type 0
@@ -39,23 +39,23 @@ abbrev pub InDoubt : ℕ → List (List ℕ) → List ℕ → List ℕ → Type 
 InDoubt limit payloads payload bytes =
     (gate : ℕ) × (rest : List ℕ) × (bytes ≡ store limit payloads ++ gate ∷ body payload ++ 0 ∷ rest)
 
--- the place of the first gate after these payloads
-pub record IsPlaced (limit place : ℕ) (payloads : List (List ℕ)) : Type 0 where
+-- the offset of the first gate after these payloads
+pub record IsEndOffset (limit offset : ℕ) (payloads : List (List ℕ)) : Type 0 where
   pub least : LEAST_BYTES ≤ limit
   pub most : limit ≤ MOST_BYTES
   pub sizes : AllByRecursion IsPayload payloads
-  pub behind : place ≡ length (store limit payloads)
+  pub behind : offset ≡ length (store limit payloads)
 
 -- without doubt: each of the images stands for these payloads, with a closed gate at the end
 pub record IsSettled (image : List ℕ → Type 0) (limit end number : ℕ) (payloads : List (List ℕ)) : Type 0 where
-  pub placed : IsPlaced limit end payloads
+  pub placed : IsEndOffset limit end payloads
   pub each : (c : List ℕ) → image c → AtRest limit payloads c
   pub counts : number ≡ length payloads
 
 -- in doubt: each of the images stands for these payloads, or for them and one more
 pub record IsDoubtful (image : List ℕ → Type 0) (limit end number : ℕ) (payloads : List (List ℕ))
     (payload : List ℕ) : Type 0 where
-  pub placed : IsPlaced limit end payloads
+  pub placed : IsEndOffset limit end payloads
   pub each : (c : List ℕ) → image c → InDoubt limit payloads payload c
   pub counts : number ≡ length payloads + 1
 
@@ -84,15 +84,15 @@ pub record IsSound (told : Option (List ℕ)) (image : List ℕ → Type 0) (lim
   pub tied : (b : List ℕ) → told ≡ Some b → FitsFields doubt image limit end number
 
 -- What is true of a replay's fields.
-pub record IsReplay (told : Option (List ℕ)) (image : List ℕ → Type 0) (limit size place number : ℕ)
+pub record IsReplay (told : Option (List ℕ)) (image : List ℕ → Type 0) (limit size offset number : ℕ)
     (ended : Bool) : Type 0 where
   pub least : LEAST_BYTES ≤ limit
   pub most : limit ≤ MOST_BYTES
-  pub few : number ≤ place
+  pub few : number ≤ offset
   pub synced : (c : List ℕ) → image c → told ≡ Some c
   pub size_is : (b : List ℕ) → told ≡ Some b → size ≡ length b
-  pub tied : (b : List ℕ) → told ≡ Some b → (payloads : List (List ℕ)) × HasReadTo b limit place number payloads
-  pub ends : (b : List ℕ) → told ≡ Some b → ended ≡ true → IsEnd (drop place b)
+  pub tied : (b : List ℕ) → told ≡ Some b → (payloads : List (List ℕ)) × HasReadTo b limit offset number payloads
+  pub ends : (b : List ℕ) → told ≡ Some b → ended ≡ true → IsEnd (drop offset b)
 
 -- at most one byte, or a first one that isn't 1
 abbrev pub IsBlank : List ℕ → Type 0

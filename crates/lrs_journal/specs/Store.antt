@@ -39,11 +39,11 @@ store limit payloads = header limit ++ frames payloads
 -- The bytes that a store has whose end gate stands here, with one frame more: its head, its payload and the new end
 -- gate.
 abbrev pub need_at : ℕ → List ℕ → ℕ
-need_at place payload = place + (FRAME_HEAD + 1) + length payload
+need_at offset payload = offset + (FRAME_HEAD + 1) + length payload
 
 -- the same as it is told: a number beyond 64 bits stays at their last value
 abbrev pub need_told : ℕ → List ℕ → ℕ
-need_told place payload = min (need_at place payload) (2 ^ 64 - 1)
+need_told offset payload = min (need_at offset payload) (2 ^ 64 - 1)
 
 -- the list ends here: no byte, a last one, or a gate that isn't 1
 abbrev pub IsEnd : List ℕ → Type 0

@@ -56,7 +56,7 @@ impl From<Failed> for AppendRefused {
 pub struct Journal<D: Disk> {
     pub(crate) disk: D,
     pub(crate) limit: u64,
-    /// The place of the end gate, or in doubt that of the doubtful frame's gate.
+    /// The offset of the end gate, or in doubt that of the doubtful frame's gate.
     pub(crate) gate: u64,
     pub(crate) number: u64,
     /// The length of the payload that is in doubt.

@@ -8,7 +8,7 @@ ghost use Rattle.lrs_journal.specs.Create.{IsUntouched};
 ghost use Rattle.lrs_journal.specs.Store.{header, HasHeader, Stands, IsDamaged};
 ghost use Rattle.lrs_journal.specs.Journal.{frames_of, IsJournal, IsSynced, Stores, TellsAlike, HasCount};
 ghost use Rattle.lrs_journal.specs.Steps.{Reads};
-ghost use Rattle.lrs_journal.specs.Replay.{HasRead, IsAhead, IsFetched, IsFrameWithin, IsNextPlace, IsPassed, IsSamePlace};
+ghost use Rattle.lrs_journal.specs.Replay.{HasRead, IsAhead, IsFetched, IsFrameWithin, HasNextOffset, IsPassed, HasSameOffset};
 ghost use Rattle.lrs_journal.specs.declared.replay.RecoverRefused.TheVariants as RecoverRefused;
 ghost use Rattle.lrs_journal.specs.declared.replay.Ahead.TheVariants as Ahead;
 ghost use Rattle.lrs_journal.specs.declared.replay.ReplayRefused.TheVariants as ReplayRefused;
@@ -131,20 +131,20 @@ fn ahead_of(gate: u8, size: u32, number: usize, left: u64) -> Ahead
     Ahead::Frame { size }
 }
 
-// Looks at the gate and the length that stand at a place of a disk of so many bytes.
-fn look<D: Disk>(disk: &mut D, place: u64, total: u64) -> Result<Ahead, Failed>
+// Looks at the gate and the length that stand at an offset of a disk of so many bytes.
+fn look<D: Disk>(disk: &mut D, offset: u64, total: u64) -> Result<Ahead, Failed>
     requires { (b : List ℕ) → Reads D.told disk.old b → total ≡ length b }
-    ensures found { IfOk result (λ ahead. ForSome (D.told disk.old) (λ bytes. IsAhead (drop place bytes) ahead)) }
+    ensures found { IfOk result (λ ahead. ForSome (D.told disk.old) (λ bytes. IsAhead (drop offset bytes) ahead)) }
     ensures fits { IfOk result (λ ahead. (size : ℕ) → ahead ≡ Ahead.Frame size → (size < 2 ^ 32)
-        × (place + FRAME_HEAD + size ≤ total)) }
+        × (offset + FRAME_HEAD + size ≤ total)) }
     ensures untouched { IsUntouched D.told D.image D.time D.image_since disk.old disk.new }
     ensures cause { HasCause (D.fault_count disk.old) (D.fault_count disk.new) result }
 {
     let mut head = [0; FRAME_HEAD as usize];
-    let number = disk.read_at(place, &mut head)?;
+    let number = disk.read_at(offset, &mut head)?;
     let [gate, a, b, c, d] = head;
     let size = word_of([a, b, c, d]);
-    let left = total.saturating_sub(place);
+    let left = total.saturating_sub(offset);
     Ok(ahead_of(gate, size, number, left))
 }
 
@@ -156,31 +156,31 @@ fn size_to(into: &mut Vec<u8>, size: u32) -> Result<(), AllocError>
     Ok(())
 }
 
-// Fills a vector from a place on, and answers whether there were bytes enough.
-fn fill<D: Disk>(disk: &mut D, place: u64, into: &mut Vec<u8>) -> Result<bool, Failed>
+// Fills a vector from an offset on, and answers whether there were bytes enough.
+fn fill<D: Disk>(disk: &mut D, offset: u64, into: &mut Vec<u8>) -> Result<bool, Failed>
     ensures all { IfOk result (λ all. all ≡ true → ForSome (D.told disk.old)
-        (λ bytes. into.new.items ≡ take (length into.old.items) (drop place bytes))) }
+        (λ bytes. into.new.items ≡ take (length into.old.items) (drop offset bytes))) }
     ensures short { IfOk result (λ all. all ≡ false → ForSome (D.told disk.old)
-        (λ bytes. length bytes < place + length into.old.items)) }
+        (λ bytes. length bytes < offset + length into.old.items)) }
     ensures length { length into.new.items ≡ length into.old.items }
     ensures untouched { IsUntouched D.told D.image D.time D.image_since disk.old disk.new }
     ensures cause { HasCause (D.fault_count disk.old) (D.fault_count disk.new) result }
 {
     let wanted = into.len();
-    let number = disk.read_at(place, into)?;
+    let number = disk.read_at(offset, into)?;
     Ok(number == wanted)
 }
 
 // Reads the payload of a frame whose length is within the disk.
 fn load<D: Disk>(
     disk: &mut D,
-    place: u64,
+    offset: u64,
     size: u32,
     into: &mut Vec<u8>,
 ) -> Result<Ahead, ReplayRefused>
-    requires there { (b : List ℕ) → Reads D.told disk.old b → place + size ≤ length b }
+    requires there { (b : List ℕ) → Reads D.told disk.old b → offset + size ≤ length b }
     ensures whole { IfOk result (λ ahead. ForSome (D.told disk.old) (λ bytes. (ahead ≡ Ahead.Frame size)
-        × (into.new.items ≡ take size (drop place bytes)))) }
+        × (into.new.items ≡ take size (drop offset bytes)))) }
     ensures length { IfOk result (λ ahead. (n : ℕ) → ahead ≡ Ahead.Frame n → (n ≡ size)
         × (length into.new.items ≡ n)) }
     ensures damaged { (k : ℕ) → result ≢ Err (ReplayRefused.Damaged k) }
@@ -189,47 +189,47 @@ fn load<D: Disk>(
         (IsOk result) }
 {
     size_to(into, size)?;
-    let all = fill(disk, place, into)?;
+    let all = fill(disk, offset, into)?;
     if all {
         return Ok(Ahead::Frame { size });
     }
     Ok(Ahead::Torn)
 }
 
-// Reads the frame that stands at a place of a disk of so many bytes into a vector, if it is whole.
+// Reads the frame that stands at an offset of a disk of so many bytes into a vector, if it is whole.
 fn fetch<D: Disk>(
     disk: &mut D,
-    place: u64,
+    offset: u64,
     total: u64,
     into: &mut Vec<u8>,
 ) -> Result<Ahead, ReplayRefused>
     requires { (b : List ℕ) → Reads D.told disk.old b → total ≡ length b }
     ensures found { IfOk result (λ ahead. ForSome (D.told disk.old)
-        (λ bytes. IsFetched bytes place ahead into.new.items)) }
+        (λ bytes. IsFetched bytes offset ahead into.new.items)) }
     ensures fits { IfOk result (λ ahead. (size : ℕ) → ahead ≡ Ahead.Frame size
-        → IsFrameWithin place total size into.new.items) }
+        → IsFrameWithin offset total size into.new.items) }
     ensures damaged { (k : ℕ) → result ≢ Err (ReplayRefused.Damaged k) }
     ensures untouched { IsUntouched D.told D.image D.time D.image_since disk.old disk.new }
     ensures cause { HasCount (D.fault_count disk.old) (D.fault_count disk.new) (IsErrOf result ReplayRefused.Failed)
         (IsOk result) }
 {
-    match look(disk, place, total)? {
+    match look(disk, offset, total)? {
         Ahead::End => Ok(Ahead::End),
         Ahead::Torn => Ok(Ahead::Torn),
-        Ahead::Frame { size } => load(disk, place + FRAME_HEAD, size, into),
+        Ahead::Frame { size } => load(disk, offset + FRAME_HEAD, size, into),
     }
 }
 
 // Goes past what was fetched, if it is a frame, and answers whether there was one.
 fn pass(
-    place: &mut u64,
+    offset: &mut u64,
     number: &mut u64,
     ended: &mut bool,
     fetched: Result<Ahead, ReplayRefused>,
 ) -> Result<bool, ReplayRefused>
-    requires room { (size : ℕ) → fetched ≡ Ok (Ahead.Frame size) → place.old + FRAME_HEAD + size < 2 ^ 64 }
-    requires few { number.old ≤ place.old }
-    ensures { IsPassed fetched place.old number.old ended.old place.new number.new ended.new result }
+    requires room { (size : ℕ) → fetched ≡ Ok (Ahead.Frame size) → offset.old + FRAME_HEAD + size < 2 ^ 64 }
+    requires few { number.old ≤ offset.old }
+    ensures { IsPassed fetched offset.old number.old ended.old offset.new number.new ended.new result }
 {
     match fetched {
         Ok(Ahead::End) => {
@@ -238,7 +238,7 @@ fn pass(
         }
         Ok(Ahead::Torn) => Err(ReplayRefused::Damaged { k: *number }),
         Ok(Ahead::Frame { size }) => {
-            *place += FRAME_HEAD + u64::from(size);
+            *offset += FRAME_HEAD + u64::from(size);
             *number += 1;
             *ended = false;
             Ok(true)
@@ -253,7 +253,7 @@ pub struct Replay<D: Disk> {
     disk: D,
     limit: u64,
     size: u64,
-    place: u64,
+    offset: u64,
     number: u64,
     ended: bool,
 }
@@ -267,13 +267,13 @@ impl<D: Disk> Model for Replay<D> {
     ghost view = { λ r. record {
       disk = r.disk;
       limit = r.limit;
-      place = r.place;
+      offset = r.offset;
       number = r.number;
       ended =
           r.ended;
     } };
 
-    ghost invariant = { λ r. IsReplay (D.told r.disk) (D.image r.disk) r.limit r.size r.place r.number r.ended };
+    ghost invariant = { λ r. IsReplay (D.told r.disk) (D.image r.disk) r.limit r.size r.offset r.number r.ended };
 }
 
 impl<D: Disk> Journal<D> {
@@ -281,7 +281,7 @@ impl<D: Disk> Journal<D> {
     pub fn recover(disk: D) -> Result<Replay<D>, (RecoverRefused, D)>
         ensures opened { IfOk result (λ replay. ForSome (D.told disk)
             (λ bytes. HasHeader bytes replay.limit × HasRead bytes replay [])) }
-        ensures begun { IfOk result (λ replay. (replay.place ≡ HEADER) × (replay.number ≡ 0)
+        ensures begun { IfOk result (λ replay. (replay.offset ≡ HEADER) × (replay.number ≡ 0)
             × (replay.ended ≡ false)) }
         ensures synced { IfOk result (λ replay. IsSynced D.told D.image replay.disk) }
         ensures not_a_store { IfErr result (λ e. e.0 ≡ RecoverRefused.NotAStore → ForSome (D.told disk)
@@ -311,7 +311,7 @@ impl<D: Disk> Journal<D> {
                 disk,
                 limit,
                 size,
-                place: HEADER,
+                offset: HEADER,
                 number: 0,
                 ended: false,
             }),
@@ -328,10 +328,10 @@ impl<D: Disk> Replay<D> {
     }
 
     /// Where the next gate stands: after the header, or after the last frame that was read.
-    pub fn place(&self) -> u64
-        ensures { result ≡ self.now.place }
+    pub fn offset(&self) -> u64
+        ensures { result ≡ self.now.offset }
     {
-        self.place
+        self.offset
     }
 
     /// Gives the disk back as it is. Nothing is written.
@@ -342,7 +342,7 @@ impl<D: Disk> Replay<D> {
             disk,
             limit: _,
             size: _,
-            place: _,
+            offset: _,
             number: _,
             ended: _,
         } = self;
@@ -354,15 +354,15 @@ impl<D: Disk> Replay<D> {
         ensures frame { IfOk result (λ more. more ≡ true → ForSome (D.told self.old.disk)
             (λ bytes. (payloads : List (List ℕ)) → HasRead bytes self.old payloads
             → HasRead bytes self.new (payloads ++ into.new.items ∷ []))) }
-        ensures end { IfOk result (λ more. more ≡ false → IsSamePlace self.old self.new × ForSome (D.told self.old.disk)
+        ensures end { IfOk result (λ more. more ≡ false → HasSameOffset self.old self.new × ForSome (D.told self.old.disk)
             (λ bytes. (payloads : List (List ℕ)) → HasRead bytes self.old payloads → HasRead bytes self.new payloads
             × Stands bytes self.old.limit payloads)) }
-        ensures moved { IfOk result (λ more. more ≡ true → IsNextPlace self.old self.new into.new.items) }
+        ensures moved { IfOk result (λ more. more ≡ true → HasNextOffset self.old self.new into.new.items) }
         ensures ended { IfOk result (λ more. self.new.ended ≡ not more) }
         ensures damaged { (k : ℕ) → IsErrOf result (ReplayRefused.Damaged k) → (k ≡ self.old.number)
             × ForSome (D.told self.old.disk) (λ bytes. (payloads : List (List ℕ)) → HasRead bytes self.old payloads
             → IsDamaged bytes self.old.limit payloads) }
-        ensures refused { IsErr result → IsSamePlace self.old self.new × (self.new.ended ≡ self.old.ended) }
+        ensures refused { IsErr result → HasSameOffset self.old self.new × (self.new.ended ≡ self.old.ended) }
         ensures limit { self.new.limit ≡ self.old.limit }
         ensures still { D.told self.new.disk ≡ D.told self.old.disk }
         ensures synced { IsSynced D.told D.image self.new.disk }
@@ -371,8 +371,8 @@ impl<D: Disk> Replay<D> {
         ensures cause { HasCount (D.fault_count self.old.disk) (D.fault_count self.new.disk)
             (IsErrOf result ReplayRefused.Failed) (IsOk result) }
     {
-        let fetched = fetch(&mut self.disk, self.place, self.size, into);
-        pass(&mut self.place, &mut self.number, &mut self.ended, fetched)
+        let fetched = fetch(&mut self.disk, self.offset, self.size, into);
+        pass(&mut self.offset, &mut self.number, &mut self.ended, fetched)
     }
 
     /// The journal that was read, with a closed gate at its end. `next` has answered false before.
@@ -382,7 +382,7 @@ impl<D: Disk> Replay<D> {
             (λ bytes. (payloads : List (List ℕ)) → HasRead bytes self payloads
             → frames_of D.told journal ≡ Some payloads)) }
         ensures fields { IfOk result (λ journal. (journal.doubt ≡ false) × (journal.limit ≡ self.limit)
-            × (journal.end ≡ self.place) × (journal.number ≡ self.number)) }
+            × (journal.end ≡ self.offset) × (journal.number ≡ self.number)) }
         ensures sound { IfOk result (IsJournal D.told D.image) }
         ensures tells { IfOk result (λ journal. TellsAlike (D.told self.disk) (D.told journal.disk)) }
         ensures tells_err { IfErr result (λ e. TellsAlike (D.told self.disk) (D.told e.1)) }
@@ -406,16 +406,16 @@ impl<D: Disk> Replay<D> {
             mut disk,
             limit,
             size: _,
-            place,
+            offset,
             number,
             ended: _,
         } = self;
-        match close_end(&mut disk, place) {
+        match close_end(&mut disk, offset) {
             Err(failed) => Err((failed, disk)),
             Ok(()) => Ok(Journal {
                 disk,
                 limit,
-                gate: place,
+                gate: offset,
                 number,
                 doubt: None,
             }),

@@ -9,65 +9,65 @@ ghost use Rattle.lrs_journal.specs.Steps.{Reads, KeepsUpTo, IsAtGate, IsCutBack,
 use crate::sizes::FRAME_HEAD;
 use lrs_disk::{Disk, Failed};
 
-/// Writes a frame's body and a closed gate after the gate at this place, and syncs.
-pub(crate) fn stage<D: Disk>(disk: &mut D, place: u64, payload: &[u8]) -> Result<(), Failed>
-    requires fits { need_at place payload.now < 2 ^ 32 }
-    requires gate { (b : List ℕ) → Reads D.told disk.old b → place < length b }
-    ensures staged { OnOk result (Follows (λ b c. c ≡ written b (place + 1) (body payload.now ++ 0
+/// Writes a frame's body and a closed gate after the gate at this offset, and syncs.
+pub(crate) fn stage<D: Disk>(disk: &mut D, offset: u64, payload: &[u8]) -> Result<(), Failed>
+    requires fits { need_at offset payload.now < 2 ^ 32 }
+    requires gate { (b : List ℕ) → Reads D.told disk.old b → offset < length b }
+    ensures staged { OnOk result (Follows (λ b c. c ≡ written b (offset + 1) (body payload.now ++ 0
         ∷ [])) (Reads D.told disk.old) (D.image disk.new)) }
     ensures tells { TellsAlike (D.told disk.old) (D.told disk.new) }
-    ensures any_moment { LeavesOnly D.time D.image_since disk.old disk.new (KeepsUpTo (place + 1) (D.image disk.old)) }
+    ensures any_moment { LeavesOnly D.time D.image_since disk.old disk.new (KeepsUpTo (offset + 1) (D.image disk.old)) }
     ensures cause { HasCause (D.fault_count disk.old) (D.fault_count disk.new) result }
 {
     let length = payload.len() as u32;
-    disk.write_at(place + 1, &length.to_be_bytes())?;
-    disk.write_at(place + FRAME_HEAD, payload)?;
-    disk.write_at(place + FRAME_HEAD + payload.len() as u64, &[0])?;
+    disk.write_at(offset + 1, &length.to_be_bytes())?;
+    disk.write_at(offset + FRAME_HEAD, payload)?;
+    disk.write_at(offset + FRAME_HEAD + payload.len() as u64, &[0])?;
     disk.sync()
 }
 
 /// Writes a gate, and syncs.
-pub(crate) fn write_gate<D: Disk>(disk: &mut D, place: u64, gate: u8) -> Result<(), Failed>
-    requires place { (b : List ℕ) → Reads D.told disk.old b → place ≤ length b }
-    ensures written { OnOk result (Follows (λ b c. c ≡ written b place (gate
+pub(crate) fn write_gate<D: Disk>(disk: &mut D, offset: u64, gate: u8) -> Result<(), Failed>
+    requires offset { (b : List ℕ) → Reads D.told disk.old b → offset ≤ length b }
+    ensures written { OnOk result (Follows (λ b c. c ≡ written b offset (gate
         ∷ [])) (Reads D.told disk.old) (D.image disk.new)) }
     ensures tells { TellsAlike (D.told disk.old) (D.told disk.new) }
-    ensures any_moment { LeavesOnly D.time D.image_since disk.old disk.new (IsAtGate place (D.image disk.old)) }
+    ensures any_moment { LeavesOnly D.time D.image_since disk.old disk.new (IsAtGate offset (D.image disk.old)) }
     ensures cause { HasCause (D.fault_count disk.old) (D.fault_count disk.new) result }
 {
-    disk.write_at(place, &[gate])?;
+    disk.write_at(offset, &[gate])?;
     disk.sync()
 }
 
-/// Cuts the disk at a place, and puts a closed gate there.
-pub(crate) fn repair<D: Disk>(disk: &mut D, place: u64) -> Result<(), Failed>
-    requires place { (b : List ℕ) → Reads D.told disk.old b → place ≤ length b }
+/// Cuts the disk at an offset, and puts a closed gate there.
+pub(crate) fn repair<D: Disk>(disk: &mut D, offset: u64) -> Result<(), Failed>
+    requires offset { (b : List ℕ) → Reads D.told disk.old b → offset ≤ length b }
     requires fixed { Within (Reads D.told disk.old) (D.image disk.old) }
-    ensures closed { OnOk result (Within (IsClosed place (Reads D.told disk.old)) (D.image disk.new)) }
+    ensures closed { OnOk result (Within (IsClosed offset (Reads D.told disk.old)) (D.image disk.new)) }
     ensures tells { TellsAlike (D.told disk.old) (D.told disk.new) }
-    ensures any_moment { LeavesOnly D.time D.image_since disk.old disk.new (IsCutBack place (D.image disk.old)) }
+    ensures any_moment { LeavesOnly D.time D.image_since disk.old disk.new (IsCutBack offset (D.image disk.old)) }
     ensures cause { HasCause (D.fault_count disk.old) (D.fault_count disk.new) result }
 {
-    disk.cut(place)?;
+    disk.cut(offset)?;
     // The cut has to be on the disk first: after a gate that is torn open, what was there would count.
     disk.sync()?;
-    disk.write_at(place, &[0])?;
+    disk.write_at(offset, &[0])?;
     disk.sync()
 }
 
-/// Makes the gate at a place a closed one, if it isn't a 0.
-pub(crate) fn close_end<D: Disk>(disk: &mut D, place: u64) -> Result<(), Failed>
-    requires place { (b : List ℕ) → Reads D.told disk.old b → place ≤ length b }
+/// Makes the gate at an offset a closed one, if it isn't a 0.
+pub(crate) fn close_end<D: Disk>(disk: &mut D, offset: u64) -> Result<(), Failed>
+    requires offset { (b : List ℕ) → Reads D.told disk.old b → offset ≤ length b }
     requires fixed { Within (Reads D.told disk.old) (D.image disk.old) }
-    ensures closed { OnOk result (Within (IsClosed place (Reads D.told disk.old)) (D.image disk.new)) }
+    ensures closed { OnOk result (Within (IsClosed offset (Reads D.told disk.old)) (D.image disk.new)) }
     ensures tells { TellsAlike (D.told disk.old) (D.told disk.new) }
-    ensures any_moment { LeavesOnly D.time D.image_since disk.old disk.new (IsCutBack place (D.image disk.old)) }
+    ensures any_moment { LeavesOnly D.time D.image_since disk.old disk.new (IsCutBack offset (D.image disk.old)) }
     ensures cause { HasCause (D.fault_count disk.old) (D.fault_count disk.new) result }
 {
     let mut gate = [1];
-    let number = disk.read_at(place, &mut gate)?;
+    let number = disk.read_at(offset, &mut gate)?;
     if number == 1 && gate[0] == 0 {
         return Ok(());
     }
-    repair(disk, place)
+    repair(disk, offset)
 }

@@ -15,7 +15,7 @@ fn disk_of(alloc: Global, bytes: &[u8], failing: Vec<u64>) -> Result<MemDisk, Me
     MemDisk::new(alloc, bytes.to_vec(alloc)?, failing, 99, 9_999)
 }
 
-// The place of the first step that went otherwise than expected.
+// The offset of the first step that went otherwise than expected.
 fn first_wrong(steps: &[bool]) -> Option<usize> {
     steps.iter().position(|step| !*step)
 }
@@ -267,9 +267,9 @@ const FRONTS: [(usize, &str); 8] = [
 ];
 
 fn first_misread(alloc: Global) -> Result<Option<usize>, Memory> {
-    for (place, (size, list)) in FRONTS.iter().enumerate() {
+    for (offset, (size, list)) in FRONTS.iter().enumerate() {
         if listed(alloc, &STORE[..(*size).min(25)])?.as_slice() != list.as_bytes() {
-            return Ok(Some(place));
+            return Ok(Some(offset));
         }
     }
     Ok(None)

@@ -1,2 +1,2 @@
 mod SameValues
-mod Places
+mod Indices

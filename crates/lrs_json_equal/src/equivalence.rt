@@ -122,7 +122,7 @@ fn many_have_same_values(a: &[Member], b: &[Member]) -> bool
     let mut partners = Partners::new();
     let mut at = 0_usize;
     for member in a {
-        if !has_same_value(member, b, partners.place(a, at, b)) {
+        if !has_same_value(member, b, partners.index(a, at, b)) {
             return false;
         }
         at = at.saturating_add(1);
@@ -130,7 +130,7 @@ fn many_have_same_values(a: &[Member], b: &[Member]) -> bool
     true
 }
 
-// The member of its name mostly stands at that place.
+// The member of its name mostly stands at that index.
 #[cycle(same_value)]
 fn has_same_value(member: &Member, members: &[Member], at: usize) -> bool
     requires member_fits { Fits (member_view member.now).1 }
@@ -144,7 +144,7 @@ fn has_same_value(member: &Member, members: &[Member], at: usize) -> bool
     }
 }
 
-// Looks at that place, and then at all.
+// Looks at that index, and then at all.
 fn find_from<'a>(members: &'a [Member], name: &str, at: usize) -> Option<&'a Tree>
     ensures found { is_some result ≡ is_some (find_member name.now (members_of (map member_view members.now))) }
     // If the names differ, it is the only one of that name.
@@ -190,7 +190,7 @@ fn many_are_named(a: &[Member], b: &[Member]) -> bool
     let mut partners = Partners::new();
     let mut at = 0_usize;
     for member in a {
-        if find_from(b, member.name.as_str(), partners.place(a, at, b)).is_none() {
+        if find_from(b, member.name.as_str(), partners.index(a, at, b)).is_none() {
             return false;
         }
         at = at.saturating_add(1);

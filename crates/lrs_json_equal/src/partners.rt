@@ -5,30 +5,30 @@ use std::cmp::Ordering;
 /// So many are looked for at once.
 const AT_ONCE: usize = 8_192;
 
-/// Guesses of the places of an object's members in another object, by their names. What comes of them is right
+/// Guesses of the indices of an object's members in another object, by their names. What comes of them is right
 /// whichever they are; good ones spare a walk of all members for each. Takes 16 KiB of the stack.
 #[derive(Drop)]
 pub struct Partners {
-    // Of the members from that place on; none are known yet if there is none.
+    // Of the members from that index on; none are known yet if there is none.
     from: Option<usize>,
-    places: [u16; AT_ONCE],
+    indices: [u16; AT_ONCE],
 }
 
 impl Partners {
     pub fn new() -> Partners {
         Partners {
             from: None,
-            places: [0; AT_ONCE],
+            indices: [0; AT_ONCE],
         }
     }
 
-    /// Where to look first for the member at that place.
-    pub fn place(&mut self, members: &[Member], at: usize, others: &[Member]) -> usize {
+    /// Where to look first for the member at that index.
+    pub fn index(&mut self, members: &[Member], at: usize, others: &[Member]) -> usize {
         if stand_alike(members, others, at) {
             return at;
         }
         match self.known(at) {
-            Some(place) => place,
+            Some(index) => index,
             None => {
                 self.find(members, at, others);
                 self.known(at).unwrap_or(0)
@@ -37,25 +37,25 @@ impl Partners {
     }
 
     fn known(&self, at: usize) -> Option<usize> {
-        let place = self.places.get(at.checked_sub(self.from?)?)?;
-        Some(usize::from(*place))
+        let index = self.indices.get(at.checked_sub(self.from?)?)?;
+        Some(usize::from(*index))
     }
 
-    // For the members from that place on, as many as there is room for. Not inlined, since what is sought would then
+    // For the members from that index on, as many as there is room for. Not inlined, since what is sought would then
     // lie on the stack at each level of a value.
     #[inline(never)]
     fn find(&mut self, members: &[Member], at: usize, others: &[Member]) {
         let members = members.get(at..).unwrap_or(&[]);
-        let mut room = [Sought { key: 0, place: 0 }; AT_ONCE];
+        let mut room = [Sought { key: 0, index: 0 }; AT_ONCE];
         self.from = Some(at);
         if let Some(sought) = room.get_mut(..members.len().min(AT_ONCE)) {
             seek(members, sought);
-            seat(members, sought, others, &mut self.places);
+            seat(members, sought, others, &mut self.indices);
         }
     }
 }
 
-// Whether members of one name stand at that place.
+// Whether members of one name stand at that index.
 fn stand_alike(members: &[Member], others: &[Member], at: usize) -> bool {
     match (members.get(at), others.get(at)) {
         (Some(member), Some(other)) => member.name == other.name,
@@ -63,23 +63,23 @@ fn stand_alike(members: &[Member], others: &[Member], at: usize) -> bool {
     }
 }
 
-// A member that is looked for: the key of its name, and its place.
+// A member that is looked for: the key of its name, and its index.
 #[derive(Clone, Copy)]
 struct Sought {
     key: u64,
-    place: u16,
+    index: u16,
 }
 
 // The first members, in the order of their names.
 fn seek(members: &[Member], into: &mut [Sought]) {
     for (at, (to, member)) in into.iter_mut().zip(members).enumerate() {
-        let Ok(place) = u16::try_from(at) else {
+        let Ok(index) = u16::try_from(at) else {
             break;
         };
         let key = key_of(member.name.as_bytes());
-        *to = Sought { key, place };
+        *to = Sought { key, index };
     }
-    into.sort_unstable_by(|a, b| order(members, a, b.key, name_at(members, b.place)));
+    into.sort_unstable_by(|a, b| order(members, a, b.key, name_at(members, b.index)));
 }
 
 // Its first eight bytes: names are in the order of their keys, and mostly told apart by them.
@@ -93,26 +93,26 @@ fn key_of(name: &[u8]) -> u64 {
 
 fn order(members: &[Member], sought: &Sought, key: u64, name: &str) -> Ordering {
     match sought.key.cmp(&key) {
-        Ordering::Equal => name_at(members, sought.place).cmp(name),
+        Ordering::Equal => name_at(members, sought.index).cmp(name),
         order => order,
     }
 }
 
-fn name_at(members: &[Member], place: u16) -> &str {
-    match members.get(usize::from(place)) {
+fn name_at(members: &[Member], index: u16) -> &str {
+    match members.get(usize::from(index)) {
         Some(member) => member.name.as_str(),
         None => "",
     }
 }
 
-// At the place of each member that is looked for: where it stands among the others.
-fn seat(members: &[Member], sought: &[Sought], others: &[Member], places: &mut [u16]) {
-    for (place, other) in others.iter().enumerate() {
+// At the index of each member that is looked for: where it stands among the others.
+fn seat(members: &[Member], sought: &[Sought], others: &[Member], indices: &mut [u16]) {
+    for (index, other) in others.iter().enumerate() {
         let Some(partner) = partner_of(members, sought, other) else {
             continue;
         };
-        if let (Some(seat), Ok(place)) = (places.get_mut(partner), u16::try_from(place)) {
-            *seat = place;
+        if let (Some(seat), Ok(index)) = (indices.get_mut(partner), u16::try_from(index)) {
+            *seat = index;
         }
     }
 }
@@ -121,5 +121,5 @@ fn partner_of(members: &[Member], sought: &[Sought], other: &Member) -> Option<u
     let name = other.name.as_str();
     let key = key_of(name.as_bytes());
     let found = sought.binary_search_by(|one| order(members, one, key, name));
-    Some(usize::from(sought.get(found.ok()?)?.place))
+    Some(usize::from(sought.get(found.ok()?)?.index))
 }

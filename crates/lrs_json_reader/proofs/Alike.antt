@@ -8,15 +8,15 @@ use Rattle.lrs_json.specs.Json.{Json, null, boolean, number, string, array, obje
 use Rattle.lrs_json.specs.Spellable.{IsSpellable, AreSpellableElements, AreSpellableMembers}
 use Rattle.lrs_json.specs.Written.{comma_if, elements_text, escaped, members_text, quoted, written}
 use Rattle.lrs_json_reader.specs.Grammar.{Value}
-use Rattle.lrs_json_reader.specs.Placed as Placed
-use Rattle.lrs_json_reader.specs.Placed.{plain, plain_elements, plain_members}
+use Rattle.lrs_json_reader.specs.Located as Located
+use Rattle.lrs_json_reader.specs.Located.{plain, plain_elements, plain_members}
 use Rattle.lrs_json_reader.specs.Steps.{Opens}
 use Rattle.lrs_json_reader.proofs.Ends.{Value-Opens, digit_not}
 use Rattle.lrs_json_reader.proofs.Escapes.{same_quoted}
 use Rattle.lrs_json_reader.proofs.FirstBytes.{only_null, only_true, only_false, only_string, only_array, only_object, starts_at}
 use Rattle.lrs_json_reader.proofs.Rereads.{elements_Ends, members_Ends, tail_same}
 use Rattle.lrs_json_reader.proofs.Values.{Starts, starts}
-use Rattle.lrs_json_reader.proofs.WrittenLemmas.{place, plain-place, written-Value}
+use Rattle.lrs_json_reader.proofs.WrittenLemmas.{locate, plain-locate, written-Value}
 
 pub first_same : (a b : ℕ) (xs ys : List ℕ) → a ∷ xs ≡ b ∷ ys → a ≡ b
 first_same a b xs ys e = cc e
@@ -29,16 +29,16 @@ not_first close (b ∷ bs) more opens e = opens.1 (first_same b close bs more e)
 
 -- no value begins with a closing bracket
 no_bracket : (j : Json) (more rest : List ℕ) → IsSpellable j → 93 ∷ more ≡ written j ++ rest → ⊥
-no_bracket j more rest ok e = not_first 93 (written j ++ rest) more (Value-Opens (place j rest) (written j ++ rest) rest (written-Value j rest ok)) (sym e)
+no_bracket j more rest ok e = not_first 93 (written j ++ rest) more (Value-Opens (locate j rest) (written j ++ rest) rest (written-Value j rest ok)) (sym e)
 
 -- the other value begins with the same byte
-first_is : (k : Json) (bytes more rest : List ℕ) (b : ℕ) → IsSpellable k → bytes ≡ b ∷ more → bytes ≡ written k ++ rest → Starts (place k rest) b
-first_is k bytes more rest b ok is e = starts_at (place k rest) bytes more rest b is (subst (λ (t : List ℕ). Value (place k rest) t rest) (sym e) (written-Value k rest ok))
+first_is : (k : Json) (bytes more rest : List ℕ) (b : ℕ) → IsSpellable k → bytes ≡ b ∷ more → bytes ≡ written k ++ rest → Starts (locate k rest) b
+first_is k bytes more rest b ok is e = starts_at (locate k rest) bytes more rest b is (subst (λ (t : List ℕ). Value (locate k rest) t rest) (sym e) (written-Value k rest ok))
 
-kind : (k : Json) (rest : List ℕ) (p : Placed.Placed) → place k rest ≡ p → k ≡ plain p
-kind k rest p is = sym (plain-place k rest) ∙ ap plain is
+kind : (k : Json) (rest : List ℕ) (p : Located.Located) → locate k rest ≡ p → k ≡ plain p
+kind k rest p is = sym (plain-locate k rest) ∙ ap plain is
 
-number_kind : (k : Json) (rest : List ℕ) (b : ℕ) → IsTrue (begins_number b) → Starts (place k rest) b → (c : List ℕ) × (k ≡ number c)
+number_kind : (k : Json) (rest : List ℕ) (b : ℕ) → IsTrue (begins_number b) → Starts (locate k rest) b → (c : List ℕ) × (k ≡ number c)
 number_kind null rest b d s = absurd (digit_not b 110 d refl s)
 number_kind (boolean true) rest b d s = absurd (digit_not b 116 d refl s)
 number_kind (boolean false) rest b d s = absurd (digit_not b 102 d refl s)
@@ -74,36 +74,36 @@ closed_object false k j ms r s e = let bad : ◌≡◌ {A = ℕ} 125 34 = first_
 mutual
   pub alike : (j k : Json) (r s : List ℕ) → IsSpellable j → IsSpellable k → Ends r → Ends s → written j ++ r ≡ written k ++ s → (j ≡ k) × (r ≡ s)
   alike null k r s f g x y e =
-      let is : k ≡ null = kind k s Placed.null (only_null (place k s) (first_is k (codes "null" ++ r) (117 ∷ 108 ∷ 108 ∷ r) s 110 g refl e)) in
+      let is : k ≡ null = kind k s Located.null (only_null (locate k s) (first_is k (codes "null" ++ r) (117 ∷ 108 ∷ 108 ∷ r) s 110 g refl e)) in
       (sym is, append_cancel_left (codes "null") r s (e ∙ ap (λ (i : Json). written i ++ s) is))
   alike (boolean true) k r s f g x y e =
-      let is : k ≡ boolean true = kind k s (Placed.boolean true) (only_true (place k s) (first_is k (codes "true" ++ r) (114 ∷ 117 ∷ 101 ∷ r) s 116 g refl e)) in
+      let is : k ≡ boolean true = kind k s (Located.boolean true) (only_true (locate k s) (first_is k (codes "true" ++ r) (114 ∷ 117 ∷ 101 ∷ r) s 116 g refl e)) in
       (sym is, append_cancel_left (codes "true") r s (e ∙ ap (λ (i : Json). written i ++ s) is))
   alike (boolean false) k r s f g x y e =
-      let is : k ≡ boolean false = kind k s (Placed.boolean false) (only_false (place k s) (first_is k (codes "false" ++ r) (97 ∷ 108 ∷ 115 ∷ 101 ∷ r) s 102 g refl e)) in
+      let is : k ≡ boolean false = kind k s (Located.boolean false) (only_false (locate k s) (first_is k (codes "false" ++ r) (97 ∷ 108 ∷ 115 ∷ 101 ∷ r) s 102 g refl e)) in
       (sym is, append_cancel_left (codes "false") r s (e ∙ ap (λ (i : Json). written i ++ s) is))
   alike (number a) k r s f g x y e =
-      let begins = starts (place (number a) r) (a ++ r) r (written-Value (number a) r f) in
+      let begins = starts (locate (number a) r) (a ++ r) r (written-Value (number a) r f) in
       let other = number_kind k s begins.0 begins.3 (first_is k (a ++ r) begins.1 s begins.0 g begins.2 e) in
       let ok : IsNumber other.0 = subst IsSpellable other.1 g in
       let same = same_number a other.0 r s f ok x y (e ∙ ap (λ (i : Json). written i ++ s) other.1) in
       (ap number same.0 ∙ sym other.1, same.1)
   alike (string a) k r s f g x y e =
-      let other = only_string (place k s) (first_is k (quoted a ++ r) ((flat_map escaped a ++ 34 ∷ []) ++ r) s 34 g refl e) in
-      let is : k ≡ string other.0 = kind k s (Placed.string other.0) other.1 in
+      let other = only_string (locate k s) (first_is k (quoted a ++ r) ((flat_map escaped a ++ 34 ∷ []) ++ r) s 34 g refl e) in
+      let is : k ≡ string other.0 = kind k s (Located.string other.0) other.1 in
       let same = same_quoted a other.0 r s (e ∙ ap (λ (i : Json). written i ++ s) is) in
       (ap string same.0 ∙ sym is, same.1)
   alike (array js) k r s f g x y e =
-      let other = only_array (place k s) (first_is k (written (array js) ++ r) (elements_text false js ++ r) s 91 g refl e) in
+      let other = only_array (locate k s) (first_is k (written (array js) ++ r) (elements_text false js ++ r) s 91 g refl e) in
       let ks : Elements = plain_elements other.0 in
-      let is : k ≡ array ks = kind k s (Placed.array other.0) other.1 in
+      let is : k ≡ array ks = kind k s (Located.array other.0) other.1 in
       let ok : AreSpellableElements ks = subst IsSpellable is g in
       let same = alike_elements js ks false r s f ok (tail_same 91 (elements_text false js ++ r) (elements_text false ks ++ s) (e ∙ ap (λ (i : Json). written i ++ s) is)) in
       (ap array same.0 ∙ sym is, same.1)
   alike (object ms) k r s f g x y e =
-      let other = only_object (place k s) (first_is k (written (object ms) ++ r) (members_text false ms ++ r) s 123 g refl e) in
+      let other = only_object (locate k s) (first_is k (written (object ms) ++ r) (members_text false ms ++ r) s 123 g refl e) in
       let ns : Members = plain_members other.0 in
-      let is : k ≡ object ns = kind k s (Placed.object other.0) other.1 in
+      let is : k ≡ object ns = kind k s (Located.object other.0) other.1 in
       let ok : AreSpellableMembers ns = subst IsSpellable is g in
       let same = alike_members ms ns false r s f ok (tail_same 123 (members_text false ms ++ r) (members_text false ns ++ s) (e ∙ ap (λ (i : Json). written i ++ s) is)) in
       (ap object same.0 ∙ sym is, same.1)

@@ -2,7 +2,7 @@
 use Rattle.std.proofs.Common.{◌≡◌, ◌≢◌, ℕ, List, [], ◌∷◌, ◌++◌, true, false, sym, ap, ◌∙◌, true≢false, refl, IsTrue, arith}
 use Rattle.lrs_decimal.specs.Numbers.{Each, Ends, goes_on_number}
 use Rattle.lrs_decimal.proofs.NumberLemmas.{begins_number}
-use Rattle.lrs_json_reader.specs.Placed.{Placed, null, boolean, number, string, array, object, Elements, no_elements, element, Members, no_members, member}
+use Rattle.lrs_json_reader.specs.Located.{Located, null, boolean, number, string, array, object, Elements, no_elements, element, Members, no_members, member}
 use Rattle.lrs_json_reader.specs.Grammar.{is_space, Spaces, Quoted, Value, Listed, Paired}
 use Rattle.lrs_json_reader.specs.Steps.{Opens}
 use Rattle.lrs_json_reader.proofs.Values.{Starts, starts, starts_no_space}
@@ -36,7 +36,7 @@ Paired-Ends (member left k p ms) bs rest l = Spaces-Ends bs l.0 44 refl l.6
 pub digit_not : (b c : ℕ) → IsTrue (begins_number b) → begins_number c ≡ false → b ≢ c
 digit_not b c d f e = true≢false (sym d ∙ ap begins_number e ∙ f)
 
-starts_not_93 : (p : Placed) (b : ℕ) → Starts p b → b ≢ 93
+starts_not_93 : (p : Located) (b : ℕ) → Starts p b → b ≢ 93
 starts_not_93 null b s = λ e. omega arith
 starts_not_93 (boolean true) b s = λ e. omega arith
 starts_not_93 (boolean false) b s = λ e. omega arith
@@ -45,7 +45,7 @@ starts_not_93 (string n) b s = λ e. omega arith
 starts_not_93 (array ps) b s = λ e. omega arith
 starts_not_93 (object ms) b s = λ e. omega arith
 
-pub Value-Opens : (p : Placed) (bs rest : List ℕ) → Value p bs rest → Opens 93 bs
+pub Value-Opens : (p : Located) (bs rest : List ℕ) → Value p bs rest → Opens 93 bs
 Value-Opens p bs rest v = let s = starts p bs rest v in rw s.2 (starts_no_space p s.0 s.3, starts_not_93 p s.0 s.3)
 
 pub Quoted-Opens : (k bs rest : List ℕ) → Quoted k bs rest → Opens 125 bs

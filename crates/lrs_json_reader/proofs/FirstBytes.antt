@@ -1,13 +1,13 @@
 -- The first byte of a value tells its kind.
 use Rattle.std.proofs.Common.{◌≡◌, ◌≢◌, ℕ, List, ◌∷◌, true, false, refl, sym, subst, true≢false, arith}
-use Rattle.lrs_json_reader.specs.Placed.{Placed, null, boolean, number, string, array, object, Elements, Members}
+use Rattle.lrs_json_reader.specs.Located.{Located, null, boolean, number, string, array, object, Elements, Members}
 use Rattle.lrs_json_reader.specs.Grammar.{Value}
 use Rattle.lrs_json_reader.proofs.Values.{Starts, starts}
 
-pub starts_at : (x : Placed) (old more rest : List ℕ) (b : ℕ) → old ≡ b ∷ more → Value x old rest → Starts x b
+pub starts_at : (x : Located) (old more rest : List ℕ) (b : ℕ) → old ≡ b ∷ more → Value x old rest → Starts x b
 starts_at x old more rest b e v = let s = starts x old rest v in let same : s.0 ≡ b = cc (e, s.2) in subst (λ z. Starts x z) same s.3
 
-pub only_null : (x : Placed) → Starts x 110 → x ≡ null
+pub only_null : (x : Located) → Starts x 110 → x ≡ null
 only_null null s = refl
 only_null (boolean true) s = absurd (omega arith)
 only_null (boolean false) s = absurd (omega arith)
@@ -16,7 +16,7 @@ only_null (string n) s = absurd (omega arith)
 only_null (array js) s = absurd (omega arith)
 only_null (object ms) s = absurd (omega arith)
 
-pub only_true : (x : Placed) → Starts x 116 → x ≡ boolean true
+pub only_true : (x : Located) → Starts x 116 → x ≡ boolean true
 only_true null s = absurd (omega arith)
 only_true (boolean true) s = refl
 only_true (boolean false) s = absurd (omega arith)
@@ -25,7 +25,7 @@ only_true (string n) s = absurd (omega arith)
 only_true (array js) s = absurd (omega arith)
 only_true (object ms) s = absurd (omega arith)
 
-pub only_false : (x : Placed) → Starts x 102 → x ≡ boolean false
+pub only_false : (x : Located) → Starts x 102 → x ≡ boolean false
 only_false null s = absurd (omega arith)
 only_false (boolean true) s = absurd (omega arith)
 only_false (boolean false) s = refl
@@ -34,7 +34,7 @@ only_false (string n) s = absurd (omega arith)
 only_false (array js) s = absurd (omega arith)
 only_false (object ms) s = absurd (omega arith)
 
-pub only_string : (x : Placed) → Starts x 34 → (s : List ℕ) × (x ≡ string s)
+pub only_string : (x : Located) → Starts x 34 → (s : List ℕ) × (x ≡ string s)
 only_string null s = absurd (omega arith)
 only_string (boolean true) s = absurd (omega arith)
 only_string (boolean false) s = absurd (omega arith)
@@ -43,7 +43,7 @@ only_string (string n) s = (n, refl)
 only_string (array js) s = absurd (omega arith)
 only_string (object ms) s = absurd (omega arith)
 
-pub only_array : (x : Placed) → Starts x 91 → (js : Elements) × (x ≡ array js)
+pub only_array : (x : Located) → Starts x 91 → (js : Elements) × (x ≡ array js)
 only_array null s = absurd (omega arith)
 only_array (boolean true) s = absurd (omega arith)
 only_array (boolean false) s = absurd (omega arith)
@@ -52,7 +52,7 @@ only_array (string n) s = absurd (omega arith)
 only_array (array js) s = (js, refl)
 only_array (object ms) s = absurd (omega arith)
 
-pub only_object : (x : Placed) → Starts x 123 → (ms : Members) × (x ≡ object ms)
+pub only_object : (x : Located) → Starts x 123 → (ms : Members) × (x ≡ object ms)
 only_object null s = absurd (omega arith)
 only_object (boolean true) s = absurd (omega arith)
 only_object (boolean false) s = absurd (omega arith)
@@ -61,7 +61,7 @@ only_object (string n) s = absurd (omega arith)
 only_object (array js) s = absurd (omega arith)
 only_object (object ms) s = (ms, refl)
 
-pub only_number : (x : Placed) (b : ℕ) → Starts x b → b ≢ 110 → b ≢ 116 → b ≢ 102 → b ≢ 34 → b ≢ 91 → b ≢ 123 → (n : ℕ × List ℕ) × (x ≡ number n.0 n.1)
+pub only_number : (x : Located) (b : ℕ) → Starts x b → b ≢ 110 → b ≢ 116 → b ≢ 102 → b ≢ 34 → b ≢ 91 → b ≢ 123 → (n : ℕ × List ℕ) × (x ≡ number n.0 n.1)
 only_number null b s n t f q l o = absurd (n s)
 only_number (boolean true) b s n t f q l o = absurd (t s)
 only_number (boolean false) b s n t f q l o = absurd (f s)

@@ -2,7 +2,7 @@
 use Rattle.std.proofs.Common.{◌≡◌, ◌≤◌, ◌↔◌, ◌-◌, ℕ, max, List, [], ◌∷◌, length, Option, Some, None, true, false, Result, Ok, Err, IfOk, inl, refl, sym, ap, ◌∙◌, subst, true≢false, IsTrue}
 use Rattle.lrs_json.specs.Json.{Json}
 use Rattle.lrs_json.specs.View.{view}
-use Rattle.lrs_json_reader.specs.Placed.{Placed, plain}
+use Rattle.lrs_json_reader.specs.Located.{Located, plain}
 use Rattle.lrs_json_reader.specs.Flaws.{earlier, earliest, repeated_names, out_of_range_numbers}
 use Rattle.lrs_json_reader.specs.Grammar.{IsText}
 use Rattle.lrs_json.specs.Depth.{depth}
@@ -10,7 +10,7 @@ use Rattle.lrs_json_reader.specs.Refusals.{is_too_deep, Spells, IsBad, RepeatedA
 use Rattle.lrs_json_reader.specs.Reading.{IsRead, Judged, Judges}
 use Rattle.lrs_json_reader.specs.declared.reading.ReadRefused.{ReadRefused}
 use Rattle.lrs_json_reader.specs.declared.reading.ReadRefused.TheVariants.{TooDeep, Bad, Repeated, NumberRange}
-use Rattle.lrs_json_reader.specs.declared.reader.Places.{Places}
+use Rattle.lrs_json_reader.specs.declared.reader.Flaws.{Flaws}
 use Rattle.lrs_json.specs.declared.tree.Tree.{Tree}
 use Rattle.std.proofs.lemmas.Result.{MatchResult-weaker}
 use Rattle.lrs_json.specs.Written.{written}
@@ -26,8 +26,8 @@ Answer = Result Tree ReadRefused
 pub record IsJudgement (limit : ℕ) (bytes : List ℕ) (r : Answer) : Type 0 where
   pub too_deep : (r ≡ Err TooDeep) ↔ IsTrue (is_too_deep limit bytes)
   pub bad : Refuses r Bad (IsBad limit bytes)
-  pub repeated : (place : ℕ) → Refuses r (Repeated place) (RepeatedAt limit bytes place)
-  pub number_range : (place : ℕ) → Refuses r (NumberRange place) (OutOfRangeAt limit bytes place)
+  pub repeated : (offset : ℕ) → Refuses r (Repeated offset) (RepeatedAt limit bytes offset)
+  pub number_range : (offset : ℕ) → Refuses r (NumberRange offset) (OutOfRangeAt limit bytes offset)
   pub found : IfOk r (λ t. Spells limit bytes (view t))
   pub all : (j : Json) → Spells limit bytes j → Gives r (λ t. view t ≡ j)
 
@@ -39,7 +39,7 @@ deep_false : (limit : ℕ) (bytes : List ℕ) → is_too_deep limit bytes ≡ tr
 deep_false limit bytes t f = true≢false (sym t ∙ f)
 
 Spells-shallow : (limit : ℕ) (bytes : List ℕ) (j : Json) → Spells limit bytes j → is_too_deep limit bytes ≡ false
-Spells-shallow limit bytes j s = shallow-scan limit bytes s.placed s.spelled (subst (λ z. depth z ≤ limit) (sym s.is) s.shallow)
+Spells-shallow limit bytes j s = shallow-scan limit bytes s.located s.spelled (subst (λ z. depth z ≤ limit) (sym s.is) s.shallow)
 
 not_deep : (limit : ℕ) (bytes : List ℕ) (r : Answer) → (r ≡ Err TooDeep → ⊥) → is_too_deep limit bytes ≡ false → (r ≡ Err TooDeep) ↔ IsTrue (is_too_deep limit bytes)
 not_deep limit bytes r apart f = (λ h. absurd (apart h), λ t. absurd (deep_false limit bytes t f))
@@ -49,21 +49,21 @@ too_deep limit bytes t =
     record {
       too_deep = (λ _. t, λ _. refl);
       bad = other _ _ _ (λ h. cc h) (λ c. deep_false limit bytes t c.shallow);
-      repeated = λ place. other _ _ _ (λ h. cc h) (λ c. deep_false limit bytes t c.shallow);
-      number_range = λ place. other _ _ _ (λ h. cc h) (λ c. deep_false limit bytes t c.shallow);
+      repeated = λ offset. other _ _ _ (λ h. cc h) (λ c. deep_false limit bytes t c.shallow);
+      number_range = λ offset. other _ _ _ (λ h. cc h) (λ c. deep_false limit bytes t c.shallow);
       found = tt;
       all = λ j s. absurd (deep_false limit bytes t (Spells-shallow limit bytes j s));
     }
 
-pub no_text : (limit : ℕ) (bytes : List ℕ) → is_too_deep limit bytes ≡ false → ((p : Placed) → IsText p bytes → ⊥) → IsJudgement limit bytes (Err Bad)
+pub no_text : (limit : ℕ) (bytes : List ℕ) → is_too_deep limit bytes ≡ false → ((p : Located) → IsText p bytes → ⊥) → IsJudgement limit bytes (Err Bad)
 no_text limit bytes f none =
     record {
       too_deep = not_deep limit bytes _ (λ h. cc h) f;
       bad = record { only = λ _. record { shallow = f; no_text = none }; always = λ _. inl refl };
-      repeated = λ place. other _ _ _ (λ h. cc h) (λ c. none c.placed c.spelled);
-      number_range = λ place. other _ _ _ (λ h. cc h) (λ c. none c.placed c.spelled);
+      repeated = λ offset. other _ _ _ (λ h. cc h) (λ c. none c.located c.spelled);
+      number_range = λ offset. other _ _ _ (λ h. cc h) (λ c. none c.located c.spelled);
       found = tt;
-      all = λ j s. absurd (none s.placed s.spelled);
+      all = λ j s. absurd (none s.located s.spelled);
     }
 
 -- ---- a text was read
@@ -78,38 +78,38 @@ earlier_some : (a : ℕ) (b : Option ℕ) → earlier (Some a) b ≡ None → �
 earlier_some a None e = none_some a (sym e)
 earlier_some a (Some b) e = none_some (max a b) (sym e)
 
--- no earliest place, no place
-none_empty : (places : List ℕ) → earliest places ≡ None → places ≡ []
+-- no earliest offset, no offset
+none_empty : (flaws : List ℕ) → earliest flaws ≡ None → flaws ≡ []
 none_empty [] e = refl
-none_empty (left ∷ places) e = absurd (earlier_some left (earliest places) e)
+none_empty (left ∷ flaws) e = absurd (earlier_some left (earliest flaws) e)
 
--- no place, and the earliest
-empty_some : (places : List ℕ) (left : ℕ) → places ≡ [] → earliest places ≡ Some left → ⊥
-empty_some places left e s = none_some left (sym (ap earliest e) ∙ s)
+-- no offset, and the earliest
+empty_some : (flaws : List ℕ) (left : ℕ) → flaws ≡ [] → earliest flaws ≡ Some left → ⊥
+empty_some flaws left e s = none_some left (sym (ap earliest e) ∙ s)
 
-repeated_at : (place a : ℕ) → ◌≡◌ {A = Answer} (Err (Repeated a)) (Err (Repeated place)) → place ≡ a
-repeated_at place a e = cc e
+repeated_at : (offset a : ℕ) → ◌≡◌ {A = Answer} (Err (Repeated a)) (Err (Repeated offset)) → offset ≡ a
+repeated_at offset a e = cc e
 
-out_at : (place a : ℕ) → ◌≡◌ {A = Answer} (Err (NumberRange a)) (Err (NumberRange place)) → place ≡ a
-out_at place a e = cc e
+out_at : (offset a : ℕ) → ◌≡◌ {A = Answer} (Err (NumberRange a)) (Err (NumberRange offset)) → offset ≡ a
+out_at offset a e = cc e
 
 -- what holds of one text of the bytes holds of each
-module _ (limit : ℕ) (bytes : List ℕ) (p : Placed) (f : is_too_deep limit bytes ≡ false) (spelled : IsText p bytes) (only : (q : Placed) → IsText q bytes → q ≡ p) where
+module _ (limit : ℕ) (bytes : List ℕ) (p : Located) (f : is_too_deep limit bytes ≡ false) (spelled : IsText p bytes) (only : (q : Located) → IsText q bytes → q ≡ p) where
   repeated_answer : (left : ℕ) → earliest (repeated_names p) ≡ Some left → IsJudgement limit bytes (Err (Repeated (length bytes - left)))
   repeated_answer left first =
       record {
         too_deep = not_deep limit bytes _ (λ h. cc h) f;
         bad = other _ _ _ (λ h. cc h) (λ c. c.no_text p spelled);
-        repeated = λ place.
+        repeated = λ offset.
             record {
-              only = λ h. record { shallow = f; placed = p; spelled = spelled; left = left; first = first; at = repeated_at place (length bytes - left) h };
+              only = λ h. record { shallow = f; located = p; spelled = spelled; left = left; first = first; at = repeated_at offset (length bytes - left) h };
               always = λ c.
-                  let same : left ≡ c.left = some_same left c.left (sym first ∙ ap (λ z. earliest (repeated_names z)) (sym (only c.placed c.spelled)) ∙ c.first) in
+                  let same : left ≡ c.left = some_same left c.left (sym first ∙ ap (λ z. earliest (repeated_names z)) (sym (only c.located c.spelled)) ∙ c.first) in
                   inl (ap (λ z. Err (Repeated (length bytes - z))) same ∙ ap (λ z. Err (Repeated z)) (sym c.at));
             };
-        number_range = λ place. other _ _ _ (λ h. cc h) (λ c. empty_some (repeated_names p) left (ap repeated_names (sym (only c.placed c.spelled)) ∙ c.distinct) first);
+        number_range = λ offset. other _ _ _ (λ h. cc h) (λ c. empty_some (repeated_names p) left (ap repeated_names (sym (only c.located c.spelled)) ∙ c.distinct) first);
         found = tt;
-        all = λ j s. absurd (empty_some (repeated_names p) left (ap repeated_names (sym (only s.placed s.spelled)) ∙ s.distinct) first);
+        all = λ j s. absurd (empty_some (repeated_names p) left (ap repeated_names (sym (only s.located s.spelled)) ∙ s.distinct) first);
       }
 
   number_answer : (left : ℕ) → earliest (repeated_names p) ≡ None → earliest (out_of_range_numbers p) ≡ Some left → IsJudgement limit bytes (Err (NumberRange (length bytes - left)))
@@ -117,16 +117,16 @@ module _ (limit : ℕ) (bytes : List ℕ) (p : Placed) (f : is_too_deep limit by
       record {
         too_deep = not_deep limit bytes _ (λ h. cc h) f;
         bad = other _ _ _ (λ h. cc h) (λ c. c.no_text p spelled);
-        repeated = λ place. other _ _ _ (λ h. cc h) (λ c. none_some c.left (sym none ∙ ap (λ z. earliest (repeated_names z)) (sym (only c.placed c.spelled)) ∙ c.first));
-        number_range = λ place.
+        repeated = λ offset. other _ _ _ (λ h. cc h) (λ c. none_some c.left (sym none ∙ ap (λ z. earliest (repeated_names z)) (sym (only c.located c.spelled)) ∙ c.first));
+        number_range = λ offset.
             record {
-              only = λ h. record { shallow = f; placed = p; spelled = spelled; distinct = none_empty (repeated_names p) none; left = left; first = first; at = out_at place (length bytes - left) h };
+              only = λ h. record { shallow = f; located = p; spelled = spelled; distinct = none_empty (repeated_names p) none; left = left; first = first; at = out_at offset (length bytes - left) h };
               always = λ c.
-                  let same : left ≡ c.left = some_same left c.left (sym first ∙ ap (λ z. earliest (out_of_range_numbers z)) (sym (only c.placed c.spelled)) ∙ c.first) in
+                  let same : left ≡ c.left = some_same left c.left (sym first ∙ ap (λ z. earliest (out_of_range_numbers z)) (sym (only c.located c.spelled)) ∙ c.first) in
                   inl (ap (λ z. Err (NumberRange (length bytes - z))) same ∙ ap (λ z. Err (NumberRange z)) (sym c.at));
             };
         found = tt;
-        all = λ j s. absurd (empty_some (out_of_range_numbers p) left (ap out_of_range_numbers (sym (only s.placed s.spelled)) ∙ s.in_range) first);
+        all = λ j s. absurd (empty_some (out_of_range_numbers p) left (ap out_of_range_numbers (sym (only s.located s.spelled)) ∙ s.in_range) first);
       }
 
   tree_answer : (tree : Tree) → view tree ≡ plain p → earliest (repeated_names p) ≡ None → earliest (out_of_range_numbers p) ≡ None → IsJudgement limit bytes (Ok tree)
@@ -134,17 +134,17 @@ module _ (limit : ℕ) (bytes : List ℕ) (p : Placed) (f : is_too_deep limit by
       record {
         too_deep = not_deep limit bytes _ (λ h. cc h) f;
         bad = other _ _ _ (λ h. cc h) (λ c. c.no_text p spelled);
-        repeated = λ place. other _ _ _ (λ h. cc h) (λ c. none_some c.left (sym none ∙ ap (λ z. earliest (repeated_names z)) (sym (only c.placed c.spelled)) ∙ c.first));
-        number_range = λ place. other _ _ _ (λ h. cc h) (λ c. none_some c.left (sym out ∙ ap (λ z. earliest (out_of_range_numbers z)) (sym (only c.placed c.spelled)) ∙ c.first));
+        repeated = λ offset. other _ _ _ (λ h. cc h) (λ c. none_some c.left (sym none ∙ ap (λ z. earliest (repeated_names z)) (sym (only c.located c.spelled)) ∙ c.first));
+        number_range = λ offset. other _ _ _ (λ h. cc h) (λ c. none_some c.left (sym out ∙ ap (λ z. earliest (out_of_range_numbers z)) (sym (only c.located c.spelled)) ∙ c.first));
         found = record {
-          placed = p;
+          located = p;
           is = sym sees;
           spelled = spelled;
           shallow = subst (λ z. depth z ≤ limit) (sym sees) (scan-shallow limit bytes p spelled f);
           distinct = none_empty (repeated_names p) none;
           in_range = none_empty (out_of_range_numbers p) out;
         };
-        all = λ j s. sees ∙ ap plain (sym (only s.placed s.spelled)) ∙ s.is;
+        all = λ j s. sees ∙ ap plain (sym (only s.located s.spelled)) ∙ s.is;
       }
 
   judged : (tree : Tree) (a b : Option ℕ) (r : Answer) → view tree ≡ plain p → earliest (repeated_names p) ≡ a → earliest (out_of_range_numbers p) ≡ b → Judged tree a b (length bytes) r → IsJudgement limit bytes r
@@ -152,9 +152,9 @@ module _ (limit : ℕ) (bytes : List ℕ) (p : Placed) (f : is_too_deep limit by
   judged tree None (Some left) r sees ea eb j = subst (IsJudgement limit bytes) (sym j) (number_answer left ea eb)
   judged tree None None r sees ea eb j = subst (IsJudgement limit bytes) (sym j) (tree_answer tree sees ea eb)
 
-pub text_read : (limit : ℕ) (bytes : List ℕ) (tree : Tree) (places : Places) (r : Answer) → is_too_deep limit bytes ≡ false → IsRead bytes tree places → Judges tree places (length bytes) r → IsJudgement limit bytes r
-text_read limit bytes tree places r f read j =
-    judged limit bytes read.placed f read.spelled read.only tree places.repeated places.out_of_range r read.sees (sym (ap (λ z. z.repeated) read.notes)) (sym (ap (λ z. z.out_of_range) read.notes)) j
+pub text_read : (limit : ℕ) (bytes : List ℕ) (tree : Tree) (flaws : Flaws) (r : Answer) → is_too_deep limit bytes ≡ false → IsRead bytes tree flaws → Judges tree flaws (length bytes) r → IsJudgement limit bytes r
+text_read limit bytes tree flaws r f read j =
+    judged limit bytes read.located f read.spelled read.only tree flaws.repeated flaws.out_of_range r read.sees (sym (ap (λ z. z.repeated) read.notes)) (sym (ap (λ z. z.out_of_range) read.notes)) j
 
 -- ---- what is given, read again
 
@@ -170,4 +170,4 @@ given_again limit bytes r all t readable e =
 pub written-shallow : (limit : ℕ) (j : Json) → IsReadable limit j → is_too_deep limit (written j) ≡ false
 written-shallow limit j readable =
     let s = written-Spells limit j readable in
-    shallow-scan limit (written j) s.placed s.spelled (subst (λ z. depth z ≤ limit) (sym s.is) s.shallow)
+    shallow-scan limit (written j) s.located s.spelled (subst (λ z. depth z ≤ limit) (sym s.is) s.shallow)

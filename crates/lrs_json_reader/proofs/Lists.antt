@@ -3,7 +3,7 @@ use Rattle.std.proofs.Common.{◌≡◌, ℕ, ◌<◌, List, [], ◌∷◌, ◌+
 use Rattle.std.proofs.lemmas.List.{map-append}
 use Rattle.lrs_json.specs.Json as Json
 use Rattle.lrs_json.specs.View.{view, elements_of}
-use Rattle.lrs_json_reader.specs.Placed.{Placed, array, plain, plain_elements, Elements, no_elements, element}
+use Rattle.lrs_json_reader.specs.Located.{Located, array, plain, plain_elements, Elements, no_elements, element}
 use Rattle.lrs_json_reader.specs.Grammar.{Value, Listed}
 use Rattle.lrs_json_reader.specs.Steps.{StepsToNext}
 use Rattle.lrs_json_reader.specs.Reading.{noted, Misses, ReadsValue, has_some}
@@ -19,9 +19,9 @@ use Rattle.lrs_json.proofs.Views.{view-List}
 
 -- From start on, these elements were read, and here is what follows them.
 pub record ListSoFar (ts : List Tree) (start here : Reader) : Type 0 where
-  pub ps : List Placed
+  pub ps : List Located
   pub sees : map view ts ≡ map plain ps
-  pub notes : here.places ≡ noted_all start.places ps
+  pub notes : here.flaws ≡ noted_all start.flaws ps
   -- what completes the list completes it from its start
   pub sound : (more : Elements) (rest : List ℕ) → Listed (has_some ts) more here.cursor rest → Value (array (before_elements ps more)) start.cursor rest
   -- each list from the start goes on so
@@ -32,7 +32,7 @@ pub has_some-push : {X : Type 0} (xs : List X) (x : X) → has_some (xs ++ x ∷
 has_some-push [] x = refl
 has_some-push (y ∷ xs) x = refl
 
-pub list_start : (start here : Reader) (rest : List ℕ) → start.cursor ≡ 91 ∷ rest → here.cursor ≡ drop 1 start.cursor → here.places ≡ start.places → ListSoFar [] start here
+pub list_start : (start here : Reader) (rest : List ℕ) → start.cursor ≡ 91 ∷ rest → here.cursor ≡ drop 1 start.cursor → here.flaws ≡ start.flaws → ListSoFar [] start here
 list_start start here rest e d notes =
     let same : here.cursor ≡ rest = d ∙ ap (drop 1) e in
     let whole : start.cursor ≡ 91 ∷ here.cursor = e ∙ ap (λ z. 91 ∷ z) (sym same) in
@@ -47,7 +47,7 @@ list_start start here rest e d notes =
 
 -- what a list's rest is, where the reader finds that an item comes
 item_comes : (later : Bool) (more : Elements) (here s rest : List ℕ) → StepsToNext later 93 here (Ok true) s → Listed later more here rest
-    → (p : Placed) × (left : Elements) × (c : List ℕ) × (more ≡ element p left) × Value p s c × Listed true left c rest
+    → (p : Located) × (left : Elements) × (c : List ℕ) × (more ≡ element p left) × Value p s c × Listed true left c rest
 item_comes later no_elements here s rest go l = absurd (true≢false (go.all_end rest l).0)
 item_comes later (element p left) here s rest go l =
     let at = go.all_more l.0 l.1 l.3 l.4 (Value-Opens p l.1 l.2 l.5) in
@@ -63,7 +63,7 @@ none_comes : (later : Bool) (more : Elements) (here s rest : List ℕ) (y : Stop
 none_comes later no_elements here s rest y go l = go.all_end rest l
 none_comes later (element p left) here s rest y go l = go.all_more l.0 l.1 l.3 l.4 (Value-Opens p l.1 l.2 l.5)
 
-pub list_next : (ts new : List Tree) (t : Tree) (start here mid next : Reader) → new ≡ ts ++ t ∷ [] → mid.places ≡ here.places → ListSoFar ts start here → StepsToNext (has_some ts) 93 here.cursor (Ok true) mid.cursor → ReadsValue mid (Ok t) next
+pub list_next : (ts new : List Tree) (t : Tree) (start here mid next : Reader) → new ≡ ts ++ t ∷ [] → mid.flaws ≡ here.flaws → ListSoFar ts start here → StepsToNext (has_some ts) 93 here.cursor (Ok true) mid.cursor → ReadsValue mid (Ok t) next
     → ListSoFar new start next
 list_next ts new t start here mid next is kept so go found =
     let x = found.it in
@@ -71,7 +71,7 @@ list_next ts new t start here mid next is kept so go found =
     record {
       ps = so.ps ++ x ∷ [];
       sees = ap (map view) is ∙ map-append view ts (t ∷ []) ∙ ap (λ z. z ++ view t ∷ []) so.sees ∙ ap (λ z. map plain so.ps ++ z ∷ []) found.sees ∙ sym (map-append plain so.ps (x ∷ []));
-      notes = found.notes ∙ ap (λ z. noted z x) (kept ∙ so.notes) ∙ sym (noted_all-push start.places so.ps x);
+      notes = found.notes ∙ ap (λ z. noted z x) (kept ∙ so.notes) ∙ sym (noted_all-push start.flaws so.ps x);
       sound = λ more rest l.
           let comes = go.goes refl in
           let tail : Listed true more next.cursor rest = subst (λ z. Listed z more next.cursor rest) later l in
@@ -86,7 +86,7 @@ list_next ts new t start here mid next is kept so go found =
     }
 
 -- a list that stands at the start, whatever stands there
-list_at : (x : Placed) (start rest0 rest : List ℕ) → start ≡ 91 ∷ rest0 → Value x start rest → (all : Elements) × (x ≡ array all) × Value (array all) start rest
+list_at : (x : Located) (start rest0 rest : List ℕ) → start ≡ 91 ∷ rest0 → Value x start rest → (all : Elements) × (x ≡ array all) × Value (array all) start rest
 list_at x start rest0 rest e v =
     let o = only_array x (starts_at x start rest0 rest 91 e v) in
     (o.0, o.1, subst (λ z. Value z start rest) o.1 v)
@@ -105,11 +105,11 @@ list_item_fault ts start here mid rest0 y e so go misses = λ x rest v ends.
     let i = item_comes (has_some ts) m.0 here.cursor mid.cursor rest go m.2 in
     misses i.0 i.2 i.4 (Listed-Ends i.1 i.2 rest i.5)
 
-elements_plain : (ps : List Placed) → plain_elements (before_elements ps no_elements) ≡ elements_of (map plain ps)
+elements_plain : (ps : List Located) → plain_elements (before_elements ps no_elements) ≡ elements_of (map plain ps)
 elements_plain [] = refl
 elements_plain (p ∷ ps) = ap (Json.element (plain p)) (elements_plain ps)
 
-pub list_done : (ts : List Tree) (start here new : Reader) (rest0 : List ℕ) → start.cursor ≡ 91 ∷ rest0 → new.places ≡ here.places → ListSoFar ts start here → StepsToNext (has_some ts) 93 here.cursor (Ok false) new.cursor
+pub list_done : (ts : List Tree) (start here new : Reader) (rest0 : List ℕ) → start.cursor ≡ 91 ∷ rest0 → new.flaws ≡ here.flaws → ListSoFar ts start here → StepsToNext (has_some ts) 93 here.cursor (Ok false) new.cursor
     → ReadsValue start (Ok (Many ts)) new
 list_done ts start here new rest0 e kept so go =
     let is = before_elements so.ps no_elements in
@@ -117,7 +117,7 @@ list_done ts start here new rest0 e kept so go =
       it = array is;
       here = so.sound no_elements new.cursor (go.ends refl);
       sees = view-List ts ∙ ap (λ z. Json.array (elements_of z)) so.sees ∙ ap Json.array (sym (elements_plain so.ps));
-      notes = kept ∙ so.notes ∙ noted_all-array start.places so.ps;
+      notes = kept ∙ so.notes ∙ noted_all-array start.flaws so.ps;
       shorter = omega (arith, Spaces-length here.cursor (93 ∷ new.cursor) (go.ends refl), so.shorter);
       only = λ x rest v ends.
           let l = list_at x start.cursor rest0 rest e v in

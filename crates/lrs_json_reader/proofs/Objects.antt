@@ -4,14 +4,14 @@ use Rattle.std.proofs.lemmas.List.{append-nil, map-append}
 use Rattle.lrs_decimal.proofs.Runs.{behind, drop_front, take_front}
 use Rattle.lrs_json.specs.Json as Json
 use Rattle.lrs_json.specs.View.{view, member_view, members_of}
-use Rattle.lrs_json_reader.specs.Placed.{Placed, object, plain, plain_members, Members, no_members, member}
+use Rattle.lrs_json_reader.specs.Located.{Located, object, plain, plain_members, Members, no_members, member}
 use Rattle.lrs_json_reader.specs.Flaws.{earlier, earliest}
 use Rattle.lrs_json_reader.specs.Grammar.{is_space, Spaces, Quoted, Value, Paired}
 use Rattle.lrs_json_reader.specs.Steps.{StepsToNext}
 use Rattle.lrs_json_reader.specs.Reading.{noted, Entry, plain_entry, noted_entry, Pair, Misses, ReadsValue, ReadsMember, repeated_among, has_some}
 use Rattle.lrs_json_reader.specs.declared.cursor.Stop.{Stop}
 use Rattle.lrs_json_reader.specs.declared.cursor.Stop.TheVariants.{Memory}
-use Rattle.lrs_json_reader.specs.declared.reader.Places.{Places}
+use Rattle.lrs_json_reader.specs.declared.reader.Flaws.{Flaws}
 use Rattle.lrs_json_reader.specs.declared.reader.Reader.{Reader}
 use Rattle.lrs_json.specs.declared.tree.Tree.{Tree, Object as Many}
 use Rattle.lrs_json.specs.declared.tree.Member.{Member}
@@ -20,7 +20,7 @@ use Rattle.lrs_json_reader.proofs.Values.{Value-Stops}
 use Rattle.lrs_json_reader.proofs.StepLemmas.{Spaces-length, behind-length}
 use Rattle.lrs_json_reader.proofs.FirstBytes.{starts_at, only_object}
 use Rattle.lrs_json_reader.proofs.Ends.{Paired-Ends, Quoted-Opens}
-use Rattle.lrs_json_reader.proofs.Noting.{places_same, before_members, members-push, noted_entries, noted_entries-push, noted_entries-object}
+use Rattle.lrs_json_reader.proofs.Noting.{flaws_same, before_members, members-push, noted_entries, noted_entries-push, noted_entries-object}
 use Rattle.lrs_json_reader.proofs.Lists.{has_some-push}
 use Rattle.lrs_json.proofs.Views.{view-Object}
 
@@ -28,12 +28,12 @@ pub record ObjectSoFar (ts : List Member) (lefts : List ℕ) (start here : Reade
   pub ms : List Entry
   pub sees : map member_view ts ≡ map plain_entry ms
   pub at : lefts ≡ map (λ m. m.left) ms
-  pub notes : here.places ≡ noted_entries start.places ms
+  pub notes : here.flaws ≡ noted_entries start.flaws ms
   pub sound : (more : Members) (rest : List ℕ) → Paired (has_some ts) more here.cursor rest → Value (object (before_members ms more)) start.cursor rest
   pub complete : (all : Members) (rest : List ℕ) → Value (object all) start.cursor rest → (more : Members) × (all ≡ before_members ms more) × Paired (has_some ts) more here.cursor rest
   pub shorter : length here.cursor < length start.cursor
 
-pub object_start : (start here : Reader) (rest : List ℕ) → start.cursor ≡ 123 ∷ rest → here.cursor ≡ drop 1 start.cursor → here.places ≡ start.places → ObjectSoFar [] [] start here
+pub object_start : (start here : Reader) (rest : List ℕ) → start.cursor ≡ 123 ∷ rest → here.cursor ≡ drop 1 start.cursor → here.flaws ≡ start.flaws → ObjectSoFar [] [] start here
 object_start start here rest e d notes =
     let same : here.cursor ≡ rest = d ∙ ap (drop 1) e in
     let whole : start.cursor ≡ 123 ∷ here.cursor = e ∙ ap (λ z. 123 ∷ z) (sym same) in
@@ -62,17 +62,17 @@ none_comes : (later : Bool) (more : Members) (here s rest : List ℕ) (y : Stop)
 none_comes later no_members here s rest y go l = go.all_end rest l
 none_comes later (member left k p more) here s rest y go l = go.all_more l.0 l.1 l.6 l.7 (Quoted-Opens k l.1 l.2 l.8)
 
-pub object_next : (ts new : List Member) (lefts afters : List ℕ) (left : ℕ) (t : Member) (start here mid next : Reader) → new ≡ ts ++ t ∷ [] → afters ≡ lefts ++ left ∷ [] → left ≡ length mid.cursor → mid.places ≡ here.places
+pub object_next : (ts new : List Member) (lefts afters : List ℕ) (left : ℕ) (t : Member) (start here mid next : Reader) → new ≡ ts ++ t ∷ [] → afters ≡ lefts ++ left ∷ [] → left ≡ length mid.cursor → mid.flaws ≡ here.flaws
     → ObjectSoFar ts lefts start here → StepsToNext (has_some ts) 125 here.cursor (Ok true) mid.cursor → ReadsMember mid (Ok t) next → ObjectSoFar new afters start next
-object_next ts new lefts afters left t start here mid next is places_are left_is kept so go found =
+object_next ts new lefts afters left t start here mid next is flaws_are left_is kept so go found =
     let x = found.it in
     let later : has_some new ≡ true = ap has_some is ∙ has_some-push ts t in
     let p = found.here in
     record {
       ms = so.ms ++ x ∷ [];
       sees = ap (map member_view) is ∙ map-append member_view ts (t ∷ []) ∙ ap (λ z. z ++ member_view t ∷ []) so.sees ∙ ap (λ z. map plain_entry so.ms ++ z ∷ []) found.sees ∙ sym (map-append plain_entry so.ms (x ∷ []));
-      at = places_are ∙ ap (λ z. z ++ left ∷ []) so.at ∙ ap (λ z. map (λ m. m.left) so.ms ++ z ∷ []) (left_is ∙ sym p.7) ∙ sym (map-append (λ m. m.left) so.ms (x ∷ []));
-      notes = found.notes ∙ ap (λ z. noted_entry z x) (kept ∙ so.notes) ∙ sym (noted_entries-push start.places so.ms x);
+      at = flaws_are ∙ ap (λ z. z ++ left ∷ []) so.at ∙ ap (λ z. map (λ m. m.left) so.ms ++ z ∷ []) (left_is ∙ sym p.7) ∙ sym (map-append (λ m. m.left) so.ms (x ∷ []));
+      notes = found.notes ∙ ap (λ z. noted_entry z x) (kept ∙ so.notes) ∙ sym (noted_entries-push start.flaws so.ms x);
       sound = λ more rest l.
           let comes = go.goes refl in
           let tail : Paired true more next.cursor rest = subst (λ z. Paired z more next.cursor rest) later l in
@@ -87,29 +87,29 @@ object_next ts new lefts afters left t start here mid next is places_are left_is
       shorter = omega (arith, found.shorter, go.no_longer, so.shorter);
     }
 
--- The same, where the places stand on a stack, above those that were on it.
+-- The same, where the offsets stand on a stack, above those that were on it.
 pub record ObjectHere (ts : List Member) (below stack : List ℕ) (start here : Reader) : Type 0 where
   pub own : List ℕ
   pub on : stack ≡ below ++ own
   pub so_far : ObjectSoFar ts own start here
 
-pub object_begun : (below : List ℕ) (start here : Reader) (rest : List ℕ) → start.cursor ≡ 123 ∷ rest → here.cursor ≡ drop 1 start.cursor → here.places ≡ start.places → ObjectHere [] below below start here
+pub object_begun : (below : List ℕ) (start here : Reader) (rest : List ℕ) → start.cursor ≡ 123 ∷ rest → here.cursor ≡ drop 1 start.cursor → here.flaws ≡ start.flaws → ObjectHere [] below below start here
 object_begun below start here rest e d notes = record { own = []; on = sym (append-nil below); so_far = object_start start here rest e d notes }
 
 pub object_more : (ts new : List Member) (below stack pushed kept : List ℕ) (left : ℕ) (t : Member) (start here mid next : Reader) → new ≡ ts ++ t ∷ [] → pushed ≡ stack ++ left ∷ [] → kept ≡ pushed → left ≡ length mid.cursor
-    → mid.places ≡ here.places → ObjectHere ts below stack start here → StepsToNext (has_some ts) 125 here.cursor (Ok true) mid.cursor → ReadsMember mid (Ok t) next → ObjectHere new below kept start next
-object_more ts new below stack pushed kept left t start here mid next is on same left_is places so go found =
+    → mid.flaws ≡ here.flaws → ObjectHere ts below stack start here → StepsToNext (has_some ts) 125 here.cursor (Ok true) mid.cursor → ReadsMember mid (Ok t) next → ObjectHere new below kept start next
+object_more ts new below stack pushed kept left t start here mid next is on same left_is flaws so go found =
     record {
       own = so.own ++ left ∷ [];
       on = same ∙ on ∙ ap (λ z. z ++ left ∷ []) so.on ∙ append_assoc below so.own (left ∷ []);
-      so_far = object_next ts new so.own (so.own ++ left ∷ []) left t start here mid next is refl left_is places so.so_far go found;
+      so_far = object_next ts new so.own (so.own ++ left ∷ []) left t start here mid next is refl left_is flaws so.so_far go found;
     }
 
--- the places of its own, and those that were there before
+-- the offsets of its own, and those that were there before
 pub stack_parts : (below stack own : List ℕ) (base : ℕ) → stack ≡ below ++ own → base ≡ length below → (base ≤ length stack) × (drop base stack ≡ own) × (take base stack ≡ below)
 stack_parts below stack own base on at = (omega (arith, at, ap length on, length-append below own), rw (on, at) (drop_front below own), rw (on, at) (take_front below own))
 
-object_at : (x : Placed) (start rest0 rest : List ℕ) → start ≡ 123 ∷ rest0 → Value x start rest → (all : Members) × (x ≡ object all) × Value (object all) start rest
+object_at : (x : Located) (start rest0 rest : List ℕ) → start ≡ 123 ∷ rest0 → Value x start rest → (all : Members) × (x ≡ object all) × Value (object all) start rest
 object_at x start rest0 rest e v =
     let o = only_object x (starts_at x start rest0 rest 123 e v) in
     (o.0, o.1, subst (λ z. Value z start rest) o.1 v)
@@ -143,19 +143,19 @@ names_entered (m ∷ ms) = ap (λ z. m.name ∷ z) (names_entered ms)
 
 -- where the repeated names among its own are noted last
 pub object_done : (ts : List Member) (lefts : List ℕ) (start here new : Reader) (rest0 : List ℕ) → start.cursor ≡ 123 ∷ rest0
-    → new.places.repeated ≡ earlier here.places.repeated (earliest (repeated_among [] (map (λ t. (member_view t).0) ts) lefts)) → new.places.out_of_range ≡ here.places.out_of_range
+    → new.flaws.repeated ≡ earlier here.flaws.repeated (earliest (repeated_among [] (map (λ t. (member_view t).0) ts) lefts)) → new.flaws.out_of_range ≡ here.flaws.out_of_range
     → ObjectSoFar ts lefts start here → StepsToNext (has_some ts) 125 here.cursor (Ok false) new.cursor → ReadsValue start (Ok (Many ts)) new
 object_done ts lefts start here new rest0 e repeated out so go =
     let is = before_members so.ms no_members in
     let names : map (λ t. (member_view t).0) ts ≡ map (λ m. m.name) so.ms = names_seen ts ∙ ap (map (λ e. e.0)) so.sees ∙ names_entered so.ms in
-    let with_names : List (List ℕ) → Places = λ z. record { repeated = earlier here.places.repeated (earliest (repeated_among [] z lefts)); out_of_range = here.places.out_of_range } in
-    let with_lefts : List ℕ → Places = λ z. record { repeated = earlier here.places.repeated (earliest (repeated_among [] (map (λ m. m.name) so.ms) z)); out_of_range = here.places.out_of_range } in
-    let with_places : Places → Places = λ z. record { repeated = earlier z.repeated (earliest (repeated_among [] (map (λ m. m.name) so.ms) (map (λ m. m.left) so.ms))); out_of_range = z.out_of_range } in
+    let with_names : List (List ℕ) → Flaws = λ z. record { repeated = earlier here.flaws.repeated (earliest (repeated_among [] z lefts)); out_of_range = here.flaws.out_of_range } in
+    let with_lefts : List ℕ → Flaws = λ z. record { repeated = earlier here.flaws.repeated (earliest (repeated_among [] (map (λ m. m.name) so.ms) z)); out_of_range = here.flaws.out_of_range } in
+    let with_flaws : Flaws → Flaws = λ z. record { repeated = earlier z.repeated (earliest (repeated_among [] (map (λ m. m.name) so.ms) (map (λ m. m.left) so.ms))); out_of_range = z.out_of_range } in
     record {
       it = object is;
       here = so.sound no_members new.cursor (go.ends refl);
       sees = view-Object ts ∙ ap (λ z. Json.object (members_of z)) so.sees ∙ ap Json.object (sym (members_plain so.ms));
-      notes = places_same _ _ _ _ repeated out ∙ ap with_names names ∙ ap with_lefts so.at ∙ ap with_places so.notes ∙ noted_entries-object start.places so.ms;
+      notes = flaws_same _ _ _ _ repeated out ∙ ap with_names names ∙ ap with_lefts so.at ∙ ap with_flaws so.notes ∙ noted_entries-object start.flaws so.ms;
       shorter = omega (arith, Spaces-length here.cursor (125 ∷ new.cursor) (go.ends refl), so.shorter);
       only = λ x rest v ends.
           let l = object_at x start.cursor rest0 rest e v in
@@ -184,13 +184,13 @@ value_at m name old s1 s2 s3 s4 rest all e2 e3 e4 p =
 pub member_shorter : (old s1 s2 s3 s4 : List ℕ) → length s1 < length old → s2 ≡ behind is_space s1 → s2 ≡ 58 ∷ s3 → s4 ≡ behind is_space s3 → length s4 < length old
 member_shorter old s1 s2 s3 s4 l e2 e3 e4 = let a = ap length e2 in let b = ap length e3 in let c = ap length e4 in omega (arith, l, a, b, c, behind-length s1, behind-length s3)
 
-entry_same : (m : Entry) (left : ℕ) (name : List ℕ) (value : Placed) → m.left ≡ left → name ≡ m.name → m.value ≡ value → m ≡ record { left = left; name = name; value = value }
+entry_same : (m : Entry) (left : ℕ) (name : List ℕ) (value : Located) → m.left ≡ left → name ≡ m.name → m.value ≡ value → m ≡ record { left = left; name = name; value = value }
 entry_same m left name value a b c =
     ap (λ z. record { left = z; name = m.name; value = m.value }) a ∙ ap (λ z. record { left = left; name = z; value = m.value }) (sym b) ∙ ap (λ z. record { left = left; name = name; value = z }) c
 
 -- the record of a member, seen
 pub member_done : (name s1 s2 s3 : List ℕ) (t : Tree) (made : Member) (old mid new : Reader) → member_view made ≡ (name, view t) → Quoted name old.cursor s1
-    → ((text end : List ℕ) → Quoted text old.cursor end → (name ≡ text) × (s1 ≡ end)) → length s1 < length old.cursor → s2 ≡ behind is_space s1 → s2 ≡ 58 ∷ s3 → mid.cursor ≡ behind is_space s3 → mid.places ≡ old.places
+    → ((text end : List ℕ) → Quoted text old.cursor end → (name ≡ text) × (s1 ≡ end)) → length s1 < length old.cursor → s2 ≡ behind is_space s1 → s2 ≡ 58 ∷ s3 → mid.cursor ≡ behind is_space s3 → mid.flaws ≡ old.flaws
     → ReadsValue mid (Ok t) new → ReadsMember old (Ok made) new
 member_done name s1 s2 s3 t made old mid new is quoted all l e2 e3 e4 kept found =
     let spaces : Spaces s1 (58 ∷ s3) = subst (λ z. Spaces s1 z) (sym e2 ∙ e3) (Spaces-behind s1) in

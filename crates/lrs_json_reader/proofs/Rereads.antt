@@ -10,8 +10,8 @@ use Rattle.lrs_json.specs.declared.tree.Tree.{Tree, Number, List as Many, Object
 use Rattle.lrs_json.specs.declared.tree.Member.{Member}
 use Rattle.lrs_json.proofs.Back.{same_tree}
 use Rattle.lrs_json.proofs.Views.{view-Number, view-List, view-Object}
-use Rattle.lrs_json_reader.specs.Placed as Placed
-use Rattle.lrs_json_reader.specs.Placed.{plain}
+use Rattle.lrs_json_reader.specs.Located as Located
+use Rattle.lrs_json_reader.specs.Located.{plain}
 use Rattle.lrs_json_reader.specs.Grammar.{Quoted, Value}
 use Rattle.lrs_json_reader.specs.Steps.{Finds}
 use Rattle.lrs_json_reader.specs.Rereading.{Rereads, RereadsNumber, RereadsLeaf, RereadsValue, RereadsMember, NumeralAt, WrittenAt, NamedAt, before_elements, before_members, ElementsLeft, MembersLeft, NextItem, NextMember, GoesOn}
@@ -21,11 +21,11 @@ use Rattle.lrs_json_reader.proofs.Values.{Starts}
 use Rattle.lrs_json_reader.proofs.FirstBytes.{starts_at, only_number}
 use Rattle.lrs_json_reader.proofs.Ends.{Value-Opens}
 use Rattle.lrs_json_reader.proofs.StepLemmas.{not_close}
-use Rattle.lrs_json_reader.proofs.WrittenLemmas.{quoted-Quoted, place, plain-place, written-Value}
+use Rattle.lrs_json_reader.proofs.WrittenLemmas.{quoted-Quoted, locate, plain-locate, written-Value}
 
 -- ---- one kind of value that holds no others, said of all
 
-pub kind_again : {Z : Type 0} (f : Z → Placed.Placed) (shown : Z → Tree) (Is : Z → List ℕ → List ℕ → Type 0) (old new : List ℕ) (r : Result Tree Stop) → ((x : Placed.Placed) (rest : List ℕ) → Value x old rest → (z : Z) × (x ≡ f z))
+pub kind_again : {Z : Type 0} (f : Z → Located.Located) (shown : Z → Tree) (Is : Z → List ℕ → List ℕ → Type 0) (old new : List ℕ) (r : Result Tree Stop) → ((x : Located.Located) (rest : List ℕ) → Value x old rest → (z : Z) × (x ≡ f z))
     → ((z : Z) (rest : List ℕ) → Value (f z) old rest → Is z old rest) → ((z : Z) → view (shown z) ≡ plain (f z)) → Rereads Is shown (λ t. t) old r new → RereadsLeaf old r new
 kind_again f shown Is old new (Ok t) only from sees all = λ x rest v ends.
     let o = only x rest v in
@@ -35,19 +35,19 @@ kind_again f shown Is old new (Err y) only from sees all = λ x rest v ends. let
 
 pub numeral_again : (b : ℕ) (more old new : List ℕ) (r : Result Tree Stop) → old ≡ b ∷ more → b ≢ 110 → b ≢ 116 → b ≢ 102 → b ≢ 34 → b ≢ 91 → b ≢ 123 → RereadsNumber old r new → RereadsLeaf old r new
 numeral_again b more old new r here n t f q l o all =
-    kind_again (λ k. Placed.number k.0 k.1) (λ k. Number k.1) (λ k bytes rest. NumeralAt k.1 bytes rest) old new r (λ x rest v. only_number x b (starts_at x old more rest b here v) n t f q l o) (λ k rest v. (v.0, v.1)) (λ k. view-Number k.1)
+    kind_again (λ k. Located.number k.0 k.1) (λ k. Number k.1) (λ k bytes rest. NumeralAt k.1 bytes rest) old new r (λ x rest v. only_number x b (starts_at x old more rest b here v) n t f q l o) (λ k rest v. (v.0, v.1)) (λ k. view-Number k.1)
     (λ k rest at ends. all k.1 rest at ends)
 
 -- ---- what is written is a text of the grammar
 
-pub written_at : (j : Json) (old rest : List ℕ) → WrittenAt j old rest → Value (place j rest) old rest
-written_at j old rest w = subst (λ z. Value (place j rest) z rest) (sym w.1) (written-Value j rest w.0)
+pub written_at : (j : Json) (old rest : List ℕ) → WrittenAt j old rest → Value (locate j rest) old rest
+written_at j old rest w = subst (λ z. Value (locate j rest) z rest) (sym w.1) (written-Value j rest w.0)
 
 pub leaf_again : (old new : List ℕ) (r : Result Tree Stop) → RereadsLeaf old r new → RereadsValue old r new
-leaf_again old new (Ok t) all = λ j rest w ends. let a = all (place j rest) rest (written_at j old rest w) ends in (a.0 ∙ plain-place j rest, a.1)
-leaf_again old new (Err y) all = λ j rest w ends. all (place j rest) rest (written_at j old rest w) ends
+leaf_again old new (Ok t) all = λ j rest w ends. let a = all (locate j rest) rest (written_at j old rest w) ends in (a.0 ∙ plain-locate j rest, a.1)
+leaf_again old new (Err y) all = λ j rest w ends. all (locate j rest) rest (written_at j old rest w) ends
 
-only_array : (j : Json) (rest : List ℕ) → Starts (place j rest) 91 → (js : Elements) × (j ≡ array js)
+only_array : (j : Json) (rest : List ℕ) → Starts (locate j rest) 91 → (js : Elements) × (j ≡ array js)
 only_array null rest s = absurd (omega arith)
 only_array (boolean true) rest s = absurd (omega arith)
 only_array (boolean false) rest s = absurd (omega arith)
@@ -56,7 +56,7 @@ only_array (string n) rest s = absurd (omega arith)
 only_array (array js) rest s = (js, refl)
 only_array (object ms) rest s = absurd (omega arith)
 
-only_object : (j : Json) (rest : List ℕ) → Starts (place j rest) 123 → (ms : Members) × (j ≡ object ms)
+only_object : (j : Json) (rest : List ℕ) → Starts (locate j rest) 123 → (ms : Members) × (j ≡ object ms)
 only_object null rest s = absurd (omega arith)
 only_object (boolean true) rest s = absurd (omega arith)
 only_object (boolean false) rest s = absurd (omega arith)
@@ -67,12 +67,12 @@ only_object (object ms) rest s = (ms, refl)
 
 array_at : (j : Json) (start more rest : List ℕ) → start ≡ 91 ∷ more → WrittenAt j start rest → (js : Elements) × (j ≡ array js) × AreSpellableElements js × (start ≡ 91 ∷ (elements_text false js ++ rest))
 array_at j start more rest e w =
-    let o = only_array j rest (starts_at (place j rest) start more rest 91 e (written_at j start rest w)) in
+    let o = only_array j rest (starts_at (locate j rest) start more rest 91 e (written_at j start rest w)) in
     (o.0, o.1, subst IsSpellable o.1 w.0, w.1 ∙ ap (λ z. written z ++ rest) o.1)
 
 object_at : (j : Json) (start more rest : List ℕ) → start ≡ 123 ∷ more → WrittenAt j start rest → (ms : Members) × (j ≡ object ms) × AreSpellableMembers ms × (start ≡ 123 ∷ (members_text false ms ++ rest))
 object_at j start more rest e w =
-    let o = only_object j rest (starts_at (place j rest) start more rest 123 e (written_at j start rest w)) in
+    let o = only_object j rest (starts_at (locate j rest) start more rest 123 e (written_at j start rest w)) in
     (o.0, o.1, subst IsSpellable o.1 w.0, w.1 ∙ ap (λ z. written z ++ rest) o.1)
 
 -- ---- arrays
@@ -120,7 +120,7 @@ no_bracket : (j : Json) (js : Elements) (here rest : List ℕ) → IsSpellable j
 no_bracket j js here rest ok e =
     let r = elements_text true js ++ rest in
     let w : WrittenAt j (93 ∷ here) r = (ok, e ∙ append_assoc (written j) (elements_text true js) rest) in
-    not_close 93 (93 ∷ here) here (Value-Opens (place j r) (93 ∷ here) r (written_at j (93 ∷ here) r w)) refl
+    not_close 93 (93 ∷ here) here (Value-Opens (locate j r) (93 ∷ here) r (written_at j (93 ∷ here) r w)) refl
 
 list_empty : (all : Elements) (here rest : List ℕ) → AreSpellableElements all → 93 ∷ here ≡ elements_text false all ++ rest → ElementsLeft false all [] here rest
 list_empty no_elements here rest ok e = (refl, cc e)

@@ -4,7 +4,7 @@ use Rattle.std.proofs.lemmas.Option.{option_and_then_some}
 use Rattle.std.proofs.lemmas.Grind.{common_steps}
 use Rattle.lrs_decimal.specs.Numbers.{Each, is_digit}
 use Rattle.lrs_decimal.proofs.NumberLemmas.{is_numeric, IsNumber-numeric}
-use Rattle.lrs_json_reader.specs.Placed.{Placed, null, boolean, number, string, array, object, Elements, no_elements, element, Members, no_members, member, plain, plain_elements, plain_members}
+use Rattle.lrs_json_reader.specs.Located.{Located, null, boolean, number, string, array, object, Elements, no_elements, element, Members, no_members, member, plain, plain_elements, plain_members}
 use Rattle.lrs_json_reader.specs.Grammar.{is_space, Spaces, Comma, Chars, Quoted, Value, Listed, Paired, IsText}
 use Rattle.lrs_decimal.specs.Fronts.{◌>>=◌}
 use Rattle.lrs_json_reader.specs.Strings.{piece_at, next_at, digit_at, unit_at, byte_at, low_at, unicode_at, escape_at, letter_of, hex_value_of, is_high, is_low}
@@ -15,8 +15,8 @@ use Rattle.std.specs.List.{prefix_len}
 use Rattle.lrs_json.specs.Written.{is_plain}
 use Rattle.lrs_json.specs.Depth.{depth, depth_of_elements, depth_of_members}
 use Rattle.lrs_json_reader.specs.Brackets.{opens, closes, reaches}
-use Rattle.lrs_json_reader.specs.declared.depth.Mode.{Mode}
-use Rattle.lrs_json_reader.specs.declared.depth.Mode.TheVariants.{Outside, Inside, Escaped}
+use Rattle.lrs_json_reader.specs.declared.depth.ScanState.{ScanState}
+use Rattle.lrs_json_reader.specs.declared.depth.ScanState.TheVariants.{Outside, Inside, Escaped}
 
 -- a byte that the scan passes over outside strings
 abbrev is_quiet : ℕ → Bool
@@ -71,7 +71,7 @@ plain_inside limit d [] l = refl
 plain_inside limit d (b ∷ bs) l = plain_inside_at limit d b bs (is_plain b) refl l (plain_inside limit d bs l)
 
 -- bytes that stand for themselves are passed over
-pub plain_passed : (mode : Mode) (bytes left : List ℕ) (n : ℕ) → mode ≡ Inside → n ≡ prefix_len is_plain bytes → left ≡ drop n bytes → (limit d : ℕ) → d < limit → reaches limit d mode left ≡ reaches limit d mode bytes
+pub plain_passed : (mode : ScanState) (bytes left : List ℕ) (n : ℕ) → mode ≡ Inside → n ≡ prefix_len is_plain bytes → left ≡ drop n bytes → (limit d : ℕ) → d < limit → reaches limit d mode left ≡ reaches limit d mode bytes
 plain_passed mode bytes left n inside is passed limit d l = rw (inside, passed, is) (plain_inside limit d bytes l)
 
 pub next_is : (bytes : List ℕ) (b : ℕ) (a : List ℕ) → next_at bytes ≡ Some (b, a) → bytes ≡ b ∷ a
@@ -239,7 +239,7 @@ at_close : (limit d : ℕ) (rest : List ℕ) → suc d < limit → reaches limit
 at_close limit d rest l = let a = above limit (suc d) 0 (omega arith) in rw a refl
 
 mutual
-  pub over-Value : (j : Placed) (limit d : ℕ) (bs rest : List ℕ) → d < limit → Value j bs rest → Over limit d (depth (plain j)) bs rest
+  pub over-Value : (j : Located) (limit d : ℕ) (bs rest : List ℕ) → d < limit → Value j bs rest → Over limit d (depth (plain j)) bs rest
   over-Value null limit d bs rest l v = leaf limit d bs rest l (rw v (quiet_run limit d (codes "null") rest l (refl, (refl, (refl, (refl, tt))))))
   over-Value (boolean true) limit d bs rest l v = leaf limit d bs rest l (rw v (quiet_run limit d (codes "true") rest l (refl, (refl, (refl, (refl, tt))))))
   over-Value (boolean false) limit d bs rest l v = leaf limit d bs rest l (rw v (quiet_run limit d (codes "false") rest l (refl, (refl, (refl, (refl, (refl, tt)))))))
@@ -268,7 +268,7 @@ or_false true = refl
 or_false false = refl
 
 -- the scan of a text tells the depth of its value
-reaches-IsText : (limit : ℕ) (bytes : List ℕ) (p : Placed) → 0 < limit → IsText p bytes → reaches limit 0 Outside bytes ≡ nat_le limit (depth (plain p))
+reaches-IsText : (limit : ℕ) (bytes : List ℕ) (p : Located) → 0 < limit → IsText p bytes → reaches limit 0 Outside bytes ≡ nat_le limit (depth (plain p))
 reaches-IsText limit bytes p l s =
     let z : 0 + depth (plain p) ≡ depth (plain p) = omega arith in
     spaces_quiet limit 0 bytes s.0 l s.2 ∙ over-Value p limit 0 s.0 s.1 l s.3 ∙ rw (spaces_quiet limit 0 s.1 [] l s.4, z) (or_false (nat_le limit (depth (plain p))))
@@ -279,10 +279,10 @@ not_le limit n l = grind (arith, common_steps)
 lt_of : (limit n : ℕ) → nat_le limit n ≡ false → n < limit
 lt_of limit n e = grind (arith, common_steps)
 
-pub shallow-scan : (limit : ℕ) (bytes : List ℕ) (p : Placed) → IsText p bytes → depth (plain p) ≤ limit → is_too_deep limit bytes ≡ false
+pub shallow-scan : (limit : ℕ) (bytes : List ℕ) (p : Located) → IsText p bytes → depth (plain p) ≤ limit → is_too_deep limit bytes ≡ false
 shallow-scan limit bytes p s l = reaches-IsText (suc limit) bytes p (omega arith) s ∙ not_le (suc limit) (depth (plain p)) (omega (arith, l))
 
-pub scan-shallow : (limit : ℕ) (bytes : List ℕ) (p : Placed) → IsText p bytes → is_too_deep limit bytes ≡ false → depth (plain p) ≤ limit
+pub scan-shallow : (limit : ℕ) (bytes : List ℕ) (p : Located) → IsText p bytes → is_too_deep limit bytes ≡ false → depth (plain p) ≤ limit
 scan-shallow limit bytes p s e = let l = lt_of (suc limit) (depth (plain p)) (sym (reaches-IsText (suc limit) bytes p (omega arith) s) ∙ e) in omega (arith, l)
 
 -- what the scan told

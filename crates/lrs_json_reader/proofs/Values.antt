@@ -1,12 +1,12 @@
 -- How a value begins, and what ends one.
 use Rattle.std.proofs.Common.{◌≡◌, ℕ, List, ◌∷◌, ◌++◌, Bool, true, false, IsTrue, refl, arith, ap, ◌∙◌}
 use Rattle.lrs_decimal.proofs.NumberLemmas.{begins_number, IsNumber-begins}
-use Rattle.lrs_json_reader.specs.Placed.{Placed, null, boolean, number, string, array, object}
+use Rattle.lrs_json_reader.specs.Located.{Located, null, boolean, number, string, array, object}
 use Rattle.lrs_decimal.specs.Numbers.{Stops, IsNumber}
 use Rattle.lrs_json_reader.specs.Grammar.{is_space, Value}
 
 -- the first byte of a value
-abbrev pub Starts : Placed → ℕ → Type 0
+abbrev pub Starts : Located → ℕ → Type 0
 Starts null b = b ≡ 110
 Starts (boolean true) b = b ≡ 116
 Starts (boolean false) b = b ≡ 102
@@ -18,7 +18,7 @@ Starts (object ms) b = b ≡ 123
 number_starts : (s bs rest : List ℕ) → bs ≡ s ++ rest → IsNumber s → (b : ℕ) × (more : List ℕ) × (bs ≡ b ∷ more) × IsTrue (begins_number b)
 number_starts s bs rest e n = let f = IsNumber-begins s n in (f.0, f.1 ++ rest, e ∙ ap (λ z. z ++ rest) f.2, f.3)
 
-pub starts : (j : Placed) (bs rest : List ℕ) → Value j bs rest → (b : ℕ) × (more : List ℕ) × (bs ≡ b ∷ more) × Starts j b
+pub starts : (j : Located) (bs rest : List ℕ) → Value j bs rest → (b : ℕ) × (more : List ℕ) × (bs ≡ b ∷ more) × Starts j b
 starts null bs rest v = (110, _, v, refl)
 starts (boolean true) bs rest v = (116, _, v, refl)
 starts (boolean false) bs rest v = (102, _, v, refl)
@@ -31,7 +31,7 @@ digit_no_space_at : (b : ℕ) (t : Bool) → is_space b ≡ t → IsTrue (begins
 digit_no_space_at b true e d = grind arith
 digit_no_space_at b false e d = e
 
-pub starts_no_space : (j : Placed) (b : ℕ) → Starts j b → is_space b ≡ false
+pub starts_no_space : (j : Located) (b : ℕ) → Starts j b → is_space b ≡ false
 starts_no_space null b s = rw s refl
 starts_no_space (boolean true) b s = rw s refl
 starts_no_space (boolean false) b s = rw s refl
@@ -41,5 +41,5 @@ starts_no_space (array js) b s = rw s refl
 starts_no_space (object ms) b s = rw s refl
 
 -- no white space begins a value
-pub Value-Stops : (j : Placed) (bs rest : List ℕ) → Value j bs rest → Stops is_space bs
+pub Value-Stops : (j : Located) (bs rest : List ℕ) → Value j bs rest → Stops is_space bs
 Value-Stops j bs rest v = let s = starts j bs rest v in rw s.2 (starts_no_space j s.0 s.3)

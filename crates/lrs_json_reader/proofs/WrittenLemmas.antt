@@ -6,8 +6,8 @@ use Rattle.lrs_decimal.specs.Range.{is_in_range}
 use Rattle.lrs_json_reader.specs.Strings.{piece_text}
 use Rattle.lrs_json_reader.specs.declared.strings.Piece.{Piece}
 use Rattle.lrs_json.specs.Json.{Json, null, boolean, number, string, array, object, Elements, no_elements, element, Members, no_members, member}
-use Rattle.lrs_json_reader.specs.Placed as Placed
-use Rattle.lrs_json_reader.specs.Placed.{plain, plain_elements, plain_members}
+use Rattle.lrs_json_reader.specs.Located as Located
+use Rattle.lrs_json_reader.specs.Located.{plain, plain_elements, plain_members}
 use Rattle.lrs_json.specs.Names.{is_among}
 use Rattle.lrs_json_reader.specs.Flaws.{repeated_names, repeated_in_elements, repeated_in_members, out_of_range_numbers, out_of_range_in_elements, out_of_range_in_members}
 use Rattle.lrs_json_reader.specs.Grammar.{Spaces, Comma, Chars, Quoted, Value, Listed, Paired, IsText}
@@ -36,24 +36,24 @@ is_noted true left e = refl
 is_noted false left e = cc e
 
 mutual
-  Value-Fits : (p : Placed.Placed) (bs rest : List ℕ) → Value p bs rest → repeated_names p ≡ [] → out_of_range_numbers p ≡ [] → Fits (plain p)
-  Value-Fits Placed.null bs rest v r o = tt
-  Value-Fits (Placed.boolean b) bs rest v r o = tt
-  Value-Fits (Placed.number left s) bs rest v r o = (v.1, is_noted (is_in_range s) left o)
-  Value-Fits (Placed.string s) bs rest v r o = v.5
-  Value-Fits (Placed.array ps) bs rest v r o = Listed-Fits ps false v.0 rest v.2 r o
-  Value-Fits (Placed.object ms) bs rest v r o = Paired-Fits ms [] false v.0 rest v.2 r o
+  Value-Fits : (p : Located.Located) (bs rest : List ℕ) → Value p bs rest → repeated_names p ≡ [] → out_of_range_numbers p ≡ [] → Fits (plain p)
+  Value-Fits Located.null bs rest v r o = tt
+  Value-Fits (Located.boolean b) bs rest v r o = tt
+  Value-Fits (Located.number left s) bs rest v r o = (v.1, is_noted (is_in_range s) left o)
+  Value-Fits (Located.string s) bs rest v r o = v.5
+  Value-Fits (Located.array ps) bs rest v r o = Listed-Fits ps false v.0 rest v.2 r o
+  Value-Fits (Located.object ms) bs rest v r o = Paired-Fits ms [] false v.0 rest v.2 r o
 
-  Listed-Fits : (ps : Placed.Elements) (later : Bool) (bs rest : List ℕ) → Listed later ps bs rest → repeated_in_elements ps ≡ [] → out_of_range_in_elements ps ≡ [] → FitElements (plain_elements ps)
-  Listed-Fits Placed.no_elements later bs rest l r o = tt
-  Listed-Fits (Placed.element p ps) later bs rest l r o = (
+  Listed-Fits : (ps : Located.Elements) (later : Bool) (bs rest : List ℕ) → Listed later ps bs rest → repeated_in_elements ps ≡ [] → out_of_range_in_elements ps ≡ [] → FitElements (plain_elements ps)
+  Listed-Fits Located.no_elements later bs rest l r o = tt
+  Listed-Fits (Located.element p ps) later bs rest l r o = (
     Value-Fits p l.1 l.2 l.5 (left_empty (repeated_names p) (repeated_in_elements ps) r) (left_empty (out_of_range_numbers p) (out_of_range_in_elements ps) o),
     Listed-Fits ps true l.2 rest l.6 (right_empty (repeated_names p) (repeated_in_elements ps) r) (right_empty (out_of_range_numbers p) (out_of_range_in_elements ps) o),
   )
 
-  Paired-Fits : (ms : Placed.Members) (names : List (List ℕ)) (later : Bool) (bs rest : List ℕ) → Paired later ms bs rest → repeated_in_members names ms ≡ [] → out_of_range_in_members ms ≡ [] → FitMembers names (plain_members ms)
-  Paired-Fits Placed.no_members names later bs rest l r o = tt
-  Paired-Fits (Placed.member left k p ms) names later bs rest l r o =
+  Paired-Fits : (ms : Located.Members) (names : List (List ℕ)) (later : Bool) (bs rest : List ℕ) → Paired later ms bs rest → repeated_in_members names ms ≡ [] → out_of_range_in_members ms ≡ [] → FitMembers names (plain_members ms)
+  Paired-Fits Located.no_members names later bs rest l r o = tt
+  Paired-Fits (Located.member left k p ms) names later bs rest l r o =
       let own : List ℕ = if is_among k names then left ∷ [] else [] in
       let more = repeated_in_members (k ∷ names) ms in
       let inner = right_empty own (repeated_names p ++ more) r in (
@@ -65,7 +65,7 @@ mutual
 
 -- what some bytes spell can be read
 pub Spells-IsReadable : (limit : ℕ) (bytes : List ℕ) (j : Json) → Spells limit bytes j → IsReadable limit j
-Spells-IsReadable limit bytes j s = (subst Fits s.is (Value-Fits s.placed s.spelled.0 s.spelled.1 s.spelled.3 s.distinct s.in_range), s.shallow)
+Spells-IsReadable limit bytes j s = (subst Fits s.is (Value-Fits s.located s.spelled.0 s.spelled.1 s.spelled.3 s.distinct s.in_range), s.shallow)
 
 -- ---- texts
 
@@ -99,40 +99,40 @@ comma_written false bs = refl
 -- ---- the value in its written form, with what follows it
 
 abbrev mutual
-  pub place : Json → List ℕ → Placed.Placed
-  place null rest = Placed.null
-  place (boolean b) rest = Placed.boolean b
-  place (number s) rest = Placed.number (length (s ++ rest)) s
-  place (string s) rest = Placed.string s
-  place (array js) rest = Placed.array (place_elements js rest)
-  place (object ms) rest = Placed.object (place_members ms rest)
+  pub locate : Json → List ℕ → Located.Located
+  locate null rest = Located.null
+  locate (boolean b) rest = Located.boolean b
+  locate (number s) rest = Located.number (length (s ++ rest)) s
+  locate (string s) rest = Located.string s
+  locate (array js) rest = Located.array (locate_elements js rest)
+  locate (object ms) rest = Located.object (locate_members ms rest)
 
-  place_elements : Elements → List ℕ → Placed.Elements
-  place_elements no_elements rest = Placed.no_elements
-  place_elements (element j js) rest = Placed.element (place j (elements_text true js ++ rest)) (place_elements js rest)
+  locate_elements : Elements → List ℕ → Located.Elements
+  locate_elements no_elements rest = Located.no_elements
+  locate_elements (element j js) rest = Located.element (locate j (elements_text true js ++ rest)) (locate_elements js rest)
 
-  place_members : Members → List ℕ → Placed.Members
-  place_members no_members rest = Placed.no_members
-  place_members (member k j ms) rest =
+  locate_members : Members → List ℕ → Located.Members
+  locate_members no_members rest = Located.no_members
+  locate_members (member k j ms) rest =
       let e = members_text true ms ++ rest in
-      Placed.member (length (quoted k ++ 58 ∷ (written j ++ e))) k (place j e) (place_members ms rest)
+      Located.member (length (quoted k ++ 58 ∷ (written j ++ e))) k (locate j e) (locate_members ms rest)
 
 mutual
-  pub plain-place : (j : Json) (rest : List ℕ) → plain (place j rest) ≡ j
-  plain-place null rest = refl
-  plain-place (boolean b) rest = refl
-  plain-place (number s) rest = refl
-  plain-place (string s) rest = refl
-  plain-place (array js) rest = ap array (plain-place_elements js rest)
-  plain-place (object ms) rest = ap object (plain-place_members ms rest)
+  pub plain-locate : (j : Json) (rest : List ℕ) → plain (locate j rest) ≡ j
+  plain-locate null rest = refl
+  plain-locate (boolean b) rest = refl
+  plain-locate (number s) rest = refl
+  plain-locate (string s) rest = refl
+  plain-locate (array js) rest = ap array (plain-locate_elements js rest)
+  plain-locate (object ms) rest = ap object (plain-locate_members ms rest)
 
-  plain-place_elements : (js : Elements) (rest : List ℕ) → plain_elements (place_elements js rest) ≡ js
-  plain-place_elements no_elements rest = refl
-  plain-place_elements (element j js) rest = cc (plain-place j (elements_text true js ++ rest), plain-place_elements js rest)
+  plain-locate_elements : (js : Elements) (rest : List ℕ) → plain_elements (locate_elements js rest) ≡ js
+  plain-locate_elements no_elements rest = refl
+  plain-locate_elements (element j js) rest = cc (plain-locate j (elements_text true js ++ rest), plain-locate_elements js rest)
 
-  plain-place_members : (ms : Members) (rest : List ℕ) → plain_members (place_members ms rest) ≡ ms
-  plain-place_members no_members rest = refl
-  plain-place_members (member k j ms) rest = cc (plain-place j (members_text true ms ++ rest), plain-place_members ms rest)
+  plain-locate_members : (ms : Members) (rest : List ℕ) → plain_members (locate_members ms rest) ≡ ms
+  plain-locate_members no_members rest = refl
+  plain-locate_members (member k j ms) rest = cc (plain-locate j (members_text true ms ++ rest), plain-locate_members ms rest)
 
 -- what can be read can be spelled
 mutual
@@ -153,7 +153,7 @@ mutual
   members-spellable (member k j ms) names f = (f.0, Fits-IsSpellable j f.2, members-spellable ms (k ∷ names) f.3)
 
 mutual
-  pub written-Value : (j : Json) (rest : List ℕ) → IsSpellable j → Value (place j rest) (written j ++ rest) rest
+  pub written-Value : (j : Json) (rest : List ℕ) → IsSpellable j → Value (locate j rest) (written j ++ rest) rest
   written-Value null rest f = refl
   written-Value (boolean true) rest f = refl
   written-Value (boolean false) rest f = refl
@@ -162,7 +162,7 @@ mutual
   written-Value (array js) rest f = (elements_text false js ++ rest, refl, text-Listed js false rest f)
   written-Value (object ms) rest f = (members_text false ms ++ rest, refl, text-Paired ms false rest f)
 
-  text-Listed : (js : Elements) (later : Bool) (rest : List ℕ) → AreSpellableElements js → Listed later (place_elements js rest) (elements_text later js ++ rest) rest
+  text-Listed : (js : Elements) (later : Bool) (rest : List ℕ) → AreSpellableElements js → Listed later (locate_elements js rest) (elements_text later js ++ rest) rest
   text-Listed no_elements later rest f = no_spaces (93 ∷ rest)
   text-Listed (element j js) later rest f =
       let c = elements_text true js ++ rest in
@@ -170,7 +170,7 @@ mutual
       let whole : (comma_if later ++ written j ++ elements_text true js) ++ rest ≡ comma_if later ++ a = simp append_assoc in
       (a, a, c, subst (λ z. Comma later z a) (sym whole) (comma_written later a), no_spaces a, written-Value j c f.0, text-Listed js true rest f.1)
 
-  text-Paired : (ms : Members) (later : Bool) (rest : List ℕ) → AreSpellableMembers ms → Paired later (place_members ms rest) (members_text later ms ++ rest) rest
+  text-Paired : (ms : Members) (later : Bool) (rest : List ℕ) → AreSpellableMembers ms → Paired later (locate_members ms rest) (members_text later ms ++ rest) rest
   text-Paired no_members later rest f = no_spaces (125 ∷ rest)
   text-Paired (member k j ms) later rest f =
       let e = members_text true ms ++ rest in
@@ -194,50 +194,50 @@ mutual
       )
 
 mutual
-  place-distinct : (j : Json) (rest : List ℕ) → Fits j → repeated_names (place j rest) ≡ []
-  place-distinct null rest f = refl
-  place-distinct (boolean b) rest f = refl
-  place-distinct (number s) rest f = refl
-  place-distinct (string s) rest f = refl
-  place-distinct (array js) rest f = elements-distinct js rest f
-  place-distinct (object ms) rest f = members-distinct ms [] rest f
+  locate-distinct : (j : Json) (rest : List ℕ) → Fits j → repeated_names (locate j rest) ≡ []
+  locate-distinct null rest f = refl
+  locate-distinct (boolean b) rest f = refl
+  locate-distinct (number s) rest f = refl
+  locate-distinct (string s) rest f = refl
+  locate-distinct (array js) rest f = elements-distinct js rest f
+  locate-distinct (object ms) rest f = members-distinct ms [] rest f
 
-  elements-distinct : (js : Elements) (rest : List ℕ) → FitElements js → repeated_in_elements (place_elements js rest) ≡ []
+  elements-distinct : (js : Elements) (rest : List ℕ) → FitElements js → repeated_in_elements (locate_elements js rest) ≡ []
   elements-distinct no_elements rest f = refl
-  elements-distinct (element j js) rest f = rw (place-distinct j (elements_text true js ++ rest) f.0, elements-distinct js rest f.1) refl
+  elements-distinct (element j js) rest f = rw (locate-distinct j (elements_text true js ++ rest) f.0, elements-distinct js rest f.1) refl
 
-  members-distinct : (ms : Members) (names : List (List ℕ)) (rest : List ℕ) → FitMembers names ms → repeated_in_members names (place_members ms rest) ≡ []
+  members-distinct : (ms : Members) (names : List (List ℕ)) (rest : List ℕ) → FitMembers names ms → repeated_in_members names (locate_members ms rest) ≡ []
   members-distinct no_members names rest f = refl
-  members-distinct (member k j ms) names rest f = rw (f.1, place-distinct j (members_text true ms ++ rest) f.2, members-distinct ms (k ∷ names) rest f.3) refl
+  members-distinct (member k j ms) names rest f = rw (f.1, locate-distinct j (members_text true ms ++ rest) f.2, members-distinct ms (k ∷ names) rest f.3) refl
 
 mutual
-  place-in_range : (j : Json) (rest : List ℕ) → Fits j → out_of_range_numbers (place j rest) ≡ []
-  place-in_range null rest f = refl
-  place-in_range (boolean b) rest f = refl
-  place-in_range (number s) rest f = let in_range : is_in_range s ≡ true = f.1 in rw in_range refl
-  place-in_range (string s) rest f = refl
-  place-in_range (array js) rest f = elements-in_range js rest f
-  place-in_range (object ms) rest f = members-in_range ms [] rest f
+  locate-in_range : (j : Json) (rest : List ℕ) → Fits j → out_of_range_numbers (locate j rest) ≡ []
+  locate-in_range null rest f = refl
+  locate-in_range (boolean b) rest f = refl
+  locate-in_range (number s) rest f = let in_range : is_in_range s ≡ true = f.1 in rw in_range refl
+  locate-in_range (string s) rest f = refl
+  locate-in_range (array js) rest f = elements-in_range js rest f
+  locate-in_range (object ms) rest f = members-in_range ms [] rest f
 
-  elements-in_range : (js : Elements) (rest : List ℕ) → FitElements js → out_of_range_in_elements (place_elements js rest) ≡ []
+  elements-in_range : (js : Elements) (rest : List ℕ) → FitElements js → out_of_range_in_elements (locate_elements js rest) ≡ []
   elements-in_range no_elements rest f = refl
-  elements-in_range (element j js) rest f = rw (place-in_range j (elements_text true js ++ rest) f.0, elements-in_range js rest f.1) refl
+  elements-in_range (element j js) rest f = rw (locate-in_range j (elements_text true js ++ rest) f.0, elements-in_range js rest f.1) refl
 
-  members-in_range : (ms : Members) (names : List (List ℕ)) (rest : List ℕ) → FitMembers names ms → out_of_range_in_members (place_members ms rest) ≡ []
+  members-in_range : (ms : Members) (names : List (List ℕ)) (rest : List ℕ) → FitMembers names ms → out_of_range_in_members (locate_members ms rest) ≡ []
   members-in_range no_members names rest f = refl
-  members-in_range (member k j ms) names rest f = rw (place-in_range j (members_text true ms ++ rest) f.2, members-in_range ms (k ∷ names) rest f.3) refl
+  members-in_range (member k j ms) names rest f = rw (locate-in_range j (members_text true ms ++ rest) f.2, members-in_range ms (k ∷ names) rest f.3) refl
 
-written-IsText : (j : Json) → Fits j → IsText (place j []) (written j)
-written-IsText j f = (written j, [], no_spaces (written j), subst (λ z. Value (place j []) z []) (append-nil (written j)) (written-Value j [] (Fits-IsSpellable j f)), no_spaces [])
+written-IsText : (j : Json) → Fits j → IsText (locate j []) (written j)
+written-IsText j f = (written j, [], no_spaces (written j), subst (λ z. Value (locate j []) z []) (append-nil (written j)) (written-Value j [] (Fits-IsSpellable j f)), no_spaces [])
 
 -- the written form of a value that can be read spells it
 pub written-Spells : (limit : ℕ) (j : Json) → IsReadable limit j → Spells limit (written j) j
 written-Spells limit j r =
     record {
-      placed = place j [];
-      is = plain-place j [];
+      located = locate j [];
+      is = plain-locate j [];
       spelled = written-IsText j r.0;
       shallow = r.1;
-      distinct = place-distinct j [] r.0;
-      in_range = place-in_range j [] r.0;
+      distinct = locate-distinct j [] r.0;
+      in_range = locate-in_range j [] r.0;
     }

@@ -2,12 +2,12 @@
 use Rattle.std.specs.Prelude.{ℕ, max, List, [], ◌∷◌, ◌++◌, Option, Some, None, if◌then◌else◌}
 use Rattle.lrs_decimal.specs.Range.{is_in_range}
 use Rattle.lrs_json.specs.Names.{is_among}
-use Rattle.lrs_json_reader.specs.Placed.{Placed, null, boolean, number, string, array, object, Elements, no_elements}
-use Rattle.lrs_json_reader.specs.Placed.{element, Members, no_members, member}
+use Rattle.lrs_json_reader.specs.Located.{Located, null, boolean, number, string, array, object, Elements, no_elements}
+use Rattle.lrs_json_reader.specs.Located.{element, Members, no_members, member}
 
 -- The names that equal an earlier name of the same object, each by the bytes that are left from its quote on.
 abbrev mutual
-  pub repeated_names : Placed → List ℕ
+  pub repeated_names : Located → List ℕ
   repeated_names null = []
   repeated_names (boolean b) = []
   repeated_names (number left s) = []
@@ -27,7 +27,7 @@ abbrev mutual
 
 -- The numbers that are out of range, each by the bytes that are left from its first byte on.
 abbrev mutual
-  pub out_of_range_numbers : Placed → List ℕ
+  pub out_of_range_numbers : Located → List ℕ
   out_of_range_numbers null = []
   out_of_range_numbers (boolean b) = []
   out_of_range_numbers (number left s) = if is_in_range s then [] else left ∷ []
@@ -43,7 +43,7 @@ abbrev mutual
   out_of_range_in_members no_members = []
   out_of_range_in_members (member left k p ms) = out_of_range_numbers p ++ out_of_range_in_members ms
 
--- the earlier of two places, by the bytes that are left
+-- the earlier of two offsets, by the bytes that are left
 abbrev pub earlier : Option ℕ → Option ℕ → Option ℕ
 earlier a None = a
 earlier None (Some b) = Some b
@@ -52,4 +52,4 @@ earlier (Some a) (Some b) = Some (max a b)
 -- The earliest has the most bytes left.
 abbrev pub earliest : List ℕ → Option ℕ
 earliest [] = None
-earliest (left ∷ places) = earlier (Some left) (earliest places)
+earliest (left ∷ flaws) = earlier (Some left) (earliest flaws)

@@ -6,8 +6,8 @@ use Rattle.std.specs.List.{flat_map}
 use Rattle.lrs_decimal.specs.Numbers.{Each, IsNumber}
 use Rattle.lrs_json_reader.specs.Strings.{piece_at, piece_text}
 use Rattle.lrs_json_reader.specs.declared.strings.Piece.{Piece}
-use Rattle.lrs_json_reader.specs.Placed.{Placed, null, boolean, number, string, array, object, Elements, no_elements}
-use Rattle.lrs_json_reader.specs.Placed.{element, Members, no_members, member}
+use Rattle.lrs_json_reader.specs.Located.{Located, null, boolean, number, string, array, object, Elements, no_elements}
+use Rattle.lrs_json_reader.specs.Located.{element, Members, no_members, member}
 
 -- white space (section 2)
 abbrev pub is_space : ℕ → Bool
@@ -33,7 +33,7 @@ Comma true bytes rest = Spaces bytes (44 ∷ rest)
 
 abbrev mutual
   -- a value (section 3)
-  pub Value : Placed → List ℕ → List ℕ → Type 0
+  pub Value : Located → List ℕ → List ℕ → Type 0
   Value null bytes rest = bytes ≡ codes "null" ++ rest
   Value (boolean b) bytes rest = bytes ≡ (if b then codes "true" else codes "false") ++ rest
   Value (number left s) bytes rest = (bytes ≡ s ++ rest) × IsNumber s × (left ≡ length bytes)
@@ -55,5 +55,5 @@ abbrev mutual
       × Value p e f × Paired true ms f rest × (left ≡ length b)
 
 -- a whole text: a value with white space round it (section 2)
-abbrev pub IsText : Placed → List ℕ → Type 0
+abbrev pub IsText : Located → List ℕ → Type 0
 IsText p bytes = (a b : List ℕ) × Spaces bytes a × Value p a b × Spaces b []

@@ -1,5 +1,5 @@
 pub mod Strings
-pub mod Placed
+pub mod Located
 pub mod Grammar
 pub mod Brackets
 pub mod Flaws

@@ -8,7 +8,7 @@ use Rattle.lrs_json.specs.Written.{quoted, written, elements_text, members_text}
 use Rattle.lrs_json.specs.declared.tree.Tree.{Tree, Words, Number}
 use Rattle.lrs_json.specs.declared.tree.Member.{Member}
 use Rattle.lrs_json_reader.specs.Grammar.{Quoted, Value}
-use Rattle.lrs_json_reader.specs.Placed.{plain}
+use Rattle.lrs_json_reader.specs.Located.{plain}
 use Rattle.lrs_json_reader.specs.Steps.{Finds}
 use Rattle.lrs_json_reader.specs.declared.cursor.Stop.{Stop}
 

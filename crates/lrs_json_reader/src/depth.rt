@@ -1,42 +1,42 @@
 ghost use Rattle.std.specs.Prelude.{◌≡◌, ◌≤◌, ◌<◌, ◌^◌, ℕ, length};
 ghost use Rattle.lrs_json_reader.specs.Brackets.{depth_after, mode_after, reaches};
 ghost use Rattle.lrs_json_reader.specs.Refusals.{is_too_deep};
-ghost use Rattle.lrs_json_reader.specs.declared.depth.Mode.TheVariants.{Outside};
+ghost use Rattle.lrs_json_reader.specs.declared.depth.ScanState.TheVariants.{Outside};
 
 use lrs_json::appending::plain_len;
 
 /// Where a scan of the bytes stands.
 #[derive(Clone, Copy, Debug, PartialEq)]
-pub enum Mode {
+pub enum ScanState {
     Outside,
     Inside,
     Escaped,
 }
 
-impl Mode {
+impl ScanState {
     fn depth_after(self, depth: u32, byte: u8) -> u32
         requires { depth < 2 ^ 31 }
         ensures { result ≡ depth_after self depth byte }
     {
         match self {
-            Mode::Outside => match byte {
+            ScanState::Outside => match byte {
                 b'[' | b'{' => depth + 1,
                 b']' | b'}' => depth.saturating_sub(1),
                 _ => depth,
             },
-            Mode::Inside | Mode::Escaped => depth,
+            ScanState::Inside | ScanState::Escaped => depth,
         }
     }
 
-    fn after(self, byte: u8) -> Mode
+    fn after(self, byte: u8) -> ScanState
         ensures { result ≡ mode_after self byte }
     {
         match (self, byte) {
-            (Mode::Outside, b'"') => Mode::Inside,
-            (Mode::Outside, _) => Mode::Outside,
-            (Mode::Inside, b'"') => Mode::Outside,
-            (Mode::Inside, b'\\') => Mode::Escaped,
-            (Mode::Inside | Mode::Escaped, _) => Mode::Inside,
+            (ScanState::Outside, b'"') => ScanState::Inside,
+            (ScanState::Outside, _) => ScanState::Outside,
+            (ScanState::Inside, b'"') => ScanState::Outside,
+            (ScanState::Inside, b'\\') => ScanState::Escaped,
+            (ScanState::Inside | ScanState::Escaped, _) => ScanState::Inside,
         }
     }
 
@@ -47,8 +47,8 @@ impl Mode {
         ensures no_longer { length result.now ≤ length bytes.now }
     {
         match self {
-            Mode::Inside => &bytes[plain_len(bytes)..],
-            Mode::Outside | Mode::Escaped => bytes,
+            ScanState::Inside => &bytes[plain_len(bytes)..],
+            ScanState::Outside | ScanState::Escaped => bytes,
         }
     }
 }
@@ -68,7 +68,7 @@ fn reaches(bytes: &[u8], limit: u32) -> bool
     ensures { result ≡ reaches limit 0 Outside bytes.now }
 {
     let mut depth = 0;
-    let mut mode = Mode::Outside;
+    let mut mode = ScanState::Outside;
     let mut left = bytes;
     while let [byte, behind @ ..] = left {
         depth = mode.depth_after(depth, *byte);

@@ -1,8 +1,8 @@
 ghost use Rattle.std.specs.Prelude.{◌≡◌, ◌≢◌, ◌<◌, ℕ, List, [], ◌∷◌, OnOk, IfOk, map, Some, length};
 ghost use Rattle.lrs_json.specs.View.{member_view};
 ghost use Rattle.lrs_json_reader.specs.Flaws.{earlier, earliest};
-ghost use Rattle.lrs_json_reader.specs.Placed.{number};
-ghost use Rattle.lrs_json_reader.specs.Reading.{no_places, noted, ReadsWord, ReadsString, ReadsNumber, ReadsValue, ReadsMember, repeated_among};
+ghost use Rattle.lrs_json_reader.specs.Located.{number};
+ghost use Rattle.lrs_json_reader.specs.Reading.{no_flaws, noted, ReadsWord, ReadsString, ReadsNumber, ReadsValue, ReadsMember, repeated_among};
 
 use crate::cursor::{Cursor, Stop};
 use crate::naming::{FEW_MEMBERS, is_named};
@@ -13,12 +13,12 @@ use std::collections::BTreeSet;
 
 /// The earliest repeated name and the earliest number out of range, each by the bytes that are left from it on.
 #[derive(Clone, Copy, Debug, PartialEq, Eq)]
-pub struct Places {
+pub struct Flaws {
     pub repeated: Option<usize>,
     pub out_of_range: Option<usize>,
 }
 
-// The earlier place has more bytes left.
+// The earlier offset has more bytes left.
 fn earlier(known: Option<usize>, left: usize) -> Option<usize>
     ensures { result ≡ earlier known (Some left) }
 {
@@ -32,20 +32,20 @@ fn earlier(known: Option<usize>, left: usize) -> Option<usize>
 #[derive(Drop)]
 pub struct Reader<'a> {
     pub cursor: Cursor<'a>,
-    pub places: Places,
+    pub flaws: Flaws,
 }
 
 impl<'a> Reader<'a> {
     pub fn new(alloc: Global, bytes: &'a [u8]) -> Reader<'a>
         ensures cursor { result.cursor ≡ bytes.now }
-        ensures places { result.places ≡ no_places }
+        ensures flaws { result.flaws ≡ no_flaws }
     {
         let cursor = Cursor::new(alloc, bytes);
-        let places = Places {
+        let flaws = Flaws {
             repeated: None,
             out_of_range: None,
         };
-        Reader { cursor, places }
+        Reader { cursor, flaws }
     }
 }
 
@@ -75,10 +75,10 @@ impl Reader<'_> {
 
     fn note_number(&mut self, left: usize, spelling: &Text)
         ensures cursor { self.new.cursor ≡ self.old.cursor }
-        ensures places { self.new.places ≡ noted self.old.places (number left spelling.now) }
+        ensures flaws { self.new.flaws ≡ noted self.old.flaws (number left spelling.now) }
     {
         if !is_in_range(spelling.as_bytes()) {
-            self.places.out_of_range = earlier(self.places.out_of_range, left);
+            self.flaws.out_of_range = earlier(self.flaws.out_of_range, left);
         }
     }
 
@@ -102,7 +102,7 @@ impl Reader<'_> {
 }
 
 impl Reader<'_> {
-    /// The places of the members of the objects that it stands in are kept on a stack, so that no object has a list of
+    /// The offsets of the members of the objects that it stands in are kept on a stack, so that no object has a list of
     /// its own.
     #[cycle(reader)]
     pub fn value(&mut self, lefts: &mut Vec<usize>) -> Result<Tree, Stop>
@@ -164,18 +164,18 @@ impl Reader<'_> {
     // Notes the names that equal an earlier one.
     fn note_repeated(&mut self, members: &[Member], lefts: &[usize]) -> Result<(), Memory>
         ensures cursor { self.new.cursor ≡ self.old.cursor }
-        ensures repeated { OnOk result (self.new.places.repeated ≡ earlier self.old.places.repeated
+        ensures repeated { OnOk result (self.new.flaws.repeated ≡ earlier self.old.flaws.repeated
             (earliest (repeated_among [] (map (λ m. (member_view m).0) members.now) lefts.now))) }
-        ensures out_of_range { self.new.places.out_of_range ≡ self.old.places.out_of_range }
+        ensures out_of_range { self.new.flaws.out_of_range ≡ self.old.flaws.out_of_range }
     {
         if let Some(left) = earliest_repeated(self.cursor.allocator(), members, lefts)? {
-            self.places.repeated = earlier(self.places.repeated, left);
+            self.flaws.repeated = earlier(self.flaws.repeated, left);
         }
         Ok(())
     }
 }
 
-// Of the names that equal an earlier one, the place of the first.
+// Of the names that equal an earlier one, the offset of the first.
 fn earliest_repeated(
     alloc: Global,
     members: &[Member],

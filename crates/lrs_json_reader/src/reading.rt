@@ -9,7 +9,7 @@ ghost use Rattle.lrs_json_reader.specs.Reading.{ReadsText, Judges};
 
 use crate::cursor::{Cursor, Stop};
 use crate::depth::is_too_deep;
-use crate::reader::{Places, Reader};
+use crate::reader::{Flaws, Reader};
 use lrs_json::{DEPTH, Memory, Tree};
 use std::alloc::Global;
 
@@ -20,11 +20,11 @@ pub enum ReadRefused {
     TooDeep,
     /// The bytes are no JSON text.
     Bad,
-    /// A name equals an earlier name of the same object, once both are decoded. The place is the offset of the
+    /// A name equals an earlier name of the same object, once both are decoded. The offset is that of the
     /// opening quote of the earliest such name.
-    Repeated { place: usize },
-    /// A number is out of range. The place is the offset of the earliest such number.
-    NumberRange { place: usize },
+    Repeated { offset: usize },
+    /// A number is out of range. The offset is that of the earliest such number.
+    NumberRange { offset: usize },
     /// Out of memory.
     Memory,
 }
@@ -44,9 +44,9 @@ impl From<Memory> for ReadRefused {
 pub fn read(alloc: Global, bytes: &[u8]) -> Result<Tree, ReadRefused>
     ensures too_deep { (result ≡ Err ReadRefused.TooDeep) ↔ IsTrue (is_too_deep DEPTH bytes.now) }
     ensures bad { Refuses result ReadRefused.Bad (IsBad DEPTH bytes.now) }
-    ensures repeated { (place : ℕ) → Refuses result (ReadRefused.Repeated place) (RepeatedAt DEPTH bytes.now place) }
-    ensures number_range { (place : ℕ) →
-        Refuses result (ReadRefused.NumberRange place) (OutOfRangeAt DEPTH bytes.now place) }
+    ensures repeated { (offset : ℕ) → Refuses result (ReadRefused.Repeated offset) (RepeatedAt DEPTH bytes.now offset) }
+    ensures number_range { (offset : ℕ) →
+        Refuses result (ReadRefused.NumberRange offset) (OutOfRangeAt DEPTH bytes.now offset) }
     ensures found { IfOk result (λ t. Spells DEPTH bytes.now (view t)) }
     ensures all { (j : Json) → Spells DEPTH bytes.now j → Gives result (λ t. view t ≡ j) }
 
@@ -63,9 +63,9 @@ pub fn read_to(alloc: Global, bytes: &[u8], depth: u32) -> Result<Tree, ReadRefu
     requires { depth ≤ 128 }
     ensures too_deep { (result ≡ Err ReadRefused.TooDeep) ↔ IsTrue (is_too_deep depth bytes.now) }
     ensures bad { Refuses result ReadRefused.Bad (IsBad depth bytes.now) }
-    ensures repeated { (place : ℕ) → Refuses result (ReadRefused.Repeated place) (RepeatedAt depth bytes.now place) }
-    ensures number_range { (place : ℕ) →
-        Refuses result (ReadRefused.NumberRange place) (OutOfRangeAt depth bytes.now place) }
+    ensures repeated { (offset : ℕ) → Refuses result (ReadRefused.Repeated offset) (RepeatedAt depth bytes.now offset) }
+    ensures number_range { (offset : ℕ) →
+        Refuses result (ReadRefused.NumberRange offset) (OutOfRangeAt depth bytes.now offset) }
     ensures found { IfOk result (λ t. Spells depth bytes.now (view t)) }
     ensures all { (j : Json) → Spells depth bytes.now j → Gives result (λ t. view t ≡ j) }
 
@@ -78,14 +78,14 @@ pub fn read_to(alloc: Global, bytes: &[u8], depth: u32) -> Result<Tree, ReadRefu
         return Err(ReadRefused::TooDeep);
     }
     match read_text(alloc, bytes) {
-        Ok((tree, places)) => judge(tree, places, bytes.len()),
+        Ok((tree, flaws)) => judge(tree, flaws, bytes.len()),
         Err(Stop::Memory) => Err(ReadRefused::Memory),
         Err(Stop::Bad) => Err(ReadRefused::Bad),
     }
 }
 
-// The value of the whole text, and the places of what is wrong with it.
-fn read_text(alloc: Global, bytes: &[u8]) -> Result<(Tree, Places), Stop>
+// The value of the whole text, and the flaws of what is wrong with it.
+fn read_text(alloc: Global, bytes: &[u8]) -> Result<(Tree, Flaws), Stop>
     ensures { ReadsText bytes.now result }
 {
     let mut reader = Reader::new(alloc, bytes);
@@ -94,24 +94,24 @@ fn read_text(alloc: Global, bytes: &[u8]) -> Result<(Tree, Places), Stop>
     let tree = reader.value(&mut lefts)?;
     reader.cursor.skip_spaces();
     if reader.cursor.is_empty() {
-        Ok((tree, reader.places))
+        Ok((tree, reader.flaws))
     } else {
         Err(Stop::Bad)
     }
 }
 
 // A repeated name goes before a number out of range.
-fn judge(tree: Tree, places: Places, length: usize) -> Result<Tree, ReadRefused>
-    ensures { Judges tree places length result }
+fn judge(tree: Tree, flaws: Flaws, length: usize) -> Result<Tree, ReadRefused>
+    ensures { Judges tree flaws length result }
 {
-    if let Some(left) = places.repeated {
+    if let Some(left) = flaws.repeated {
         return Err(ReadRefused::Repeated {
-            place: length.saturating_sub(left),
+            offset: length.saturating_sub(left),
         });
     }
-    if let Some(left) = places.out_of_range {
+    if let Some(left) = flaws.out_of_range {
         return Err(ReadRefused::NumberRange {
-            place: length.saturating_sub(left),
+            offset: length.saturating_sub(left),
         });
     }
     Ok(tree)

@@ -8,7 +8,7 @@ use Rattle.lrs_json.specs.Json.{Json, null, boolean, number, string, array, obje
 use Rattle.lrs_json.specs.Spellable.{IsSpellable, AreSpellableElements, AreSpellableMembers}
 use Rattle.lrs_json.specs.Written.{comma_if, elements_text, escaped, members_text, quoted, written}
 use Rattle.lrs_json_reader.specs.Brackets.{closes, mode_after, opens}
-use Rattle.lrs_json_reader.specs.declared.depth.Mode.TheVariants.{Outside, Inside, Escaped}
+use Rattle.lrs_json_reader.specs.declared.depth.ScanState.TheVariants.{Outside, Inside, Escaped}
 use Rattle.lrs_json_reader.proofs.Alike.{element_parts, member_parts}
 use Rattle.lrs_json_slices.specs.Scanning.{behind_close, behind_quote}
 use Rattle.lrs_json_slices.proofs.Quotes.{quote_left}

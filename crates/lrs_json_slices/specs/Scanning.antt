@@ -2,8 +2,8 @@
 use Rattle.std.specs.Prelude.{ℕ, ◌==◌, ◌||◌, not, List, [], ◌∷◌, drop, Bool, true, false, if◌then◌else◌}
 use Rattle.std.specs.List.{prefix_len}
 use Rattle.lrs_json_reader.specs.Brackets.{depth_after, mode_after, opens}
-use Rattle.lrs_json_reader.specs.declared.depth.Mode.{Mode}
-use Rattle.lrs_json_reader.specs.declared.depth.Mode.TheVariants.{Outside}
+use Rattle.lrs_json_reader.specs.declared.depth.ScanState.{ScanState}
+use Rattle.lrs_json_reader.specs.declared.depth.ScanState.TheVariants.{Outside}
 
 -- Behind the closing quote. A backslash passes over the next byte.
 abbrev pub behind_quote : Bool → List ℕ → List ℕ
@@ -12,7 +12,7 @@ behind_quote true (b ∷ bs) = behind_quote false bs
 behind_quote false (b ∷ bs) = if b == 34 then bs else behind_quote (b == 92) bs
 
 -- Behind the bracket that closes the first of so many open ones.
-abbrev pub behind_close : ℕ → Mode → List ℕ → List ℕ
+abbrev pub behind_close : ℕ → ScanState → List ℕ → List ℕ
 behind_close d m [] = []
 behind_close d m (b ∷ bs) =
     if depth_after m d b == 0 then bs else behind_close (depth_after m d b) (mode_after m b) bs

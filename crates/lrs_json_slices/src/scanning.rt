@@ -2,7 +2,7 @@
 ghost use Rattle.std.specs.Prelude.{◌≡◌, ◌≢◌, ◌==◌, ◌^◌, ◌<◌, ◌≤◌, ℕ, false, drop, length};
 ghost use Rattle.std.specs.List.{prefix_len};
 ghost use Rattle.lrs_json_reader.specs.Brackets.{depth_after, mode_after};
-ghost use Rattle.lrs_json_reader.specs.declared.depth.Mode.TheVariants.{Outside};
+ghost use Rattle.lrs_json_reader.specs.declared.depth.ScanState.TheVariants.{Outside};
 ghost use Rattle.lrs_json_slices.specs.Scanning.{behind_close, behind_front, behind_quote, is_of_word};
 
 use lrs_json::appending::plain_len;

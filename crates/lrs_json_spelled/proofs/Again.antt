@@ -12,7 +12,7 @@ use Rattle.lrs_json_reader.proofs.Spaces.{behind-Spaces}
 use Rattle.lrs_json_reader.proofs.StepLemmas.{Spaces-length}
 use Rattle.lrs_json_reader.proofs.Values.{Value-Stops, starts}
 use Rattle.lrs_json_reader.specs.Grammar.{Chars, Comma, Listed, Paired, Quoted, Spaces, Value, is_space}
-use Rattle.lrs_json_reader.specs.Placed.{Placed, null, boolean, number, string, array, object, Elements, no_elements, element, Members, no_members, member}
+use Rattle.lrs_json_reader.specs.Located.{Located, null, boolean, number, string, array, object, Elements, no_elements, element, Members, no_members, member}
 use Rattle.lrs_json_reader.specs.Steps.{Opens}
 use Rattle.lrs_json_reader.specs.Strings.{next_at, piece_at, piece_text}
 use Rattle.lrs_json_reader.specs.declared.strings.Piece.{Piece}
@@ -67,7 +67,7 @@ front_shorter : (s bytes rest : List ℕ) (b : ℕ) (more : List ℕ) → s ≡ 
 front_shorter s bytes rest b more begins e = omega (arith, ap length begins, ap length e, length-append s rest)
 
 mutual
-  value_shorter : (p : Placed) (bytes rest : List ℕ) → Value p bytes rest → length rest < length bytes
+  value_shorter : (p : Located) (bytes rest : List ℕ) → Value p bytes rest → length rest < length bytes
   value_shorter null bytes rest v = front_shorter (codes "null") bytes rest _ _ refl v
   value_shorter (boolean true) bytes rest v = front_shorter (codes "true") bytes rest _ _ refl v
   value_shorter (boolean false) bytes rest v = front_shorter (codes "false") bytes rest _ _ refl v
@@ -99,7 +99,7 @@ mutual
 
 -- the readers read what takes no more than half as many bytes
 pub record IsComplete (n : ℕ) (r : Readers) : Type 0 where
-  pub value : (p : Placed) (bytes rest : List ℕ) → 2 * length bytes < n → Value p bytes rest → Ends rest → r.value bytes ≡ Some (p, rest)
+  pub value : (p : Located) (bytes rest : List ℕ) → 2 * length bytes < n → Value p bytes rest → Ends rest → r.value bytes ≡ Some (p, rest)
   pub elements : (later : Bool) (ps : Elements) (bytes rest : List ℕ) → 2 * length bytes + 1 < n → Listed later ps bytes rest → r.elements later bytes ≡ Some (ps, rest)
   pub members : (later : Bool) (ms : Members) (bytes rest : List ℕ) → 2 * length bytes + 1 < n → Paired later ms bytes rest → r.members later bytes ≡ Some (ms, rest)
 
@@ -120,7 +120,7 @@ string_again : (r : Readers) (s bytes rest : List ℕ) → Quoted s bytes rest �
 unfolding value_by
 string_again r s bytes rest q = let read = quoted_again s (34 ∷ q.1) rest (subst (λ z. Quoted s z rest) q.2 q) in rw (q.2, read) refl
 
-value_again : (n : ℕ) (r : Readers) → IsComplete n r → (p : Placed) (bytes rest : List ℕ) → 2 * length bytes < suc n → Value p bytes rest → Ends rest → value_by r bytes ≡ Some (p, rest)
+value_again : (n : ℕ) (r : Readers) → IsComplete n r → (p : Located) (bytes rest : List ℕ) → 2 * length bytes < suc n → Value p bytes rest → Ends rest → value_by r bytes ≡ Some (p, rest)
 unfolding value_by word_at
 value_again n r c null bytes rest l v ends = rw v refl
 value_again n r c (boolean true) bytes rest l v ends = rw v refl
@@ -143,7 +143,7 @@ not_closed : (close : ℕ) (later : Bool) (bytes a b : List ℕ) → (44 == clos
 not_closed close false bytes a b k c s o = rw (c, behind-Spaces a b s (Opens_Stops close b o)) (not_past close b o)
 not_closed close true bytes a b k c s o = rw (behind-Spaces bytes (44 ∷ a) c refl, k) refl
 
-element_again : (n : ℕ) (r : Readers) → IsComplete n r → (later : Bool) (p : Placed) (ps : Elements) (bytes rest : List ℕ) → 2 * length bytes + 1 < suc n → Listed later (element p ps) bytes rest
+element_again : (n : ℕ) (r : Readers) → IsComplete n r → (later : Bool) (p : Located) (ps : Elements) (bytes rest : List ℕ) → 2 * length bytes + 1 < suc n → Listed later (element p ps) bytes rest
     → element_by r later bytes ≡ Some (element p ps, rest)
 unfolding element_by
 element_again n r c later p ps bytes rest l h =
@@ -163,7 +163,7 @@ elements_again n r c later (element p ps) bytes rest l h =
 Quoted_Stops : (text bytes rest : List ℕ) → Quoted text bytes rest → Stops is_space bytes
 Quoted_Stops text bytes rest q = rw q.2 refl
 
-member_again : (n : ℕ) (r : Readers) → IsComplete n r → (later : Bool) (left : ℕ) (k : List ℕ) (p : Placed) (ms : Members) (bytes rest : List ℕ) → 2 * length bytes + 1 < suc n → Paired later (member left k p ms) bytes rest
+member_again : (n : ℕ) (r : Readers) → IsComplete n r → (later : Bool) (left : ℕ) (k : List ℕ) (p : Located) (ms : Members) (bytes rest : List ℕ) → 2 * length bytes + 1 < suc n → Paired later (member left k p ms) bytes rest
     → member_by r later bytes ≡ Some (member left k p ms, rest)
 unfolding member_by
 member_again n r c later left k p ms bytes rest l h =

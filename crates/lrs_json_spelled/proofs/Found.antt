@@ -4,17 +4,17 @@ use Rattle.std.proofs.lemmas.Bool.{eqb-true}
 use Rattle.std.proofs.lemmas.Option.{none-some, option_and_then_some, some_pair_parts}
 use Rattle.lrs_json_reader.proofs.Spaces.{Spaces-behind}
 use Rattle.lrs_json_reader.specs.Grammar.{Listed, Paired, Quoted, Spaces, Value}
-use Rattle.lrs_json_reader.specs.Placed.{Placed, null, boolean, string, array, object, Elements, no_elements, element, Members, no_members, member}
+use Rattle.lrs_json_reader.specs.Located.{Located, null, boolean, string, array, object, Elements, no_elements, element, Members, no_members, member}
 use Rattle.lrs_json_spelled.proofs.Fronts.{comma_found, if_found, map_found, number_found_at, past_found, quoted_found, word_found}
 use Rattle.lrs_json_spelled.specs.Spelled.{Readers, comma_at, element_by, member_by, or_end, past, quoted_at, readers, value_by, without_spaces}
 
 -- the readers read only what stands there
-pub record IsSound (r : Readers) : Type 0 where
-  pub value : (p : Placed) (bytes rest : List ℕ) → r.value bytes ≡ Some (p, rest) → Value p bytes rest
+pub record AreSound (r : Readers) : Type 0 where
+  pub value : (p : Located) (bytes rest : List ℕ) → r.value bytes ≡ Some (p, rest) → Value p bytes rest
   pub elements : (later : Bool) (ps : Elements) (bytes rest : List ℕ) → r.elements later bytes ≡ Some (ps, rest) → Listed later ps bytes rest
   pub members : (later : Bool) (ms : Members) (bytes rest : List ℕ) → r.members later bytes ≡ Some (ms, rest) → Paired later ms bytes rest
 
-value_found : (r : Readers) → IsSound r → (p : Placed) (bytes rest : List ℕ) → value_by r bytes ≡ Some (p, rest) → Value p bytes rest
+value_found : (r : Readers) → AreSound r → (p : Located) (bytes rest : List ℕ) → value_by r bytes ≡ Some (p, rest) → Value p bytes rest
 unfolding value_by
 value_found r sound p [] rest e = absurd (none-some _ e)
 value_found r sound p (b ∷ bs) rest e =
@@ -46,7 +46,7 @@ end_found none None more x rest e k l = l e
 closed : (k : ℕ) (bytes rest : List ℕ) → past k (without_spaces bytes) ≡ Some rest → Spaces bytes (k ∷ rest)
 closed k bytes rest e = subst (λ z. Spaces bytes z) (past_found k (without_spaces bytes) rest e) (Spaces-behind bytes)
 
-element_found : (r : Readers) → IsSound r → (later : Bool) (ps : Elements) (bytes rest : List ℕ) → element_by r later bytes ≡ Some (ps, rest) → Listed later ps bytes rest
+element_found : (r : Readers) → AreSound r → (later : Bool) (ps : Elements) (bytes rest : List ℕ) → element_by r later bytes ≡ Some (ps, rest) → Listed later ps bytes rest
 unfolding element_by
 element_found r sound later ps bytes rest e =
     option_and_then_some _ (comma_at later bytes) (ps, rest) e (λ begin ib eb.
@@ -57,13 +57,13 @@ element_found r sound later ps bytes rest e =
     let tail = subst (λ z. Listed true more.0 value.1 z) parts.1 (sound.elements true more.0 value.1 more.1 im) in
     subst (λ z. Listed later z bytes rest) parts.0 (begin, without_spaces begin, value.1, comma_found later bytes begin ib, Spaces-behind begin, here, tail))))
 
-elements_found : (r : Readers) → IsSound r → (later : Bool) (ps : Elements) (bytes rest : List ℕ) → or_end no_elements (past 93 (without_spaces bytes)) (element_by r later bytes) ≡ Some (ps, rest) → Listed later ps bytes rest
+elements_found : (r : Readers) → AreSound r → (later : Bool) (ps : Elements) (bytes rest : List ℕ) → or_end no_elements (past 93 (without_spaces bytes)) (element_by r later bytes) ≡ Some (ps, rest) → Listed later ps bytes rest
 elements_found r sound later ps bytes rest e =
     end_found no_elements (past 93 (without_spaces bytes)) (element_by r later bytes) ps rest e
     (λ is none. subst (λ z. Listed later z bytes rest) none (closed 93 bytes rest is))
     (λ more. element_found r sound later ps bytes rest more)
 
-member_found : (r : Readers) → IsSound r → (later : Bool) (ms : Members) (bytes rest : List ℕ) → member_by r later bytes ≡ Some (ms, rest) → Paired later ms bytes rest
+member_found : (r : Readers) → AreSound r → (later : Bool) (ms : Members) (bytes rest : List ℕ) → member_by r later bytes ≡ Some (ms, rest) → Paired later ms bytes rest
 unfolding member_by
 member_found r sound later ms bytes rest e =
     option_and_then_some _ (comma_at later bytes) (ms, rest) e (λ begin ib eb.
@@ -79,13 +79,13 @@ member_found r sound later ms bytes rest e =
     subst (λ z. Paired later z bytes rest) parts.0
     (begin, at, name.1, colon, without_spaces colon, value.1, comma_found later bytes begin ib, Spaces-behind begin, named, closed 58 name.1 colon ic, Spaces-behind colon, here, tail, refl))))))
 
-members_found : (r : Readers) → IsSound r → (later : Bool) (ms : Members) (bytes rest : List ℕ) → or_end no_members (past 125 (without_spaces bytes)) (member_by r later bytes) ≡ Some (ms, rest) → Paired later ms bytes rest
+members_found : (r : Readers) → AreSound r → (later : Bool) (ms : Members) (bytes rest : List ℕ) → or_end no_members (past 125 (without_spaces bytes)) (member_by r later bytes) ≡ Some (ms, rest) → Paired later ms bytes rest
 members_found r sound later ms bytes rest e =
     end_found no_members (past 125 (without_spaces bytes)) (member_by r later bytes) ms rest e
     (λ is none. subst (λ z. Paired later z bytes rest) none (closed 125 bytes rest is))
     (λ more. member_found r sound later ms bytes rest more)
 
-pub readers_sound : (n : ℕ) → IsSound (readers n)
+pub readers_sound : (n : ℕ) → AreSound (readers n)
 unfolding readers
 readers_sound zero =
     record { value = λ p bytes rest e. absurd (none-some _ e); elements = λ later ps bytes rest e. absurd (none-some _ e); members = λ later ms bytes rest e. absurd (none-some _ e) }

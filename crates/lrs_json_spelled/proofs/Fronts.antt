@@ -10,7 +10,7 @@ use Rattle.lrs_decimal.proofs.Runs.{take_front}
 use Rattle.lrs_decimal.specs.Numbers.{Ends, number_end}
 use Rattle.lrs_json_reader.proofs.Spaces.{Spaces-behind, behind-Spaces, word_here}
 use Rattle.lrs_json_reader.specs.Grammar.{Chars, Comma, Quoted, Spaces, Value}
-use Rattle.lrs_json_reader.specs.Placed.{Placed, number}
+use Rattle.lrs_json_reader.specs.Located.{Located, number}
 use Rattle.lrs_json_reader.specs.Strings.{piece_at, piece_text}
 use Rattle.lrs_json_reader.specs.declared.strings.Piece.{Piece}
 use Rattle.lrs_json_spelled.specs.Spelled.{comma_at, number_at, past, quoted_at, text_at, without_spaces, word_at}
@@ -44,14 +44,14 @@ comma_again true bytes rest c = ap (past 44) (behind-Spaces bytes (44 ∷ rest) 
 
 -- ---- words and numbers
 
-pub word_found : (word : List ℕ) (means p : Placed) (bytes rest : List ℕ) → word_at word means bytes ≡ Some (p, rest) → (means ≡ p) × (bytes ≡ word ++ rest)
+pub word_found : (word : List ℕ) (means p : Located) (bytes rest : List ℕ) → word_at word means bytes ≡ Some (p, rest) → (means ≡ p) × (bytes ≡ word ++ rest)
 unfolding word_at
 word_found word means p bytes rest e =
     if_found (starts_with nat_eq bytes word) (Some (means, drop (length word) bytes)) None (Some (p, rest)) e
     (λ t h. let parts = some_pair_parts _ p _ rest h in (parts.0, word_here bytes word (sym t) ∙ ap (λ z. word ++ z) parts.1))
     (λ t h. absurd (none-some _ h))
 
-pub number_found_at : (p : Placed) (bytes rest : List ℕ) → number_at bytes ≡ Some (p, rest) → Value p bytes rest
+pub number_found_at : (p : Located) (bytes rest : List ℕ) → number_at bytes ≡ Some (p, rest) → Value p bytes rest
 unfolding number_at
 number_found_at p bytes rest e =
     map_found _ (number_end bytes) (p, rest) e (λ x ends h.

@@ -10,21 +10,21 @@ use Rattle.lrs_json_reader.proofs.StepLemmas.{Spaces-length}
 use Rattle.lrs_json_reader.proofs.Values.{Value-Stops}
 use Rattle.lrs_json_reader.specs.Flaws.{out_of_range_numbers, repeated_names}
 use Rattle.lrs_json_reader.specs.Grammar.{IsText, Spaces, Value}
-use Rattle.lrs_json_reader.specs.Placed.{Placed, plain}
+use Rattle.lrs_json_reader.specs.Located.{Located, plain}
 use Rattle.lrs_json_reader.specs.Refusals.{Spells}
 use Rattle.lrs_json_spelled.proofs.Again.{readers_complete}
 use Rattle.lrs_json_spelled.proofs.Found.{readers_sound}
 use Rattle.lrs_json_spelled.proofs.Fronts.{if_found}
 use Rattle.lrs_json_spelled.specs.Laws.{FindsWhatIsSpelled}
-use Rattle.lrs_json_spelled.specs.Spelled.{alone, if_sound, is_sound, placed_in, readers, steps_of, value_in, without_spaces}
+use Rattle.lrs_json_spelled.specs.Spelled.{alone, if_sound, is_sound, located_in, readers, steps_of, value_in, without_spaces}
 
 empty : (xs : List ℕ) → nat_eq (length xs) 0 ≡ true → xs ≡ []
 empty [] e = refl
 empty (x ∷ xs) e = absurd (let l = eqb-true (length (x ∷ xs)) 0 e in omega arith)
 
-placed_found : (bytes : List ℕ) (p : Placed) → placed_in bytes ≡ Some p → IsText p bytes
-unfolding placed_in
-placed_found bytes p e =
+located_found : (bytes : List ℕ) (p : Located) → located_in bytes ≡ Some p → IsText p bytes
+unfolding located_in
+located_found bytes p e =
     let start = without_spaces bytes in
     option_and_then_some alone ((readers (steps_of bytes)).value start) p e (λ found is last.
     if_found (nat_eq (length (without_spaces found.1)) 0) (Some found.0) None (Some p) last
@@ -39,9 +39,9 @@ placed_found bytes p e =
     (λ t h. absurd (none-some p h)))
 
 -- what bytes are the text of is found
-pub placed_again : (bytes : List ℕ) (p : Placed) → IsText p bytes → placed_in bytes ≡ Some p
-unfolding placed_in
-placed_again bytes p t =
+pub located_again : (bytes : List ℕ) (p : Located) → IsText p bytes → located_in bytes ≡ Some p
+unfolding located_in
+located_again bytes p t =
     let spaces = Spaces-length bytes t.0 t.2 in
     let read = (readers_complete (steps_of bytes)).value p t.0 t.1 (omega arith) t.3 (last_Ends t.1 t.4) in
     rw (behind-Spaces bytes t.0 t.2 (Value-Stops p t.0 t.1 t.3), read, behind-Spaces t.1 [] t.4 tt) refl
@@ -52,11 +52,11 @@ each_true true true false e = cc e
 each_true true false c e = cc e
 each_true false b c e = cc e
 
-sound_found : (limit : ℕ) (bytes : List ℕ) (j : Json) (p : Placed) → IsText p bytes → is_sound limit p ≡ true → plain p ≡ j → Spells limit bytes j
+sound_found : (limit : ℕ) (bytes : List ℕ) (j : Json) (p : Located) → IsText p bytes → is_sound limit p ≡ true → plain p ≡ j → Spells limit bytes j
 sound_found limit bytes j p text sound is =
     let parts = each_true (nat_le (depth (plain p)) limit) (nat_eq (length (repeated_names p)) 0) (nat_eq (length (out_of_range_numbers p)) 0) sound in
     record {
-      placed = p;
+      located = p;
       is = is;
       spelled = text;
       shallow = subst (λ z. depth z ≤ limit) is (leb-true (depth (plain p)) limit parts.0);
@@ -67,16 +67,16 @@ sound_found limit bytes j p text sound is =
 value_found : (limit : ℕ) (bytes : List ℕ) (j : Json) → value_in limit bytes ≡ Some j → Spells limit bytes j
 unfolding value_in
 value_found limit bytes j e =
-    option_and_then_some (if_sound limit) (placed_in bytes) j e (λ p is h.
+    option_and_then_some (if_sound limit) (located_in bytes) j e (λ p is h.
     if_found (is_sound limit p) (Some (plain p)) None (Some j) h
-    (λ t same. sound_found limit bytes j p (placed_found bytes p is) t (same_Some (plain p) j same))
+    (λ t same. sound_found limit bytes j p (located_found bytes p is) t (same_Some (plain p) j same))
     (λ t none. absurd (none-some j none)))
 
 value_again : (limit : ℕ) (bytes : List ℕ) (j : Json) → Spells limit bytes j → value_in limit bytes ≡ Some j
 unfolding value_in
 value_again limit bytes j s =
-    let shallow : nat_le (depth (plain s.placed)) limit ≡ true = le-leb (depth (plain s.placed)) limit (subst (λ z. depth z ≤ limit) (sym s.is) s.shallow) in
-    rw (placed_again bytes s.placed s.spelled, shallow, s.distinct, s.in_range) (ap Some s.is)
+    let shallow : nat_le (depth (plain s.located)) limit ≡ true = le-leb (depth (plain s.located)) limit (subst (λ z. depth z ≤ limit) (sym s.is) s.shallow) in
+    rw (located_again bytes s.located s.spelled, shallow, s.distinct, s.in_range) (ap Some s.is)
 
 pub finds_what_is_spelled : FindsWhatIsSpelled
 finds_what_is_spelled = λ limit bytes j. (value_found limit bytes j, value_again limit bytes j)

@@ -10,8 +10,8 @@ use Rattle.lrs_json.specs.Depth.{depth}
 use Rattle.lrs_json.specs.Json.{Json}
 use Rattle.lrs_json_reader.specs.Flaws.{out_of_range_numbers, repeated_names}
 use Rattle.lrs_json_reader.specs.Grammar.{is_space}
-use Rattle.lrs_json_reader.specs.Placed.{Placed, null, boolean, number, string, array, object, Elements, no_elements}
-use Rattle.lrs_json_reader.specs.Placed.{element, Members, no_members, member, plain}
+use Rattle.lrs_json_reader.specs.Located.{Located, null, boolean, number, string, array, object, Elements, no_elements}
+use Rattle.lrs_json_reader.specs.Located.{element, Members, no_members, member, plain}
 use Rattle.lrs_json_reader.specs.Strings.{piece_at, piece_text}
 
 -- ---- what stands at the front of the bytes, with the bytes that follow it
@@ -25,7 +25,7 @@ past k [] = None
 past k (b ∷ bs) = if b == k then Some bs else None
 
 -- what the word means
-unfoldable pub word_at : List ℕ → Placed → Front Placed
+unfoldable pub word_at : List ℕ → Located → Front Located
 word_at word means bytes = if starts_with nat_eq bytes word then Some (means, drop (length word) bytes) else None
 
 -- The text of a string from its first piece on. The number is that of the steps that may be taken.
@@ -44,7 +44,7 @@ quoted_at bytes = do
   text ← text_at (suc (length begin)) begin
   if is_utf8 text.0 then Some text else None
 
-unfoldable pub number_at : Front Placed
+unfoldable pub number_at : Front Located
 number_at bytes =
     option_map (λ rest. (number (length bytes) (take (length bytes - length rest) bytes), rest)) (number_end bytes)
 
@@ -56,11 +56,11 @@ comma_at true bytes = past 44 (without_spaces bytes)
 -- what can be read: a value; the elements of an array and the members of an object, which may stand after others, with
 -- the closing bracket
 pub record Readers : Type 0 where
-  pub value : Front Placed
+  pub value : Front Located
   pub elements : Bool → Front Elements
   pub members : Bool → Front Members
 
-unfoldable pub value_by : Readers → Front Placed
+unfoldable pub value_by : Readers → Front Located
 value_by inner [] = None
 value_by inner (b ∷ bs) =
     if b == 110 then word_at (codes "null") null (b ∷ bs)
@@ -110,22 +110,22 @@ abbrev pub steps_of : List ℕ → ℕ
 steps_of bytes = 2 * length bytes + 1
 
 -- nothing follows it but white space
-abbrev pub alone : Placed × List ℕ → Option Placed
+abbrev pub alone : Located × List ℕ → Option Located
 alone found = if nat_eq (length (without_spaces found.1)) 0 then Some found.0 else None
 
--- the bytes' value by the grammar, with the places of its names and numbers
-unfoldable pub placed_in : List ℕ → Option Placed
-placed_in bytes = (readers (steps_of bytes)).value (without_spaces bytes) >>= alone
+-- the bytes' value by the grammar, with the offsets of its names and numbers
+unfoldable pub located_in : List ℕ → Option Located
+located_in bytes = (readers (steps_of bytes)).value (without_spaces bytes) >>= alone
 
 -- it nests no deeper than the limit, repeats no name in an object, and has each number in range
-abbrev pub is_sound : ℕ → Placed → Bool
-is_sound limit placed =
-    nat_le (depth (plain placed)) limit && nat_eq (length (repeated_names placed)) 0
-    && nat_eq (length (out_of_range_numbers placed)) 0
+abbrev pub is_sound : ℕ → Located → Bool
+is_sound limit located =
+    nat_le (depth (plain located)) limit && nat_eq (length (repeated_names located)) 0
+    && nat_eq (length (out_of_range_numbers located)) 0
 
-abbrev pub if_sound : ℕ → Placed → Option Json
-if_sound limit placed = if is_sound limit placed then Some (plain placed) else None
+abbrev pub if_sound : ℕ → Located → Option Json
+if_sound limit located = if is_sound limit located then Some (plain located) else None
 
 -- The value that the bytes spell, None where they spell none.
 unfoldable pub value_in : ℕ → List ℕ → Option Json
-value_in limit bytes = placed_in bytes >>= if_sound limit
+value_in limit bytes = located_in bytes >>= if_sound limit

@@ -402,24 +402,24 @@ fn control_characters_are_read_only_escaped(rt: HostRuntime) {
 const FAULTS: [(&str, Option<ReadRefused>); 8] = [
     (
         "{\"a\":1,\"a\":2}",
-        Some(ReadRefused::Repeated { place: 7 }),
+        Some(ReadRefused::Repeated { offset: 7 }),
     ),
     (
         "{\"a\":1,\"\\u0061\":2}",
-        Some(ReadRefused::Repeated { place: 7 }),
+        Some(ReadRefused::Repeated { offset: 7 }),
     ),
     (
         " {\"a\":{\"b\":1,\"b\":2},\"a\":3,\"a\":4}",
-        Some(ReadRefused::Repeated { place: 13 }),
+        Some(ReadRefused::Repeated { offset: 13 }),
     ),
     (
         "{\"a\":1e1000,\"a\":1}",
-        Some(ReadRefused::Repeated { place: 12 }),
+        Some(ReadRefused::Repeated { offset: 12 }),
     ),
-    ("[1e1000]", Some(ReadRefused::NumberRange { place: 1 })),
+    ("[1e1000]", Some(ReadRefused::NumberRange { offset: 1 })),
     (
         "[{\"a\":1e1000},1e1001]",
-        Some(ReadRefused::NumberRange { place: 6 }),
+        Some(ReadRefused::NumberRange { offset: 6 }),
     ),
     ("[1e1000,]", Some(ReadRefused::Bad)),
     ("[{\"a\":1},{\"a\":2}]", None),

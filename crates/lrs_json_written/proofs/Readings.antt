@@ -11,8 +11,8 @@ use Rattle.lrs_json.specs.declared.tree.Tree.{Tree, Null, Bool as Boolean, Numbe
 use Rattle.lrs_json.proofs.Back.{same_tree}
 use Rattle.lrs_json.proofs.Views.{view-Bool, view-List, view-Null, view-Number, view-Words}
 use Rattle.lrs_json_reader.specs.Grammar.{Value}
-use Rattle.lrs_json_reader.specs.Placed as Placed
-use Rattle.lrs_json_reader.specs.Placed.{plain, plain_elements, plain_members}
+use Rattle.lrs_json_reader.specs.Located as Located
+use Rattle.lrs_json_reader.specs.Located.{plain, plain_elements, plain_members}
 use Rattle.lrs_json_reader.specs.Steps.{Finds, Opens}
 use Rattle.lrs_json_reader.specs.declared.cursor.Stop.{Stop}
 use Rattle.lrs_json_reader.specs.declared.cursor.Stop.TheVariants.{Memory}
@@ -21,29 +21,29 @@ use Rattle.lrs_json_reader.proofs.Ends.{Value-Opens}
 use Rattle.lrs_json_reader.proofs.FirstBytes.{only_array, only_false, only_null, only_number, only_object, only_string, only_true, starts_at}
 use Rattle.lrs_json_reader.proofs.Rereads.{elements_Ends, tail_same}
 use Rattle.lrs_json_reader.proofs.Values.{Starts, starts}
-use Rattle.lrs_json_reader.proofs.WrittenLemmas.{Fits-IsSpellable, place, plain-place, written-Value}
+use Rattle.lrs_json_reader.proofs.WrittenLemmas.{Fits-IsSpellable, locate, plain-locate, written-Value}
 use Rattle.lrs_json_written.specs.Fitting.{AreReadable, HaveReadable}
 use Rattle.lrs_json_written.specs.Reading.{ReadsTree, ReadsLeaf, ReadsWord, ReadsText, ReadsNumber, TextAt, NumeralAt, GoesOn, NextItem, ReadsItems, mark}
 use Rattle.lrs_json_written.proofs.Fitted.{elements_apart, elements_fit}
 
 -- ---- the kind of a value, by its first byte
 
-pub first_is : (limit : ℕ) (k : Json) (old more rest : List ℕ) (b : ℕ) → IsReadable limit k → old ≡ b ∷ more → old ≡ written k ++ rest → Starts (place k rest) b
-first_is limit k old more rest b ok is e = starts_at (place k rest) old more rest b is (subst (λ (t : List ℕ). Value (place k rest) t rest) (sym e) (written-Value k rest (Fits-IsSpellable k ok.0)))
+pub first_is : (limit : ℕ) (k : Json) (old more rest : List ℕ) (b : ℕ) → IsReadable limit k → old ≡ b ∷ more → old ≡ written k ++ rest → Starts (locate k rest) b
+first_is limit k old more rest b ok is e = starts_at (locate k rest) old more rest b is (subst (λ (t : List ℕ). Value (locate k rest) t rest) (sym e) (written-Value k rest (Fits-IsSpellable k ok.0)))
 
-pub kind : (k : Json) (rest : List ℕ) (p : Placed.Placed) → place k rest ≡ p → k ≡ plain p
-kind k rest p is = sym (plain-place k rest) ∙ ap plain is
+pub kind : (k : Json) (rest : List ℕ) (p : Located.Located) → locate k rest ≡ p → k ≡ plain p
+kind k rest p is = sym (plain-locate k rest) ∙ ap plain is
 
 array_only : (limit : ℕ) (old more : List ℕ) → old ≡ 91 ∷ more → (j : Json) (rest : List ℕ) → IsReadable limit j → old ≡ written j ++ rest → (js : Elements) × (j ≡ array js) × IsReadable limit (array js) × (old ≡ written (array js) ++ rest)
 array_only limit old more is j rest ok e =
-    let o = only_array (place j rest) (first_is limit j old more rest 91 ok is e) in
-    let k : j ≡ array (plain_elements o.0) = kind j rest (Placed.array o.0) o.1 in
+    let o = only_array (locate j rest) (first_is limit j old more rest 91 ok is e) in
+    let k : j ≡ array (plain_elements o.0) = kind j rest (Located.array o.0) o.1 in
     (plain_elements o.0, k, subst (IsReadable limit) k ok, e ∙ ap (λ (i : Json). written i ++ rest) k)
 
 pub object_only : (limit : ℕ) (old more : List ℕ) → old ≡ 123 ∷ more → (j : Json) (rest : List ℕ) → IsReadable limit j → old ≡ written j ++ rest → (ms : Members) × (j ≡ object ms) × IsReadable limit (object ms) × (old ≡ written (object ms) ++ rest)
 object_only limit old more is j rest ok e =
-    let o = only_object (place j rest) (first_is limit j old more rest 123 ok is e) in
-    let k : j ≡ object (plain_members o.0) = kind j rest (Placed.object o.0) o.1 in
+    let o = only_object (locate j rest) (first_is limit j old more rest 123 ok is e) in
+    let k : j ≡ object (plain_members o.0) = kind j rest (Located.object o.0) o.1 in
     (plain_members o.0, k, subst (IsReadable limit) k ok, e ∙ ap (λ (i : Json). written i ++ rest) k)
 
 -- ---- values that hold no others
@@ -72,30 +72,30 @@ nothing_reads limit old new y none = record { found = tt; all = λ j rest ok e e
 -- ---- each kind of them
 
 -- the first byte of what stands there
-pub begins : (limit : ℕ) (old : List ℕ) (j : Json) (rest : List ℕ) → IsReadable limit j → old ≡ written j ++ rest → (b : ℕ) × (more : List ℕ) × (old ≡ b ∷ more) × Starts (place j rest) b
-begins limit old j rest ok e = starts (place j rest) old rest (subst (λ (t : List ℕ). Value (place j rest) t rest) (sym e) (written-Value j rest (Fits-IsSpellable j ok.0)))
+pub begins : (limit : ℕ) (old : List ℕ) (j : Json) (rest : List ℕ) → IsReadable limit j → old ≡ written j ++ rest → (b : ℕ) × (more : List ℕ) × (old ≡ b ∷ more) × Starts (locate j rest) b
+begins limit old j rest ok e = starts (locate j rest) old rest (subst (λ (t : List ℕ). Value (locate j rest) t rest) (sym e) (written-Value j rest (Fits-IsSpellable j ok.0)))
 
 pub null_reads : (limit : ℕ) (old more new : List ℕ) (r : Result Tree Stop) → old ≡ 110 ∷ more → ReadsWord (codes "null") Null old r new → ReadsTree limit old r new
 null_reads limit old more new r is =
     leaf_reads {X = Unit {0}} (λ _ bytes rest. bytes ≡ codes "null" ++ rest) (λ _. Null) (λ _. null) limit old new r (λ _ rest at. (view-Null, (tt, omega arith), at))
-    (λ j rest ok e. let k = kind j rest Placed.null (only_null (place j rest) (first_is limit j old more rest 110 ok is e)) in (tt, k, e ∙ ap (λ (i : Json). written i ++ rest) k))
+    (λ j rest ok e. let k = kind j rest Located.null (only_null (locate j rest) (first_is limit j old more rest 110 ok is e)) in (tt, k, e ∙ ap (λ (i : Json). written i ++ rest) k))
 
 pub true_reads : (limit : ℕ) (old more new : List ℕ) (r : Result Tree Stop) → old ≡ 116 ∷ more → ReadsWord (codes "true") (Boolean true) old r new → ReadsTree limit old r new
 true_reads limit old more new r is =
     leaf_reads {X = Unit {0}} (λ _ bytes rest. bytes ≡ codes "true" ++ rest) (λ _. Boolean true) (λ _. boolean true) limit old new r (λ _ rest at. (view-Bool true, (tt, omega arith), at))
-    (λ j rest ok e. let k = kind j rest (Placed.boolean true) (only_true (place j rest) (first_is limit j old more rest 116 ok is e)) in (tt, k, e ∙ ap (λ (i : Json). written i ++ rest) k))
+    (λ j rest ok e. let k = kind j rest (Located.boolean true) (only_true (locate j rest) (first_is limit j old more rest 116 ok is e)) in (tt, k, e ∙ ap (λ (i : Json). written i ++ rest) k))
 
 pub false_reads : (limit : ℕ) (old more new : List ℕ) (r : Result Tree Stop) → old ≡ 102 ∷ more → ReadsWord (codes "false") (Boolean false) old r new → ReadsTree limit old r new
 false_reads limit old more new r is =
     leaf_reads {X = Unit {0}} (λ _ bytes rest. bytes ≡ codes "false" ++ rest) (λ _. Boolean false) (λ _. boolean false) limit old new r (λ _ rest at. (view-Bool false, (tt, omega arith), at))
-    (λ j rest ok e. let k = kind j rest (Placed.boolean false) (only_false (place j rest) (first_is limit j old more rest 102 ok is e)) in (tt, k, e ∙ ap (λ (i : Json). written i ++ rest) k))
+    (λ j rest ok e. let k = kind j rest (Located.boolean false) (only_false (locate j rest) (first_is limit j old more rest 102 ok is e)) in (tt, k, e ∙ ap (λ (i : Json). written i ++ rest) k))
 
 pub text_reads : (limit : ℕ) (old more new : List ℕ) (r : Result Tree Stop) → old ≡ 34 ∷ more → ReadsText old r new → ReadsTree limit old r new
 text_reads limit old more new r is =
     leaf_reads TextAt Words string limit old new r (λ s rest at. (view-Words s, (at.0, omega arith), at.1))
     (λ j rest ok e.
-    let o = only_string (place j rest) (first_is limit j old more rest 34 ok is e) in
-    let k : j ≡ string o.0 = kind j rest (Placed.string o.0) o.1 in
+    let o = only_string (locate j rest) (first_is limit j old more rest 34 ok is e) in
+    let k : j ≡ string o.0 = kind j rest (Located.string o.0) o.1 in
     let ok' : IsReadable limit (string o.0) = subst (IsReadable limit) k ok in
     (o.0, k, (ok'.0, e ∙ ap (λ (i : Json). written i ++ rest) k)))
 
@@ -103,8 +103,8 @@ pub number_reads : (limit b : ℕ) (old more new : List ℕ) (r : Result Tree St
 number_reads limit b old more new r is n t f q l o =
     leaf_reads NumeralAt Number number limit old new r (λ s rest at. (view-Number s, ((at.0, at.1), omega arith), at.2))
     (λ j rest ok e.
-    let only = only_number (place j rest) b (first_is limit j old more rest b ok is e) n t f q l o in
-    let k : j ≡ number only.0.1 = kind j rest (Placed.number only.0.0 only.0.1) only.1 in
+    let only = only_number (locate j rest) b (first_is limit j old more rest b ok is e) n t f q l o in
+    let k : j ≡ number only.0.1 = kind j rest (Located.number only.0.0 only.0.1) only.1 in
     let ok' : IsReadable limit (number only.0.1) = subst (IsReadable limit) k ok in
     (only.0.1, k, (ok'.0.0, ok'.0.1, e ∙ ap (λ (i : Json). written i ++ rest) k)))
 
@@ -214,7 +214,7 @@ after_heads limit (r ∷ read) (element k ks) here rest ok whole e =
 
 no_bracket : (limit : ℕ) (j : Json) (more rest : List ℕ) → IsReadable limit j → written j ++ rest ≡ 93 ∷ more → ⊥
 no_bracket limit j more rest ok e =
-    let opens : Opens 93 (93 ∷ more) = subst (Opens 93) e (Value-Opens (place j rest) (written j ++ rest) rest (written-Value j rest (Fits-IsSpellable j ok.0))) in opens.1 refl
+    let opens : Opens 93 (93 ∷ more) = subst (Opens 93) e (Value-Opens (locate j rest) (written j ++ rest) rest (written-Value j rest (Fits-IsSpellable j ok.0))) in opens.1 refl
 
 item_left : (limit : ℕ) (read : List Json) (all : Elements) (here rest : List ℕ) → (read ≡ [] → (end : List ℕ) → here ≡ 93 ∷ end → ⊥) → AreReadable limit (elements_of read) → AreReadable limit all → heads read ++ here ≡ elements_text false all ++ rest
     → (j : Json) × (js : Elements) × IsReadable limit j × (here ≡ written j ++ (elements_text true js ++ rest))

@@ -93,25 +93,25 @@ gone_from st (e ∷ more) k gone = gone_from (step st e) more k (gone_after (eff
 
 -- the caller acts in a session that was abandoned
 record IsGone (st : State) (at : Occasion) : Type 0 where
-  pub place : ℕ
-  pub acts : at.by ≡ who.Session place
-  pub gone : is_abandoned st place ≡ true
+  pub index : ℕ
+  pub acts : at.by ≡ who.Session index
+  pub gone : is_abandoned st index ≡ true
 
 -- whatever it says is forbidden
-all_forbidden : (st : State) (at : Occasion) (gone : IsGone st at) (l : Launch) → slice_get st.launches gone.place ≡ Some l → (before : List StoredStatement) (j : Json) → forbidden st at.by before j ≡ None → ⊥
+all_forbidden : (st : State) (at : Occasion) (gone : IsGone st at) (l : Launch) → slice_get st.launches gone.index ≡ Some l → (before : List StoredStatement) (j : Json) → forbidden st at.by before j ≡ None → ⊥
 all_forbidden st at gone l there before j free =
     let unbroken : broken_rule (view_of l true true before) j ≡ None =
     sym (ap (λ by. broken_by st by before j) gone.acts
-    ∙ (ap (λ o. option_and_then (λ (x : Launch). broken_rule (view_of x true (is_abandoned st gone.place) before) j) o) there
+    ∙ (ap (λ o. option_and_then (λ (x : Launch). broken_rule (view_of x true (is_abandoned st gone.index) before) j) o) there
     ∙ ap (λ b. broken_rule (view_of l true b before) j) gone.gone))
     ∙ none_told (broken_by st at.by before j) free in
     let told : Some 5 ≡ None = (permitted (view_of l true true before) j unbroken).in_phase in
     cc told
 
 none_new : (st : State) (at : Occasion) (gone : IsGone st at) (ns : List WithId) → Met st at ns → new_by st at.by at.moment ns ≡ []
-none_new st at gone ns met = by_launch (slice_get st.launches gone.place) refl
+none_new st at gone ns met = by_launch (slice_get st.launches gone.index) refl
   where
-    by_launch : (o : Option Launch) → slice_get st.launches gone.place ≡ o → new_by st at.by at.moment ns ≡ []
+    by_launch : (o : Option Launch) → slice_get st.launches gone.index ≡ o → new_by st at.by at.moment ns ≡ []
     by_launch None there =
         ap (λ by. new_by st by at.moment ns) gone.acts ∙ ap (λ o. new_ones st.statements (kept_by at.moment (option_map (λ (l : Launch). Session l.session) o) ns)) there
     by_launch (Some l) there = met (λ xs. xs ≡ []) (λ more n free so_far. absurd (all_forbidden st at gone l there (st.statements ++ more) (view n.tree) free)) refl
@@ -147,4 +147,4 @@ silent_next limit (first ∷ more) e next gone =
 pub abandoned_sessions_are_silent : AbandonedSessionsAreSilent
 abandoned_sessions_are_silent limit h more e k legal gone acts =
     silent_next limit (h ++ more) e (legal_from limit [] (h ++ more) [] e legal.1)
-    (record { place = k; acts = acts; gone = subst (λ (su : State). is_abandoned su k ≡ true) (sym (state_from-append nothing h more)) (gone_from (state h) more k gone) })
+    (record { index = k; acts = acts; gone = subst (λ (su : State). is_abandoned su k ≡ true) (sym (state_from-append nothing h more)) (gone_from (state h) more k gone) })

@@ -6,7 +6,7 @@ use Rattle.lrs_command.specs.declared.command.Command.TheVariants.{Write}
 use Rattle.lrs_history.proofs.Room.{kept_answer, no_room}
 use Rattle.lrs_history.specs.Answers.{write_said}
 use Rattle.lrs_history.specs.Effects.{effect}
-use Rattle.lrs_history.specs.History.{answer, answer_of, end_place, need, next_entry, only, outcome_by, refused, refused_or, said_at_once, state}
+use Rattle.lrs_history.specs.History.{answer, answer_of, end_offset, need, next_entry, only, outcome_by, refused, refused_or, said_at_once, state}
 use Rattle.lrs_history.specs.Refusals.{refusal}
 use Rattle.lrs_ids.specs.Choices.{when}
 use Rattle.lrs_laws.specs.Laws.{IsAccepted}
@@ -16,12 +16,12 @@ use Rattle.lrs_replies.specs.declared.answered.Answered.{Answered}
 use Rattle.lrs_replies.specs.declared.answered.Refusal.{Refusal}
 
 -- what made an entry was told nothing at once, the entry is its own, and it is told what it was to be told
-pub accepted_at : (limit place : ℕ) (x e : Entry) (t : Answered) (o : Option Answered) → (answer_of limit place (outcome_by o x t)).entry ≡ Some e
-    → (o ≡ None) × (x ≡ e) × ((answer_of limit place (outcome_by o x t)).said ≡ t)
-accepted_at limit place x e t (Some said) is = cc is
-accepted_at limit place x e t None is = let both = by_room (nat_lt limit (need place x)) is in (refl, both.0, both.1)
+pub accepted_at : (limit index : ℕ) (x e : Entry) (t : Answered) (o : Option Answered) → (answer_of limit index (outcome_by o x t)).entry ≡ Some e
+    → (o ≡ None) × (x ≡ e) × ((answer_of limit index (outcome_by o x t)).said ≡ t)
+accepted_at limit index x e t (Some said) is = cc is
+accepted_at limit index x e t None is = let both = by_room (nat_lt limit (need index x)) is in (refl, both.0, both.1)
   where
-    by_room : (c : Bool) → (if c then no_room limit place x else kept_answer t x).entry ≡ Some e → (x ≡ e) × ((if c then no_room limit place x else kept_answer t x).said ≡ t)
+    by_room : (c : Bool) → (if c then no_room limit index x else kept_answer t x).entry ≡ Some e → (x ≡ e) × ((if c then no_room limit index x else kept_answer t x).said ≡ t)
     by_room true is = cc is
     by_room false is = (cc is, refl)
 
@@ -30,9 +30,9 @@ not_refused None p is = refl
 not_refused (Some r) p is = cc is
 
 -- a write that isn't refused has no reason to be
-pub unrefused : (limit place : ℕ) (x : Entry) (t : Answered) (o : Option Refusal) (p : Option Answered) → IsAccepted (answer_of limit place (outcome_by (option_or (option_map refused o) p) x t)) → o ≡ None
-unrefused limit place x t None p is = refl
-unrefused limit place x t (Some r) p is = absurd (is r refl)
+pub unrefused : (limit index : ℕ) (x : Entry) (t : Answered) (o : Option Refusal) (p : Option Answered) → IsAccepted (answer_of limit index (outcome_by (option_or (option_map refused o) p) x t)) → o ≡ None
+unrefused limit index x t None p is = refl
+unrefused limit index x t (Some r) p is = absurd (is r refl)
 
 -- nor has a question
 pub unrefused_read : (o : Option Refusal) (t : Answered) → IsAccepted (only (refused_or o t)) → o ≡ None
@@ -54,7 +54,7 @@ pub accepted : (limit : ℕ) (h : List Entry) (e : Entry) → (answer limit h e.
 accepted limit h e is =
     let st = state h in
     let x : Entry = next_entry st e.caller e.write e.moment e.draw in
-    let shown = accepted_at limit (end_place limit h) x e (write_said (effect st x)) (said_at_once st x) is in
+    let shown = accepted_at limit (end_offset limit h) x e (write_said (effect st x)) (said_at_once st x) is in
     let at_once : said_at_once st e ≡ None = subst (λ (y : Entry). said_at_once st y ≡ None) shown.1 shown.0 in
     record {
       free = not_refused (refusal st e) (when (changes_nothing (effect st e)) (write_said (effect st e))) at_once;

@@ -8,7 +8,7 @@ use Rattle.lrs_command.specs.declared.command.Command.TheVariants as command
 use Rattle.lrs_history.specs.Answers.{write_said}
 use Rattle.lrs_history.specs.Effects.{effect, with_owed}
 use Rattle.lrs_history.specs.Occasions.{Occasion, occasion}
-use Rattle.lrs_history.specs.History.{answer, answer_of, end_place, next_entry, only, refused, said_at_once, state, outcome_by}
+use Rattle.lrs_history.specs.History.{answer, answer_of, end_offset, next_entry, only, refused, said_at_once, state, outcome_by}
 use Rattle.lrs_history.specs.Refusals.{barred, before_next, conflict, forbidden, refused_batch, refused_form, refused_in, refused_over, refused_under, refusal}
 use Rattle.lrs_history.specs.Whose.{authority_of}
 use Rattle.lrs_json.specs.View.{view}
@@ -39,7 +39,7 @@ pub at_once : (limit : ℕ) (h : List Entry) (caller : Caller) (write : Write) (
     → answer limit h caller (command.Write write) clock draw ≡ only s
 at_once limit h caller write clock draw s is =
     let e = next_entry (state h) caller write clock draw in
-    ap (λ o. answer_of limit (end_place limit h) (outcome_by o e (write_said (effect (state h) e)))) is
+    ap (λ o. answer_of limit (end_offset limit h) (outcome_by o e (write_said (effect (state h) e)))) is
 
 -- what is refused is told so
 pub said_refused : (st : State) (e : Entry) (r : Refusal) → refusal st e ≡ Some r → said_at_once st e ≡ Some (refused r)

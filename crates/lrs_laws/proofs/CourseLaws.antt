@@ -15,8 +15,8 @@ use Rattle.lrs_laws.proofs.Keepers.{distinct_push}
 use Rattle.lrs_laws.proofs.Launched.{after_one, by_entries}
 use Rattle.lrs_laws.specs.Laws.{CoursesNameOne}
 use Rattle.lrs_names.specs.Members.{is_one_of}
-use Rattle.lrs_state.specs.Courses.{course_under, courses_after, place_of_course, unchanged_courses}
-use Rattle.lrs_state.specs.Launches.{key_under, place_of_session}
+use Rattle.lrs_state.specs.Courses.{course_under, courses_after, index_of_course, unchanged_courses}
+use Rattle.lrs_state.specs.Launches.{key_under, index_of_session}
 use Rattle.lrs_state.specs.State.{State}
 use Rattle.lrs_state.specs.declared.effect.Effect.{Effect}
 use Rattle.lrs_record.specs.declared.entry.Write.{Write}
@@ -37,11 +37,11 @@ MovesCourses st w x = SameCourses x ⊎ TakesCourse st w x
 
 pub moves_courses : (st : State) (at : Occasion) (w : Write) → MovesCourses st w (effect_of st at w)
 moves_courses st at (write.Course tree) = inr (record { tree = tree; write = refl; courses = refl })
-moves_courses st at (Enrol course actor) = inl (of_enrolment SameCourses st at refl actor (place_of_course course st.courses) (λ k. refl))
+moves_courses st at (Enrol course actor) = inl (of_enrolment SameCourses st at refl actor (index_of_course course st.courses) (λ k. refl))
 moves_courses st at (write.Launch registration unit mode return_url) = inl (of_launch SameCourses st at refl mode return_url (target st registration unit) (λ t. refl))
 moves_courses st at (Fetch name) = inl (of_fetch SameCourses st at refl (key_under name st.keys) (λ told. refl) (λ key is unused still. refl))
 moves_courses st at (Waive registration unit reason) = inl (of_waiver SameCourses st at refl reason (target st registration unit) (λ t is. refl))
-moves_courses st at (Abandon session) = inl (of_ending SameCourses st at refl (place_of_session session st.launches) (λ numbers. refl))
+moves_courses st at (Abandon session) = inl (of_ending SameCourses st at refl (index_of_session session st.launches) (λ numbers. refl))
 moves_courses st at other = inl refl
 
 -- an id under which no course is found is the id of none

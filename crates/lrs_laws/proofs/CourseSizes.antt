@@ -9,7 +9,7 @@ use Rattle.std.proofs.lemmas.List.{length-map}
 use Rattle.std.proofs.lemmas.List.Sums.{length-filter}
 use Rattle.cmi5_course.proofs.Unbroken.{form_unbroken, is_met, more_unbroken, nodes_unbroken, one_of}
 use Rattle.cmi5_course.specs.Courses.{Course, course_key, course_of, node_of, nodes_of}
-use Rattle.cmi5_course.specs.Places.{Placed, nodes_from, nodes_in, nodes_of_children, nodes_of_items, nodes_under, placed}
+use Rattle.cmi5_course.specs.SpelledNodes.{SpelledNode, nodes_from, nodes_in, nodes_of_children, nodes_of_items, nodes_under, spelled_node}
 use Rattle.cmi5_course.specs.Rules.{broken_rule, children_faults, content_faults, course_faults, form_faults, has_some_item, has_title, have_distinct_ids, id_faults, is_block, is_course, is_node, is_of_kind, is_unit, is_unit_node, is_within_limits, launch_faults, node_faults, nodes_faults, shared_faults, title_faults, unit_members}
 use Rattle.lrs_agents.proofs.AgentLemmas.{none_left, none_right}
 use Rattle.lrs_history.specs.DeskEffects.{new_course}
@@ -46,7 +46,7 @@ abbrev has_children : Json → Bool
 has_children j = has_member_that (codes "children") has_some_item j
 
 -- A unit, or a node that holds others; and it stands no deeper than the store takes.
-record Stands (node : Placed) : Type 0 where
+record Stands (node : SpelledNode) : Type 0 where
   holds : is_unit_node node ≡ false → has_children node.value ≡ true
   shallow : node.depth ≤ 16
 
@@ -77,7 +77,7 @@ children_unbroken j none =
     none_right (faults_of_member (codes "id") id_faults j ++ faults_of_member (codes "title") title_faults j ++ faults_of_member (codes "description") title_faults j)
     (faults_of_member (codes "children") children_faults j) none
 
-shared_unbroken : (node : Placed) → least (node_faults node) ≡ None → least (shared_faults node.value) ≡ None
+shared_unbroken : (node : SpelledNode) → least (node_faults node) ≡ None → least (shared_faults node.value) ≡ None
 unfolding node_faults
 shared_unbroken node none =
     let form : List ℕ = form_faults node in
@@ -88,17 +88,17 @@ found_item : (o : Option Json) → is_some o ≡ true → least (option_map_or c
 found_item None there none = there
 found_item (Some j) there none = is_met (has_some_item j) 5 none
 
-node_stands : (node : Placed) → least (node_faults node) ≡ None → nat_le node.depth 16 ≡ true → Stands node
+node_stands : (node : SpelledNode) → least (node_faults node) ≡ None → nat_le node.depth 16 ≡ true → Stands node
 node_stands node none low = record {
   holds = λ other. found_item (find (codes "children") node.value) (form_holds node.value node.parent (form_unbroken node none) other) (children_unbroken node.value (shared_unbroken node none));
   shallow = leb-true node.depth 16 low;
 }
 
-all_stand : (nodes : List Placed) → least (flat_map node_faults nodes) ≡ None → list_all (λ (node : Placed). nat_le node.depth 16) nodes ≡ true → AllByRecursion Stands nodes
+all_stand : (nodes : List SpelledNode) → least (flat_map node_faults nodes) ≡ None → list_all (λ (node : SpelledNode). nat_le node.depth 16) nodes ≡ true → AllByRecursion Stands nodes
 all_stand [] none low = tt
 all_stand (node ∷ nodes) none low =
     let both = more_unbroken node nodes none in
-    let deep : Bool = list_all (λ (n : Placed). nat_le n.depth 16) nodes in (
+    let deep : Bool = list_all (λ (n : SpelledNode). nat_le n.depth 16) nodes in (
       node_stands node both.0 (and_left (nat_le node.depth 16) deep low),
       all_stand nodes both.1 (and_right (nat_le node.depth 16) deep low),
     )
@@ -106,14 +106,14 @@ all_stand (node ∷ nodes) none low =
 -- ---- how many there are
 
 -- No more for each unit than levels are left.
-abbrev AreFew : ℕ → List Placed → Type 0
+abbrev AreFew : ℕ → List SpelledNode → Type 0
 AreFew levels nodes = length nodes ≤ levels * many is_unit_node nodes
 
 each_behind : {A : Type 0} (P : A → Type 0) (xs ys : List A) → AllByRecursion P (xs ++ ys) → AllByRecursion P ys
 each_behind P [] ys each = each
 each_behind P (x ∷ xs) ys each = each_behind P xs ys each.1
 
-few_both : (levels : ℕ) (here rest : List Placed) → AreFew levels here → AreFew levels rest → AreFew levels (here ++ rest)
+few_both : (levels : ℕ) (here rest : List SpelledNode) → AreFew levels here → AreFew levels rest → AreFew levels (here ++ rest)
 few_both levels here rest first later =
     let all : length (here ++ rest) ≡ length here + length rest = length-append here rest in
     let units : many is_unit_node (here ++ rest) ≡ many is_unit_node here + many is_unit_node rest = many-append is_unit_node here rest in
@@ -128,7 +128,7 @@ one_more n levels (suc u) some few = omega (arith, few)
 one_unit : (n levels units : ℕ) → n ≤ levels * units → suc n ≤ suc levels * suc units
 one_unit n levels units few = omega (arith, few)
 
-few_at : (levels : ℕ) (node : Placed) (below : List Placed) → Stands node → node.depth + levels ≡ 17 → (has_children node.value ≡ true → 1 ≤ length below)
+few_at : (levels : ℕ) (node : SpelledNode) (below : List SpelledNode) → Stands node → node.depth + levels ≡ 17 → (has_children node.value ≡ true → 1 ≤ length below)
     → ((fewer : ℕ) → node.depth + 1 + fewer ≡ 17 → AreFew fewer below) → AreFew levels (node ∷ below)
 few_at zero node below stands is some few = absurd (let low : node.depth ≤ 16 = stands.shallow in omega (arith, is, low))
 few_at (suc levels) node below stands is some few = by_kind (is_unit_node node) refl
@@ -140,19 +140,19 @@ few_at (suc levels) node below stands is some few = by_kind (is_unit_node node) 
     by_kind true unit = one_unit (length below) levels (many is_unit_node below) fewer
     by_kind false other = one_more (length below) levels (many is_unit_node below) (some (stands.holds other)) fewer
 
-few_alone : (levels : ℕ) (node : Placed) → Stands node → node.depth + levels ≡ 17 → has_children node.value ≡ false → AreFew levels (node ∷ [])
+few_alone : (levels : ℕ) (node : SpelledNode) → Stands node → node.depth + levels ≡ 17 → has_children node.value ≡ false → AreFew levels (node ∷ [])
 few_alone levels node stands is none =
     few_at levels node [] stands is (λ has. absurd (false≢true (sym none ∙ has))) (λ fewer at. let no_node : 0 ≤ fewer * 0 = omega arith in no_node)
 
 -- ---- below a node with children stands another
 
-one_from : (place : ℕ) (parent : Option ℕ) (depth : ℕ) (j : Json) → 1 ≤ length (nodes_from place parent depth j)
-one_from place parent depth null = omega arith
-one_from place parent depth (boolean b) = omega arith
-one_from place parent depth (number s) = omega arith
-one_from place parent depth (string s) = omega arith
-one_from place parent depth (array js) = omega arith
-one_from place parent depth (object ms) = omega arith
+one_from : (index : ℕ) (parent : Option ℕ) (depth : ℕ) (j : Json) → 1 ≤ length (nodes_from index parent depth j)
+one_from index parent depth null = omega arith
+one_from index parent depth (boolean b) = omega arith
+one_from index parent depth (number s) = omega arith
+one_from index parent depth (string s) = omega arith
+one_from index parent depth (array js) = omega arith
+one_from index parent depth (object ms) = omega arith
 
 some_children : (next parent depth : ℕ) (j : Json) → has_some_item j ≡ true → 1 ≤ length (nodes_of_children next parent depth j)
 some_children next parent depth null has = absurd (false≢true has)
@@ -161,8 +161,8 @@ some_children next parent depth (number s) has = absurd (false≢true has)
 some_children next parent depth (string s) has = absurd (false≢true has)
 some_children next parent depth (array no_elements) has = absurd (false≢true has)
 some_children next parent depth (array (element j js)) has =
-    let here : List Placed = nodes_from next (Some parent) depth j in
-    let rest : List Placed = nodes_of_items (next + length here) parent depth js in
+    let here : List SpelledNode = nodes_from next (Some parent) depth j in
+    let rest : List SpelledNode = nodes_of_items (next + length here) parent depth js in
     let all : length (here ++ rest) ≡ length here + length rest = length-append here rest in
     omega (arith, all, one_from next (Some parent) depth j)
 some_children next parent depth (object ms) has = absurd (false≢true has)
@@ -179,7 +179,7 @@ some_under next parent depth (member name j ms) has = by_name (bytes_eq name (co
 
 -- ---- all nodes
 
-few_of : (levels : ℕ) (b : Bool) (here other : List Placed) → (AllByRecursion Stands here → AreFew levels here) → (AllByRecursion Stands other → AreFew levels other)
+few_of : (levels : ℕ) (b : Bool) (here other : List SpelledNode) → (AllByRecursion Stands here → AreFew levels here) → (AllByRecursion Stands other → AreFew levels other)
     → AllByRecursion Stands (if b then here else other) → AreFew levels (if b then here else other)
 few_of levels true here other first next each = first each
 few_of levels false here other first next each = next each
@@ -188,15 +188,15 @@ none_few : (levels : ℕ) → AreFew levels []
 none_few levels = let none : 0 ≤ levels * 0 = omega arith in none
 
 mutual
-  few_from : (place : ℕ) (parent : Option ℕ) (depth levels : ℕ) (j : Json) → depth + levels ≡ 17 → AllByRecursion Stands (nodes_from place parent depth j) → AreFew levels (nodes_from place parent depth j)
-  few_from place parent depth levels null is each = few_alone levels (placed null parent depth) each.0 is refl
-  few_from place parent depth levels (boolean b) is each = few_alone levels (placed (boolean b) parent depth) each.0 is refl
-  few_from place parent depth levels (number s) is each = few_alone levels (placed (number s) parent depth) each.0 is refl
-  few_from place parent depth levels (string s) is each = few_alone levels (placed (string s) parent depth) each.0 is refl
-  few_from place parent depth levels (array js) is each = few_alone levels (placed (array js) parent depth) each.0 is refl
-  few_from place parent depth levels (object ms) is each =
-      few_at levels (placed (object ms) parent depth) (nodes_under (place + 1) place (depth + 1) ms) each.0 is (some_under (place + 1) place (depth + 1) ms)
-      (λ fewer at. few_under (place + 1) place (depth + 1) fewer ms at each.1)
+  few_from : (index : ℕ) (parent : Option ℕ) (depth levels : ℕ) (j : Json) → depth + levels ≡ 17 → AllByRecursion Stands (nodes_from index parent depth j) → AreFew levels (nodes_from index parent depth j)
+  few_from index parent depth levels null is each = few_alone levels (spelled_node null parent depth) each.0 is refl
+  few_from index parent depth levels (boolean b) is each = few_alone levels (spelled_node (boolean b) parent depth) each.0 is refl
+  few_from index parent depth levels (number s) is each = few_alone levels (spelled_node (number s) parent depth) each.0 is refl
+  few_from index parent depth levels (string s) is each = few_alone levels (spelled_node (string s) parent depth) each.0 is refl
+  few_from index parent depth levels (array js) is each = few_alone levels (spelled_node (array js) parent depth) each.0 is refl
+  few_from index parent depth levels (object ms) is each =
+      few_at levels (spelled_node (object ms) parent depth) (nodes_under (index + 1) index (depth + 1) ms) each.0 is (some_under (index + 1) index (depth + 1) ms)
+      (λ fewer at. few_under (index + 1) index (depth + 1) fewer ms at each.1)
 
   few_under : (next parent depth levels : ℕ) (ms : Members) → depth + levels ≡ 17 → AllByRecursion Stands (nodes_under next parent depth ms) → AreFew levels (nodes_under next parent depth ms)
   few_under next parent depth levels no_members is each = none_few levels
@@ -215,8 +215,8 @@ mutual
   few_items : (next parent depth levels : ℕ) (js : Elements) → depth + levels ≡ 17 → AllByRecursion Stands (nodes_of_items next parent depth js) → AreFew levels (nodes_of_items next parent depth js)
   few_items next parent depth levels no_elements is each = none_few levels
   few_items next parent depth levels (element j js) is each =
-      let here : List Placed = nodes_from next (Some parent) depth j in
-      let rest : List Placed = nodes_of_items (next + length here) parent depth js in
+      let here : List SpelledNode = nodes_from next (Some parent) depth j in
+      let rest : List SpelledNode = nodes_of_items (next + length here) parent depth js in
       few_both levels here rest (few_from next (Some parent) depth levels j is (each_front Stands here rest each))
       (few_items (next + length here) parent depth levels js is (each_behind Stands here rest each))
 
@@ -229,8 +229,8 @@ within_limits j none = is_met (is_within_limits (nodes_in j)) 12 (none_right (fl
 few_nodes : (j : Json) → broken_rule j ≡ None → length (nodes_in j) < 2 ^ 32
 unfolding is_within_limits nodes_in
 few_nodes j none =
-    let all : List Placed = nodes_in j in
-    let deep : Bool = list_all (λ (node : Placed). nat_le node.depth 16) all in
+    let all : List SpelledNode = nodes_in j in
+    let deep : Bool = list_all (λ (node : SpelledNode). nat_le node.depth 16) all in
     let limits : nat_le (count_by is_unit_node all) 1000 && deep ≡ true = within_limits j none in
     let units : count_by is_unit_node all ≤ 1000 = leb-true (count_by is_unit_node all) 1000 (and_left (nat_le (count_by is_unit_node all) 1000) deep limits) in
     let same : many is_unit_node all ≡ count_by is_unit_node all = length-filter is_unit_node all in

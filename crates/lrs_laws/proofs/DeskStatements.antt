@@ -85,13 +85,13 @@ abandoned_each st numbers = each_given (HasVerb deeds) (abandoned_at st) one num
         all_mapped (HasVerb deeds) (λ (t : Target). abandoned_json l t ms) (target st l.registration l.publisher)
         (λ t. has_verb deeds (said_abandoned ms) t.registration.actor (activity_at t) t.publisher t.registration.id l.session refl)))
 
-satisfied_each : (e : Enrolled) (session : List ℕ) (places : List ℕ) → AllByRecursion (HasVerb own_verbs) (filter_map (satisfied_at e session) places)
-satisfied_each e session places = each_given (HasVerb own_verbs) (satisfied_at e session) one places
+satisfied_each : (e : Enrolled) (session : List ℕ) (indices : List ℕ) → AllByRecursion (HasVerb own_verbs) (filter_map (satisfied_at e session) indices)
+satisfied_each e session indices = each_given (HasVerb own_verbs) (satisfied_at e session) one indices
   where
-    one : (place : ℕ) → IfSome (satisfied_at e session place) (HasVerb own_verbs)
-    one place =
-        all_mapped (HasVerb own_verbs) (satisfied_json e session place) (node_at place e.course)
-        (λ node. has_verb own_verbs (said_satisfied node.kind) e.registration.actor (activity_of_node (enrolment_of e) place) node.id e.registration.id session refl)
+    one : (index : ℕ) → IfSome (satisfied_at e session index) (HasVerb own_verbs)
+    one index =
+        all_mapped (HasVerb own_verbs) (satisfied_json e session index) (node_at index e.course)
+        (λ node. has_verb own_verbs (said_satisfied node.kind) e.registration.actor (activity_of_node (enrolment_of e) index) node.id e.registration.id session refl)
 
 -- ---- what is owed
 

@@ -7,7 +7,7 @@ use Rattle.lrs_history.specs.Answers.{document_said, write_said}
 use Rattle.lrs_history.specs.Effects.{document_by, effect, effect_of}
 use Rattle.lrs_history.specs.Occasions.{Occasion, occasion}
 use Rattle.lrs_history.specs.DeskEffects.{launching}
-use Rattle.lrs_history.specs.History.{answer_of, end_place, next_entry, only, outcome_by, refused, refused_or, said_at_once, state}
+use Rattle.lrs_history.specs.History.{answer_of, end_offset, next_entry, only, outcome_by, refused, refused_or, said_at_once, state}
 use Rattle.lrs_history.specs.Launches.{Target, data_at, data_key, target}
 use Rattle.lrs_history.specs.Refusals.{barred, bad_form, bad_role, conflict, missing, refusal, refused_agent, refused_document, unmergeable, unmergeable_with}
 use Rattle.lrs_history.specs.Sessions.{outside, overstepped}
@@ -22,8 +22,8 @@ use Rattle.lrs_laws.specs.Documents.{DocumentsAreFolds, HeldDocumentsAreShown, N
 use Rattle.lrs_laws.specs.Laws.{who_in}
 use Rattle.lrs_media.specs.Media.{is_json}
 use Rattle.lrs_names.specs.declared.draw.Draw.{Draw}
-use Rattle.lrs_state.specs.Courses.{place_of_course}
-use Rattle.lrs_state.specs.Launches.{key_under, place_of_session}
+use Rattle.lrs_state.specs.Courses.{index_of_course}
+use Rattle.lrs_state.specs.Launches.{key_under, index_of_session}
 use Rattle.lrs_state.specs.State.{State, changes_nothing, no_change, nothing}
 use Rattle.lrs_state.specs.declared.effect.Effect.{Effect}
 use Rattle.lrs_record.specs.declared.entry.Area.TheVariants.{Store}
@@ -66,7 +66,7 @@ after_write st at (Drop activity agent registration chosen) key =
     choice : (b : Bool) → cond b None (document_under key st.documents) ≡ (if b then None else document_under key st.documents)
     choice true = refl
     choice false = refl
-after_write st at (Enrol course actor) key = of_enrolment (Leaves st key) st at refl actor (place_of_course course st.courses) (λ k. refl)
+after_write st at (Enrol course actor) key = of_enrolment (Leaves st key) st at refl actor (index_of_course course st.courses) (λ k. refl)
 after_write st at (write.Launch registration unit mode return_url) key = launched (target st registration unit)
   where
     launched : (o : Option Target) → document_under key (documents_after st.documents (launching st at mode return_url o).documents) ≡ launched_over at key (document_under key st.documents) mode return_url o
@@ -79,7 +79,7 @@ after_write st at (write.Launch registration unit mode return_url) key = launche
         choice false = refl
 after_write st at (Fetch name) key = of_fetch (Leaves st key) st at refl (key_under name st.keys) (λ told. refl) (λ k is unused still. refl)
 after_write st at (Waive registration unit reason) key = of_waiver (Leaves st key) st at refl reason (target st registration unit) (λ t is. refl)
-after_write st at (Abandon session) key = of_ending (Leaves st key) st at refl (place_of_session session st.launches) (λ numbers. refl)
+after_write st at (Abandon session) key = of_ending (Leaves st key) st at refl (index_of_session session st.launches) (λ numbers. refl)
 after_write st at other key = refl
 
 pub documents_are_folds : DocumentsAreFolds
@@ -103,7 +103,7 @@ posted_documents_are_merged limit h e key media bytes held makes is =
     let w = write.State how.Post key media bytes in
     let st = state h in
     let x = next_entry st makes.caller w makes.clock makes.draw in
-    let own = accepted_at limit (end_place limit h) x e (write_said (effect st x)) (said_at_once st x) makes.made in
+    let own = accepted_at limit (end_offset limit h) x e (write_said (effect st x)) (said_at_once st x) makes.made in
     let free = not_refused (refusal st x) (when (changes_nothing (effect st x)) (write_said (effect st x))) own.0 in
     let met : unmergeable_with media bytes (document_under key st.documents) ≡ None =
     fifth_none (barred Store (who_is st makes.caller)) (bad_form w) (bad_role st (who_is st makes.caller) w) (missing st w) (unmergeable st w) (conflict st (occasion st x) w) free in
@@ -124,7 +124,7 @@ posted_documents_are_merged limit h e key media bytes held makes is =
 module _ (limit : ℕ) (h : List Entry) (caller : Caller) (key : StateKey) (media bytes : List ℕ) (held : Document) (clock : ℕ) (draw : Draw)
     (may : MayChange h caller key.agent key.registration (Some key.state)) (formed : refused_document key.agent media bytes ≡ None) (is : document_in h key ≡ Some held) where
   told_of : (r : Refusal) → unmergeable_with media bytes (Some held) ≡ Some r
-      → answer_of limit (end_place limit h) (outcome_by (said_at_once (state h) (next_entry (state h) caller (write.State how.Post key media bytes) clock draw)) (next_entry (state h) caller (write.State how.Post key media bytes) clock draw) (write_said (effect (state h) (next_entry (state h) caller (write.State how.Post key media bytes) clock draw)))) ≡ only (refused r)
+      → answer_of limit (end_offset limit h) (outcome_by (said_at_once (state h) (next_entry (state h) caller (write.State how.Post key media bytes) clock draw)) (next_entry (state h) caller (write.State how.Post key media bytes) clock draw) (write_said (effect (state h) (next_entry (state h) caller (write.State how.Post key media bytes) clock draw)))) ≡ only (refused r)
   told_of r why =
       let w = write.State how.Post key media bytes in
       let x = next_entry (state h) caller w clock draw in

@@ -18,7 +18,7 @@ use Rattle.lrs_laws.proofs.Lists.{each_found, each_push, each_weaker, found_pass
 use Rattle.lrs_laws.proofs.Moves.{Moves, MovesProviders, moves}
 use Rattle.lrs_laws.specs.Sessions.{WasGiven}
 use Rattle.lrs_state.specs.Launches.{launch_of_token, token_under, tokens_after}
-use Rattle.lrs_state.specs.Providers.{place_of_token, providers_after}
+use Rattle.lrs_state.specs.Providers.{index_of_token, providers_after}
 use Rattle.lrs_state.specs.State.{State, nothing}
 use Rattle.lrs_state.specs.declared.effect.Effect.{Effect}
 use Rattle.lrs_state.specs.declared.launches.HeldToken.{HeldToken}
@@ -89,13 +89,13 @@ token_given h token k is = by_token (token_under token (state h).tokens) refl is
         (each_weaker (λ (t : HeldToken). WasGiven h t.token) (λ (t : HeldToken). bytes_eq t.token token ≡ true → WasGiven h token) (λ t given same. subst (WasGiven h) (same_text t.token token (sym same)) given) (state h).tokens (all_given h))
         found (found_passes (λ (t : HeldToken). bytes_eq t.token token) (state h).tokens t found)
 
--- ---- tokens of different places
+-- ---- tokens of different indices
 
 behind_word : (word : ℕ) (rest : List ℕ) → drop 32 (word_text word ++ rest) ≡ rest
 behind_word word rest = ap (λ n. drop n (word_text word ++ rest)) (sym (length-word_text word)) ∙ drop-append_seam (word_text word) rest
 
-pub joined : (place secret : ℕ) → token_text place secret ≡ word_text secret ++ 45 ∷ decimal place
-joined place secret = append_assoc (word_text secret) (45 ∷ []) (decimal place)
+pub joined : (index secret : ℕ) → token_text index secret ≡ word_text secret ++ 45 ∷ decimal index
+joined index secret = append_assoc (word_text secret) (45 ∷ []) (decimal index)
 
 pub same_place : (m n s t : ℕ) → m < 2 ^ 64 → n < 2 ^ 64 → token_text m s ≡ token_text n t → m ≡ n
 same_place m n s t small few is =
@@ -112,8 +112,8 @@ other_token h token n secret given later few = by_test (bytes_eq (token_text n s
     by_test : (b : Bool) → bytes_eq (token_text n secret) token ≡ b → b ≡ false
     by_test false is = refl
     by_test true is =
-        let place : n ≡ length given.before = same_place n (length given.before) secret given.fetch.draw.secret few (omega (arith, earlier, later, few)) (same_text (token_text n secret) token (sym is) ∙ given.told) in
-        absurd (omega (arith, earlier, later, place))
+        let index : n ≡ length given.before = same_place n (length given.before) secret given.fetch.draw.secret few (omega (arith, earlier, later, few)) (same_text (token_text n secret) token (sym is) ∙ given.told) in
+        absurd (omega (arith, earlier, later, index))
 
 -- ---- what a token tells stays
 
@@ -130,10 +130,10 @@ none_push : {A : Type 0} (p : A → Bool) (xs : List A) (y : A) → position p x
 none_push p xs y none other = position_from-zero p (xs ++ y ∷ []) ∙ from_none p 0 xs y (sym (position_from-zero p xs) ∙ none) other
 
 none_made : (h : List Entry) (token : List ℕ) (st : State) (e : Entry) (x : Effect) → MovesProviders (occasion st e) x → WasGiven h token → length h ≤ st.length → st.length < 2 ^ 64
-    → place_of_token token st.providers ≡ None → place_of_token token (providers_after st.providers x.providers) ≡ None
-none_made h token st e x (inl same) given later few none = ap (λ c. place_of_token token (providers_after st.providers c)) same ∙ none
+    → index_of_token token st.providers ≡ None → index_of_token token (providers_after st.providers x.providers) ≡ None
+none_made h token st e x (inl same) given later few none = ap (λ c. index_of_token token (providers_after st.providers c)) same ∙ none
 none_made h token st e x (inr made) given later few none =
-    ap (λ c. place_of_token token (providers_after st.providers c)) made.providers
+    ap (λ c. index_of_token token (providers_after st.providers c)) made.providers
     ∙ none_push (λ (c : HeldProvider). bytes_eq c.token token) st.providers (record { name = made.name; token = (occasion st e).token }) none (other_token h token st.length e.draw.secret given later few)
 
 pub provider_moves : (st : State) (at : Occasion) (w : Write) (x : Effect) → Moves st at w x → MovesProviders at x
@@ -143,7 +143,7 @@ provider_moves st at w x (inr (inr gift)) = inl (ap (λ (y : Effect). y.provider
 
 -- a token that was given away is no provider's later
 pub no_provider_on : (h : List Entry) (token : List ℕ) (st : State) (more : List Entry) → WasGiven h token → length h ≤ st.length → st.length + length more < 2 ^ 64
-    → place_of_token token st.providers ≡ None → place_of_token token (state_from st more).providers ≡ None
+    → index_of_token token st.providers ≡ None → index_of_token token (state_from st more).providers ≡ None
 no_provider_on h token st [] given later few none = none
 no_provider_on h token st (e ∷ more) given later few none =
     let one : (step st e).length ≡ st.length + 1 = refl in

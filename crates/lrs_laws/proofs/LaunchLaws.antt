@@ -21,7 +21,7 @@ use Rattle.lrs_laws.proofs.Keepers.{add_each-append, held_one}
 use Rattle.lrs_laws.proofs.Launched.{after_one}
 use Rattle.lrs_laws.proofs.NewIds.{desk_ids_are_new}
 use Rattle.lrs_laws.proofs.WholeBatches.{found_add, unheld_add}
-use Rattle.lrs_laws.specs.Laws.{IsUnused}
+use Rattle.lrs_laws.specs.Laws.{IsUnusedId}
 use Rattle.lrs_laws.specs.Sessions.{LaunchesLeaveStatements, LeavesStatement, said_first}
 use Rattle.lrs_names.specs.declared.id.TheConstants.{WORDS}
 use Rattle.lrs_state.specs.State.{State, used_in}
@@ -94,7 +94,7 @@ leaves h e registration unit mode return_url t launches found small = subst (Lea
     id = left_behind (rest_of supply) said 0
 
     same : id ≡ supply (length said + 1)
-    same = behind_those (rest_of supply) said 0 ∙ (let place : suc (length said + 0) ≡ length said + 1 = omega arith in ap supply place)
+    same = behind_those (rest_of supply) said 0 ∙ (let index : suc (length said + 0) ≡ length said + 1 = omega arith in ap supply index)
 
     s : StoredStatement
     s = held_of e.moment Desk (record { id = id; tree = tree_of (launched_json mode t.unit t.registration.actor (activity_at t) t.publisher t.registration.id (supply 0)) })
@@ -105,7 +105,7 @@ leaves h e registration unit mode return_url t launches found small = subst (Lea
     comes : (effect st e).statements ≡ made ++ s ∷ []
     comes = ap (λ w. (effect_of st at w).statements) launches ∙ ap (λ o. (launching st at mode return_url o).statements) found
 
-    desk : IsUnused st (supply (length said + 1)) × ((j : ℕ) → j < length said + 1 → supply j ≢ supply (length said + 1))
+    desk : IsUnusedId st (supply (length said + 1)) × ((j : ℕ) → j < length said + 1 → supply j ≢ supply (length said + 1))
     desk = desk_ids_are_new h e.write e.draw (length said + 1) (ap given_in launches) (room_behind (used_in st).count (length said) small)
 
     apart : (j : ℕ) → j < length said → rest_of supply j ≢ id

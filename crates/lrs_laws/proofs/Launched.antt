@@ -14,7 +14,7 @@ use Rattle.lrs_laws.proofs.Lists.{each_first, each_found, each_push, each_weaker
 use Rattle.lrs_laws.proofs.Moves.{Moves, moves, new_key}
 use Rattle.lrs_command.specs.declared.who.Who.TheVariants as who
 use Rattle.lrs_state.specs.Founding.{is_admin}
-use Rattle.lrs_state.specs.Providers.{place_of_token}
+use Rattle.lrs_state.specs.Providers.{index_of_token}
 use Rattle.lrs_record.specs.declared.entry.Caller.{Caller}
 use Rattle.lrs_record.specs.declared.entry.Caller.TheVariants.{Nobody, Operator, Token}
 use Rattle.lrs_state.specs.Launches.{keys_after, launch_of_token, launches_after, token_under, tokens_after, unchanged_keys, unchanged_launches, unchanged_tokens}
@@ -102,9 +102,9 @@ acting st token k is = by_admin (is_admin st.founding token) is
     by_places None (Some j) acts at = let same : j ≡ k = cc at in acts ∙ ap Some same
     by_places (Some j) p acts at = cc at
 
-    by_admin : (b : Bool) → (if b then who.Admin else known_as (place_of_token token st.providers) (launch_of_token token st.tokens)) ≡ who.Session k → launch_of_token token st.tokens ≡ Some k
+    by_admin : (b : Bool) → (if b then who.Admin else known_as (index_of_token token st.providers) (launch_of_token token st.tokens)) ≡ who.Session k → launch_of_token token st.tokens ≡ Some k
     by_admin true at = cc at
-    by_admin false at = by_places (place_of_token token st.providers) (launch_of_token token st.tokens) refl at
+    by_admin false at = by_places (index_of_token token st.providers) (launch_of_token token st.tokens) refl at
 
 -- the launch of a session is held
 pub session_launched : (h : List Entry) (caller : Caller) (k : ℕ) → who_is (state h) caller ≡ who.Session k → (launch : Launch) × (slice_get (state h).launches k ≡ Some launch)

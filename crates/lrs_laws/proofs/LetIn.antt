@@ -12,7 +12,7 @@ use Rattle.lrs_laws.proofs.PageLaws.{founding_on, known_on}
 use Rattle.lrs_laws.specs.Laws.{CallersStayLetIn}
 use Rattle.lrs_state.specs.Founding.{is_admin}
 use Rattle.lrs_state.specs.Launches.{launch_of_token}
-use Rattle.lrs_state.specs.Providers.{place_of_token}
+use Rattle.lrs_state.specs.Providers.{index_of_token}
 use Rattle.lrs_state.specs.State.{State, nothing}
 use Rattle.lrs_state.specs.declared.founding.Founding.{Founding}
 use Rattle.lrs_record.specs.declared.entry.Area.{Area}
@@ -43,7 +43,7 @@ all_in Desk by is = cc is
 
 -- ---- later
 
--- of a token by its places among those of providers and of sessions, before and later
+-- of a token by its indices among those of providers and of sessions, before and later
 by_places : (area : Area) (o p later_o later_p : Option ℕ) → ((k : ℕ) → o ≡ Some k → later_o ≡ Some k) → ((k : ℕ) → p ≡ Some k → later_p ≡ Some k)
     → barred area (known_as o p) ≡ None → barred area (known_as later_o later_p) ≡ None
 by_places area (Some k) p later_o later_p provider session is = ap (λ o. barred area (known_as o later_p)) (provider k refl) ∙ is
@@ -72,8 +72,8 @@ let_in_on st more Operator area is = is
 let_in_on st more (Token token) area is =
     let later = state_from st more in
     by_admin area (is_admin st.founding token) (is_admin later.founding token)
-    (known_as (place_of_token token st.providers) (launch_of_token token st.tokens)) (known_as (place_of_token token later.providers) (launch_of_token token later.tokens)) (admin_on st more token)
-    (by_places area (place_of_token token st.providers) (launch_of_token token st.tokens) (place_of_token token later.providers) (launch_of_token token later.tokens)
+    (known_as (index_of_token token st.providers) (launch_of_token token st.tokens)) (known_as (index_of_token token later.providers) (launch_of_token token later.tokens)) (admin_on st more token)
+    (by_places area (index_of_token token st.providers) (launch_of_token token st.tokens) (index_of_token token later.providers) (launch_of_token token later.tokens)
     (λ k at. known_on token k st more at) (λ k at. launch_on token st more k at)) is
 
 pub callers_stay_let_in : CallersStayLetIn

@@ -1,4 +1,4 @@
--- What holds of each item of a list, of the item at a place, and of what an option holds.
+-- What holds of each item of a list, of the item at an index, and of what an option holds.
 use Rattle.std.proofs.Common.{◌≡◌, ℕ, zero, suc, ◌<◌, List, [], ◌∷◌, ◌++◌, length, Bool, true, false, Option, Some, None, IfSome, cond, refl, subst, ◌∙◌, arith}
 use Rattle.std.specs.Prelude.{filter_map, find, option_and_then, option_map, slice_get}
 use Rattle.std.specs.List.{AllByRecursion, cons_option}
@@ -67,7 +67,7 @@ pub all_mapped : {A B : Type 0} (P : B → Type 0) (f : A → B) (o : Option A) 
 all_mapped P f None each = tt
 all_mapped P f (Some x) each = each x
 
--- ---- the one at a place
+-- ---- the one at an index
 
 pub each_at : {A : Type 0} (P : A → Type 0) (xs : List A) (k : ℕ) (x : A) → AllByRecursion P xs → slice_get xs k ≡ Some x → P x
 each_at P [] k x each is = cc is

@@ -7,8 +7,8 @@ use Rattle.lrs_history.specs.DeskEffects.{coming, giving}
 use Rattle.lrs_history.specs.Launches.{launch_at, target}
 use Rattle.lrs_history.specs.Sessions.{is_closed}
 use Rattle.lrs_laws.proofs.DeskKinds.{of_ending, of_enrolment, of_fetch, of_launch, of_waiver}
-use Rattle.lrs_state.specs.Courses.{place_of_course}
-use Rattle.lrs_state.specs.Launches.{key_under, place_of_session, unchanged_keys, unchanged_launches, unchanged_tokens}
+use Rattle.lrs_state.specs.Courses.{index_of_course}
+use Rattle.lrs_state.specs.Launches.{key_under, index_of_session, unchanged_keys, unchanged_launches, unchanged_tokens}
 use Rattle.lrs_state.specs.Providers.{unchanged_providers}
 use Rattle.lrs_state.specs.State.{State, no_change}
 use Rattle.lrs_state.specs.declared.effect.Effect.{Effect}
@@ -65,7 +65,7 @@ pub moves : (st : State) (at : Occasion) (w : Write) → Moves st at w (effect_o
 moves st at (Provider name) = inl (record { launches = refl; keys = refl; tokens = refl; providers = inr (record { name = name; providers = refl }) })
 moves st at (Enrol course actor) =
     let w : Write = Enrol course actor in
-    of_enrolment (Moves st at w) st at (quiet st at w at.moment) actor (place_of_course course st.courses) (λ k. inl (record { launches = refl; keys = refl; tokens = refl; providers = inl refl }))
+    of_enrolment (Moves st at w) st at (quiet st at w at.moment) actor (index_of_course course st.courses) (λ k. inl (record { launches = refl; keys = refl; tokens = refl; providers = inl refl }))
 moves st at (write.Launch registration unit mode return_url) =
     let w : Write = write.Launch registration unit mode return_url in
     of_launch (Moves st at w) st at (quiet st at w at.moment) mode return_url (target st registration unit)
@@ -79,5 +79,5 @@ moves st at (Waive registration unit reason) =
     of_waiver (Moves st at w) st at (quiet st at w at.moment) reason (target st registration unit) (λ t is. inl (record { launches = refl; keys = refl; tokens = refl; providers = inl refl }))
 moves st at (Abandon session) =
     let w : Write = Abandon session in
-    of_ending (Moves st at w) st at (quiet st at w at.moment) (place_of_session session st.launches) (λ numbers. inl (record { launches = refl; keys = refl; tokens = refl; providers = inl refl }))
+    of_ending (Moves st at w) st at (quiet st at w at.moment) (index_of_session session st.launches) (λ numbers. inl (record { launches = refl; keys = refl; tokens = refl; providers = inl refl }))
 moves st at other = inl (record { launches = refl; keys = refl; tokens = refl; providers = inl refl })

@@ -11,7 +11,7 @@ use Rattle.lrs_history.specs.History.{state}
 use Rattle.lrs_history.specs.Refusals.{broken, broken_in, is_too_large, refused_batch}
 use Rattle.lrs_json.specs.View.{view}
 use Rattle.lrs_json.specs.declared.tree.Tree.{Tree}
-use Rattle.lrs_laws.specs.Laws.{DeskIdsAreNew, IsUnused, MadeIdsAreNew}
+use Rattle.lrs_laws.specs.Laws.{DeskIdsAreNew, IsUnusedId, MadeIdsAreNew}
 use Rattle.lrs_laws.proofs.Keepers.{held_one, left_false, right_false}
 use Rattle.lrs_laws.proofs.Lists.{each_weaker}
 use Rattle.lrs_names.specs.Ids.{id_of_word}
@@ -225,7 +225,7 @@ nth_other used counted ids most word (suc j) (suc k) less fits =
     let id : List ℕ = id_of_word (free_word used ids most word) in
     nth_other used counted (id ∷ ids) (most + 1) (next_word (free_word used ids most word)) j k (omega (arith, less)) (one_made used id ids most (suc k) fits)
 
-unused : (st : State) (id : List ℕ) → (used_in st).is_used id ≡ false → IsUnused st id
+unused : (st : State) (id : List ℕ) → (used_in st).is_used id ≡ false → IsUnusedId st id
 unused st id none =
     let statements = is_one_of (ids_of st.statements) id in
     let registrations = is_one_of (registration_ids st.registrations) id in
@@ -256,5 +256,5 @@ pub desk_ids_are_new : DeskIdsAreNew
 desk_ids_are_new h write draw k none small =
     let st = state h in
     let new = new_from (used_in st) draw.name k (counted st) small in
-    subst (λ given. let supply = supply_of (used_in st) given draw.name in IsUnused st (supply k) × ((j : ℕ) → j < k → supply j ≢ supply k)) (sym none)
+    subst (λ given. let supply = supply_of (used_in st) given draw.name in IsUnusedId st (supply k) × ((j : ℕ) → j < k → supply j ≢ supply k)) (sym none)
     (unused st (supply_of (used_in st) [] draw.name k) new.0, new.1)

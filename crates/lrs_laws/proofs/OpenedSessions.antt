@@ -26,7 +26,7 @@ use Rattle.lrs_laws.proofs.PageLaws.{has_founding}
 use Rattle.lrs_laws.specs.Sessions.{GivenTokensAct, WasGiven}
 use Rattle.lrs_state.specs.Founding.{is_admin, is_token}
 use Rattle.lrs_state.specs.Launches.{key_under, launch_of_token, token_under, tokens_after}
-use Rattle.lrs_state.specs.Providers.{place_of_token, providers_after}
+use Rattle.lrs_state.specs.Providers.{index_of_token, providers_after}
 use Rattle.lrs_state.specs.State.{State, nothing}
 use Rattle.lrs_state.specs.declared.effect.Effect.{Effect}
 use Rattle.lrs_state.specs.declared.founding.Founding.{Founding}
@@ -37,14 +37,14 @@ use Rattle.lrs_record.specs.Entries.{word_text}
 use Rattle.lrs_record.specs.declared.entry.Entry.{Entry}
 use Rattle.lrs_replies.specs.Texts.{token_text}
 
--- ---- the places of providers' tokens
+-- ---- the indices of providers' tokens
 
--- the token tells an earlier place than that
+-- the token tells an earlier index than that
 record TellsPlace (n : ℕ) (token : List ℕ) : Type 0 where
-  pub place : ℕ
+  pub index : ℕ
   pub secret : ℕ
-  pub earlier : place < n
-  pub told : token ≡ token_text place secret
+  pub earlier : index < n
+  pub told : token ≡ token_text index secret
 
 abbrev AreTold : ℕ → List HeldProvider → Type 0
 AreTold n providers = AllByRecursion (λ (c : HeldProvider). TellsPlace n c.token) providers
@@ -57,42 +57,42 @@ told_after h e x by_move each = by_kind by_move
 
     still : AreTold (length (h ++ e ∷ [])) (state h).providers
     still = each_weaker (λ (c : HeldProvider). TellsPlace (length h) c.token) (λ (c : HeldProvider). TellsPlace (length (h ++ e ∷ [])) c.token)
-        (λ c tells. record { place = tells.place; secret = tells.secret; earlier = omega (arith, tells.earlier, longer); told = tells.told }) (state h).providers each
+        (λ c tells. record { index = tells.index; secret = tells.secret; earlier = omega (arith, tells.earlier, longer); told = tells.told }) (state h).providers each
 
     by_kind : MovesProviders (occasion (state h) e) x → AreTold (length (h ++ e ∷ [])) (providers_after (state h).providers x.providers)
     by_kind (inl same) = subst (λ c. AreTold (length (h ++ e ∷ [])) (providers_after (state h).providers c)) (sym same) still
     by_kind (inr made) =
         subst (λ c. AreTold (length (h ++ e ∷ [])) (providers_after (state h).providers c)) (sym made.providers)
         (each_push (λ (c : HeldProvider). TellsPlace (length (h ++ e ∷ [])) c.token) (state h).providers (record { name = made.name; token = (occasion (state h) e).token }) still
-        (record { place = length h; secret = e.draw.secret; earlier = omega (arith, longer); told = ap (λ n. token_text n e.draw.secret) (state_length h) }))
+        (record { index = length h; secret = e.draw.secret; earlier = omega (arith, longer); told = ap (λ n. token_text n e.draw.secret) (state_length h) }))
 
 all_told : (h : List Entry) → AreTold (length h) (state h).providers
 all_told = by_entries (λ h. AreTold (length h) (state h).providers) tt
     (λ h e each. subst (λ (st : State). AreTold (length (h ++ e ∷ [])) st.providers) (sym (after_one h e))
     (told_after h e (effect (state h) e) (provider_moves (state h) (occasion (state h) e) e.write (effect (state h) e) (moves (state h) (occasion (state h) e) e.write)) each))
 
--- ---- a token of another place
+-- ---- a token of another index
 
-apart : (token : List ℕ) (n secret place other : ℕ) → token ≡ token_text place other → place < n → n < 2 ^ 64 → bytes_eq token (token_text n secret) ≡ false
-apart token n secret place other told earlier few = by_test (bytes_eq token (token_text n secret)) refl
+apart : (token : List ℕ) (n secret index other : ℕ) → token ≡ token_text index other → index < n → n < 2 ^ 64 → bytes_eq token (token_text n secret) ≡ false
+apart token n secret index other told earlier few = by_test (bytes_eq token (token_text n secret)) refl
   where
     by_test : (b : Bool) → bytes_eq token (token_text n secret) ≡ b → b ≡ false
     by_test false is = refl
     by_test true is =
-        let one : place ≡ n = same_place place n other secret (omega (arith, earlier, few)) few (sym told ∙ same_text token (token_text n secret) (sym is)) in
+        let one : index ≡ n = same_place index n other secret (omega (arith, earlier, few)) few (sym told ∙ same_text token (token_text n secret) (sym is)) in
         absurd (omega (arith, earlier, one))
 
 none_from : {A : Type 0} (p : A → Bool) (i : ℕ) (xs : List A) → AllByRecursion (λ x. p x ≡ false) xs → position_from p i xs ≡ None
 none_from p i [] each = refl
 none_from p i (x ∷ xs) each = ap (λ b. cond b (Some i) (position_from p (i + 1) xs)) each.0 ∙ none_from p (i + 1) xs each.1
 
-no_provider : (h : List Entry) (secret : ℕ) → length h < 2 ^ 64 → place_of_token (token_text (length h) secret) (state h).providers ≡ None
+no_provider : (h : List Entry) (secret : ℕ) → length h < 2 ^ 64 → index_of_token (token_text (length h) secret) (state h).providers ≡ None
 no_provider h secret few =
     let T : List ℕ = token_text (length h) secret in
     position_from-zero (λ (c : HeldProvider). bytes_eq c.token T) (state h).providers
     ∙ none_from (λ (c : HeldProvider). bytes_eq c.token T) 0 (state h).providers
     (each_weaker (λ (c : HeldProvider). TellsPlace (length h) c.token) (λ (c : HeldProvider). bytes_eq c.token T ≡ false)
-    (λ c tells. apart c.token (length h) secret tells.place tells.secret tells.told tells.earlier few) (state h).providers (all_told h))
+    (λ c tells. apart c.token (length h) secret tells.index tells.secret tells.told tells.earlier few) (state h).providers (all_told h))
 
 none_found : {A : Type 0} (p : A → Bool) (xs : List A) → AllByRecursion (λ x. p x ≡ false) xs → find p xs ≡ None
 none_found p [] each = refl
@@ -148,17 +148,17 @@ given_tokens_act limit before behind e key legal few fetches =
     ∙ (ap (λ o. option_map (λ (t : HeldToken). t.launch) o) (find-append (λ (t : HeldToken). bytes_eq t.token T) st.tokens (last ∷ [])
     ∙ (ap (λ o. option_or o (token_under T (last ∷ []))) (no_token before e.draw.secret small) ∙ ap (λ b. cond b (Some last) None) (nat_list_eq_equiv.refl T)))) in
     let given : WasGiven (before ++ e ∷ []) T = record { before = before; fetch = e; behind = []; whole = refl; key = key; fetches = fetches; told = refl } in
-    let none_yet : place_of_token T (step st e).providers ≡ None =
-    ap (λ (x : Effect). place_of_token T (providers_after st.providers x.providers)) gift.gives ∙ no_provider before e.draw.secret small in
+    let none_yet : index_of_token T (step st e).providers ≡ None =
+    ap (λ (x : Effect). index_of_token T (providers_after st.providers x.providers)) gift.gives ∙ no_provider before e.draw.secret small in
     let none_later = no_provider_on (before ++ e ∷ []) T (step st e) behind given (omega (arith, one, state_length before, length-append before (e ∷ []))) (omega (arith, one, state_length before, size, few)) none_yet in
     let whole : state (before ++ e ∷ behind) ≡ state_from st (e ∷ behind) = state_from-append nothing before (e ∷ behind) in
     let founding = has_founding limit (before ++ e ∷ behind) legal in (
       found.0,
       record { held = held; found = subst (λ n. key_under n st.keys ≡ Some held) (ap fetched_name (sym gift.fetches)) gift.held; launched = found.1 },
       record {
-        place = held.launch;
-        known = ap (λ b. if b then who.Admin else known_as (place_of_token T (state (before ++ e ∷ behind)).providers) (launch_of_token T (state (before ++ e ∷ behind)).tokens)) (no_admin (state (before ++ e ∷ behind)).founding founding.0 (length before) e.draw.secret founding.1 founding.2)
-            ∙ (ap (λ (s : State). known_as (place_of_token T s.providers) (launch_of_token T s.tokens)) whole
+        index = held.launch;
+        known = ap (λ b. if b then who.Admin else known_as (index_of_token T (state (before ++ e ∷ behind)).providers) (launch_of_token T (state (before ++ e ∷ behind)).tokens)) (no_admin (state (before ++ e ∷ behind)).founding founding.0 (length before) e.draw.secret founding.1 founding.2)
+            ∙ (ap (λ (s : State). known_as (index_of_token T s.providers) (launch_of_token T s.tokens)) whole
             ∙ (ap (λ o. known_as o (launch_of_token T (state_from st (e ∷ behind)).tokens)) none_later ∙ ap (known_as None) (launch_on T (step st e) behind held.launch known)));
         launched = ap (λ (s : State). slice_get s.launches held.launch) whole ∙ launched_on st (e ∷ behind) held.launch found.0 found.1;
       },

@@ -10,7 +10,7 @@ use Rattle.std.proofs.lemmas.List.{append_cancel_left}
 use Rattle.cmi5_course.specs.declared.course.Node.{Node}
 use Rattle.cmi5_launch.specs.Activities.{activity_text}
 use Rattle.cmi5_launch.specs.Names.{satisfied}
-use Rattle.cmi5_verdict.specs.Nodes.{SeenEnrolment, activity_at, at_depth, depth_of, from_depth, is_owed, is_satisfied, is_unit_in, owed, places}
+use Rattle.cmi5_verdict.specs.Nodes.{SeenEnrolment, activity_at, at_depth, depth_of, from_depth, is_owed, is_satisfied, is_unit_in, owed, indices}
 use Rattle.cmi5_verdict.specs.Units.{was_said}
 use Rattle.lrs_laws.proofs.Counting.{many, many-append, many_filter, one_in_row, some_passes}
 use Rattle.lrs_laws.proofs.NewIds.{and_left, and_right, not_true}
@@ -73,7 +73,7 @@ same_number base course j k few small same =
 
 -- the registration is that one, and the node has that id
 abbrev pub is_that_node : SeenEnrolment → List ℕ → List ℕ → ℕ → Bool
-is_that_node e registration activity place = bytes_eq e.registration registration && bytes_eq (activity_at e place) activity
+is_that_node e registration activity index = bytes_eq e.registration registration && bytes_eq (activity_at e index) activity
 
 -- Such a node isn't owed, or it is owed once and was never said.
 abbrev pub IsOwedOnce : SeenEnrolment → List StoredStatement → List ℕ → List ℕ → Type 0
@@ -82,17 +82,17 @@ IsOwedOnce e statements registration activity =
     ⊎ ((many (is_that_node e registration activity) (owed e statements) ≤ 1) × (was_said statements registration activity satisfied ≡ false))
 
 pub owed_once : (e : SeenEnrolment) (statements : List StoredStatement) (registration activity : List ℕ) → length e.nodes < 2 ^ 32 → IsOwedOnce e statements registration activity
-owed_once e statements registration activity few = by_some (some_passes due (places e.nodes))
+owed_once e statements registration activity few = by_some (some_passes due (indices e.nodes))
   where
     due : ℕ → Bool
     due p = is_owed e statements p && is_that_node e registration activity p
 
-    fewer : many (is_that_node e registration activity) (owed e statements) ≤ many due (places e.nodes)
+    fewer : many (is_that_node e registration activity) (owed e statements) ≤ many due (indices e.nodes)
     fewer =
-        let deep : many (is_that_node e registration activity) (owed e statements) ≤ many (is_that_node e registration activity) (filter (is_owed e statements) (places e.nodes)) =
-        no_more e.nodes (is_that_node e registration activity) (filter (is_owed e statements) (places e.nodes)) (length e.nodes) in
-        let same : many (is_that_node e registration activity) (filter (is_owed e statements) (places e.nodes)) ≡ many due (places e.nodes) =
-        many_filter (is_that_node e registration activity) (is_owed e statements) (places e.nodes) in
+        let deep : many (is_that_node e registration activity) (owed e statements) ≤ many (is_that_node e registration activity) (filter (is_owed e statements) (indices e.nodes)) =
+        no_more e.nodes (is_that_node e registration activity) (filter (is_owed e statements) (indices e.nodes)) (length e.nodes) in
+        let same : many (is_that_node e registration activity) (filter (is_owed e statements) (indices e.nodes)) ≡ many due (indices e.nodes) =
+        many_filter (is_that_node e registration activity) (is_owed e statements) (indices e.nodes) in
         omega (arith, deep, same)
 
     it_is : (p : ℕ) → due p ≡ true → (e.registration ≡ registration) × (activity_at e p ≡ activity)
@@ -105,7 +105,7 @@ owed_once e statements registration activity few = by_some (some_passes due (pla
     alike : (j k : ℕ) → j < length e.nodes → k < length e.nodes → due j ≡ true → due k ≡ true → j ≡ k
     alike j k low high is at = same_number e.base e.course j k (omega (arith, low, few)) (omega (arith, high, few)) ((it_is j is).1 ∙ sym (it_is k at).1)
 
-    once : many due (places e.nodes) ≤ 1
+    once : many due (indices e.nodes) ≤ 1
     once = one_in_row due (length e.nodes) alike 0 (length e.nodes) (omega arith)
 
     unsaid : (p : ℕ) → due p ≡ true → was_said statements registration activity satisfied ≡ false
@@ -116,6 +116,6 @@ owed_once e statements registration activity few = by_some (some_passes due (pla
         (and_left (is_owed e statements p) (is_that_node e registration activity p) is)) in
         ap (λ r. was_said statements r activity satisfied) (sym (it_is p is).0) ∙ (ap (λ a. was_said statements e.registration a satisfied) (sym (it_is p is).1) ∙ never)
 
-    by_some : (many due (places e.nodes) ≡ 0) ⊎ ((p : ℕ) × (due p ≡ true)) → IsOwedOnce e statements registration activity
+    by_some : (many due (indices e.nodes) ≡ 0) ⊎ ((p : ℕ) × (due p ≡ true)) → IsOwedOnce e statements registration activity
     by_some (inl none) = inl (omega (arith, fewer, none))
     by_some (inr found) = inr (omega (arith, fewer, once), unsaid found.0 found.1)

@@ -24,9 +24,9 @@ use Rattle.lrs_laws.proofs.NewIds.{and_left, and_right}
 use Rattle.lrs_laws.proofs.Paging.{IsInOrder, Links, distinct_in_order, each_at, each_filtered, filtered_in_order, linked, positions_in_order, unlinked}
 use Rattle.lrs_laws.proofs.GivenTokens.{launch_on, no_provider_on, state_length, token_given}
 use Rattle.lrs_laws.proofs.Launched.{launched_on, session_launched}
-use Rattle.lrs_state.proofs.Keys.{place_kept}
+use Rattle.lrs_state.proofs.Keys.{index_kept}
 use Rattle.lrs_state.specs.Launches.{launch_of_token}
-use Rattle.lrs_state.specs.Providers.{place_of_token, token_of}
+use Rattle.lrs_state.specs.Providers.{index_of_token, token_of}
 use Rattle.lrs_state.specs.Founding.{founding_after, is_admin, is_base, is_token}
 use Rattle.lrs_state.specs.State.{State, nothing}
 use Rattle.lrs_state.specs.declared.founding.Founding.{Founding}
@@ -138,10 +138,10 @@ pub statements_on : (st : State) (more : List Entry) → BeginsAs st.statements 
 statements_on st [] = ([], sym (append-nil st.statements))
 statements_on st (e ∷ more) = on_and_on st.statements (step st e).statements (state_from (step st e) more).statements (each_on st.statements (effect st e).statements) (statements_on (step st e) more)
 
--- a token that is known keeps its place
-pub known_on : (token : List ℕ) (k : ℕ) (st : State) (more : List Entry) → place_of_token token st.providers ≡ Some k → place_of_token token (state_from st more).providers ≡ Some k
+-- a token that is known keeps its index
+pub known_on : (token : List ℕ) (k : ℕ) (st : State) (more : List Entry) → index_of_token token st.providers ≡ Some k → index_of_token token (state_from st more).providers ≡ Some k
 known_on token k st [] is = is
-known_on token k st (e ∷ more) is = known_on token k (step st e) more (place_kept token_of token st.providers (effect st e).providers k is)
+known_on token k st (e ∷ more) is = known_on token k (step st e) more (index_kept token_of token st.providers (effect st e).providers k is)
 
 grown_on : (h more : List Entry) → take (length (state h).statements) (state (h ++ more)).statements ≡ (state h).statements
 grown_on h more =
@@ -246,31 +246,31 @@ has_founding limit (e ∷ h) legal =
 
 -- who is let in stays who he is
 who_on : (h : List Entry) (su : State) (caller : Caller) → su.founding ≡ (state h).founding
-    → ((token : List ℕ) (k : ℕ) → place_of_token token (state h).providers ≡ Some k → place_of_token token su.providers ≡ Some k)
-    → ((token : List ℕ) (k : ℕ) → who_is (state h) caller ≡ who.Session k → place_of_token token (state h).providers ≡ None → launch_of_token token (state h).tokens ≡ Some k
-    → (place_of_token token su.providers ≡ None) × (launch_of_token token su.tokens ≡ Some k))
+    → ((token : List ℕ) (k : ℕ) → index_of_token token (state h).providers ≡ Some k → index_of_token token su.providers ≡ Some k)
+    → ((token : List ℕ) (k : ℕ) → who_is (state h) caller ≡ who.Session k → index_of_token token (state h).providers ≡ None → launch_of_token token (state h).tokens ≡ Some k
+    → (index_of_token token su.providers ≡ None) × (launch_of_token token su.tokens ≡ Some k))
     → barred Store (who_is (state h) caller) ≡ None → who_is su caller ≡ who_is (state h) caller
 who_on h su Nobody founding known acts is = refl
 who_on h su Operator founding known acts is = refl
 who_on h su (Token token) founding known acts is =
-    ap (λ f. if is_admin f token then who.Admin else known_as (place_of_token token su.providers) (launch_of_token token su.tokens)) founding ∙ by_admin (is_admin (state h).founding token) refl is
+    ap (λ f. if is_admin f token then who.Admin else known_as (index_of_token token su.providers) (launch_of_token token su.tokens)) founding ∙ by_admin (is_admin (state h).founding token) refl is
   where
-    by_places : (o p : Option ℕ) → place_of_token token (state h).providers ≡ o → launch_of_token token (state h).tokens ≡ p → is_admin (state h).founding token ≡ false → barred Store (known_as o p) ≡ None
-        → known_as (place_of_token token su.providers) (launch_of_token token su.tokens) ≡ known_as o p
+    by_places : (o p : Option ℕ) → index_of_token token (state h).providers ≡ o → launch_of_token token (state h).tokens ≡ p → is_admin (state h).founding token ≡ false → barred Store (known_as o p) ≡ None
+        → known_as (index_of_token token su.providers) (launch_of_token token su.tokens) ≡ known_as o p
     by_places None None at in_session no_admin let_in = cc let_in
     by_places None (Some k) at in_session no_admin let_in =
         let by : who_is (state h) (Token token) ≡ who.Session k =
-        ap (λ b. if b then who.Admin else known_as (place_of_token token (state h).providers) (launch_of_token token (state h).tokens)) no_admin
+        ap (λ b. if b then who.Admin else known_as (index_of_token token (state h).providers) (launch_of_token token (state h).tokens)) no_admin
         ∙ (ap (λ o. known_as o (launch_of_token token (state h).tokens)) at ∙ ap (known_as None) in_session) in
         let later = acts token k by at in_session in
         ap (λ o. known_as o (launch_of_token token su.tokens)) later.0 ∙ ap (known_as None) later.1
     by_places (Some k) p at in_session no_admin let_in = ap (λ o. known_as o (launch_of_token token su.tokens)) (known token k at)
 
-    by_admin : (b : Bool) → is_admin (state h).founding token ≡ b → barred Store (if b then who.Admin else known_as (place_of_token token (state h).providers) (launch_of_token token (state h).tokens)) ≡ None
-        → (if b then who.Admin else known_as (place_of_token token su.providers) (launch_of_token token su.tokens))
-        ≡ (if b then who.Admin else known_as (place_of_token token (state h).providers) (launch_of_token token (state h).tokens))
+    by_admin : (b : Bool) → is_admin (state h).founding token ≡ b → barred Store (if b then who.Admin else known_as (index_of_token token (state h).providers) (launch_of_token token (state h).tokens)) ≡ None
+        → (if b then who.Admin else known_as (index_of_token token su.providers) (launch_of_token token su.tokens))
+        ≡ (if b then who.Admin else known_as (index_of_token token (state h).providers) (launch_of_token token (state h).tokens))
     by_admin true admin let_in = refl
-    by_admin false no_admin let_in = by_places (place_of_token token (state h).providers) (launch_of_token token (state h).tokens) refl refl no_admin let_in
+    by_admin false no_admin let_in = by_places (index_of_token token (state h).providers) (launch_of_token token (state h).tokens) refl refl no_admin let_in
 
 who_stays : (limit : ℕ) (h more : List Entry) (caller : Caller) → IsLegal limit h → (acts_in_session (who_in h caller) ≡ true → length (h ++ more) < 2 ^ 64) → IsLetIn h caller → who_in (h ++ more) caller ≡ who_in h caller
 who_stays limit h more caller legal few let_in =

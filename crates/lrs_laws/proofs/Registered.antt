@@ -5,7 +5,7 @@ use Rattle.std.specs.Int.{bytes_high_first}
 use Rattle.std.specs.List.{AllByRecursion}
 use Rattle.std.specs.Str.{bytes_eq}
 use Rattle.std.proofs.lemmas.List.Elements.{All-from_get_or}
-use Rattle.cmi5_course.specs.Courses.{Course, place_of_unit, unit_at}
+use Rattle.cmi5_course.specs.Courses.{Course, index_of_unit, unit_at}
 use Rattle.cmi5_course.specs.Units.{AssignableUnit}
 use Rattle.lrs_history.specs.DeskEffects.{coming}
 use Rattle.lrs_history.specs.Effects.{effect, effect_of}
@@ -20,8 +20,8 @@ use Rattle.lrs_laws.proofs.Lists.{all_mapped, all_then, each_found, each_push}
 use Rattle.lrs_names.proofs.WordBytes.{small_word_bytes}
 use Rattle.lrs_names.specs.Ids.{IsId, bits_of, id_of_word}
 use Rattle.lrs_names.specs.declared.id.TheConstants.{WORDS}
-use Rattle.lrs_state.specs.Courses.{place_of_course}
-use Rattle.lrs_state.specs.Launches.{key_under, place_of_session}
+use Rattle.lrs_state.specs.Courses.{index_of_course}
+use Rattle.lrs_state.specs.Launches.{key_under, index_of_session}
 use Rattle.lrs_state.specs.Registrations.{registration_under, registrations_after, unchanged_registrations}
 use Rattle.lrs_state.specs.State.{State, used_in}
 use Rattle.lrs_state.specs.declared.effect.Effect.{Effect}
@@ -70,12 +70,12 @@ MovesRegistrations at x = (x.registrations ≡ unchanged_registrations) ⊎ Enro
 
 moves_registrations : (st : State) (at : Occasion) (w : Write) → MovesRegistrations at (effect_of st at w)
 moves_registrations st at (Enrol course actor) =
-    of_enrolment (MovesRegistrations at) st at (inl refl) actor (place_of_course course st.courses)
+    of_enrolment (MovesRegistrations at) st at (inl refl) actor (index_of_course course st.courses)
     (λ k. inr (record { registration = record { id = at.supply 0; course = k; actor = actor }; id = refl; registrations = refl }))
 moves_registrations st at (write.Launch registration unit mode return_url) = of_launch (MovesRegistrations at) st at (inl refl) mode return_url (target st registration unit) (λ t. inl refl)
 moves_registrations st at (Fetch name) = of_fetch (MovesRegistrations at) st at (inl refl) (key_under name st.keys) (λ told. inl refl) (λ key is unused still. inl refl)
 moves_registrations st at (Waive registration unit reason) = of_waiver (MovesRegistrations at) st at (inl refl) reason (target st registration unit) (λ t is. inl refl)
-moves_registrations st at (Abandon session) = of_ending (MovesRegistrations at) st at (inl refl) (place_of_session session st.launches) (λ numbers. inl refl)
+moves_registrations st at (Abandon session) = of_ending (MovesRegistrations at) st at (inl refl) (index_of_session session st.launches) (λ numbers. inl refl)
 moves_registrations st at other = inl refl
 
 ids_after : (rs : List HeldRegistration) (at : Occasion) (x : Effect) → MakesIds at → MovesRegistrations at x → AreIds rs → AreIds (registrations_after rs x.registrations)
@@ -99,7 +99,7 @@ abbrev HasId : Target → Type 0
 HasId t = IsId t.registration.id
 
 abbrev target_with : List ℕ → HeldRegistration → List ℕ → ℕ → AssignableUnit → Target
-target_with base r publisher place unit = record { base = base; registration = r; place = place; publisher = publisher; unit = unit }
+target_with base r publisher index unit = record { base = base; registration = r; index = index; publisher = publisher; unit = unit }
 
 pub target_id : (st : State) (registration publisher : List ℕ) (t : Target) → AreIds st.registrations → target st registration publisher ≡ Some t → IsId t.registration.id
 target_id st registration publisher t each is = subst (λ o. IfSome o HasId) is all
@@ -108,8 +108,8 @@ target_id st registration publisher t each is = subst (λ o. IfSome o HasId) is 
     by_registration founding None found = tt
     by_registration founding (Some r) found =
         all_then HasId (target_in founding.base r publisher) (slice_get st.courses r.course)
-        (λ course. all_then HasId (target_at founding.base r publisher course) (place_of_unit publisher course)
-        (λ place. all_mapped HasId (target_with founding.base r publisher place) (unit_at place course) (λ unit. found_id st registration r each found)))
+        (λ course. all_then HasId (target_at founding.base r publisher course) (index_of_unit publisher course)
+        (λ index. all_mapped HasId (target_with founding.base r publisher index) (unit_at index course) (λ unit. found_id st registration r each found)))
 
     all : IfSome (target st registration publisher) HasId
     all = all_then HasId (target_under st registration publisher) st.founding (λ founding. by_registration founding (registration_under registration st.registrations) refl)

@@ -132,14 +132,14 @@ module _ (e : Enrolled) (is_id : IsId e.registration.id) (session registration a
   is_it = is_that_node (enrolment_of e) registration activity
 
   -- what is said of a node is said of that one
-  of_that_node : (place : ℕ) (node : Node) → counts registration activity satisfied (view (tree_of (satisfied_json e session place node))) ≡ true → is_it place ≡ true
-  of_that_node place node is = last_two (says satisfied j) (bytes_eq e.registration.id registration) (bytes_eq own activity) (sym named ∙ is)
+  of_that_node : (index : ℕ) (node : Node) → counts registration activity satisfied (view (tree_of (satisfied_json e session index node))) ≡ true → is_it index ≡ true
+  of_that_node index node is = last_two (says satisfied j) (bytes_eq e.registration.id registration) (bytes_eq own activity) (sym named ∙ is)
     where
       own : List ℕ
-      own = activity_of_node (enrolment_of e) place
+      own = activity_of_node (enrolment_of e) index
 
       said : Json
-      said = satisfied_json e session place node
+      said = satisfied_json e session index node
 
       j : Json
       j = view (tree_of said)
@@ -156,20 +156,20 @@ module _ (e : Enrolled) (is_id : IsId e.registration.id) (session registration a
           ∙ ap (λ o. says satisfied j && bytes_eq e.registration.id registration && is_that_id activity o) about
 
   -- so no more of them say so than there are such nodes
-  said_of_nodes : (supply : Supply) (moment : ℕ) (places : List ℕ)
-      → many (says_so registration activity) (made_under supply moment (filter_map (satisfied_at e session) places)) ≤ many is_it places
+  said_of_nodes : (supply : Supply) (moment : ℕ) (indices : List ℕ)
+      → many (says_so registration activity) (made_under supply moment (filter_map (satisfied_at e session) indices)) ≤ many is_it indices
   said_of_nodes supply moment [] = let none : 0 ≤ 0 = omega arith in none
-  said_of_nodes supply moment (place ∷ places) = by_node (node_at place e.course) (λ later. said_of_nodes later moment places)
+  said_of_nodes supply moment (index ∷ indices) = by_node (node_at index e.course) (λ later. said_of_nodes later moment indices)
     where
       rest : List Json
-      rest = filter_map (satisfied_at e session) places
+      rest = filter_map (satisfied_at e session) indices
 
-      by_node : (o : Option Node) → ((later : Supply) → many (says_so registration activity) (made_under later moment rest) ≤ many is_it places)
-          → many (says_so registration activity) (made_under supply moment (cons_option (option_map (satisfied_json e session place) o) rest)) ≤ many is_it (place ∷ places)
-      by_node None fewer = many_more (says_so registration activity) is_it place (made_under supply moment rest) places (fewer supply)
+      by_node : (o : Option Node) → ((later : Supply) → many (says_so registration activity) (made_under later moment rest) ≤ many is_it indices)
+          → many (says_so registration activity) (made_under supply moment (cons_option (option_map (satisfied_json e session index) o) rest)) ≤ many is_it (index ∷ indices)
+      by_node None fewer = many_more (says_so registration activity) is_it index (made_under supply moment rest) indices (fewer supply)
       by_node (Some node) fewer =
-          let n : WithId = record { id = supply 0; tree = tree_of (satisfied_json e session place node) } in
-          many_both (says_so registration activity) is_it (held_of moment Desk n) place (made_under (rest_of supply) moment rest) places (of_that_node place node) (fewer (rest_of supply))
+          let n : WithId = record { id = supply 0; tree = tree_of (satisfied_json e session index node) } in
+          many_both (says_so registration activity) is_it (held_of moment Desk n) index (made_under (rest_of supply) moment rest) indices (of_that_node index node) (fewer (rest_of supply))
 
 -- what was never said none of them says
 first_false : (b : Bool) → b && true ≡ false → b ≡ false

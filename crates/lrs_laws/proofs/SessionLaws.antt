@@ -14,7 +14,7 @@ use Rattle.lrs_history.proofs.Strangers.{told_barred}
 use Rattle.lrs_history.specs.Answers.{read_said, write_said}
 use Rattle.lrs_history.specs.Effects.{effect}
 use Rattle.lrs_history.specs.Occasions.{occasion}
-use Rattle.lrs_history.specs.History.{answer, end_place, next_entry, state}
+use Rattle.lrs_history.specs.History.{answer, end_offset, next_entry, state}
 use Rattle.lrs_history.specs.Refusals.{bad_form, bad_role, barred, conflict, missing, read_refusal, refusal, refused_inside, unmergeable}
 use Rattle.lrs_history.specs.Sessions.{is_its_own, outside, over_state, overstepped}
 use Rattle.lrs_history.specs.Whose.{known_as, launch_of, sight_in as sight_in_launch, sight_of}
@@ -27,7 +27,7 @@ use Rattle.lrs_laws.specs.Laws.{IsAccepted, who_in}
 use Rattle.lrs_laws.specs.Sessions.{ActsInSession, OtherTokensAreUnknown, SessionTokensWereGiven, SessionsAreBarredFromTheDesk, SessionsAreLaunched, SessionsKeepLaunchData, SessionsKeepToTheirDocuments, SessionsSeeTheirRegistration}
 use Rattle.lrs_names.specs.declared.draw.Draw.{Draw}
 use Rattle.lrs_state.specs.Launches.{launch_of_token}
-use Rattle.lrs_state.specs.Providers.{place_of_token}
+use Rattle.lrs_state.specs.Providers.{index_of_token}
 use Rattle.lrs_state.specs.State.{changes_nothing}
 use Rattle.lrs_record.specs.Writes.{write_area}
 use Rattle.lrs_record.specs.declared.entry.Area.TheVariants.{Desk}
@@ -45,14 +45,14 @@ use Rattle.xapi_query.specs.Filters.{sees}
 -- ---- tokens
 
 pub sessions_are_launched : SessionsAreLaunched
-sessions_are_launched h caller k is = let found = session_launched h caller k is in (found.0, record { place = k; known = is; launched = found.1 })
+sessions_are_launched h caller k is = let found = session_launched h caller k is in (found.0, record { index = k; known = is; launched = found.1 })
 
 pub session_tokens_were_given : SessionTokensWereGiven
-session_tokens_were_given h token launch acts = token_given h token acts.place (acting (state h) token acts.place acts.known)
+session_tokens_were_given h token launch acts = token_given h token acts.index (acting (state h) token acts.index acts.known)
 
 pub other_tokens_are_unknown : OtherTokensAreUnknown
 other_tokens_are_unknown h token no_admin no_provider ungiven =
-    ap (λ b. if b then who.Admin else known_as (place_of_token token (state h).providers) (launch_of_token token (state h).tokens)) no_admin
+    ap (λ b. if b then who.Admin else known_as (index_of_token token (state h).providers) (launch_of_token token (state h).tokens)) no_admin
     ∙ (ap (λ o. known_as o (launch_of_token token (state h).tokens)) no_provider ∙ by_launch (launch_of_token token (state h).tokens) refl)
   where
     by_launch : (o : Option ℕ) → launch_of_token token (state h).tokens ≡ o → known_as None o ≡ who.Unknown
@@ -110,7 +110,7 @@ right_role : (limit : ℕ) (h : List Entry) (caller : Caller) (w : Write) (clock
 right_role limit h caller w clock draw is =
     let st = state h in
     let x : Entry = next_entry st caller w clock draw in
-    let free = unrefused limit (end_place limit h) x (write_said (effect st x)) (refusal st x) (when (changes_nothing (effect st x)) (write_said (effect st x))) is in
+    let free = unrefused limit (end_offset limit h) x (write_said (effect st x)) (refusal st x) (when (changes_nothing (effect st x)) (write_said (effect st x))) is in
     (no_reason (barred (write_area w) (who_in h caller) ∷ bad_form w ∷ bad_role st (who_in h caller) w ∷ missing st w ∷ unmergeable st w ∷ conflict st (occasion st x) w ∷ []) free).1.1.0
 
 -- what a question that isn't refused asks for is inside

@@ -95,7 +95,7 @@ some_on : (ss more : List StoredStatement) → is_empty ss ≡ false → is_empt
 some_on [] more some = cc some
 some_on (s ∷ ss) more some = refl
 
--- Where a session has said something, those that aren't added are missed at no place.
+-- Where a session has said something, those that aren't added are missed at no index.
 each_in_order : (session : List ℕ) (held xs : List StoredStatement) → is_empty (own_statements session held) ≡ false → AreInOrder session (held ++ xs) → AreInOrder session (add_each held xs)
 each_in_order session held [] some order = subst (AreInOrder session) (append-nil held) order
 each_in_order session held (x ∷ xs) some order = by_held (is_held x.id held) (λ l said rest. each_in_order session l xs said rest)
@@ -182,7 +182,7 @@ kept_by_writes session st at ns met order = by_caller at.by refl
     by_launch : (k : ℕ) (o : Option Launch) → at.by ≡ who.Session k → slice_get st.launches k ≡ o
         → AreInOrder session (add_each held (new_ones held (kept_by at.moment (option_map (λ (l : Launch). Session l.session) o) ns)))
     by_launch k None acts launched = order
-    by_launch k (Some l) acts launched = by_session l (bytes_eq l.session session) (record { place = k; acts = acts; launched = launched }) refl
+    by_launch k (Some l) acts launched = by_session l (bytes_eq l.session session) (record { index = k; acts = acts; launched = launched }) refl
 
     by_caller : (by : Who) → at.by ≡ by → AreInOrder session (add_each held (new_by st by at.moment ns))
     by_caller who.Unknown is = order

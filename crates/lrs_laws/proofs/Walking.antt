@@ -33,8 +33,8 @@ use Rattle.lrs_laws.proofs.NewIds.{and_right, or_right}
 use Rattle.lrs_laws.proofs.Permitted.{permitted, when_none}
 use Rattle.lrs_laws.proofs.Registered.{AreIds, MakesIds, all_ids, makes_ids}
 use Rattle.lrs_names.specs.Members.{is_one_of}
-use Rattle.lrs_state.specs.Courses.{place_of_course}
-use Rattle.lrs_state.specs.Launches.{key_under, place_of_session}
+use Rattle.lrs_state.specs.Courses.{index_of_course}
+use Rattle.lrs_state.specs.Launches.{key_under, index_of_session}
 use Rattle.lrs_state.specs.State.{State, nothing}
 use Rattle.lrs_state.specs.declared.effect.Effect.{Effect}
 use Rattle.lrs_record.specs.Writes.{write_area}
@@ -143,14 +143,14 @@ module _ (Q : List StoredStatement → Type 0) (writes : KeptByWrites Q) (deed :
   kept_by_entry (Put id statement) ids made free = kept_by_caller at.supply (record { id = id; tree = statement } ∷ []) ids (met_put st at id statement free)
   kept_by_entry (Post statements) ids made free = kept_by_caller (supply_after at.supply statements) (with_ids at.supply statements) ids (met_post st at statements free)
   kept_by_entry (Enrol course actor) ids made free =
-      kept_by_store (enrolling st at actor (place_of_course course st.courses)) (tells_enrolment st at actor (place_of_course course st.courses) made)
+      kept_by_store (enrolling st at actor (index_of_course course st.courses)) (tells_enrolment st at actor (index_of_course course st.courses) made)
   kept_by_entry (write.Launch registration unit mode return_url) ids made free =
       kept_by_store (launching st at mode return_url (target st registration unit)) (tells_launch st at mode return_url (target st registration unit))
   kept_by_entry (Fetch key) ids made free = kept_by_store (fetching st at (key_under key st.keys)) (tells_fetch st at (key_under key st.keys))
   kept_by_entry (Waive registration unit reason) ids made free =
       kept_by_store (waiving st at reason (target st registration unit)) (tells_waiver st at reason registration unit ids)
   kept_by_entry (Abandon session) ids made free =
-      kept_by_store (abandoning_one st at (place_of_session session st.launches)) (tells_ending st at (place_of_session session st.launches))
+      kept_by_store (abandoning_one st at (index_of_session session st.launches)) (tells_ending st at (index_of_session session st.launches))
   kept_by_entry (Sweep idle) ids made free = kept_by_store (sweeping st at idle) (tells_sweep st at idle)
   kept_by_entry other ids made free = is
 
@@ -191,9 +191,9 @@ over_legal Q writes desk none limit =
 
 -- the caller acts in the session of that launch
 pub record SpeaksIn (st : State) (at : Occasion) (l : Launch) : Type 0 where
-  pub place : ℕ
-  pub acts : at.by ≡ who.Session place
-  pub launched : slice_get st.launches place ≡ Some l
+  pub index : ℕ
+  pub acts : at.by ≡ who.Session index
+  pub launched : slice_get st.launches index ≡ Some l
 
 pub its_authority : (st : State) (at : Occasion) (l : Launch) → SpeaksIn st at l → authority_of st at.by ≡ Some (Session l.session)
 its_authority st at l speaks = ap (authority_of st) speaks.acts ∙ ap (λ o. option_map (λ (x : Launch). Session x.session) o) speaks.launched
@@ -204,12 +204,12 @@ none_told (Some n) free = cc free
 
 -- It isn't abandoned, and breaks none of the rules.
 pub its_rule : (st : State) (at : Occasion) (l : Launch) (before : List StoredStatement) (j : Json) → SpeaksIn st at l → forbidden st at.by before j ≡ None → broken_rule (view_of l true false before) j ≡ None
-its_rule st at l before j speaks free = by_end (is_abandoned st speaks.place) unbroken
+its_rule st at l before j speaks free = by_end (is_abandoned st speaks.index) unbroken
   where
-    unbroken : broken_rule (view_of l true (is_abandoned st speaks.place) before) j ≡ None
+    unbroken : broken_rule (view_of l true (is_abandoned st speaks.index) before) j ≡ None
     unbroken =
         sym (ap (λ by. broken_by st by before j) speaks.acts
-        ∙ ap (λ o. option_and_then (λ (x : Launch). broken_rule (view_of x true (is_abandoned st speaks.place) before) j) o) speaks.launched)
+        ∙ ap (λ o. option_and_then (λ (x : Launch). broken_rule (view_of x true (is_abandoned st speaks.index) before) j) o) speaks.launched)
         ∙ none_told (broken_by st at.by before j) free
 
     by_end : (b : Bool) → broken_rule (view_of l true b before) j ≡ None → broken_rule (view_of l true false before) j ≡ None
@@ -236,7 +236,7 @@ by_speaker R st at ns outside inside none = by_caller at.by refl
         let none_new : new_by st at.by at.moment ns ≡ [] =
         ap (λ by. new_by st by at.moment ns) acts ∙ ap (λ o. new_ones st.statements (kept_by at.moment (option_map (λ (l : Launch). Session l.session) o) ns)) there in
         subst R (sym none_new) none
-    by_launch k (Some l) acts there = inside l (record { place = k; acts = acts; launched = there })
+    by_launch k (Some l) acts there = inside l (record { index = k; acts = acts; launched = there })
 
     by_caller : (by : Who) → at.by ≡ by → R (new_by st at.by at.moment ns)
     by_caller who.Unknown is = outside false (λ before j. ap (λ by. broken_by st by before j) is)

@@ -16,7 +16,7 @@ use Rattle.lrs_command.specs.declared.who.Who.TheVariants as who
 use Rattle.lrs_history.specs.Answers.{write_said}
 use Rattle.lrs_history.specs.Effects.{brought, effect, new_by, owed_in_session}
 use Rattle.lrs_history.specs.Occasions.{Occasion, occasion}
-use Rattle.lrs_history.specs.History.{Answer, answer_of, end_place, next_entry, need, only, refused, state, outcome_by, with_entry}
+use Rattle.lrs_history.specs.History.{Answer, answer_of, end_offset, next_entry, need, only, refused, state, outcome_by, with_entry}
 use Rattle.lrs_history.specs.Refusals.{barred, before_next, conflict, forbidden, missing, refusal, refused_batch, refused_form, refused_in, refused_over, refused_under}
 use Rattle.lrs_history.specs.Whose.{authority_of, known_as, launch_of, who_is}
 use Rattle.lrs_history.proofs.Room.{no_room, kept_answer}
@@ -31,7 +31,7 @@ use Rattle.lrs_laws.proofs.NewIds.{batch_distinct, batch_new, not_true, and_left
 use Rattle.lrs_names.specs.Members.{is_one_of}
 use Rattle.cmi5_course.specs.declared.launch.Launch.{Launch}
 use Rattle.lrs_state.specs.Launches.{launch_of_token}
-use Rattle.lrs_state.specs.Providers.{place_of_token}
+use Rattle.lrs_state.specs.Providers.{index_of_token}
 use Rattle.lrs_state.specs.Founding.{is_admin}
 use Rattle.lrs_state.specs.State.{State, changes_no_learning, changes_nothing, is_empty, nothing}
 use Rattle.lrs_state.specs.declared.providers.HeldProvider.{HeldProvider}
@@ -58,15 +58,15 @@ use Rattle.xapi_statement.specs.Statement.{own_id}
 
 -- of a write whose refusal and whose change are known
 abbrev answer_by : ℕ → ℕ → Entry → Answered → Option Refusal → Bool → Answer
-answer_by limit place x t o b = answer_of limit place (outcome_by (option_or (option_map refused o) (when b t)) x t)
+answer_by limit offset x t o b = answer_of limit offset (outcome_by (option_or (option_map refused o) (when b t)) x t)
 
-by_answer : (P : Answer → Type 0) (limit place : ℕ) (x : Entry) (t : Answered) (o : Option Refusal) (b : Bool) → (o ≡ None → b ≡ true → P (only t)) → (o ≡ None → P (kept_answer t x))
-    → IsAccepted (answer_by limit place x t o b) → P (answer_by limit place x t o b)
-by_answer P limit place x t (Some r) b old new accepted = absurd (accepted r refl)
-by_answer P limit place x t None true old new accepted = old refl refl
-by_answer P limit place x t None false old new accepted = by_room (nat_lt limit (need place x)) accepted
+by_answer : (P : Answer → Type 0) (limit offset : ℕ) (x : Entry) (t : Answered) (o : Option Refusal) (b : Bool) → (o ≡ None → b ≡ true → P (only t)) → (o ≡ None → P (kept_answer t x))
+    → IsAccepted (answer_by limit offset x t o b) → P (answer_by limit offset x t o b)
+by_answer P limit offset x t (Some r) b old new accepted = absurd (accepted r refl)
+by_answer P limit offset x t None true old new accepted = old refl refl
+by_answer P limit offset x t None false old new accepted = by_room (nat_lt limit (need offset x)) accepted
   where
-    by_room : (c : Bool) → IsAccepted (if c then no_room limit place x else kept_answer t x) → P (if c then no_room limit place x else kept_answer t x)
+    by_room : (c : Bool) → IsAccepted (if c then no_room limit offset x else kept_answer t x) → P (if c then no_room limit offset x else kept_answer t x)
     by_room true accepted = absurd (accepted _ refl)
     by_room false accepted = new refl
 
@@ -86,12 +86,12 @@ abbrev IsAcceptedWith : List Entry → Entry → Answered → List StoredStateme
 IsAcceptedWith h x t xs a =
     (refusal (state h) x ≡ None) × (a.said ≡ t) × (more : List StoredStatement) × ((state (with_entry h a.entry)).statements ≡ add_each (add_each (state h).statements xs) more)
 
-is_behind_it : (limit place : ℕ) (h : List Entry) (x : Entry) (t : Answered) (xs owed : List StoredStatement) → (effect (state h) x).statements ≡ new_ones (state h).statements xs ++ owed
-    → IsAccepted (answer_by limit place x t (refusal (state h) x) (changes_nothing (effect (state h) x)))
-    → IsAcceptedWith h x t xs (answer_by limit place x t (refusal (state h) x) (changes_nothing (effect (state h) x)))
-is_behind_it limit place h x t xs owed new =
+is_behind_it : (limit offset : ℕ) (h : List Entry) (x : Entry) (t : Answered) (xs owed : List StoredStatement) → (effect (state h) x).statements ≡ new_ones (state h).statements xs ++ owed
+    → IsAccepted (answer_by limit offset x t (refusal (state h) x) (changes_nothing (effect (state h) x)))
+    → IsAcceptedWith h x t xs (answer_by limit offset x t (refusal (state h) x) (changes_nothing (effect (state h) x)))
+is_behind_it limit offset h x t xs owed new =
     let held : List StoredStatement = (state h).statements in
-    by_answer (IsAcceptedWith h x t xs) limit place x t (refusal (state h) x) (changes_nothing (effect (state h) x))
+    by_answer (IsAcceptedWith h x t xs) limit offset x t (refusal (state h) x) (changes_nothing (effect (state h) x))
     (λ none same. (
       none,
       refl,
@@ -121,7 +121,7 @@ known st Nobody launched is = cc is
 known st Operator launched is = (Admin, refl)
 known st (Token token) launched is = by_admin (is_admin st.founding token) is
   where
-    by_places : (o p : Option ℕ) → place_of_token token st.providers ≡ o → launch_of_token token st.tokens ≡ p → barred Store (known_as o p) ≡ None → IsKnown st (known_as o p)
+    by_places : (o p : Option ℕ) → index_of_token token st.providers ≡ o → launch_of_token token st.tokens ≡ p → barred Store (known_as o p) ≡ None → IsKnown st (known_as o p)
     by_places None None at acts is = cc is
     by_places None (Some k) at acts is =
         let found = token_launched st token k launched acts in
@@ -130,10 +130,10 @@ known st (Token token) launched is = by_admin (is_admin st.founding token) is
         let found = there (λ (c : HeldProvider). bytes_eq c.token token) st.providers k at in
         (Provider k found.0.name, ap (λ o. option_map (λ (c : HeldProvider). Provider k c.name) o) found.1)
 
-    by_admin : (b : Bool) → barred Store (if b then who.Admin else known_as (place_of_token token st.providers) (launch_of_token token st.tokens)) ≡ None
-        → IsKnown st (if b then who.Admin else known_as (place_of_token token st.providers) (launch_of_token token st.tokens))
+    by_admin : (b : Bool) → barred Store (if b then who.Admin else known_as (index_of_token token st.providers) (launch_of_token token st.tokens)) ≡ None
+        → IsKnown st (if b then who.Admin else known_as (index_of_token token st.providers) (launch_of_token token st.tokens))
     by_admin true is = (Admin, refl)
-    by_admin false is = by_places (place_of_token token st.providers) (launch_of_token token st.tokens) refl refl is
+    by_admin false is = by_places (index_of_token token st.providers) (launch_of_token token st.tokens) refl refl is
 
 pub callers_have_authority : CallersHaveAuthority
 callers_have_authority h caller let_in = known (state h) caller (all_launched h) let_in
@@ -244,7 +244,7 @@ puts_are_held sameness limit h caller id t clock draw lawful accepted =
     let at : Occasion = occasion st x in
     let n : WithId = record { id = id; tree = t } in
     let owed : List StoredStatement = owed_in_session st at.supply at.moment (new_by st at.by at.moment (n ∷ [])) (launch_of st at.by) in
-    let behind = is_behind_it limit (end_place limit h) h x (write_said (effect st x)) (brought st at.by at.moment (n ∷ [])) owed refl accepted in
+    let behind = is_behind_it limit (end_offset limit h) h x (write_said (effect st x)) (brought st at.by at.moment (n ∷ [])) owed refl accepted in
     let reasons = no_reason (barred Store at.by ∷ refused_form id (view t) ∷ missing st (Put id t) ∷ conflict st at (Put id t) ∷ []) behind.0 in
     let authority = known st caller (all_launched h) reasons.0 in
     let statements = behind.3 ∙ ap (λ o. add_each (add_each held (kept_by at.moment o (n ∷ []))) behind.2) authority.1 in
@@ -260,7 +260,7 @@ batches_are_whole sameness limit h caller trees clock draw small lawful accepted
     let at : Occasion = occasion_of h caller trees clock draw in
     let batch : List WithId = batch_with_ids h trees draw in
     let owed : List StoredStatement = owed_in_session st (supply_after at.supply trees) at.moment (new_by st at.by at.moment batch) (launch_of st at.by) in
-    let behind = is_behind_it limit (end_place limit h) h x (write_said (effect st x)) (brought st at.by at.moment batch) owed refl accepted in
+    let behind = is_behind_it limit (end_offset limit h) h x (write_said (effect st x)) (brought st at.by at.moment batch) owed refl accepted in
     let reasons = no_reason (barred Store at.by ∷ refused_batch trees ∷ missing st (Post trees) ∷ conflict st at (Post trees) ∷ []) behind.0 in
     let authority = known st caller (all_launched h) reasons.0 in
     let now : List StoredStatement = add_each held (kept_by at.moment (Some authority.0) batch) in

@@ -9,7 +9,7 @@ use Rattle.lrs_record.specs.declared.entry.Write.TheVariants.{Fetch}
 use Rattle.lrs_replies.specs.Texts.{key_used_body, session_token_body, token_text}
 use Rattle.lrs_replies.specs.declared.answered.Answered.TheVariants.{Shown}
 
--- A fetch that stands in the history gave its caller a token, which tells the fetch's place.
+-- A fetch that stands in the history gave its caller a token, which tells the fetch's index.
 abbrev pub FetchesGive : Type 0
 FetchesGive =
     (limit : ℕ) (before behind : List Entry) (e : Entry) (key : List ℕ) → IsLegal limit (before ++ e ∷ behind)

@@ -176,7 +176,7 @@ MadeIdsAreNew =
     (batch_with_ids h trees draw)
 
 -- the id is that of no statement, of no registration and of no session, whether a launch made it or not
-pub record IsUnused (st : State) (id : List ℕ) : Type 0 where
+pub record IsUnusedId (st : State) (id : List ℕ) : Type 0 where
   pub statements : is_one_of (ids_of st.statements) id ≡ false
   pub registrations : is_one_of (registration_ids st.registrations) id ≡ false
   pub sessions : is_one_of (session_ids st.launches) id ≡ false
@@ -189,7 +189,7 @@ DeskIdsAreNew =
     (h : List Entry) (write : AWrite) (draw : Draw) (k : ℕ) → given_in write ≡ []
     → (used_in (state h)).count + k + 1 < WORDS
     → let supply = supply_in (state h) write draw in
-    IsUnused (state h) (supply k) × ((j : ℕ) → j < k → supply j ≢ supply k)
+    IsUnusedId (state h) (supply k) × ((j : ℕ) → j < k → supply j ≢ supply k)
 
 -- it isn't refused
 abbrev pub IsAccepted : Answer → Type 0
@@ -282,7 +282,7 @@ FirstPagesAreTold =
     (Some (state h).last))
 
 -- A link is told the same page for ever, as the history h has it, whatever is accepted after h. A session's
--- token tells its place, and a store counts its entries in 64 bits.
+-- token tells its index, and a store counts its entries in 64 bits.
 abbrev pub LinksStay : Type 0
 LinksStay =
     (limit : ℕ) (h more : List Entry) (caller : Caller) (link : MoreLink) (clock : ℕ) (draw : Draw) → IsLegal limit h

@@ -23,7 +23,7 @@ use Rattle.lrs_names.specs.declared.draw.Draw.{Draw}
 use Rattle.lrs_names.specs.declared.id.TheConstants.{WORDS}
 use Rattle.lrs_state.specs.Founding.{is_admin}
 use Rattle.lrs_state.specs.Launches.{key_under}
-use Rattle.lrs_state.specs.Providers.{place_of_token}
+use Rattle.lrs_state.specs.Providers.{index_of_token}
 use Rattle.lrs_state.specs.State.{State, used_in}
 use Rattle.lrs_state.specs.declared.launches.HeldKey.{HeldKey}
 use Rattle.lrs_record.specs.declared.entry.Area.TheVariants.{Desk}
@@ -42,9 +42,9 @@ use Rattle.xapi_statement.specs.Stored.{StoredStatement}
 
 -- the caller acts in the session of that launch
 pub record ActsInSession (h : List Entry) (caller : Caller) (launch : Launch) : Type 0 where
-  pub place : ℕ
-  pub known : who_in h caller ≡ who.Session place
-  pub launched : slice_get (state h).launches place ≡ Some launch
+  pub index : ℕ
+  pub known : who_in h caller ≡ who.Session index
+  pub launched : slice_get (state h).launches index ≡ Some launch
 
 -- ---- tokens
 
@@ -64,7 +64,7 @@ pub record IsKeyOf (h : List Entry) (key : List ℕ) (launch : Launch) : Type 0 
   pub found : key_under key (state h).keys ≡ Some held
   pub launched : slice_get (state h).launches held.launch ≡ Some launch
 
--- The launch is that of an entry of the history, which gave the key away: the key tells its place, and the session has
+-- The launch is that of an entry of the history, which gave the key away: the key tells its index, and the session has
 -- the first id that it made.
 pub record WasLaunched (h : List Entry) (key : List ℕ) (launch : Launch) : Type 0 where
   pub before : List Entry
@@ -103,7 +103,7 @@ GivenTokensAct =
 abbrev pub OtherTokensAreUnknown : Type 0
 OtherTokensAreUnknown =
     (h : List Entry) (token : List ℕ) → is_admin (state h).founding token ≡ false
-    → place_of_token token (state h).providers ≡ None → (WasGiven h token → ⊥) → who_in h (Token token) ≡ who.Unknown
+    → index_of_token token (state h).providers ≡ None → (WasGiven h token → ⊥) → who_in h (Token token) ≡ who.Unknown
 
 -- ---- what a launch leaves
 

@@ -5,7 +5,7 @@ ghost use Rattle.lrs_sessions.specs.LrsHistoryDeskEffects.{sessions_abandoned, a
 ghost use Rattle.lrs_sessions.specs.LrsHistoryEndings.{abandoned_jsons};
 ghost use Rattle.lrs_sessions.specs.LrsHistoryMade.{made_under};
 ghost use Rattle.lrs_learning.specs.Occasions.{occasion_at, supply_at};
-ghost use Rattle.lrs_sessions.specs.LrsStateLaunches.{place_of_session};
+ghost use Rattle.lrs_sessions.specs.LrsStateLaunches.{index_of_session};
 ghost use Rattle.lrs_sessions.specs.LrsPartsParts.{state_of};
 ghost use Rattle.lrs_sessions.specs.LrsStateState.{no_change};
 
@@ -29,9 +29,9 @@ pub fn abandoning_one(
 ) -> Result<Effect, Memory>
     ensures { IfOk result (λ made. (by : SpecWho) → made
         ≡ abandoning_one (state_of parts.now) (occasion_at (state_of parts.now) by moment draw.now)
-        (place_of_session session (state_of parts.now).launches)) }
+        (index_of_session session (state_of parts.now).launches)) }
 {
-    let Some(number) = parts.learning.launches.place(&session) else {
+    let Some(number) = parts.learning.launches.index_of(&session) else {
         return Ok(Effect::no_change(alloc, moment));
     };
     if !is_open(parts, number) {

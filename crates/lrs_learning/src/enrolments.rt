@@ -6,7 +6,7 @@ ghost use Rattle.lrs_sessions.specs.LrsHistoryEnrolments.{enrolled_as};
 ghost use Rattle.lrs_sessions.specs.LrsHistoryMade.{owed_made};
 ghost use Rattle.lrs_ids.specs.IdSupply.{left_of};
 ghost use Rattle.lrs_learning.specs.Occasions.{occasion_at};
-ghost use Rattle.lrs_sessions.specs.LrsStateCourses.{place_of_course};
+ghost use Rattle.lrs_sessions.specs.LrsStateCourses.{index_of_course};
 ghost use Rattle.lrs_sessions.specs.LrsStateLearners.{is_learner};
 ghost use Rattle.lrs_sessions.specs.LrsPartsParts.{state_of};
 ghost use Rattle.lrs_sessions.specs.LrsStateState.{no_change, used_in};
@@ -21,7 +21,7 @@ use lrs_record::Moment;
 use lrs_sessions::lrs_made::{add_owed, enrolled_as};
 use lrs_sessions::lrs_parts::{
     Acceptance, Effect, HeldRegistration, Learner, MadeSession, MadeSessionsChange, Parts,
-    RegistrationsChange, place_of_course,
+    RegistrationsChange, index_of_course,
 };
 use std::alloc::Global;
 use xapi_statement::StoredStatement;
@@ -38,16 +38,16 @@ pub fn enrolling(
     requires { IsTrue (is_learner actor) }
     ensures { IfOk result (λ made. (by : SpecWho) → made
         ≡ enrolling (state_of parts.now) (occasion_at (state_of parts.now) by moment draw.now) actor
-        (place_of_course course (state_of parts.now).courses)) }
+        (index_of_course course (state_of parts.now).courses)) }
 {
-    let Some(course) = place_of_course(&parts.learning.courses, &course) else {
+    let Some(course) = index_of_course(&parts.learning.courses, &course) else {
         drop(actor);
         return Ok(Effect::no_change(alloc, moment));
     };
     enrol_in(alloc, parts, moment, draw, course, Learner::of(actor))
 }
 
-// In the course of that place.
+// In the course of that index.
 fn enrol_in(
     alloc: Global,
     parts: &Parts,

@@ -38,7 +38,7 @@ pub fn fetching(
     giving(alloc, parts, moment, draw, held)
 }
 
-// The token tells the place of its entry.
+// The token tells the index of its entry.
 fn giving(
     alloc: Global,
     parts: &Parts,

@@ -6,7 +6,7 @@ use Rattle.lrs_journal.specs.Store.{frames, body, header}
 use Rattle.lrs_journal.specs.declared.sizes.TheConstants.{MOST_BYTES}
 use Rattle.lrs_record.specs.Entries.{written_entry}
 use Rattle.lrs_record.specs.declared.entry.Entry.{Entry}
-use Rattle.lrs_fold.specs.LrsHistoryHistory.{Answer, end_place, next_entry, state, write_outcome, ComesNext, IsLegal, IsLegalFrom}
+use Rattle.lrs_fold.specs.LrsHistoryHistory.{Answer, end_offset, next_entry, state, write_outcome, ComesNext, IsLegal, IsLegalFrom}
 use Rattle.lrs_replies.specs.declared.answered.Answered.{Answered}
 use Rattle.lrs_replies.specs.declared.reply.Trouble.{Trouble}
 use Rattle.lrs_machine.specs.Acts.{landed_among}
@@ -24,17 +24,17 @@ frames_long (e ∷ h) =
     let rest = frames_long h in
     omega (arith, rest, length-append (body (written_entry e)) (frames (map written_entry h)), length-body (written_entry e))
 
-store_long : (limit : ℕ) (h : List Entry) → 2 * length h ≤ end_place limit h
+store_long : (limit : ℕ) (h : List Entry) → 2 * length h ≤ end_offset limit h
 store_long limit h =
     let long = frames_long h in
-    let whole : end_place limit h ≡ length (header limit) + length (frames (map written_entry h)) = length-append (header limit) (frames (map written_entry h)) in
+    let whole : end_offset limit h ≡ length (header limit) + length (frames (map written_entry h)) = length-append (header limit) (frames (map written_entry h)) in
     omega (arith, long, whole)
 
 -- an entry that may come next has room
 room_of : (limit : ℕ) (h : List Entry) (e : Entry) → 0 < length h → ComesNext limit h e → 2 * length (h ++ e ∷ []) ≤ limit
 room_of limit [] e some next = absurd (omega (arith, some))
 room_of limit (x ∷ h) e some next =
-    let a = accepted_by limit (end_place limit (x ∷ h)) (write_outcome (state (x ∷ h)) (next_entry (state (x ∷ h)) e.caller e.write e.moment e.draw)) e next in
+    let a = accepted_by limit (end_offset limit (x ∷ h)) (write_outcome (state (x ∷ h)) (next_entry (state (x ∷ h)) e.caller e.write e.moment e.draw)) e next in
     let fits = a.2 in
     omega (arith, fits, store_long limit (x ∷ h), length-append (x ∷ h) (e ∷ []))
 

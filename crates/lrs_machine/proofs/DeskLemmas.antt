@@ -7,10 +7,10 @@ use Rattle.lrs_command.specs.declared.command.Command.{Command}
 use Rattle.lrs_fold.specs.Own.{IsOfPut, IsPut, SaysOfPut}
 use Rattle.lrs_fold.proofs.Again.{acceptance_no_refusal}
 use Rattle.lrs_fold.proofs.Puts.{put_says}
-use Rattle.lrs_fold.specs.LrsHistoryHistory.{Outcome, Said, Accepted, Answer, answer, answer_of, need, end_place, state, outcome}
+use Rattle.lrs_fold.specs.LrsHistoryHistory.{Outcome, Said, Accepted, Answer, answer, answer_of, need, end_offset, state, outcome}
 use Rattle.lrs_fold.specs.LrsHistoryRoomProofs.{no_room, kept_answer}
-use Rattle.lrs_machine.specs.Acts.{Acts, HasDiskCause, LineGoesOn, Receipt, Tells, changed, landed_among, line_behind, made_by, place_where, record_of}
-use Rattle.lrs_machine.specs.Desk.{Desk, added_place, history, landed_place, marks_of, receipt_of}
+use Rattle.lrs_machine.specs.Acts.{Acts, HasDiskCause, LineGoesOn, Receipt, Tells, changed, landed_among, line_behind, made_by, index_where, record_of}
+use Rattle.lrs_machine.specs.Desk.{Desk, added_index, history, landed_index, marks_of, receipt_of}
 use Rattle.lrs_machine.specs.Line.{Record, entries, in_doubt}
 use Rattle.lrs_machine.specs.Numbers.{numbers_of}
 use Rattle.lrs_machine.specs.Steps.{Happens, CarriesOut, line_after, one_of}
@@ -37,23 +37,23 @@ entry_in a = a.entry
 
 -- ---- what a put is answered
 
-put_said : (limit place : ℕ) (v : Outcome) → SaysOfPut v → IsOfPut (answer_of limit place v).said
-put_said limit place (Said s) says = says
-put_said limit place (Accepted e t) says = by_room (nat_lt limit (need place e))
+put_said : (limit offset : ℕ) (v : Outcome) → SaysOfPut v → IsOfPut (answer_of limit offset v).said
+put_said limit offset (Said s) says = says
+put_said limit offset (Accepted e t) says = by_room (nat_lt limit (need offset e))
   where
-    by_room : (b : Bool) → IsOfPut (said_in (if b then no_room limit place e else kept_answer t e))
+    by_room : (b : Bool) → IsOfPut (said_in (if b then no_room limit offset e else kept_answer t e))
     by_room true = tt
     by_room false = says
 
 -- the operator's put shows no text, and is never answered as of somebody who isn't let in, or as of no command
-pub act_put : (limit place : ℕ) (st : State) (caller : Caller) (c : Command) (clock : ℕ) (draw : Draw) (d₀ d₁ : Bool) (made : Option Entry) (r : Result Answered Trouble)
-    → CarriesOut (answer_of limit place (outcome st caller c clock draw)) d₀ d₁ made r → IsPut caller c → IfOk r IsOfPut
-act_put limit place st caller c clock draw d₀ d₁ made (Ok s) says put = subst IsOfPut (sym says.0) (put_said limit place (outcome st caller c clock draw) (put_says st caller c clock draw put))
-act_put limit place st caller c clock draw d₀ d₁ made (Err t) says put = tt
+pub act_put : (limit offset : ℕ) (st : State) (caller : Caller) (c : Command) (clock : ℕ) (draw : Draw) (d₀ d₁ : Bool) (made : Option Entry) (r : Result Answered Trouble)
+    → CarriesOut (answer_of limit offset (outcome st caller c clock draw)) d₀ d₁ made r → IsPut caller c → IfOk r IsOfPut
+act_put limit offset st caller c clock draw d₀ d₁ made (Ok s) says put = subst IsOfPut (sym says.0) (put_said limit offset (outcome st caller c clock draw) (put_says st caller c clock draw put))
+act_put limit offset st caller c clock draw d₀ d₁ made (Err t) says put = tt
 
 -- ---- receipts
 
-is_some_place : (b : Bool) (n : ℕ) → is_some (place_where b n) ≡ b
+is_some_place : (b : Bool) (n : ℕ) → is_some (index_where b n) ≡ b
 is_some_place true n = refl
 is_some_place false n = refl
 
@@ -64,35 +64,35 @@ added_by h g made is = by_made made (ap length is ∙ length-append h (one_of ma
     by_made None n = (let same : length g ≡ length h = omega (arith, n) in grind (arith, common_steps))
     by_made (Some e) n = (let more : length h < length g = omega (arith, n) in grind (arith, common_steps))
 
--- the entry's place is seen by the numbers of entries
+-- the entry's index is seen by the numbers of entries
 pub added_is : (a : Answer) (said : Result Answered Trouble) (landed : Option ℕ) (moment : ℕ) (old new : List Record) → (h : Happens a said landed moment old new) → nat_lt (length (entries old)) (length (entries new)) ≡ is_some h.made
 added_is a said landed moment old new h =
     added_by (entries old) (entries new) h.made (entries_goes old new h.made moment (subst (λ (l : List Record). Goes old h.made moment l) (sym h.line) (goes old h.made (is_ok said) landed moment)))
 
-pub landed_is : {D : Type 0} (a : Answer) (said : Result Answered Trouble) (landed : Option ℕ) (moment : ℕ) (old new : Desk D) → Happens a said landed moment old.line new.line → landed ≡ landed_place old new
+pub landed_is : {D : Type 0} (a : Answer) (said : Result Answered Trouble) (landed : Option ℕ) (moment : ℕ) (old new : Desk D) → Happens a said landed moment old.line new.line → landed ≡ landed_index old new
 landed_is a said landed moment old new h =
     h.lands ∙ ap (λ (b : Bool). landed_among (length (history old)) (in_doubt old.line) (in_doubt new.line) b)
     (sym (is_some_place (nat_lt (length (history old)) (length (history new))) (length (history old)) ∙ added_is a said landed moment old.line new.line h))
 
 pub receipt_made : {D : Type 0} (time faults : D → ℕ) (old new : Desk D) (receipt : Receipt) (status point clock was : ℕ) (landed : Option ℕ)
-    → receipt ≡ record { acted = true; status = status; point = point; entry = place_where (nat_lt point (length (history new))) point; landed = landed; clock = clock; disk = time new.disk; was = was; is = faults new.disk }
-    → point ≡ length (history old) → was ≡ faults old.disk → landed ≡ landed_place old new → receipt ≡ receipt_of time faults old new status clock
+    → receipt ≡ record { acted = true; status = status; point = point; entry = index_where (nat_lt point (length (history new))) point; landed = landed; clock = clock; disk = time new.disk; was = was; is = faults new.disk }
+    → point ≡ length (history old) → was ≡ faults old.disk → landed ≡ landed_index old new → receipt ≡ receipt_of time faults old new status clock
 receipt_made time faults old new receipt status point clock was landed is at count lands =
-    is ∙ ap (λ (p : ℕ). made p landed was) at ∙ ap (λ (l : Option ℕ). made (length (history old)) l was) lands ∙ ap (λ (w : ℕ). made (length (history old)) (landed_place old new) w) count
+    is ∙ ap (λ (p : ℕ). made p landed was) at ∙ ap (λ (l : Option ℕ). made (length (history old)) l was) lands ∙ ap (λ (w : ℕ). made (length (history old)) (landed_index old new) w) count
   where
     made : ℕ → Option ℕ → ℕ → Receipt
-    made p l w = record { acted = true; status = status; point = p; entry = place_where (nat_lt p (length (history new))) p; landed = l; clock = clock; disk = time new.disk; was = w; is = faults new.disk }
+    made p l w = record { acted = true; status = status; point = p; entry = index_where (nat_lt p (length (history new))) p; landed = l; clock = clock; disk = time new.disk; was = w; is = faults new.disk }
 
 -- ---- acts
 
-tells : (a : Answer) (point : ℕ) (d₀ d₁ : Bool) (made : Option Entry) (said : Result Answered Trouble) (own : Option ℕ) → own ≡ place_where (is_some made) point → CarriesOut a d₀ d₁ made said → Tells a point d₀ d₁ own said
-tells a point d₀ d₁ made (Ok s) own is says = (says.0, is ∙ ap (λ (o : Option Entry). place_where (is_some o) point) says.1, says.2)
-tells a point d₀ d₁ made (Err trouble.Memory) own is says = (is ∙ ap (λ (o : Option Entry). place_where (is_some o) point) says.0, says.1)
-tells a point d₀ d₁ made (Err trouble.Disk) own is (inl none) = inl (is ∙ ap (λ (o : Option Entry). place_where (is_some o) point) none.0, none.1)
+tells : (a : Answer) (point : ℕ) (d₀ d₁ : Bool) (made : Option Entry) (said : Result Answered Trouble) (own : Option ℕ) → own ≡ index_where (is_some made) point → CarriesOut a d₀ d₁ made said → Tells a point d₀ d₁ own said
+tells a point d₀ d₁ made (Ok s) own is says = (says.0, is ∙ ap (λ (o : Option Entry). index_where (is_some o) point) says.1, says.2)
+tells a point d₀ d₁ made (Err trouble.Memory) own is says = (is ∙ ap (λ (o : Option Entry). index_where (is_some o) point) says.0, says.1)
+tells a point d₀ d₁ made (Err trouble.Disk) own is (inl none) = inl (is ∙ ap (λ (o : Option Entry). index_where (is_some o) point) none.0, none.1)
 tells a point d₀ d₁ made (Err trouble.Disk) own is (inr doubtful) =
-    inr (doubtful.0, is ∙ ap (λ (o : Option Entry). place_where (is_some o) point) doubtful.1 ∙ some_place a.entry doubtful.0, doubtful.2)
+    inr (doubtful.0, is ∙ ap (λ (o : Option Entry). index_where (is_some o) point) doubtful.1 ∙ some_place a.entry doubtful.0, doubtful.2)
   where
-    some_place : (o : Option Entry) → IsSome o → place_where (is_some o) point ≡ Some point
+    some_place : (o : Option Entry) → IsSome o → index_where (is_some o) point ≡ Some point
     some_place None some = absurd (cc some)
     some_place (Some e) some = refl
 
@@ -117,7 +117,7 @@ made_is a d₀ d₁ None said says = refl
 made_is a d₀ d₁ (Some e) said says = entry_of_says a d₀ d₁ e said says
 
 pub acts_of : (a : Answer) (said : Result Answered Trouble) (landed : Option ℕ) (old new : List Record) (receipt : Receipt) → Happens a said landed receipt.disk old new → receipt.acted ≡ true → receipt.status ≡ status_in said
-    → receipt.point ≡ length (entries old) → receipt.entry ≡ place_where (nat_lt receipt.point (length (entries new))) receipt.point → receipt.landed ≡ landed → HasDiskCause receipt.was receipt.is said → Acts a said receipt old new
+    → receipt.point ≡ length (entries old) → receipt.entry ≡ index_where (nat_lt receipt.point (length (entries new))) receipt.point → receipt.landed ≡ landed → HasDiskCause receipt.was receipt.is said → Acts a said receipt old new
 acts_of a said landed old new receipt h acted status point entry lands cause = record {
   acted = acted;
   point = point;
@@ -128,8 +128,8 @@ acts_of a said landed old new receipt h acted status point entry lands cause = r
   moments = h.moments;
 }
   where
-    own : receipt.entry ≡ place_where (is_some h.made) receipt.point
-    own = entry ∙ ap (λ (b : Bool). place_where b receipt.point) (ap (λ (n : ℕ). nat_lt n (length (entries new))) point ∙ added_is a said landed receipt.disk old new h)
+    own : receipt.entry ≡ index_where (is_some h.made) receipt.point
+    own = entry ∙ ap (λ (b : Bool). index_where b receipt.point) (ap (λ (n : ℕ). nat_lt n (length (entries new))) point ∙ added_is a said landed receipt.disk old new h)
 
     some : is_some receipt.entry ≡ is_some h.made
     some = ap is_some own ∙ is_some_place (is_some h.made) receipt.point
@@ -176,11 +176,11 @@ cause_rises before now (Err trouble.Disk) cause = cause.0
 
 -- ---- replies
 
-unkept_entry : (v : Outcome) (limit place : ℕ) (s : Answered) → ((e : Entry) (t : Answered) → v ≡ Accepted e t → IsRefusal (Ok t) → ⊥) → s ≡ (answer_of limit place v).said → IsRefusal (Ok s) → (answer_of limit place v).entry ≡ None
-unkept_entry (Said u) limit place s keeps is refuses = refl
-unkept_entry (Accepted e t) limit place s keeps is refuses = by_test (nat_lt limit (need place e)) is
+unkept_entry : (v : Outcome) (limit offset : ℕ) (s : Answered) → ((e : Entry) (t : Answered) → v ≡ Accepted e t → IsRefusal (Ok t) → ⊥) → s ≡ (answer_of limit offset v).said → IsRefusal (Ok s) → (answer_of limit offset v).entry ≡ None
+unkept_entry (Said u) limit offset s keeps is refuses = refl
+unkept_entry (Accepted e t) limit offset s keeps is refuses = by_test (nat_lt limit (need offset e)) is
   where
-    by_test : (b : Bool) → s ≡ said_in (if b then no_room limit place e else kept_answer t e) → entry_in (if b then no_room limit place e else kept_answer t e) ≡ None
+    by_test : (b : Bool) → s ≡ said_in (if b then no_room limit offset e else kept_answer t e) → entry_in (if b then no_room limit offset e else kept_answer t e) ≡ None
     by_test true q = refl
     by_test false q = absurd (keeps e t refl (subst (λ u. IsRefusal (Ok u)) q refuses))
 
@@ -205,7 +205,7 @@ status_says (Err trouble.Disk) reply says = says.0
 
 pub act_acts : (limit : ℕ) (caller : Caller) (c : Command) (clock : ℕ) (draw : Draw) (said : Result Answered Trouble) (reply : Reply) (landed : Option ℕ) (old new : List Record) (receipt : Receipt)
     → Happens (answer limit (entries old) caller c clock draw) said landed receipt.disk old new → IsReplyTo said reply → receipt.acted ≡ true → receipt.status ≡ reply.status → receipt.point ≡ length (entries old)
-    → receipt.entry ≡ place_where (nat_lt receipt.point (length (entries new))) receipt.point → receipt.landed ≡ landed → HasDiskCause receipt.was receipt.is said
+    → receipt.entry ≡ index_where (nat_lt receipt.point (length (entries new))) receipt.point → receipt.landed ≡ landed → HasDiskCause receipt.was receipt.is said
     → (told : Result Answered Trouble) × Says told reply × Acts (answer limit (entries old) caller c clock draw) told receipt old new
 act_acts limit caller c clock draw said reply landed old new receipt h (inl says) acted status point entry lands cause =
     (said, says, acts_of (answer limit (entries old) caller c clock draw) said landed old new receipt h acted (status ∙ status_says said reply says) point entry lands cause)
@@ -216,7 +216,7 @@ act_acts limit caller c clock draw (Ok s) reply landed old new receipt h (inr k)
 )
   where
     none : (answer limit (entries old) caller c clock draw).entry ≡ None
-    none = unkept_entry (outcome (state (entries old)) caller c clock draw) limit (end_place limit (entries old)) s (λ e t at. acceptance_no_refusal (state (entries old)) caller c clock draw e t at) h.says.0 k.0
+    none = unkept_entry (outcome (state (entries old)) caller c clock draw) limit (end_offset limit (entries old)) s (λ e t at. acceptance_no_refusal (state (entries old)) caller c clock draw e t at) h.says.0 k.0
 act_acts limit caller c clock draw (Err t) reply landed old new receipt h (inr k) acted status point entry lands cause = absurd k.0
 
 -- ---- the desk's receipts

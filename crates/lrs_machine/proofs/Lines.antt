@@ -141,7 +141,7 @@ noted t opening acts next made ok well landed moment now is same at =
     ap (λ (a : List Record). opened_line t opening ++ a) (is ∙ ap (λ (b : Bool). line_after acts made b landed moment) same ∙ ap (λ (m : ℕ). line_after acts made well landed m) at)
     ∙ front_after (opened_line t opening) acts made well landed now
 
--- ---- places in a line with one record more
+-- ---- indices in a line with one record more
 
 get_left : {A : Type 0} (xs ys : List A) (k : ℕ) → k < length xs → slice_get (xs ++ ys) k ≡ slice_get xs k
 get_left [] ys k near = absurd (omega (arith, near))
@@ -171,7 +171,7 @@ side zero (suc b) le = inl (omega arith)
 side (suc a) zero le = absurd (omega (arith, le))
 side (suc a) (suc b) le = suc_side a b (side a b (omega (arith, le)))
 
--- a place is an old one, or the last
+-- an index is an old one, or the last
 pub place_of : (line : List Record) (r q : Record) (k : ℕ) → slice_get (line ++ r ∷ []) k ≡ Some q
     → ((k < length line) × (slice_get line k ≡ Some q)) ⊎ ((k ≡ length line) × (q ≡ r))
 place_of line r q k at =

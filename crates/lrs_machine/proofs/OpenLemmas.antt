@@ -20,7 +20,7 @@ use Rattle.lrs_journal.specs.declared.create.CreateRefused.{CreateRefused}
 use Rattle.lrs_journal.specs.declared.create.CreateRefused.TheVariants as create
 use Rattle.lrs_journal.specs.declared.replay.RecoverRefused.{RecoverRefused}
 use Rattle.lrs_journal.specs.declared.replay.RecoverRefused.TheVariants as recover
-use Rattle.lrs_fold.specs.LrsHistoryHistory.{state, end_place, IsLegal, IsFounding}
+use Rattle.lrs_fold.specs.LrsHistoryHistory.{state, end_offset, IsLegal, IsFounding}
 use Rattle.lrs_parts.specs.Founding.{IsBase, IsToken, is_base, is_token}
 use Rattle.lrs_parts.specs.State.{State}
 use Rattle.lrs_fold.specs.LrsRefusalsJudged.{IsJudged}
@@ -42,13 +42,13 @@ use Rattle.lrs_machine.proofs.Tied.{Moves, alike_mapped, frames_told, tells_alik
 pub finish_opened : {D : Type 0} (told : D → Option (List ℕ)) (image : D → List ℕ → Type 0) (replay : Replay D) (journal : Journal D) (st : State) (h : List Entry) → IsReplayed replay st h → 0 < length h
     → ForSome (told replay.disk) (λ bytes. HasReadAll bytes replay h) → TellsAlike (told replay.disk) (told journal.disk)
     → ForSome (told replay.disk) (λ bytes. (payloads : List (List ℕ)) → HasRead bytes replay payloads → frames_of told journal ≡ Some payloads)
-    → (journal.doubt ≡ false) × (journal.limit ≡ replay.limit) × (journal.end ≡ replay.place) × (journal.number ≡ replay.number) → IsJournal told image journal → HoldsEntries told image journal st h
+    → (journal.doubt ≡ false) × (journal.limit ≡ replay.limit) × (journal.end ≡ replay.offset) × (journal.number ≡ replay.number) → IsJournal told image journal → HoldsEntries told image journal st h
 finish_opened told image replay journal st h replayed some read alike finished fields sound = record {
   sound = sound;
   folded = replayed.folded;
   legal = subst (λ (l : ℕ). IsLegal l h) (sym fields.1) (some, replayed.legal);
   counts = fields.3 ∙ replayed.counts;
-  place = fields.2 ∙ replayed.place ∙ ap (λ (l : ℕ). end_place l h) (sym fields.1);
+  offset = fields.2 ∙ replayed.offset ∙ ap (λ (l : ℕ). end_offset l h) (sym fields.1);
   settled = fields.0;
   frames = λ ps there.
       let c = told_of told journal ps there in
@@ -65,7 +65,7 @@ create_opened told image o journal st limit frame e h is text frames sound lawfu
   folded = folds;
   legal = (omega arith, (lawful, founding, tt));
   counts = fields.3;
-  place = (let a = fields.2 in let b = store_length journal.limit (written_entry e ∷ []) in let c = ap length text in omega (arith, a, b, c));
+  offset = (let a = fields.2 in let b = store_length journal.limit (written_entry e ∷ []) in let c = ap length text in omega (arith, a, b, c));
   settled = fields.0;
   frames = λ ps there. by_told o ps (sym frames ∙ there);
 })

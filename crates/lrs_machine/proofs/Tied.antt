@@ -8,7 +8,7 @@ use Rattle.lrs_command.specs.declared.command.Command.{Command}
 use Rattle.lrs_disk.specs.Disk.{LeavesOnly}
 use Rattle.lrs_fold.proofs.Again.{kept_again}
 use Rattle.lrs_fold.specs.LrsHistoryRoomProofs.{no_room, kept_answer}
-use Rattle.lrs_fold.specs.LrsHistoryHistory.{Answer, Outcome, Said, Accepted, answer, answer_of, end_place, need, outcome, state, ComesNext, IsLegal}
+use Rattle.lrs_fold.specs.LrsHistoryHistory.{Answer, Outcome, Said, Accepted, answer, answer_of, end_offset, need, outcome, state, ComesNext, IsLegal}
 use Rattle.lrs_journal.specs.Journal.{Journal, frames_of, settled, IsJournal, IsAppended, IsUnchanged, StandsForFrames, TellsAlike}
 use Rattle.lrs_journal.specs.Store.{payloads_in, store}
 use Rattle.lrs_journal.specs.declared.sizes.TheConstants.{FRAME_HEAD}
@@ -77,8 +77,8 @@ number_one : {D : Type 0} (told : D → Option (List ℕ)) (made : Option Entry)
 number_one told None old new h grew is = grew.number ∙ is ∙ ap length (sym (append-nil h))
 number_one told (Some e) old new h grew is = (let g = grew.1.number in omega (arith, g, is, length-append h (e ∷ [])))
 
-place_one : {D : Type 0} (told : D → Option (List ℕ)) (made : Option Entry) (old new : Journal D) (h : List Entry) → GrewBy told made old new → old.end ≡ end_place old.limit h → new.end ≡ end_place old.limit (h ++ one_of made)
-place_one told None old new h grew is = grew.end ∙ is ∙ ap (λ (l : List Entry). end_place old.limit l) (sym (append-nil h))
+place_one : {D : Type 0} (told : D → Option (List ℕ)) (made : Option Entry) (old new : Journal D) (h : List Entry) → GrewBy told made old new → old.end ≡ end_offset old.limit h → new.end ≡ end_offset old.limit (h ++ one_of made)
+place_one told None old new h grew is = grew.end ∙ is ∙ ap (λ (l : List Entry). end_offset old.limit l) (sym (append-nil h))
 place_one told (Some e) old new h grew is =
     grew.1.end ∙ ap (λ (n : ℕ). n + (FRAME_HEAD + length (written_entry e))) is ∙ sym (length-store-more old.limit (map written_entry h) (written_entry e))
     ∙ ap (λ (ps : List (List ℕ)). length (store old.limit ps)) (sym (map-more written_entry h e))
@@ -100,22 +100,22 @@ entry_of_says a d₀ d₁ e (Err trouble.Disk) (inl none) = absurd (none_some e 
 entry_of_says a d₀ d₁ e (Err trouble.Disk) (inr doubtful) = sym doubtful.1
 
 -- the answer's entry was accepted, and has room
-pub accepted_by : (limit place : ℕ) (v : Outcome) (e : Entry) → (answer_of limit place v).entry ≡ Some e → (t : Answered) × (v ≡ Accepted e t) × (need place e ≤ limit)
-accepted_by limit place (Said s) e is = absurd (none_some e is)
-accepted_by limit place (Accepted x t) e is = by_room (nat_lt limit (need place x)) refl is
+pub accepted_by : (limit offset : ℕ) (v : Outcome) (e : Entry) → (answer_of limit offset v).entry ≡ Some e → (t : Answered) × (v ≡ Accepted e t) × (need offset e ≤ limit)
+accepted_by limit offset (Said s) e is = absurd (none_some e is)
+accepted_by limit offset (Accepted x t) e is = by_room (nat_lt limit (need offset x)) refl is
   where
-    by_room : (b : Bool) → nat_lt limit (need place x) ≡ b → (let w : Answer = (if b then no_room limit place x else kept_answer t x) in w.entry ≡ Some e) → (u : Answered) × (Accepted x t ≡ Accepted e u) × (need place e ≤ limit)
+    by_room : (b : Bool) → nat_lt limit (need offset x) ≡ b → (let w : Answer = (if b then no_room limit offset x else kept_answer t x) in w.entry ≡ Some e) → (u : Answered) × (Accepted x t ≡ Accepted e u) × (need offset e ≤ limit)
     by_room true full has = absurd (none_some e has)
     by_room false room has =
         let same : x ≡ e = some_same x e has in
-        let fits : need place x ≤ limit = grind (arith, common_steps) in
-        (t, ap (λ (y : Entry). Accepted y t) same, subst (λ (y : Entry). need place y ≤ limit) same fits)
+        let fits : need offset x ≤ limit = grind (arith, common_steps) in
+        (t, ap (λ (y : Entry). Accepted y t) same, subst (λ (y : Entry). need offset y ≤ limit) same fits)
 
 comes_next : (limit end : ℕ) (h : List Entry) (st : State) (caller : Caller) (c : Command) (clock : ℕ) (draw : Draw) (d₀ d₁ : Bool) (e : Entry) (said : Result Answered Trouble) → IsLegal limit h → st ≡ state h
-    → end ≡ end_place limit h → IsLawful e → CarriesOut (answer_of limit end (outcome st caller c clock draw)) d₀ d₁ (Some e) said → ComesNext limit h e
-comes_next limit end h st caller c clock draw d₀ d₁ e said legal folds place lawful says =
+    → end ≡ end_offset limit h → IsLawful e → CarriesOut (answer_of limit end (outcome st caller c clock draw)) d₀ d₁ (Some e) said → ComesNext limit h e
+comes_next limit end h st caller c clock draw d₀ d₁ e said legal folds offset lawful says =
     let a = accepted_by limit end (outcome st caller c clock draw) e (entry_of_says (answer_of limit end (outcome st caller c clock draw)) d₀ d₁ e said says) in
-    kept_again limit h caller c clock draw e a.0 legal (subst (λ (z : State). outcome z caller c clock draw ≡ Accepted e a.0) folds a.1) (subst (λ (p : ℕ). need p e ≤ limit) place a.2) lawful.values.moment
+    kept_again limit h caller c clock draw e a.0 legal (subst (λ (z : State). outcome z caller c clock draw ≡ Accepted e a.0) folds a.1) (subst (λ (p : ℕ). need p e ≤ limit) offset a.2) lawful.values.moment
 
 -- ---- images
 
@@ -226,7 +226,7 @@ module _ {D : Type 0} (told : D → Option (List ℕ)) (image : D → List ℕ �
           folded = moves.folds ∙ ap (λ (z : State). folded z made) tied.folded ∙ state_one (entries line) made ∙ ap state (sym same);
           legal = subst (λ (l : ℕ). IsLegal l (entries next)) (sym limit) moves.legal;
           counts = number_one told made old new (entries line) moves.grew tied.counts ∙ ap length (sym same);
-          place = place_one told made old new (entries line) moves.grew tied.place ∙ ap (λ (h : List Entry). end_place old.limit h) (sym same) ∙ ap (λ (l : ℕ). end_place l (entries next)) (sym limit);
+          offset = place_one told made old new (entries line) moves.grew tied.offset ∙ ap (λ (h : List Entry). end_offset old.limit h) (sym same) ∙ ap (λ (l : ℕ). end_offset l (entries next)) (sym limit);
           doubts = sym doubt;
           founded = omega (arith, tied.founded, sures);
           frames = frames_next tied moves;
@@ -262,11 +262,11 @@ module _ {D : Type 0} (told : D → Option (List ℕ)) (image : D → List ℕ �
         by_made None grew says = subst (λ (h : List Entry). IsLegal old.limit h) (sym (append-nil (entries line))) tied.legal
         by_made (Some e) grew says =
             legal_with old.limit (entries line) e tied.legal grew.0
-            (comes_next old.limit old.end (entries line) st caller command clock draw old.doubt new.doubt e said tied.legal tied.folded tied.place grew.0 says)
+            (comes_next old.limit old.end (entries line) st caller command clock draw old.doubt new.doubt e said tied.legal tied.folded tied.offset grew.0 says)
 
     answer_is : IsTied told image time since old st line → answer_of old.limit old.end v ≡ answer old.limit (entries line) caller command clock draw
     answer_is tied =
-        ap (λ (z : State). answer_of old.limit old.end (outcome z caller command clock draw)) tied.folded ∙ ap (λ (p : ℕ). answer_of old.limit p (outcome (state (entries line)) caller command clock draw)) tied.place
+        ap (λ (z : State). answer_of old.limit old.end (outcome z caller command clock draw)) tied.folded ∙ ap (λ (p : ℕ). answer_of old.limit p (outcome (state (entries line)) caller command clock draw)) tied.offset
 
     -- an act on the line, where its record was noted
     pub happens : (landed : Option ℕ) → IsTied told image time since old st line → Does told time since old new st su v said made → landed ≡ landed_of old new made → next ≡ line_after line made (is_ok said) landed (time new.disk)
@@ -339,7 +339,7 @@ module _ {D : Type 0} (told : D → Option (List ℕ)) (image : D → List ℕ �
         folded = opened.folded ∙ ap state (sym history);
         legal = subst (λ (g : List Entry). IsLegal journal.limit g) (sym history) opened.legal;
         counts = opened.counts ∙ ap length (sym history);
-        place = opened.place ∙ ap (λ (g : List Entry). end_place journal.limit g) (sym history);
+        offset = opened.offset ∙ ap (λ (g : List Entry). end_offset journal.limit g) (sym history);
         doubts = opened.settled ∙ sym calm;
         founded = founded;
         frames = spells;

@@ -46,13 +46,13 @@ plain_receipt status = record {
   is = 0;
 }
 
-abbrev pub place_where : Bool → ℕ → Option ℕ
-place_where stands place = if stands then Some place else None
+abbrev pub index_where : Bool → ℕ → Option ℕ
+index_where stands index = if stands then Some index else None
 
--- The place of the last one of these entries, whose doubt was ended. The flags: it was in doubt, one is in doubt now,
+-- The index of the last one of these entries, whose doubt was ended. The flags: it was in doubt, one is in doubt now,
 -- one was added. Without a new entry there is no doubt any more.
 abbrev pub landed_among : ℕ → Bool → Bool → Bool → Option ℕ
-landed_among entries was is added = place_where (was && not (is && not added)) (entries - 1)
+landed_among entries was is added = index_where (was && not (is && not added)) (entries - 1)
 
 -- ---- the line after an act
 
@@ -88,7 +88,7 @@ LineGoesOn receipt old new = (changed receipt ≡ true → IsOneMore new old) ×
 -- The act's own entry, by what was said over the answer. Without trouble it is the answer's, and none is in doubt. In
 -- trouble with the disk it may be the answer's, in doubt; without it nothing comes into doubt.
 abbrev pub Tells : Answer → ℕ → Bool → Bool → Option ℕ → Result Answered Trouble → Type 0
-Tells a point old new own (Ok said) = (said ≡ a.said) × (own ≡ place_where (is_some a.entry) point) × (new ≡ false)
+Tells a point old new own (Ok said) = (said ≡ a.said) × (own ≡ index_where (is_some a.entry) point) × (new ≡ false)
 Tells a point old new own (Err Memory) = (own ≡ None) × (new ≡ false)
 Tells a point old new own (Err Disk) =
     ((own ≡ None) × (old ≡ false → new ≡ false)) ⊎ (IsSome a.entry × (own ≡ Some point) × (new ≡ true))

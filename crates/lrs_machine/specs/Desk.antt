@@ -15,9 +15,9 @@ use Rattle.lrs_fold.specs.LrsHistoryHistory.{state, ComesNext, IsLegal, IsLegalF
 use Rattle.lrs_fold.specs.LrsHistoryRefusals.{barred}
 use Rattle.lrs_fold.specs.LrsHistoryWhose.{who_is}
 use Rattle.lrs_record.specs.declared.entry.Caller.{Caller}
-use Rattle.lrs_parts.specs.Parts.{AddsNoPlaces, SeenParts as Parts}
+use Rattle.lrs_parts.specs.Parts.{AddsNoSlots, SeenParts as Parts}
 use Rattle.lrs_machine.specs.Line.{Record, entries, in_doubt, sure, opened_line, AreBefore, BeginsWith}
-use Rattle.lrs_machine.specs.Acts.{Receipt, landed_among, place_where}
+use Rattle.lrs_machine.specs.Acts.{Receipt, landed_among, index_where}
 use Rattle.lrs_machine.specs.Numbers.{numbers_of}
 use Rattle.lrs_machine.specs.declared.opening.DeskRefused.{DeskRefused}
 use Rattle.lrs_machine.specs.declared.opening.DeskRefused.TheVariants as desk
@@ -36,7 +36,7 @@ pub record Desk (D : Type 0) : Type 0 where
   pub origin : D
   -- the records of these entries, and one for each act since then that changed the journal
   pub line : List Record
-  -- what is held in memory, with the places that were made ahead
+  -- what is held in memory, with the slots that were made ahead
   pub parts : Parts
 
 -- the one history of a desk, with an entry that is in doubt
@@ -106,9 +106,9 @@ pub record IsOnDisk {D : Type 0} (told : D → Option (List ℕ)) (image : D →
 
 -- ---- what an act leaves in memory
 
--- Where no entry came of it, no place is in memory that wasn't there before.
-abbrev pub LeavesNoPlace : {D : Type 0} → Desk D → Desk D → Type 0
-LeavesNoPlace old new = length (history new) ≡ length (history old) → AddsNoPlaces old.parts new.parts
+-- Where no entry came of it, no slot is in memory that wasn't there before.
+abbrev pub LeavesNoSlot : {D : Type 0} → Desk D → Desk D → Type 0
+LeavesNoSlot old new = length (history new) ≡ length (history old) → AddsNoSlots old.parts new.parts
 
 -- ---- who is let in
 
@@ -117,22 +117,22 @@ lets_in h caller area = is_none (barred area (who_is (state h) caller))
 
 -- ---- receipts
 
--- the place of the entry that was added
-abbrev pub added_place : {D : Type 0} → Desk D → Desk D → Option ℕ
-added_place old new = place_where (nat_lt (length (history old)) (length (history new))) (length (history old))
+-- the index of the entry that was added
+abbrev pub added_index : {D : Type 0} → Desk D → Desk D → Option ℕ
+added_index old new = index_where (nat_lt (length (history old)) (length (history new))) (length (history old))
 
--- the place of the entry whose doubt was ended
-abbrev pub landed_place : {D : Type 0} → Desk D → Desk D → Option ℕ
-landed_place old new =
-    landed_among (length (history old)) (in_doubt old.line) (in_doubt new.line) (is_some (added_place old new))
+-- the index of the entry whose doubt was ended
+abbrev pub landed_index : {D : Type 0} → Desk D → Desk D → Option ℕ
+landed_index old new =
+    landed_among (length (history old)) (in_doubt old.line) (in_doubt new.line) (is_some (added_index old new))
 
 abbrev pub receipt_of : {D : Type 0} → (D → ℕ) → (D → ℕ) → Desk D → Desk D → ℕ → ℕ → Receipt
 receipt_of time faults old new status clock = record {
   acted = true;
   status = status;
   point = length (history old);
-  entry = added_place old new;
-  landed = landed_place old new;
+  entry = added_index old new;
+  landed = landed_index old new;
   clock = clock;
   disk = time new.disk;
   was = faults old.disk;

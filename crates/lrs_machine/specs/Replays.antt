@@ -13,38 +13,38 @@ use Rattle.lrs_journal.specs.declared.create.CreateRefused.TheVariants as create
 use Rattle.lrs_record.specs.declared.entry.Entry.{Entry}
 use Rattle.lrs_record.specs.Entries.{IsLawful, written_entry}
 use Rattle.lrs_fold.specs.Next.{may_come}
-use Rattle.lrs_fold.specs.LrsHistoryHistory.{end_place, state, step, IsLegalFrom}
+use Rattle.lrs_fold.specs.LrsHistoryHistory.{end_offset, state, step, IsLegalFrom}
 use Rattle.lrs_parts.specs.State.{State}
 use Rattle.lrs_machine.specs.declared.opening.FoundRefused.{FoundRefused}
 use Rattle.lrs_machine.specs.declared.opening.FoundRefused.TheVariants as found
 use Rattle.lrs_machine.specs.declared.opening.DeskRefused.{DeskRefused}
 use Rattle.lrs_machine.specs.declared.opening.DeskRefused.TheVariants as desk
 
--- Whether a frame may end there, where its end gate's place is that: the first one anywhere, since founding made room
+-- Whether a frame may end there, where its end gate's offset is that: the first one anywhere, since founding made room
 -- for it.
 abbrev pub has_room : Bool → ℕ → ℕ → Bool
-has_room first limit place = first || nat_lt place limit
+has_room first limit offset = first || nat_lt offset limit
 
--- Whether an entry comes next in a file of this limit. The flag: it is the first. The place: where the end gate stands
+-- Whether an entry comes next in a file of this limit. The flag: it is the first. The offset: where the end gate stands
 -- after its frame.
 abbrev pub may_follow : Bool → ℕ → ℕ → State → Entry → Bool
-may_follow first limit place st e = may_come first st e && has_room first limit place
+may_follow first limit offset st e = may_come first st e && has_room first limit offset
 
 -- what reading a frame into the fold does, if k frames were taken in before
 abbrev pub TakesEntry : List ℕ → ℕ → ℕ → ℕ → State → State → List Entry → List Entry → Result Unit DeskRefused → Type 0
-TakesEntry frame k limit place st su old new (Ok _) = (e : Entry) × IsLawful e × (written_entry e ≡ frame)
-    × (may_follow (k == 0) limit place st e ≡ true) × (su ≡ step st e) × (new ≡ old ++ e ∷ [])
-TakesEntry frame k limit place st su old new (Err (desk.IllegalEntry j)) = (j ≡ k)
-    × ((e : Entry) → IsLawful e → written_entry e ≡ frame → may_follow (k == 0) limit place st e ≡ false)
-TakesEntry frame k limit place st su old new (Err desk.Memory) = Unit {0}
-TakesEntry frame k limit place st su old new (Err other) = ⊥
+TakesEntry frame k limit offset st su old new (Ok _) = (e : Entry) × IsLawful e × (written_entry e ≡ frame)
+    × (may_follow (k == 0) limit offset st e ≡ true) × (su ≡ step st e) × (new ≡ old ++ e ∷ [])
+TakesEntry frame k limit offset st su old new (Err (desk.IllegalEntry j)) = (j ≡ k)
+    × ((e : Entry) → IsLawful e → written_entry e ≡ frame → may_follow (k == 0) limit offset st e ≡ false)
+TakesEntry frame k limit offset st su old new (Err desk.Memory) = Unit {0}
+TakesEntry frame k limit offset st su old new (Err other) = ⊥
 
 -- The replay has read frames of these entries, each of which came next, and this is their fold.
 pub record IsReplayed {D : Type 0} (replay : Replay D) (st : State) (h : List Entry) : Type 0 where
   pub legal : IsLegalFrom replay.limit [] h
   pub folded : st ≡ state h
   pub counts : replay.number ≡ length h
-  pub place : replay.place ≡ end_place replay.limit h
+  pub offset : replay.offset ≡ end_offset replay.limit h
 
 -- the bytes begin with the frames of these entries
 abbrev pub HasReadEntries : {D : Type 0} → List ℕ → Replay D → List Entry → Type 0

@@ -4,7 +4,7 @@ use Rattle.std.specs.Prelude.{Option, Some, None, IsSome, is_some, is_ok, Bool, 
 use Rattle.std.specs.Prelude.{Err}
 use Rattle.std.specs.Option.{ForSome}
 use Rattle.lrs_disk.specs.Disk.{LeavesOnly}
-use Rattle.lrs_fold.specs.LrsHistoryHistory.{Answer, Outcome, answer_of, end_place, state, step, IsLegal}
+use Rattle.lrs_fold.specs.LrsHistoryHistory.{Answer, Outcome, answer_of, end_offset, state, step, IsLegal}
 use Rattle.lrs_journal.specs.Journal.{Journal, frames_of, IsJournal, IsUnchanged, IsAppended}
 use Rattle.lrs_journal.specs.Store.{Stands}
 use Rattle.lrs_parts.specs.State.{State}
@@ -26,7 +26,7 @@ pub record IsTied {D : Type 0} (told : D → Option (List ℕ)) (image : D → L
   pub folded : st ≡ state (entries line)
   pub legal : IsLegal journal.limit (entries line)
   pub counts : journal.number ≡ length (entries line)
-  pub place : journal.end ≡ end_place journal.limit (entries line)
+  pub offset : journal.end ≡ end_offset journal.limit (entries line)
   pub doubts : journal.doubt ≡ in_doubt line
   -- the first entry stands without doubt
   pub founded : 1 ≤ sure line
@@ -55,7 +55,7 @@ pub record HoldsEntries {D : Type 0} (told : D → Option (List ℕ)) (image : D
   pub folded : st ≡ state h
   pub legal : IsLegal journal.limit h
   pub counts : journal.number ≡ length h
-  pub place : journal.end ≡ end_place journal.limit h
+  pub offset : journal.end ≡ end_offset journal.limit h
   pub settled : journal.doubt ≡ false
   pub frames : ForSome (frames_of told journal) (λ payloads. payloads ≡ map written_entry h)
 
@@ -108,7 +108,7 @@ pub record Does {D : Type 0} (told : D → Option (List ℕ)) (time : D → ℕ)
   pub later : time old.disk ≤ time new.disk
   pub leaves : LeavesFrames told time image_since old new made
 
--- the place of an earlier entry whose doubt was ended
+-- the index of an earlier entry whose doubt was ended
 abbrev pub landed_of : {D : Type 0} → Journal D → Journal D → Option Entry → Option ℕ
 landed_of old new made = landed_among old.number old.doubt new.doubt (is_some made)
 

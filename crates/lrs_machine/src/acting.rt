@@ -6,7 +6,7 @@ ghost use Rattle.lrs_journal.specs.Journal.{IsJournal};
 ghost use Rattle.lrs_machine.specs.Acts.{HasDiskCause};
 ghost use Rattle.lrs_machine.specs.Fold.{state_of};
 ghost use Rattle.lrs_machine.specs.Steps.{Does, landed_of};
-ghost use Rattle.lrs_parts.specs.Parts.{AddsNoPlaces};
+ghost use Rattle.lrs_parts.specs.Parts.{AddsNoSlots};
 ghost use Rattle.lrs_record.specs.Entries.{IsLawfulCaller};
 
 use crate::keeping::keep;
@@ -26,7 +26,7 @@ pub(crate) struct Done {
     pub(crate) said: Result<Answered, Trouble>,
     /// The entry that it made, also one in doubt.
     pub(crate) made: Option<Snapshot<Entry>>,
-    /// The place of an earlier entry whose doubt it ended.
+    /// The index of an earlier entry whose doubt it ended.
     pub(crate) landed: Option<u64>,
 }
 
@@ -50,8 +50,8 @@ pub(crate) fn act<D: Disk>(
     ensures sound { IsJournal D.told D.image journal.new }
     ensures cause { HasDiskCause (D.fault_count journal.old.disk) (D.fault_count journal.new.disk) result.said }
     ensures landed { result.landed ≡ landed_of journal.old journal.new (option_map (λ s. s.value) result.made) }
-    // An act that makes no entry leaves no place behind, so a store that can't write doesn't grow by places.
-    ensures places { IsNone result.made → AddsNoPlaces fold.old.parts fold.new.parts }
+    // An act that makes no entry leaves no slot behind, so a store that can't write doesn't grow by slots.
+    ensures slots { IsNone result.made → AddsNoSlots fold.old.parts fold.new.parts }
 {
     match journal.settle() {
         Ok(landed) => {
@@ -89,7 +89,7 @@ fn answer<D: Disk>(
         (outcome (state_of fold.old) caller command clock draw.now) result.0 (option_map (λ s. s.value) result.1) }
     ensures sound { IsJournal D.told D.image journal.new }
     ensures cause { HasDiskCause (D.fault_count journal.old.disk) (D.fault_count journal.new.disk) result.0 }
-    ensures places { IsNone result.1 → AddsNoPlaces fold.old.parts fold.new.parts }
+    ensures slots { IsNone result.1 → AddsNoSlots fold.old.parts fold.new.parts }
 {
     match fold.outcome(alloc, caller, command, clock, draw, spent) {
         Ok(Outcome::Said(said)) => (Ok(said), None),

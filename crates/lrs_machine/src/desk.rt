@@ -18,7 +18,7 @@ ghost use Rattle.lrs_fold.specs.Posted.{post_of};
 ghost use Rattle.lrs_fold.specs.XapiPagesListings.{listed_of_all};
 ghost use Rattle.lrs_machine.specs.Line.{in_doubt, sure};
 ghost use Rattle.lrs_machine.specs.Acts.{Acts, HasDiskCause, LineGoesOn};
-ghost use Rattle.lrs_machine.specs.Desk.{history, HoldsPrefix, IsOnDisk, KeepsLine, LeavesNoPlace, LeavesStore, StopsWithin, lets_in, marks_of, receipt_of};
+ghost use Rattle.lrs_machine.specs.Desk.{history, HoldsPrefix, IsOnDisk, KeepsLine, LeavesNoSlot, LeavesStore, StopsWithin, lets_in, marks_of, receipt_of};
 ghost use Rattle.lrs_machine.specs.Origin.{IsOfOrigin};
 ghost use Rattle.lrs_machine.specs.Steps.{Happens, line_after};
 
@@ -175,7 +175,7 @@ impl<D: Disk> Desk<D> {
         ensures tells { TellsAlike (D.told self.old.disk) (D.told self.new.disk) }
         ensures later { D.time self.old.disk ≤ D.time self.new.disk }
         ensures stops { StopsWithin D.told D.time D.image_since self.old self.new }
-        ensures places { LeavesNoPlace self.old self.new }
+        ensures slots { LeavesNoSlot self.old self.new }
         ensures durable { IsOnDisk D.told D.image D.time D.image_since self.new }
     {
         // Nobody took out what an earlier act left over.
@@ -247,7 +247,7 @@ impl<D: Disk> Desk<D> {
         ensures tells { TellsAlike (D.told self.old.disk) (D.told self.new.disk) }
         ensures later { D.time self.old.disk ≤ D.time self.new.disk }
         ensures stops { StopsWithin D.told D.time D.image_since self.old self.new }
-        ensures places { LeavesNoPlace self.old self.new }
+        ensures slots { LeavesNoSlot self.old self.new }
         ensures durable { IsOnDisk D.told D.image D.time D.image_since self.new }
         ensures receipt { result.1 ≡ receipt_of D.time D.fault_count self.old self.new (status_in result.0) clock }
     {
@@ -274,7 +274,7 @@ impl<D: Disk> Desk<D> {
         ensures tells { TellsAlike (D.told self.old.disk) (D.told self.new.disk) }
         ensures later { D.time self.old.disk ≤ D.time self.new.disk }
         ensures stops { StopsWithin D.told D.time D.image_since self.old self.new }
-        ensures places { LeavesNoPlace self.old self.new }
+        ensures slots { LeavesNoSlot self.old self.new }
         ensures durable { IsOnDisk D.told D.image D.time D.image_since self.new }
         ensures receipt { result.1 ≡ receipt_of D.time D.fault_count self.old self.new (status_in result.0) clock }
     {
@@ -318,7 +318,7 @@ impl<D: Disk> Desk<D> {
         ensures later { D.time self.old.disk ≤ D.time self.new.disk }
         // A crash at any moment of the act leaves the first entries, at least all that stood without doubt before.
         ensures stops { StopsWithin D.told D.time D.image_since self.old self.new }
-        ensures places { LeavesNoPlace self.old self.new }
+        ensures slots { LeavesNoSlot self.old self.new }
         ensures durable { IsOnDisk D.told D.image D.time D.image_since self.new }
         ensures receipt { result.1 ≡ receipt_of D.time D.fault_count self.old self.new result.0.status clock }
     {

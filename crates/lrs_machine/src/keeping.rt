@@ -6,7 +6,7 @@ ghost use Rattle.lrs_journal.specs.Journal.{need_of, IsJournal};
 ghost use Rattle.lrs_machine.specs.Acts.{HasDiskCause};
 ghost use Rattle.lrs_machine.specs.Fold.{state_of};
 ghost use Rattle.lrs_machine.specs.Steps.{Does};
-ghost use Rattle.lrs_parts.specs.Parts.{AddsNoPlaces, IsReadyFor, MakesPlacesFor};
+ghost use Rattle.lrs_parts.specs.Parts.{AddsNoSlots, IsReadyFor, MakesSlotsFor};
 ghost use Rattle.lrs_parts.specs.State.{apply};
 ghost use Rattle.lrs_parts.specs.Parts.{SeenParts as Parts};
 ghost use Rattle.xapi_index.specs.Ahead.{AreTextsOf};
@@ -21,7 +21,7 @@ use std::snapshot::Snapshot;
 use xapi_statement::ReceivedText;
 
 /// Keeps an accepted entry if there is room, and says whether it was made. All memory is taken before the frame is
-/// written. Where none was made, no place is left of what was made ready for it. What is of no more use is put into
+/// written. Where none was made, no slot is left of what was made ready for it. What is of no more use is put into
 /// `spent`.
 pub(crate) fn keep<D: Disk>(
     journal: &mut Journal<D>,
@@ -38,7 +38,7 @@ pub(crate) fn keep<D: Disk>(
         result.0 (option_map (λ s. s.value) result.1) }
     ensures sound { IsJournal D.told D.image journal.new }
     ensures cause { HasDiskCause (D.fault_count journal.old.disk) (D.fault_count journal.new.disk) result.0 }
-    ensures places { IsNone result.1 → AddsNoPlaces fold.old.parts fold.new.parts }
+    ensures slots { IsNone result.1 → AddsNoSlots fold.old.parts fold.new.parts }
 {
     match journal.room(accepted.text.as_slice()) {
         Ok(()) => keep_within(journal, fold, spent, accepted, texts),
@@ -67,7 +67,7 @@ fn keep_within<D: Disk>(
         result.0 (option_map (λ s. s.value) result.1) }
     ensures sound { IsJournal D.told D.image journal.new }
     ensures cause { HasDiskCause (D.fault_count journal.old.disk) (D.fault_count journal.new.disk) result.0 }
-    ensures places { IsNone result.1 → AddsNoPlaces fold.old.parts fold.new.parts }
+    ensures slots { IsNone result.1 → AddsNoSlots fold.old.parts fold.new.parts }
 {
     let mut texts = texts.into_vec().into_iter();
     let made = fold.ready(&mut texts, &accepted.effect);
@@ -98,8 +98,8 @@ fn append<D: Disk>(
         result.0 (option_map (λ s. s.value) result.1) }
     ensures sound { IsJournal D.told D.image journal.new }
     ensures cause { HasDiskCause (D.fault_count journal.old.disk) (D.fault_count journal.new.disk) result.0 }
-    ensures places { IsNone result.1 → (before : Parts) → MakesPlacesFor before fold.old.parts accepted.effect
-        → AddsNoPlaces before fold.new.parts }
+    ensures slots { IsNone result.1 → (before : Parts) → MakesSlotsFor before fold.old.parts accepted.effect
+        → AddsNoSlots before fold.new.parts }
 {
     match journal.append(accepted.text.as_slice()) {
         Ok(_) => {

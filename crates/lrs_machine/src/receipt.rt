@@ -3,7 +3,7 @@ ghost use Rattle.lrs_machine.specs.Acts.{changed, plain_receipt};
 
 use std::marker::Model;
 
-/// What is kept of a response. For an act on the desk: the places and counts that allow comparing it with the
+/// What is kept of a response. For an act on the desk: the indices and counts that allow comparing it with the
 /// history. Only the desk makes the receipt of an act, and no receipt is copied.
 #[derive(Debug, Drop)]
 pub struct Receipt {
@@ -75,14 +75,14 @@ impl Receipt {
         self.point
     }
 
-    /// The place of the act's own entry in the history, also if it is in doubt.
+    /// The index of the act's own entry in the history, also if it is in doubt.
     pub fn entry(&self) -> Option<u64>
         ensures { result ≡ self.now.entry }
     {
         self.entry
     }
 
-    /// The place of an earlier doubtful entry whose doubt the act ended.
+    /// The index of an earlier doubtful entry whose doubt the act ended.
     pub fn landed(&self) -> Option<u64>
         ensures { result ≡ self.now.landed }
     {

@@ -22,21 +22,21 @@ use lrs_record::{Entry, EntryRefused, read_entry};
 use std::alloc::Global;
 
 // Takes in an entry, of which this is the frame. Before it k frames were taken in, and after it the end gate stands at
-// that place.
+// that offset.
 #[tactic(auto, using(crate::proofs::Following::without_room, crate::proofs::Following::with_room, crate::proofs::Following::not_coming))]
 fn take_entry(
     alloc: Global,
     frame: &[u8],
     k: u64,
     limit: u64,
-    place: u64,
+    offset: u64,
     fold: &mut Fold,
     opening: &mut Noted<Entry>,
 ) -> Result<(), DeskRefused>
-    ensures { TakesEntry frame.now k limit place (state_of fold.old) (state_of fold.new)
+    ensures { TakesEntry frame.now k limit offset (state_of fold.old) (state_of fold.new)
         opening.old.items opening.new.items result }
 {
-    if !has_room(k == 0, limit, place) {
+    if !has_room(k == 0, limit, offset) {
         return Err(DeskRefused::IllegalEntry { k });
     }
     let entry = match read_entry(alloc, frame) {
@@ -58,11 +58,11 @@ fn take_entry(
     }
 }
 
-// Whether a frame may end with its end gate at that place. The first may end anywhere: founding made room for it.
-fn has_room(first: bool, limit: u64, place: u64) -> bool
-    ensures { result ≡ has_room first limit place }
+// Whether a frame may end with its end gate at that offset. The first may end anywhere: founding made room for it.
+fn has_room(first: bool, limit: u64, offset: u64) -> bool
+    ensures { result ≡ has_room first limit offset }
 {
-    first || place < limit
+    first || offset < limit
 }
 
 /// Takes in what an entry changes.
@@ -116,7 +116,7 @@ fn take_next<D: Disk>(
         frame,
         k,
         replay.limit(),
-        replay.place(),
+        replay.offset(),
         fold,
         opening,
     ) {
@@ -143,7 +143,7 @@ pub(crate) fn replay_all<D: Disk>(
     opening: &mut Noted<Entry>,
 ) -> Result<(), DeskRefused>
     requires empty { (state_of fold.old ≡ nothing) × (opening.old.items ≡ []) }
-    requires begun { (replay.old.place ≡ HEADER) × (replay.old.number ≡ 0) }
+    requires begun { (replay.old.offset ≡ HEADER) × (replay.old.number ≡ 0) }
     requires read { ForSome (D.told replay.old.disk) (λ bytes. HasRead bytes replay.old []) }
     requires synced { IsSynced D.told D.image replay.old.disk }
     ensures replayed { OnOk result (IsReplayed replay.new (state_of fold.new) opening.new.items) }

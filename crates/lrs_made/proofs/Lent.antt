@@ -59,16 +59,16 @@ lent_as st r (Some e) found =
 
 -- ---- a unit
 
-node_there : (place : ℕ) (nodes : List Node) (unit : AssignableUnit) (o : Option Node) → slice_get nodes place ≡ o
-    → Some unit ≡ option_and_then (λ (node : Node). node.unit) o → place < length nodes
-node_there place nodes unit None at is =
+node_there : (index : ℕ) (nodes : List Node) (unit : AssignableUnit) (o : Option Node) → slice_get nodes index ≡ o
+    → Some unit ≡ option_and_then (λ (node : Node). node.unit) o → index < length nodes
+node_there index nodes unit None at is =
     let no : ◌≡◌ {A = Option AssignableUnit} (Some unit) None = is in
     absurd (cc no)
-node_there place nodes unit (Some node) at is = slice_get_within nodes place node at
+node_there index nodes unit (Some node) at is = slice_get_within nodes index node at
 
 -- a unit's number is that of a node
-pub unit_within : (course : Course) (place : ℕ) (unit : AssignableUnit) → Some unit ≡ unit_at place course → place < length course.nodes
-unit_within course place unit is = node_there place course.nodes unit (slice_get course.nodes place) refl is
+pub unit_within : (course : Course) (index : ℕ) (unit : AssignableUnit) → Some unit ≡ unit_at index course → index < length course.nodes
+unit_within course index unit is = node_there index course.nodes unit (slice_get course.nodes index) refl is
 
 -- the unit of that id in the course of a registration
 abbrev pub unit_of : List ℕ → Enrolled → Option Target
@@ -93,9 +93,9 @@ target_is st registration publisher = unit_of_both st publisher st.founding (reg
 
 -- a unit in the course of a registration that is lent
 pub target_lent : (st : State) (e : LentEnrolled) (o : Option LentTarget) → IsLentBy st e → IfSome o (λ (t : LentTarget). enrolled_of t ≡ seen_enrolled e)
-    → IfSome o (λ (t : LentTarget). t.place < length e.course.now.nodes) → IfSome o (λ (t : LentTarget). IsTargetOf st t)
+    → IfSome o (λ (t : LentTarget). t.index < length e.course.now.nodes) → IfSome o (λ (t : LentTarget). IsTargetOf st t)
 target_lent st e None lent is within = tt
 target_lent st e (Some t) lent is within = record {
   enrolled = ap (λ (x : Enrolled). enrolled_as st x.registration) is ∙ (lent ∙ ap (λ (x : Enrolled). Some x) (sym is));
-  place = subst (λ (x : Enrolled). t.place < length x.course.nodes) (sym is) within;
+  index = subst (λ (x : Enrolled). t.index < length x.course.nodes) (sym is) within;
 }

@@ -23,7 +23,7 @@ abbrev pub seen_target : LentTarget → Target
 seen_target t = record {
   base = t.base.now;
   registration = t.registration.now;
-  place = t.place;
+  index = t.index;
   publisher = t.publisher.now;
   unit = t.unit.now;
 }
@@ -35,4 +35,4 @@ enrolled_of t = record { base = t.base.now; registration = t.registration.now; c
 -- The same of a unit: the course is that of its registration, and has a node of that number.
 pub record IsTargetOf (st : State) (t : LentTarget) : Type 0 where
   pub enrolled : enrolled_as st t.registration.now ≡ Some (enrolled_of t)
-  pub place : t.place < length t.course.now.nodes
+  pub index : t.index < length t.course.now.nodes

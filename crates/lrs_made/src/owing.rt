@@ -85,19 +85,19 @@ fn owed_statements(
     ensures { IfOk result (λ said. jsons_of said.items
         ≡ owed_jsons (state_of parts.now) session.now new.now (seen_enrolled enrolled.now)) }
 {
-    let places = owed_places(alloc, parts, new, enrolled)?;
-    satisfied_statements(alloc, enrolled, session, places.as_slice())
+    let indices = owed_indices(alloc, parts, new, enrolled)?;
+    satisfied_statements(alloc, enrolled, session, indices.as_slice())
 }
 
 // The numbers of the nodes of which it is to be said.
-fn owed_places(
+fn owed_indices(
     alloc: Global,
     parts: &Parts,
     new: &[StoredStatement],
     enrolled: &LentEnrolled<'_>,
 ) -> Result<Vec<u32>, Memory>
     requires { IsLentBy (state_of parts.now) enrolled.now }
-    ensures { IfOk result (λ places. places.items
+    ensures { IfOk result (λ indices. indices.items
         ≡ owed_behind (state_of parts.now) new.now (seen_enrolled enrolled.now)) }
 {
     parts.owed(alloc, enrolled.registration, &enrolled.enrolment(), new)
@@ -108,14 +108,14 @@ fn satisfied_statements(
     alloc: Global,
     enrolled: &LentEnrolled<'_>,
     session: &Id,
-    places: &[u32],
+    indices: &[u32],
 ) -> Result<Vec<Statement>, Memory>
     ensures { IfOk result (λ said. jsons_of said.items
-        ≡ filter_map (satisfied_at (seen_enrolled enrolled.now) session.now) places.now) }
+        ≡ filter_map (satisfied_at (seen_enrolled enrolled.now) session.now) indices.now) }
 {
-    let mut said = Vec::with_capacity(alloc, places.len())?;
-    for place in places {
-        push_satisfied(alloc, enrolled, session, *place, &mut said)?;
+    let mut said = Vec::with_capacity(alloc, indices.len())?;
+    for index in indices {
+        push_satisfied(alloc, enrolled, session, *index, &mut said)?;
     }
     Ok(said)
 }
@@ -125,15 +125,15 @@ fn push_satisfied(
     alloc: Global,
     enrolled: &LentEnrolled<'_>,
     session: &Id,
-    place: u32,
+    index: u32,
     said: &mut Vec<Statement>,
 ) -> Result<(), Memory>
     ensures { OnOk result (jsons_of said.new.items ≡ jsons_of said.old.items
-        ++ filter_map (satisfied_at (seen_enrolled enrolled.now) session.now) (place ∷ [])) }
+        ++ filter_map (satisfied_at (seen_enrolled enrolled.now) session.now) (index ∷ [])) }
 {
     let course = enrolled.course;
-    match course.node_at(place) {
-        Some(node) => push_of_node(alloc, enrolled, session, place, node, said),
+    match course.node_at(index) {
+        Some(node) => push_of_node(alloc, enrolled, session, index, node, said),
         None => Ok(()),
     }
 }
@@ -142,14 +142,14 @@ fn push_of_node(
     alloc: Global,
     enrolled: &LentEnrolled<'_>,
     session: &Id,
-    place: u32,
+    index: u32,
     node: &Node,
     said: &mut Vec<Statement>,
 ) -> Result<(), Memory>
     ensures { OnOk result (jsons_of said.new.items ≡ jsons_of said.old.items
-        ++ satisfied_json (seen_enrolled enrolled.now) session.now place node.now ∷ []) }
+        ++ satisfied_json (seen_enrolled enrolled.now) session.now index node.now ∷ []) }
 {
-    let statement = satisfied_statement(alloc, enrolled, session, place, node)?;
+    let statement = satisfied_statement(alloc, enrolled, session, index, node)?;
     said.push(statement)?;
     Ok(())
 }
@@ -159,14 +159,14 @@ fn satisfied_statement(
     alloc: Global,
     enrolled: &LentEnrolled<'_>,
     session: &Id,
-    place: u32,
+    index: u32,
     node: &Node,
 ) -> Result<Statement, Memory>
     ensures { IfOk result (λ s. view s.tree
-        ≡ satisfied_json (seen_enrolled enrolled.now) session.now place node.now) }
+        ≡ satisfied_json (seen_enrolled enrolled.now) session.now index node.now) }
 {
     let registration = enrolled.registration;
     let made = Made::Satisfied { kind: node.kind };
-    let activity = activity_id(alloc, enrolled.base.text(), registration.course, place)?;
+    let activity = activity_id(alloc, enrolled.base.text(), registration.course, index)?;
     statement_of(alloc, &made, registration, &activity, &node.id, session)
 }

@@ -13,14 +13,14 @@ use lrs_names::{Id, Iri};
 use lrs_parts::{HeldRegistration, Parts};
 use std::alloc::Global;
 
-/// A unit of a registration's course, its place among the nodes, and the address that the store's own names begin with:
+/// A unit of a registration's course, its index among the nodes, and the address that the store's own names begin with:
 /// all lent by the parts.
 #[derive(Clone, Copy)]
 pub struct LentTarget<'a> {
     pub base: &'a Iri,
     pub registration: &'a HeldRegistration,
     pub course: &'a Course,
-    pub place: u32,
+    pub index: u32,
     /// The id that its publisher gave it.
     pub publisher: &'a Iri,
     pub unit: &'a Unit,
@@ -35,7 +35,7 @@ impl LentTarget<'_> {
             alloc,
             self.base.text(),
             self.registration.course,
-            self.place,
+            self.index,
         )
     }
 }
@@ -64,10 +64,10 @@ fn target_in<'a>(
     ensures address { IfSome result (λ t. IsAddress t.unit.now.url) }
     ensures enrolled { IfSome result (λ t. enrolled_of t
         ≡ record { base = base.now; registration = registration.now; course = course.now }) }
-    ensures place { IfSome result (λ t. t.place < length course.now.nodes) }
+    ensures index { IfSome result (λ t. t.index < length course.now.nodes) }
 {
     match course.unit(publisher) {
-        Some(place) => target_at(base, registration, course, place, publisher),
+        Some(index) => target_at(base, registration, course, index, publisher),
         None => None,
     }
 }
@@ -77,22 +77,22 @@ fn target_at<'a>(
     base: &'a Iri,
     registration: &'a HeldRegistration,
     course: &'a Course,
-    place: u32,
+    index: u32,
     publisher: &'a Iri,
 ) -> Option<LentTarget<'a>>
     ensures found { option_map seen_target result
-        ≡ target_at base.now registration.now publisher.now course.now place }
+        ≡ target_at base.now registration.now publisher.now course.now index }
     ensures address { IfSome result (λ t. IsAddress t.unit.now.url) }
     ensures enrolled { IfSome result (λ t. enrolled_of t
         ≡ record { base = base.now; registration = registration.now; course = course.now }) }
-    ensures place { IfSome result (λ t. t.place < length course.now.nodes) }
+    ensures index { IfSome result (λ t. t.index < length course.now.nodes) }
 {
-    match course.unit_at(place) {
+    match course.unit_at(index) {
         Some(unit) => Some(LentTarget {
             base,
             registration,
             course,
-            place,
+            index,
             publisher,
             unit,
         }),

@@ -31,7 +31,7 @@ pub fn is_waived(alloc: Global, parts: &Parts, target: &LentTarget<'_>) -> Resul
         alloc,
         target.registration,
         &enrolled.enrolment(),
-        target.place,
+        target.index,
     )
 }
 

@@ -1,12 +1,12 @@
--- Places that were made ahead in the parts, and taken back.
+-- Slots that were made ahead in the parts, and taken back.
 use Rattle.std.specs.Cmp.Lexicographic.{slice_cmp}
 use Rattle.std.specs.Ordering.{nat_cmp}
 use Rattle.cmi5_course.specs.Courses.{course_key}
 use Rattle.cmi5_course.specs.Launches.{session_of}
-use Rattle.lrs_state.specs.Counted.{AddsNone, MakesPlaceFor, TakesPlaceBackFor}
+use Rattle.lrs_state.specs.Counted.{AddsNone, MakesSlotFor, TakesSlotBackFor}
 use Rattle.lrs_state.specs.Launches.{text_of_key, text_of_token}
-use Rattle.lrs_state.specs.Learning.{AddsNoLearningPlaces, MakesLearningPlaces, TakesLearningPlacesBack}
-use Rattle.lrs_parts.specs.Parts.{AddsNoPlaces, SeenParts}
+use Rattle.lrs_state.specs.Learning.{AddsNoLearningSlots, MakesLearningSlots, TakesLearningSlotsBack}
+use Rattle.lrs_parts.specs.Parts.{AddsNoSlots, SeenParts}
 use Rattle.lrs_state.specs.Registrations.{registration_key}
 use Rattle.lrs_state.specs.Sessions.{made_session_id}
 use Rattle.lrs_state.specs.declared.effect.Effect.{Effect}
@@ -19,12 +19,12 @@ use Rattle.std.proofs.Common.{ℕ, List, inr, refl}
 -- ---- one register
 
 pub back : {T : Type 0} (key_of : T → List ℕ) (change : Change T) (before mid new : Registered (List ℕ) T)
-    → MakesPlaceFor (slice_cmp nat_cmp) key_of change before mid → TakesPlaceBackFor (slice_cmp nat_cmp) key_of change mid new → AddsNone (slice_cmp nat_cmp) before new
-back key_of change before mid new = made_and_back (slice_cmp nat_cmp) (λ k. is_key_of (slice_cmp nat_cmp) key_of change.new k) before.places mid.places new.places
+    → MakesSlotFor (slice_cmp nat_cmp) key_of change before mid → TakesSlotBackFor (slice_cmp nat_cmp) key_of change mid new → AddsNone (slice_cmp nat_cmp) before new
+back key_of change before mid new = made_and_back (slice_cmp nat_cmp) (λ k. is_key_of (slice_cmp nat_cmp) key_of change.new k) before.slots mid.slots new.slots
 
 -- ---- all of them
 
-pub learning_back : (before mid new : Learning) (x : Effect) → MakesLearningPlaces before mid x → TakesLearningPlacesBack mid new x → AddsNoLearningPlaces before new
+pub learning_back : (before mid new : Learning) (x : Effect) → MakesLearningSlots before mid x → TakesLearningSlotsBack mid new x → AddsNoLearningSlots before new
 learning_back before mid new x made taken = record {
   courses = back course_key x.courses before.courses mid.courses new.courses made.courses taken.courses;
   registrations = back registration_key x.registrations before.registrations mid.registrations new.registrations made.registrations taken.registrations;
@@ -34,7 +34,7 @@ learning_back before mid new x made taken = record {
   tokens = back text_of_token x.tokens before.tokens mid.tokens new.tokens made.tokens taken.tokens;
 }
 
-pub none_more : (parts : SeenParts) → AddsNoPlaces parts parts
+pub none_more : (parts : SeenParts) → AddsNoSlots parts parts
 none_more parts = record {
   providers = λ k has. has;
   learning = record { courses = λ k has. has; registrations = λ k has. has; launches = λ k has. has; made_sessions = λ k has. has; keys = λ k has. has; tokens = λ k has. has };

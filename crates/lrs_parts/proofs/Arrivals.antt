@@ -15,10 +15,10 @@ use Rattle.xapi_statement.specs.Stored.{StoredStatement}
 
 -- one of that id stands before a position
 record Before (all : List StoredStatement) (at : ℕ) (id : List ℕ) : Type 0 where
-  place : ℕ
+  index : ℕ
   item : StoredStatement
-  less : place < at
-  there : slice_get all place ≡ Some item
+  less : index < at
+  there : slice_get all index ≡ Some item
   named : item.id ≡ id
 
 stands_before : (all : List StoredStatement) (at : ℕ) (id : List ℕ) → is_held id (take at all) ≡ true → Before all at id
@@ -32,7 +32,7 @@ stands_before all at id held =
         let it = stands_there (λ (u : StoredStatement). bytes_eq u.id id) (take at all) k first in
         let front : (k < at) × (slice_get all k ≡ Some it.0) = within_front at all k it.0 it.1 in
         record {
-          place = k;
+          index = k;
           item = it.0;
           less = front.0;
           there = front.1;
@@ -48,7 +48,7 @@ not_again all at s distinct held = by_item (slice_get all at) refl
 
     by_test : (t : StoredStatement) → slice_get all at ≡ Some t → (b : Bool) → bytes_eq t.id s.id ≡ b → b ≡ false
     by_test t there true is =
-        let same : first.place ≡ at = same_place all distinct first.place at first.item t first.there there (first.named ∙ sym (same_bytes t.id s.id is)) in
+        let same : first.index ≡ at = same_place all distinct first.index at first.item t first.there there (first.named ∙ sym (same_bytes t.id s.id is)) in
         absurd (omega (arith, same, first.less))
     by_test t there false is = refl
 
@@ -67,19 +67,19 @@ next_old : (all : List StoredStatement) (at : ℕ) (s : StoredStatement) (more :
     → all ≡ add_each (take at all) more → Next all at s more
 next_old all at s more within elsewhere added = record {
   there = λ yes. absurd (true≢false (sym yes ∙ elsewhere));
-  within = subst (λ (n : ℕ). n ≤ length all) (sym place) within;
-  added = subst (λ (n : ℕ). all ≡ add_each (take n all) more) (sym place) added;
+  within = subst (λ (n : ℕ). n ≤ length all) (sym index) within;
+  added = subst (λ (n : ℕ). all ≡ add_each (take n all) more) (sym index) added;
 }
   where
-    place : place_behind s all at ≡ at
-    place = ap (λ (b : Bool). if b then at + 1 else at) elsewhere
+    index : place_behind s all at ≡ at
+    index = ap (λ (b : Bool). if b then at + 1 else at) elsewhere
 
 -- it is new
 next_new : (all : List StoredStatement) (at : ℕ) (s : StoredStatement) (more : List StoredStatement) → at ≤ length all → all ≡ add_each (take at all ++ s ∷ []) more → Next all at s more
 next_new all at s more within added = record {
   there = λ yes. here;
-  within = subst (λ (n : ℕ). n ≤ length all) (sym place) (omega (arith, slice_get_within all at s here));
-  added = subst (λ (n : ℕ). all ≡ add_each (take n all) more) (sym place) (added ∙ ap (λ (front : List StoredStatement). add_each front more) (sym (take_next all at s here)));
+  within = subst (λ (n : ℕ). n ≤ length all) (sym index) (omega (arith, slice_get_within all at s here));
+  added = subst (λ (n : ℕ). all ≡ add_each (take n all) more) (sym index) (added ∙ ap (λ (front : List StoredStatement). add_each front more) (sym (take_next all at s here)));
 }
   where
     here : slice_get all at ≡ Some s
@@ -87,8 +87,8 @@ next_new all at s more within added = record {
         ap (λ (n : ℕ). slice_get all n) (sym (length-take-le at all within))
         ∙ (ap (λ (ys : List StoredStatement). slice_get ys (length (take at all))) added ∙ next_added (take at all) more s)
 
-    place : place_behind s all at ≡ at + 1
-    place =
+    index : place_behind s all at ≡ at + 1
+    index =
         ap (λ (b : Bool). if b then at + 1 else at)
         (ap (λ (o : Option StoredStatement). option_map_or (λ (t : StoredStatement). bytes_eq t.id s.id) o false) here ∙ bytes_same s.id s.id refl)
 

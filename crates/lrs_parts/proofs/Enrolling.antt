@@ -14,7 +14,7 @@ use Rattle.cmi5_running_verdicts.specs.declared.tally.Tally.{Tally}
 use Rattle.cmi5_running_sessions.specs.Cmi5SessionMarked.{MarkedStatement}
 use Rattle.cmi5_running_verdicts.specs.Cmi5VerdictNodes.{SeenEnrolment}
 use Rattle.lrs_json.specs.View.{view}
-use Rattle.lrs_state.specs.Counted.{has_key_of, place_under}
+use Rattle.lrs_state.specs.Counted.{has_key_of, index_under}
 use Rattle.lrs_state.specs.Courses.{courses_after}
 use Rattle.lrs_state.specs.Founding.{founding_after}
 use Rattle.lrs_parts.specs.Progress.{AreCounted, HasTallies, IsReadyToEnrol, enrolment_at, enrolment_in, enrolment_with, number_held, number_in, number_named}
@@ -54,32 +54,32 @@ enrolled_id (Some f) courses r e is = by_course (slice_get courses r.course) is
 -- ---- the registration that a statement names
 
 named_place : (registrations : List HeldRegistration) (s : StoredStatement) (k : ℕ) → number_named s registrations ≡ Some k
-    → (id : List ℕ) × (place_under registration_key id registrations ≡ Some k)
+    → (id : List ℕ) × (index_under registration_key id registrations ≡ Some k)
 named_place registrations s k is = by_id (registration_of (view s.received)) is
   where
-    by_id : (o : Option (List ℕ)) → option_and_then (λ (id : List ℕ). place_under registration_key id registrations) o ≡ Some k
-        → (id : List ℕ) × (place_under registration_key id registrations ≡ Some k)
+    by_id : (o : Option (List ℕ)) → option_and_then (λ (id : List ℕ). index_under registration_key id registrations) o ≡ Some k
+        → (id : List ℕ) × (index_under registration_key id registrations ≡ Some k)
     by_id None is = absurd (none-some k is)
     by_id (Some id) is = (id, is)
 
-other_id : (registrations : List HeldRegistration) (i id : List ℕ) (k : ℕ) (r : HeldRegistration) → place_under registration_key id registrations ≡ Some k → slice_get registrations k ≡ Some r
-    → (place_under registration_key i registrations ≡ Some k → ⊥) → bytes_eq i r.id ≡ false
-other_id registrations i id k r place there apart = by_test (bytes_eq i r.id) refl
+other_id : (registrations : List HeldRegistration) (i id : List ℕ) (k : ℕ) (r : HeldRegistration) → index_under registration_key id registrations ≡ Some k → slice_get registrations k ≡ Some r
+    → (index_under registration_key i registrations ≡ Some k → ⊥) → bytes_eq i r.id ≡ false
+other_id registrations i id k r index there apart = by_test (bytes_eq i r.id) refl
   where
     by_test : (b : Bool) → bytes_eq i r.id ≡ b → b ≡ false
     by_test true is =
-        let same : i ≡ id = same_bytes i r.id is ∙ same_bytes r.id id (passes_there (λ (x : HeldRegistration). bytes_eq (registration_key x) id) registrations k r place there) in
-        absurd (apart (ap (λ (j : List ℕ). place_under registration_key j registrations) same ∙ place))
+        let same : i ≡ id = same_bytes i r.id is ∙ same_bytes r.id id (passes_there (λ (x : HeldRegistration). bytes_eq (registration_key x) id) registrations k r index there) in
+        absurd (apart (ap (λ (j : List ℕ). index_under registration_key j registrations) same ∙ index))
     by_test false is = refl
 
 -- it names no other one
-elsewhere_named : (registrations : List HeldRegistration) (s : StoredStatement) (id : List ℕ) (k : ℕ) (r : HeldRegistration) → place_under registration_key id registrations ≡ Some k
+elsewhere_named : (registrations : List HeldRegistration) (s : StoredStatement) (id : List ℕ) (k : ℕ) (r : HeldRegistration) → index_under registration_key id registrations ≡ Some k
     → slice_get registrations k ≡ Some r → (number_named s registrations ≡ Some k → ⊥) → is_that_id r.id (registration_of (view s.received)) ≡ false
-elsewhere_named registrations s id k r place there apart = by_named (registration_of (view s.received)) apart
+elsewhere_named registrations s id k r index there apart = by_named (registration_of (view s.received)) apart
   where
-    by_named : (o : Option (List ℕ)) → (option_and_then (λ (i : List ℕ). place_under registration_key i registrations) o ≡ Some k → ⊥) → is_that_id r.id o ≡ false
+    by_named : (o : Option (List ℕ)) → (option_and_then (λ (i : List ℕ). index_under registration_key i registrations) o ≡ Some k → ⊥) → is_that_id r.id o ≡ false
     by_named None apart = refl
-    by_named (Some i) apart = other_id registrations i id k r place there apart
+    by_named (Some i) apart = other_id registrations i id k r index there apart
 
 -- ---- a statement comes, or is voided
 
@@ -90,10 +90,10 @@ Elsewhere before after s = (e : SeenEnrolment) → (tallies : List Tally) → is
 
 -- one that it doesn't name
 other_counted : (old new : SeenRunning) (founding : Option Founding) (courses : List Course) (registrations : List HeldRegistration) (before after : List MarkedStatement) (s : StoredStatement)
-    → Elsewhere before after s → (id : List ℕ) (k : ℕ) (r : HeldRegistration) → place_under registration_key id registrations ≡ Some k → slice_get registrations k ≡ Some r
+    → Elsewhere before after s → (id : List ℕ) (k : ℕ) (r : HeldRegistration) → index_under registration_key id registrations ≡ Some k → slice_get registrations k ≡ Some r
     → (number_named s registrations ≡ Some k → ⊥) → slice_get new.held k ≡ slice_get old.held k
     → HasTallies old founding courses before k r → HasTallies new founding courses after k r
-other_counted old new founding courses registrations before after s elsewhere id k r place there apart held counted = record {
+other_counted old new founding courses registrations before after s elsewhere id k r index there apart held counted = record {
   enrolment = counted.enrolment;
   enrolled = counted.enrolled;
   stands = record {
@@ -101,7 +101,7 @@ other_counted old new founding courses registrations before after s elsewhere id
     held = held ∙ counted.stands.held;
     are = elsewhere counted.enrolment counted.stands.tallies
         (ap (λ (i : List ℕ). is_that_id i (registration_of (view s.received))) (enrolled_id founding courses r counted.enrolment counted.enrolled)
-        ∙ elsewhere_named registrations s id k r place there apart) counted.stands.are;
+        ∙ elsewhere_named registrations s id k r index there apart) counted.stands.are;
   };
 }
 
@@ -128,34 +128,34 @@ pub counted_on : (old new : SeenRunning) (founding : Option Founding) (courses :
     → AreCounted old founding courses registrations before → AreCounted new founding courses registrations after
 counted_on old new founding courses registrations before after s elsewhere number e named at stands others long counted = record {
   long = long ∙ counted.long;
-  each = λ id k r place there. by_number id k r place there (k == number) refl;
+  each = λ id k r index there. by_number id k r index there (k == number) refl;
 }
   where
-    by_number : (id : List ℕ) (k : ℕ) (r : HeldRegistration) → place_under registration_key id registrations ≡ Some k → slice_get registrations k ≡ Some r → (b : Bool) → (k == number) ≡ b
+    by_number : (id : List ℕ) (k : ℕ) (r : HeldRegistration) → index_under registration_key id registrations ≡ Some k → slice_get registrations k ≡ Some r → (b : Bool) → (k == number) ≡ b
         → HasTallies new founding courses after k r
-    by_number id k r place there true is =
+    by_number id k r index there true is =
         let same : k ≡ number = grind (arith, nat_tests) in
-        named_counted old new founding courses registrations before after number e at stands k r same there (counted.each id k r place there)
-    by_number id k r place there false is =
-        other_counted old new founding courses registrations before after s elsewhere id k r place there
-        (λ also. true≢false (sym (eq-eqb k number (same_Some k number (sym also ∙ named))) ∙ is)) (others k is) (counted.each id k r place there)
+        named_counted old new founding courses registrations before after number e at stands k r same there (counted.each id k r index there)
+    by_number id k r index there false is =
+        other_counted old new founding courses registrations before after s elsewhere id k r index there
+        (λ also. true≢false (sym (eq-eqb k number (same_Some k number (sym also ∙ named))) ∙ is)) (others k is) (counted.each id k r index there)
 
 -- it names none that is held
 pub counted_still : (running : SeenRunning) (founding : Option Founding) (courses : List Course) (registrations : List HeldRegistration) (before after : List MarkedStatement) (s : StoredStatement)
     → Elsewhere before after s → number_named s registrations ≡ None → AreCounted running founding courses registrations before → AreCounted running founding courses registrations after
 counted_still running founding courses registrations before after s elsewhere none counted = record {
   long = counted.long;
-  each = λ id k r place there. other_counted running running founding courses registrations before after s elsewhere id k r place there (λ also. none-some k (sym none ∙ also)) refl
-      (counted.each id k r place there);
+  each = λ id k r index there. other_counted running running founding courses registrations before after s elsewhere id k r index there (λ also. none-some k (sym none ∙ also)) refl
+      (counted.each id k r index there);
 }
 
 -- the one that it names has its course
 pub always_enrolled : (running : SeenRunning) (founding : Option Founding) (courses : List Course) (registrations : List HeldRegistration) (those : List MarkedStatement) (s : StoredStatement) (number : ℕ)
     → number_named s registrations ≡ Some number → enrolment_at founding courses registrations number ≡ None → AreCounted running founding courses registrations those → ⊥
 always_enrolled running founding courses registrations those s number named none counted =
-    let place = named_place registrations s number named in
-    let held = stands_there (λ (x : HeldRegistration). bytes_eq (registration_key x) place.0) registrations number place.1 in
-    let its : HasTallies running founding courses those number held.0 = counted.each place.0 number held.0 place.1 held.1 in
+    let index = named_place registrations s number named in
+    let held = stands_there (λ (x : HeldRegistration). bytes_eq (registration_key x) index.0) registrations number index.1 in
+    let its : HasTallies running founding courses those number held.0 = counted.each index.0 number held.0 index.1 held.1 in
     none-some its.enrolment (sym none ∙ (ap (λ (o : Option HeldRegistration). option_and_then (enrolment_in founding courses) o) held.1 ∙ its.enrolled))
 
 -- ---- a registration comes
@@ -174,19 +174,19 @@ pub counted_more : (old new : SeenRunning) (founding : Option Founding) (courses
     → length new.held ≡ length old.held + 1 → AreCounted old founding courses registrations those → AreCounted new founding courses (registrations ++ r ∷ []) those
 counted_more old new founding courses registrations those r e enrolled stands others long counted = record {
   long = omega (arith, long, counted.long, length-append registrations (r ∷ []));
-  each = λ id k x place there.
+  each = λ id k x index there.
       by_place id k x there (position (λ (y : HeldRegistration). bytes_eq (registration_key y) id) registrations) refl
-      (sym (position-push (λ (y : HeldRegistration). bytes_eq (registration_key y) id) registrations r) ∙ place);
+      (sym (position-push (λ (y : HeldRegistration). bytes_eq (registration_key y) id) registrations r) ∙ index);
 }
   where
     by_place : (id : List ℕ) (k : ℕ) (x : HeldRegistration) → slice_get (registrations ++ r ∷ []) k ≡ Some x → (o : Option ℕ)
         → position (λ (y : HeldRegistration). bytes_eq (registration_key y) id) registrations ≡ o
         → option_or o (cond (bytes_eq (registration_key r) id) (Some (length registrations)) None) ≡ Some k → HasTallies new founding courses those k x
     by_place id k x there (Some j) first is =
-        let place : position (λ (y : HeldRegistration). bytes_eq (registration_key y) id) registrations ≡ Some k = first ∙ is in
-        let held = stands_there (λ (y : HeldRegistration). bytes_eq (registration_key y) id) registrations k place in
+        let index : position (λ (y : HeldRegistration). bytes_eq (registration_key y) id) registrations ≡ Some k = first ∙ is in
+        let held = stands_there (λ (y : HeldRegistration). bytes_eq (registration_key y) id) registrations k index in
         let same : held.0 ≡ x = same_Some held.0 x (sym (get_front registrations (r ∷ []) k held.0 held.1) ∙ there) in
-        let its : HasTallies old founding courses those k held.0 = counted.each id k held.0 place held.1 in
+        let its : HasTallies old founding courses those k held.0 = counted.each id k held.0 index held.1 in
         let within : k < length old.held = omega (arith, slice_get_within registrations k held.0 held.1, counted.long) in
         record {
           enrolment = its.enrolment;
@@ -210,8 +210,8 @@ pub counted_under : (running : SeenRunning) (founding later : Option Founding) (
     → AreCounted running founding courses registrations those → AreCounted running later more registrations those
 counted_under running founding later courses more registrations those grows counted = record {
   long = counted.long;
-  each = λ id k r place there.
-      let its : HasTallies running founding courses those k r = counted.each id k r place there in
+  each = λ id k r index there.
+      let its : HasTallies running founding courses those k r = counted.each id k r index there in
       record { enrolment = its.enrolment; enrolled = grows r its.enrolment its.enrolled; stands = its.stands };
 }
 
@@ -256,23 +256,23 @@ registered registrations change stay = ap (λ (o : Option HeldRegistration). wit
 -- its tallies stand for these statements
 pub held_stands : (running : SeenRunning) (founding : Option Founding) (courses : List Course) (registrations : List HeldRegistration) (those : List MarkedStatement) (r : HeldRegistration) (number : ℕ) (e : SeenEnrolment)
     → number_held r registrations ≡ Some number → enrolment_in founding courses r ≡ Some e → AreCounted running founding courses registrations those → TalliesStandFor running those number e
-held_stands running founding courses registrations those r number e is enrolled counted = by_place (place_under registration_key r.id registrations) refl is
+held_stands running founding courses registrations those r number e is enrolled counted = by_place (index_under registration_key r.id registrations) refl is
   where
-    by_course : (k : ℕ) (h : HeldRegistration) (b : Bool) → place_under registration_key r.id registrations ≡ Some k → slice_get registrations k ≡ Some h → (h.course == r.course) ≡ b
+    by_course : (k : ℕ) (h : HeldRegistration) (b : Bool) → index_under registration_key r.id registrations ≡ Some k → slice_get registrations k ≡ Some h → (h.course == r.course) ≡ b
         → (if b then Some k else None) ≡ Some number → TalliesStandFor running those number e
-    by_course k h false place there course is = absurd (none-some number is)
-    by_course k h true place there course is =
+    by_course k h false index there course is = absurd (none-some number is)
+    by_course k h true index there course is =
         let same_course : h.course ≡ r.course = grind (arith, nat_tests) in
-        let same_id : h.id ≡ r.id = same_bytes h.id r.id (passes_there (λ (x : HeldRegistration). bytes_eq (registration_key x) r.id) registrations k h place there) in
-        let its : HasTallies running founding courses those k h = counted.each r.id k h place there in
+        let same_id : h.id ≡ r.id = same_bytes h.id r.id (passes_there (λ (x : HeldRegistration). bytes_eq (registration_key x) r.id) registrations k h index there) in
+        let its : HasTallies running founding courses those k h = counted.each r.id k h index there in
         let same : its.enrolment ≡ e = same_Some its.enrolment e (sym its.enrolled ∙ (same_enrolment founding courses h r same_id same_course ∙ enrolled)) in
         subst (λ (n : ℕ). TalliesStandFor running those n e) (same_Some k number is) (subst (λ (x : SeenEnrolment). TalliesStandFor running those k x) same its.stands)
 
-    by_held : (k : ℕ) (o : Option HeldRegistration) → place_under registration_key r.id registrations ≡ Some k → slice_get registrations k ≡ o
+    by_held : (k : ℕ) (o : Option HeldRegistration) → index_under registration_key r.id registrations ≡ Some k → slice_get registrations k ≡ o
         → option_and_then (λ (held : HeldRegistration). if held.course == r.course then Some k else None) o ≡ Some number → TalliesStandFor running those number e
-    by_held k None place there is = absurd (none-some number is)
-    by_held k (Some h) place there is = by_course k h (h.course == r.course) place there refl is
+    by_held k None index there is = absurd (none-some number is)
+    by_held k (Some h) index there is = by_course k h (h.course == r.course) index there refl is
 
-    by_place : (o : Option ℕ) → place_under registration_key r.id registrations ≡ o → option_and_then (number_in r registrations) o ≡ Some number → TalliesStandFor running those number e
-    by_place None place is = absurd (none-some number is)
-    by_place (Some k) place is = by_held k (slice_get registrations k) place refl is
+    by_place : (o : Option ℕ) → index_under registration_key r.id registrations ≡ o → option_and_then (number_in r registrations) o ≡ Some number → TalliesStandFor running those number e
+    by_place None index is = absurd (none-some number is)
+    by_place (Some k) index is = by_held k (slice_get registrations k) index refl is

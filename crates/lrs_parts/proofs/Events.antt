@@ -69,7 +69,7 @@ front_few zero xs = omega arith
 front_few (suc n) [] = omega arith
 front_few (suc n) (x ∷ xs) = omega (arith, front_few n xs)
 
--- something stands at the first place that passes
+-- something stands at the first index that passes
 pub stands_there : {A : Type 0} (p : A → Bool) (xs : List A) (k : ℕ) → position p xs ≡ Some k → (y : A) × (slice_get xs k ≡ Some y)
 stands_there {A} p xs k at = by_item (find p xs) (item_at p xs (position p xs) k at refl) (sym (found_at p xs (position p xs) refl) ∙ ap (λ o. is_some o) at)
   where
@@ -107,27 +107,27 @@ place_by : (i : ℕ) (x : StoredStatement) (xs : List StoredStatement) (k : ℕ)
     → cond b (Some i) (position_from (λ (u : StoredStatement). bytes_eq u.id t.id) (i + 1) xs) ≡ Some (i + suc k)
 place_by i x xs k t at apart rest true is = absurd (true≢false (sym (among xs k t x.id at (sym (same_bytes x.id t.id is))) ∙ apart))
 place_by i x xs k t at apart rest false is =
-    let place : i + 1 + k ≡ i + suc k = omega arith in
-    rest ∙ ap (λ (n : ℕ). Some n) place
+    let index : i + 1 + k ≡ i + suc k = omega arith in
+    rest ∙ ap (λ (n : ℕ). Some n) index
 
 place_from : (i : ℕ) (xs : List StoredStatement) → are_distinct (ids_of xs) ≡ true → (k : ℕ) (t : StoredStatement) → slice_get xs k ≡ Some t
     → position_from (λ (u : StoredStatement). bytes_eq u.id t.id) i xs ≡ Some (i + k)
 place_from i [] distinct k t at = absurd (none-some t at)
 place_from i (x ∷ xs) distinct zero t at =
     let here : bytes_eq x.id t.id ≡ true = bytes_same x.id t.id (ap (λ (u : StoredStatement). u.id) (same_Some x t at)) in
-    let place : i ≡ i + zero = omega arith in
-    ap (λ b. cond b (Some i) (position_from (λ (u : StoredStatement). bytes_eq u.id t.id) (i + 1) xs)) here ∙ ap (λ (n : ℕ). Some n) place
+    let index : i ≡ i + zero = omega arith in
+    ap (λ b. cond b (Some i) (position_from (λ (u : StoredStatement). bytes_eq u.id t.id) (i + 1) xs)) here ∙ ap (λ (n : ℕ). Some n) index
 place_from i (x ∷ xs) distinct (suc k) t at =
     let apart : is_one_of (ids_of xs) x.id ≡ false = not_true (is_one_of (ids_of xs) x.id) (left_true (not (is_one_of (ids_of xs) x.id)) (are_distinct (ids_of xs)) distinct) in
     place_by i x xs k t at apart (place_from (i + 1) xs (right_true (not (is_one_of (ids_of xs) x.id)) (are_distinct (ids_of xs)) distinct) k t at)
     (bytes_eq x.id t.id) refl
 
--- each stands at the first place of its id
+-- each stands at the first index of its id
 pub place_of_id : (xs : List StoredStatement) → are_distinct (ids_of xs) ≡ true → (k : ℕ) (t : StoredStatement) → slice_get xs k ≡ Some t
     → position (λ (u : StoredStatement). bytes_eq u.id t.id) xs ≡ Some k
 place_of_id xs distinct k t at =
-    let place : 0 + k ≡ k = omega arith in
-    position_from-zero (λ (u : StoredStatement). bytes_eq u.id t.id) xs ∙ (place_from 0 xs distinct k t at ∙ ap (λ (n : ℕ). Some n) place)
+    let index : 0 + k ≡ k = omega arith in
+    position_from-zero (λ (u : StoredStatement). bytes_eq u.id t.id) xs ∙ (place_from 0 xs distinct k t at ∙ ap (λ (n : ℕ). Some n) index)
 
 pub same_place : (xs : List StoredStatement) → are_distinct (ids_of xs) ≡ true → (j k : ℕ) (s t : StoredStatement) → slice_get xs j ≡ Some s → slice_get xs k ≡ Some t → s.id ≡ t.id → j ≡ k
 same_place xs distinct j k s t one other same =
@@ -304,10 +304,10 @@ refers all at k s t distinct there other before is =
     let front : List StoredStatement = take (at + 1) all in
     let target : target_of (view s.received) ≡ Some t.id = (voiding_target t.id s is).0 in
     let on : nat_lt k (at + 1) ≡ true = lt_yes k (at + 1) (omega (arith, before)) in
-    let place : position (λ (u : StoredStatement). bytes_eq u.id t.id) all ≡ Some k = place_of_id all distinct k t other in
+    let index : position (λ (u : StoredStatement). bytes_eq u.id t.id) all ≡ Some k = place_of_id all distinct k t other in
     ap (λ (o : Option StoredStatement). option_and_then (position_referred front) o) (get_first (at + 1) all at (omega arith) ∙ there)
     ∙ (ap (λ (o : Option (List ℕ)). option_and_then (λ (id : List ℕ). position (λ (u : StoredStatement). bytes_eq u.id id) front) o) target
-    ∙ sym (place_first (λ (u : StoredStatement). bytes_eq u.id t.id) (at + 1) all (position (λ (u : StoredStatement). bytes_eq u.id t.id) all) k place refl on))
+    ∙ sym (place_first (λ (u : StoredStatement). bytes_eq u.id t.id) (at + 1) all (position (λ (u : StoredStatement). bytes_eq u.id t.id) all) k index refl on))
 
 anew : (all : List StoredStatement) (at k : ℕ) (t : StoredStatement) → slice_get all k ≡ Some t → is_voided (take at all) t ≡ false → is_voided (take (at + 1) all) t ≡ true → is_voided_anew all at k ≡ true
 anew all at k t there old new =
@@ -323,18 +323,18 @@ no_event all at s distinct there none =
     ∙ ap (λ (ms : List MarkedStatement). ms ++ mark s (is_voided (take (at + 1) all) s) ∷ []) (marks_same (take (at + 1) all) (take at all) (take at all) same))
   where
     contrary : (k : ℕ) (t : StoredStatement) → (k < at) × (slice_get all k ≡ Some t) → is_voided (take at all) t ≡ false → is_voided (take (at + 1) all) t ≡ true → ⊥
-    contrary k t place old new =
+    contrary k t index old new =
         let voided : voids t.id s ≡ true = (newly (take at all) s t old (sym (voided_on all at s t there) ∙ new)).0 in
         let found : voided_anew all at ≡ Some k =
-        ap (λ (o : Option ℕ). option_and_then (λ (position : ℕ). if is_voided_anew all at position then Some position else None) o) (refers all at k s t distinct there place.1 place.0 voided)
-        ∙ ap (λ (b : Bool). if b then Some k else None) (anew all at k t place.1 old new) in
+        ap (λ (o : Option ℕ). option_and_then (λ (position : ℕ). if is_voided_anew all at position then Some position else None) o) (refers all at k s t distinct there index.1 index.0 voided)
+        ∙ ap (λ (b : Bool). if b then Some k else None) (anew all at k t index.1 old new) in
         none-some k (sym none ∙ found)
 
     decide : (k : ℕ) (t : StoredStatement) → (k < at) × (slice_get all k ≡ Some t) → (old new : Bool) → is_voided (take at all) t ≡ old → is_voided (take (at + 1) all) t ≡ new
         → is_voided (take (at + 1) all) t ≡ is_voided (take at all) t
-    decide k t place true new was is = voided_on all at s t there ∙ still (take at all) s t was ∙ sym was
-    decide k t place false true was is = absurd (contrary k t place was is)
-    decide k t place false false was is = is ∙ sym was
+    decide k t index true new was is = voided_on all at s t there ∙ still (take at all) s t was ∙ sym was
+    decide k t index false true was is = absurd (contrary k t index was is)
+    decide k t index false false was is = is ∙ sym was
 
     same : (k : ℕ) (t : StoredStatement) → slice_get (take at all) k ≡ Some t → is_voided (take (at + 1) all) t ≡ is_voided (take at all) t
     same k t found = decide k t (within_front at all k t found) (is_voided (take at all) t) (is_voided (take (at + 1) all) t) refl refl
@@ -416,11 +416,11 @@ voiding_at all at s q distinct there is = record {
       ∙ append_assoc parts.front (mark found.item true ∷ parts.rest) (mark s (is_voided (take (at + 1) all) s) ∷ [])));
 }
   where
-    place : (referred_at (take (at + 1) all) at ≡ Some q) × (is_voided_anew all at q ≡ true)
-    place = place_anew all at q is
+    index : (referred_at (take (at + 1) all) at ≡ Some q) × (is_voided_anew all at q ≡ true)
+    index = place_anew all at q is
 
     found : Found all at q
-    found = found_anew all at q place.1
+    found = found_anew all at q index.1
 
     only : (voids found.item.id s ≡ true) × (is_voiding (view found.item.received) ≡ false)
     only = newly (take at all) s found.item found.old (sym (voided_on all at s found.item there) ∙ found.new)
@@ -435,7 +435,7 @@ voiding_at all at s q distinct there is = record {
     before true less = grind (arith, common_steps)
     before false more =
         let past : at ≤ q = grind (arith, common_steps) in
-        let no_later : q < at + 1 = referred_within all at q place.0 in
+        let no_later : q < at + 1 = referred_within all at q index.0 in
         absurd (other (omega (arith, past, no_later)))
 
     within : slice_get (take at all) q ≡ Some found.item

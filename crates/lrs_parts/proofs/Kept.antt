@@ -8,7 +8,7 @@ use Rattle.std.specs.Str.{bytes_eq}
 use Rattle.std.proofs.lemmas.Option.{none-some}
 use Rattle.cmi5_course.specs.Courses.{Course}
 use Rattle.cmi5_running_sessions.specs.Kept.{SeenSessions, SaidStandsFor, is_same, nothing_reached, nothing_said, own_of, own_said, reached_in, reached_of, unit_of, units_of}
-use Rattle.cmi5_running_sessions.specs.Room.{AddsNoPlaces, HasOwnPlace, HasPlacesFor, HasUnitPlace, KeepsPlaces, KeepsSame, MakesPlaces, TakesPlacesBack, needs_own, needs_unit}
+use Rattle.cmi5_running_sessions.specs.Room.{AddsNoSlots, HasOwnSlot, HasSlotsFor, HasUnitSlot, KeepsSlots, KeepsSame, MakesSlots, TakesSlotsBack, needs_own, needs_unit}
 use Rattle.cmi5_running_sessions.specs.declared.own.OwnSaid.{OwnSaid}
 use Rattle.cmi5_running_sessions.specs.declared.units.Reached.{Reached}
 use Rattle.cmi5_running_sessions.proofs.Making.{units_back}
@@ -30,9 +30,9 @@ use Rattle.lrs_register.specs.declared.change.Change.{Change}
 use Rattle.xapi_statement.specs.Statements.{ids_of}
 use Rattle.xapi_statement.specs.Stored.{StoredStatement}
 
--- ---- places for what is said
+-- ---- slots for what is said
 
-pub none_said : (statements : List StoredStatement) (s : SeenSessions) → MakesPlaces statements s s
+pub none_said : (statements : List StoredStatement) (s : SeenSessions) → MakesSlots statements s s
 none_said statements s = record {
   same = record { own = λ id. refl; reached = λ registration activity. refl };
   own = λ id has. inl has;
@@ -41,50 +41,50 @@ none_said statements s = record {
   filled = λ registration holds. holds;
 }
 
-pub places_kept : (s : SeenSessions) → KeepsPlaces s s
-places_kept s = record { own = λ id has. has; unit = λ registration activity has. has }
+pub slots_kept : (s : SeenSessions) → KeepsSlots s s
+slots_kept s = record { own = λ id has. has; unit = λ registration activity has. has }
 
-pub places_on : (a b c : SeenSessions) → KeepsPlaces a b → KeepsPlaces b c → KeepsPlaces a c
-places_on a b c first second = record {
+pub slots_on : (a b c : SeenSessions) → KeepsSlots a b → KeepsSlots b c → KeepsSlots a c
+slots_on a b c first second = record {
   own = λ id has. second.own id (first.own id has);
   unit = λ registration activity has. second.unit registration activity (first.unit registration activity has);
 }
 
-pub still_has : (old new : SeenSessions) (s : StoredStatement) → KeepsPlaces old new → HasPlacesFor old s → HasPlacesFor new s
+pub still_has : (old new : SeenSessions) (s : StoredStatement) → KeepsSlots old new → HasSlotsFor old s → HasSlotsFor new s
 still_has old new s keeps has = record {
   own = λ id needs. keeps.own id (has.own id needs);
   unit = λ registration activity needs. keeps.unit registration activity (has.unit registration activity needs);
 }
 
--- places that were made, and taken back
-own_back : (statements : List StoredStatement) (before mid new : SeenSessions) → MakesPlaces statements before mid → TakesPlacesBack statements mid new
-    → (id : List ℕ) → HasOwnPlace id new → HasOwnPlace id before
+-- slots that were made, and taken back
+own_back : (statements : List StoredStatement) (before mid new : SeenSessions) → MakesSlots statements before mid → TakesSlotsBack statements mid new
+    → (id : List ℕ) → HasOwnSlot id new → HasOwnSlot id before
 own_back statements before mid new made taken id has = by_made (made.own id (taken.fewer.own id has))
   where
-    by_own : (o : Option OwnSaid) → lookup (is_same id) before.own ≡ o → list_any (needs_own id) statements ≡ true → HasOwnPlace id before
+    by_own : (o : Option OwnSaid) → lookup (is_same id) before.own ≡ o → list_any (needs_own id) statements ≡ true → HasOwnSlot id before
     by_own (Some said) is needs = ap (λ (x : Option OwnSaid). is_some x) is
     by_own None is needs =
         absurd (taken.own id needs (taken.same.own id ∙ (made.same.own id ∙ ap (λ (x : Option OwnSaid). option_map_or (λ (said : OwnSaid). said) x nothing_said) is)) has)
 
-    by_made : HasOwnPlace id before ⊎ (list_any (needs_own id) statements ≡ true) → HasOwnPlace id before
+    by_made : HasOwnSlot id before ⊎ (list_any (needs_own id) statements ≡ true) → HasOwnSlot id before
     by_made (inl had) = had
     by_made (inr needs) = by_own (lookup (is_same id) before.own) refl needs
 
-unit_back : (statements : List StoredStatement) (before mid new : SeenSessions) → MakesPlaces statements before mid → TakesPlacesBack statements mid new
-    → (registration activity : List ℕ) → HasUnitPlace registration activity new → HasUnitPlace registration activity before
+unit_back : (statements : List StoredStatement) (before mid new : SeenSessions) → MakesSlots statements before mid → TakesSlotsBack statements mid new
+    → (registration activity : List ℕ) → HasUnitSlot registration activity new → HasUnitSlot registration activity before
 unit_back statements before mid new made taken registration activity has = by_made (made.unit registration activity (taken.fewer.unit registration activity has))
   where
-    by_unit : (o : Option Reached) → lookup (is_same activity) (units_of registration before.reached) ≡ o → list_any (needs_unit registration activity) statements ≡ true → HasUnitPlace registration activity before
+    by_unit : (o : Option Reached) → lookup (is_same activity) (units_of registration before.reached) ≡ o → list_any (needs_unit registration activity) statements ≡ true → HasUnitSlot registration activity before
     by_unit (Some reached) is needs = ap (λ (x : Option Reached). is_some x) is
     by_unit None is needs =
         absurd (taken.unit registration activity needs
         (taken.same.reached registration activity ∙ (made.same.reached registration activity ∙ ap (λ (x : Option Reached). option_map_or (λ (r : Reached). r) x nothing_reached) is)) has)
 
-    by_made : HasUnitPlace registration activity before ⊎ (list_any (needs_unit registration activity) statements ≡ true) → HasUnitPlace registration activity before
+    by_made : HasUnitSlot registration activity before ⊎ (list_any (needs_unit registration activity) statements ≡ true) → HasUnitSlot registration activity before
     by_made (inl had) = had
     by_made (inr needs) = by_unit (lookup (is_same activity) (units_of registration before.reached)) refl needs
 
-pub said_back : (statements : List StoredStatement) (before mid new : SeenSessions) → MakesPlaces statements before mid → TakesPlacesBack statements mid new → AddsNoPlaces before new
+pub said_back : (statements : List StoredStatement) (before mid new : SeenSessions) → MakesSlots statements before mid → TakesSlotsBack statements mid new → AddsNoSlots before new
 said_back statements before mid new made taken = record {
   own = own_back statements before mid new made taken;
   unit = unit_back statements before mid new made taken;
@@ -103,8 +103,8 @@ counted_same : (old new : SeenRunning) (founding : Option Founding) (courses : L
     → AreCounted old founding courses registrations those → AreCounted new founding courses registrations those
 counted_same old new founding courses registrations those same counted = record {
   long = ap (λ (hs : List (List Tally)). length hs) same ∙ counted.long;
-  each = λ id k r place there.
-      let its : HasTallies old founding courses those k r = counted.each id k r place there in
+  each = λ id k r index there.
+      let its : HasTallies old founding courses those k r = counted.each id k r index there in
       record {
         enrolment = its.enrolment;
         enrolled = its.enrolled;
@@ -120,7 +120,7 @@ settled old new founding courses registrations those sessions held follows = rec
   counted = counted_same old.running new.running founding courses registrations those held follows.counted;
 }
 
--- places alone change
+-- slots alone change
 pub kept_still : (old new : Progress) (founding : Option Founding) (courses courses_now : List Course) (registrations registrations_now : List HeldRegistration)
     (statements statements_now : List StoredStatement) → KeepsSame old.sessions new.sessions → new.running.held ≡ old.running.held → courses_now ≡ courses
     → registrations_now ≡ registrations → statements_now ≡ statements → IsUpToDate old founding courses registrations statements → IsUpToDate new founding courses_now registrations_now statements_now
@@ -170,7 +170,7 @@ kept_of_nothing p courses registrations statements own reached held no_registrat
     };
     counted = record {
       long = ap (λ (hs : List (List Tally)). length hs) held ∙ sym (ap (λ (rs : List HeldRegistration). length rs) no_registrations);
-      each = λ id k r place there. absurd (none-some r (sym (ap (λ (rs : List HeldRegistration). slice_get rs k) no_registrations) ∙ there));
+      each = λ id k r index there. absurd (none-some r (sym (ap (λ (rs : List HeldRegistration). slice_get rs k) no_registrations) ∙ there));
     };
   };
 }

@@ -3,7 +3,7 @@ use Rattle.std.proofs.Common.{◌≡◌, List, IfOk, IfSome, OnOk, Option, Some,
 use Rattle.std.specs.Prelude.{option_map}
 use Rattle.std.proofs.lemmas.Option.{none-some, same_Some}
 use Rattle.cmi5_course.specs.Courses.{Course}
-use Rattle.cmi5_running_sessions.specs.Room.{HasPlacesForEach}
+use Rattle.cmi5_running_sessions.specs.Room.{HasSlotsForEach}
 use Rattle.cmi5_running_verdicts.specs.Running.{HasCounted, SeenRunning}
 use Rattle.cmi5_running_sessions.specs.Cmi5SessionMarked.{MarkedStatement, marked}
 use Rattle.cmi5_running_verdicts.specs.Cmi5VerdictNodes.{SeenEnrolment, seen}
@@ -40,10 +40,10 @@ ready_with running founding courses r those (Some e) its counted = record {
 pub readied : {T E : Type 0} (p : Progress) (founding : Option Founding) (courses : List Course) (statements : List StoredStatement) (effect : Effect) (enrolment : Option Enrolment)
     (given : Option (Bor Enrolment)) (coming : List StoredStatement) (result : Result T E) → option_copied given ≡ enrolment → coming ≡ effect.statements → effect.courses.replaced ≡ None
     → effect.registrations.replaced ≡ None → ((r : HeldRegistration) → effect.registrations.new ≡ Some r → IsEnrolmentOf founding courses r (option_map seen enrolment))
-    → OnOk result (HasPlacesForEach p.sessions coming) → OnOk result (IfSome given (λ (e : Bor Enrolment). HasCounted p.running (marked statements) (seen e.now)))
+    → OnOk result (HasSlotsForEach p.sessions coming) → OnOk result (IfSome given (λ (e : Bor Enrolment). HasCounted p.running (marked statements) (seen e.now)))
     → OnOk result (AreTargets p.targets statements coming) → OnOk result (IsProgressReadyFor p founding courses statements effect)
-readied p founding courses statements effect enrolment given coming (Ok t) is same courses_stay registrations_stay its places counted trees = record {
-  sessions = subst (λ (ss : List StoredStatement). HasPlacesForEach p.sessions ss) same places;
+readied p founding courses statements effect enrolment given coming (Ok t) is same courses_stay registrations_stay its slots counted trees = record {
+  sessions = subst (λ (ss : List StoredStatement). HasSlotsForEach p.sessions ss) same slots;
   targets = subst (λ (ss : List StoredStatement). AreTargets p.targets statements ss) same trees;
   courses_stay = courses_stay;
   registrations_stay = registrations_stay;
@@ -51,4 +51,4 @@ readied p founding courses statements effect enrolment given coming (Ok t) is sa
       ready_with p.running founding courses r (marked statements) given
       (subst (λ (o : Option Enrolment). IsEnrolmentOf founding courses r (option_map seen o)) (sym is) (its r comes)) counted;
 }
-readied p founding courses statements effect enrolment given coming (Err e) is same courses_stay registrations_stay its places counted trees = tt
+readied p founding courses statements effect enrolment given coming (Err e) is same courses_stay registrations_stay its slots counted trees = tt

@@ -17,7 +17,7 @@ use Rattle.xapi_statement.specs.Stored.{StoredStatement}
 
 -- ---- lists
 
--- what holds of each holds of the one at a place
+-- what holds of each holds of the one at an index
 pub each_at : {A : Type 0} (P : A → Type 0) (xs : List A) (k : ℕ) (x : A) → AllByRecursion P xs → slice_get xs k ≡ Some x → P x
 each_at P [] k x each is = absurd (none-some x is)
 each_at P (y ∷ xs) zero x each is = subst P (same_Some y x is) each.0

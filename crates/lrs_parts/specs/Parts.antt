@@ -3,9 +3,9 @@ use Rattle.std.specs.Prelude.{◌≡◌, ◌⊎◌, ◌+◌, ◌<◌, ◌^◌, �
 use Rattle.std.specs.Cmp.Lexicographic.{slice_cmp}
 use Rattle.std.specs.Ordering.{nat_cmp}
 use Rattle.lrs_ids.specs.Ids.{Used, either, those}
-use Rattle.lrs_state.specs.Counted.{AddsNone, HasRoomToCount, MakesPlaceFor}
+use Rattle.lrs_state.specs.Counted.{AddsNone, HasRoomToCount, MakesSlotFor}
 use Rattle.lrs_state.specs.Launches.{session_ids}
-use Rattle.lrs_state.specs.Learning.{AddsNoLearningPlaces, IsLearningReadyFor, MakesLearningPlaces}
+use Rattle.lrs_state.specs.Learning.{AddsNoLearningSlots, IsLearningReadyFor, MakesLearningSlots}
 use Rattle.lrs_state.specs.Providers.{token_of}
 use Rattle.lrs_state.specs.Registrations.{registration_ids}
 use Rattle.lrs_state.specs.Sessions.{made_session_ids}
@@ -19,7 +19,7 @@ use Rattle.lrs_parts.specs.Progress.{IsProgressReadyFor}
 use Rattle.cmi5_running_sessions.specs.Room as room
 use Rattle.lrs_register.specs.Register.{Registered}
 use Rattle.xapi_docs.specs.Docs as docs
-use Rattle.xapi_docs.specs.Docs.{HasRoomForDocuments, Places, documents_in, is_written}
+use Rattle.xapi_docs.specs.Docs.{HasRoomForDocuments, Slots, documents_in, is_written}
 use Rattle.cmi5_running_verdicts.specs.XapiIndexIndex.{HoldsNothingAhead, Indexed, IsIndexReadyFor}
 use Rattle.xapi_statement.specs.Statements.{ids_of}
 
@@ -28,7 +28,7 @@ pub record SeenParts : Type 0 where
   pub founding : Option Founding
   pub providers : Registered (List ℕ) HeldProvider
   pub statements : Indexed
-  pub documents : Places
+  pub documents : Slots
   pub learning : Learning
   pub progress : Progress
   pub length : ℕ
@@ -70,15 +70,15 @@ pub record IsReadyFor (parts : SeenParts) (effect : Effect) : Type 0 where
       effect
   pub length : parts.length + 1 < 2 ^ 64
 
--- ---- places that are made ahead
+-- ---- slots that are made ahead
 
--- Places were made for what an effect brings, and for nothing else. Of the statements nothing needs to be said: all
+-- Slots were made for what an effect brings, and for nothing else. Of the statements nothing needs to be said: all
 -- that stands ahead is taken back.
-pub record MakesPlacesFor (old new : SeenParts) (effect : Effect) : Type 0 where
-  pub providers : MakesPlaceFor (slice_cmp nat_cmp) token_of effect.providers old.providers new.providers
-  pub documents : docs.MakesPlaces (is_written effect.documents) old.documents new.documents
-  pub learning : MakesLearningPlaces old.learning new.learning effect
-  pub sessions : room.MakesPlaces effect.statements old.progress.sessions new.progress.sessions
+pub record MakesSlotsFor (old new : SeenParts) (effect : Effect) : Type 0 where
+  pub providers : MakesSlotFor (slice_cmp nat_cmp) token_of effect.providers old.providers new.providers
+  pub documents : docs.MakesSlots (is_written effect.documents) old.documents new.documents
+  pub learning : MakesLearningSlots old.learning new.learning effect
+  pub sessions : room.MakesSlots effect.statements old.progress.sessions new.progress.sessions
 
 -- Nothing stands ahead of statements that are to come, of tallies or of the trees of what statements void.
 pub record HoldsNothingMore (parts : SeenParts) : Type 0 where
@@ -86,13 +86,13 @@ pub record HoldsNothingMore (parts : SeenParts) : Type 0 where
   pub running : parts.progress.running.coming ≡ None
   pub targets : parts.progress.targets ≡ []
 
--- No part has a place that it hadn't. The statements are as they were, or hold nothing ahead; so are the tallies and
+-- No part has a slot that it hadn't. The statements are as they were, or hold nothing ahead; so are the tallies and
 -- the trees of what statements void.
-pub record AddsNoPlaces (old new : SeenParts) : Type 0 where
+pub record AddsNoSlots (old new : SeenParts) : Type 0 where
   pub providers : AddsNone (slice_cmp nat_cmp) old.providers new.providers
   pub statements : HoldsNothingAhead new.statements ⊎ (new.statements ≡ old.statements)
-  pub documents : docs.AddsNoPlace old.documents new.documents
-  pub learning : AddsNoLearningPlaces old.learning new.learning
-  pub sessions : room.AddsNoPlaces old.progress.sessions new.progress.sessions
+  pub documents : docs.AddsNoSlot old.documents new.documents
+  pub learning : AddsNoLearningSlots old.learning new.learning
+  pub sessions : room.AddsNoSlots old.progress.sessions new.progress.sessions
   pub running : (new.progress.running.coming ≡ None) ⊎ (new.progress.running ≡ old.progress.running)
   pub targets : (new.progress.targets ≡ []) ⊎ (new.progress.targets ≡ old.progress.targets)

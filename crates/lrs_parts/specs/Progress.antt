@@ -6,13 +6,13 @@ use Rattle.std.specs.Option.{option_map_or}
 use Rattle.std.specs.Str.{bytes_eq}
 use Rattle.cmi5_course.specs.Courses.{Course}
 use Rattle.cmi5_running_sessions.specs.Kept.{SeenSessions, SaidStandsFor}
-use Rattle.cmi5_running_sessions.specs.Room.{HasPlacesForEach}
+use Rattle.cmi5_running_sessions.specs.Room.{HasSlotsForEach}
 use Rattle.cmi5_running_verdicts.specs.Running.{HasCounted, SeenRunning, TalliesStandFor}
 use Rattle.cmi5_running_sessions.specs.Cmi5SessionMarked.{MarkedStatement, marked}
 use Rattle.cmi5_running_verdicts.specs.Cmi5VerdictNodes.{SeenEnrolment}
 use Rattle.lrs_ids.specs.Ids.{are_distinct}
 use Rattle.lrs_json.specs.View.{view}
-use Rattle.lrs_state.specs.Counted.{place_under}
+use Rattle.lrs_state.specs.Counted.{index_under}
 use Rattle.lrs_state.specs.Registrations.{registration_key}
 use Rattle.lrs_parts.specs.Trees.{AreTargets}
 use Rattle.lrs_state.specs.declared.effect.Effect.{Effect}
@@ -46,7 +46,7 @@ enrolment_at founding courses registrations number =
 -- the number of the registration that a statement names, the first of its id
 abbrev pub number_named : StoredStatement → List HeldRegistration → Option ℕ
 number_named s registrations =
-    option_and_then (λ id. place_under registration_key id registrations) (registration_of (view s.received))
+    option_and_then (λ id. index_under registration_key id registrations) (registration_of (view s.received))
 
 -- that number, if the registration there is in the course of this one
 abbrev pub number_in : HeldRegistration → List HeldRegistration → ℕ → Option ℕ
@@ -57,7 +57,7 @@ number_in r registrations number = option_and_then
 -- the number of a registration, if it is held and the first of its id
 abbrev pub number_held : HeldRegistration → List HeldRegistration → Option ℕ
 number_held r registrations =
-    option_and_then (number_in r registrations) (place_under registration_key r.id registrations)
+    option_and_then (number_in r registrations) (index_under registration_key r.id registrations)
 
 -- ---- what it stands for
 
@@ -73,7 +73,7 @@ pub record AreCounted (running : SeenRunning) (founding : Option Founding) (cour
     (registrations : List HeldRegistration) (those : List MarkedStatement) : Type 0 where
   pub long : length running.held ≡ length registrations
   pub each : (id : List ℕ) → (number : ℕ) → (r : HeldRegistration)
-      → place_under registration_key id registrations ≡ Some number → slice_get registrations number ≡ Some r
+      → index_under registration_key id registrations ≡ Some number → slice_get registrations number ≡ Some r
       → HasTallies running founding courses those number r
 
 -- What is kept of sessions stands for these statements, and so does what is kept of registrations.
@@ -128,11 +128,11 @@ pub record IsReadyToEnrol (running : SeenRunning) (founding : Option Founding) (
   pub counted : HasCounted running those enrolment
 
 -- A registration comes only to a founded store with its course, of which nothing is replaced, and what the statements
--- that are held say of it is counted. What those that come say has places, and the trees of those that they void are
+-- that are held say of it is counted. What those that come say has slots, and the trees of those that they void are
 -- there.
 pub record IsProgressReadyFor (p : Progress) (founding : Option Founding) (courses : List Course)
     (statements : List StoredStatement) (effect : Effect) : Type 0 where
-  pub sessions : HasPlacesForEach p.sessions effect.statements
+  pub sessions : HasSlotsForEach p.sessions effect.statements
   pub targets : AreTargets p.targets statements effect.statements
   pub courses_stay : effect.courses.replaced ≡ None
   pub registrations_stay : effect.registrations.replaced ≡ None

@@ -4,7 +4,7 @@ ghost use Rattle.std.specs.Prelude.{◌≡◌, ◌≤◌, ◌<◌, ◌+◌, ◌^
 ghost use Rattle.std.specs.Prelude.{Some, false, true, is_some, length, option_map, slice_get, take};
 ghost use Rattle.std.specs.Option.{option_copied};
 ghost use Rattle.cmi5_course.specs.Courses.{Course as SpecCourse};
-ghost use Rattle.cmi5_running_sessions.specs.Room.{HasPlacesFor, HasPlacesForEach, KeepsPlaces};
+ghost use Rattle.cmi5_running_sessions.specs.Room.{HasSlotsFor, HasSlotsForEach, KeepsSlots};
 ghost use Rattle.cmi5_running_verdicts.specs.Holding.{StandBehindHolders};
 ghost use Rattle.cmi5_running_verdicts.specs.Running.{HasCounted};
 ghost use Rattle.cmi5_running_sessions.specs.Cmi5SessionMarked.{MarkedStatement, mark, marked};
@@ -99,7 +99,7 @@ fn number_named(registrations: &Registrations, statement: &StoredStatement) -> O
     ensures { result ≡ number_named statement.now registrations.now.held }
 {
     match registration_of(statement.received()) {
-        Some(id) => registrations.place(&id),
+        Some(id) => registrations.index_of(&id),
         None => None,
     }
 }
@@ -133,7 +133,7 @@ pub(crate) fn take_in_each(
     coming: &[StoredStatement],
 ) -> Items<StoredStatement>
     requires ready { IsIndexReadyFor statements.old coming.now }
-    requires places { HasPlacesForEach progress.old.sessions coming.now }
+    requires slots { HasSlotsForEach progress.old.sessions coming.now }
     requires targets { AreTargets progress.old.targets statements.old.held coming.now }
     requires kept { IsUpToDate progress.old founding.now learning.now.courses.held learning.now.registrations.held
         statements.old.held }
@@ -174,7 +174,7 @@ fn follow_each(
     requires within { first ≤ length statements.now.held }
     requires distinct { IsTrue (are_distinct (ids_of statements.now.held)) }
     requires added { statements.now.held ≡ add_each (take first statements.now.held) coming.now }
-    requires places { HasPlacesForEach progress.old.sessions coming.now }
+    requires slots { HasSlotsForEach progress.old.sessions coming.now }
     requires targets { AreTargets trees.now (take first statements.now.held) coming.now }
     ensures { KeepsUp progress.old founding.now learning.now.courses.held learning.now.registrations.held
         (marked (take first statements.now.held))
@@ -203,14 +203,14 @@ fn follow_next(
     requires distinct { IsTrue (are_distinct (ids_of statements.now.held)) }
     requires there { is_at statement.now statements.now.held at ≡ true
         → slice_get statements.now.held at ≡ Some statement.now }
-    requires places { HasPlacesFor progress.old.sessions statement.now }
+    requires slots { HasSlotsFor progress.old.sessions statement.now }
     requires voided { option_copied voided ≡ voided_in statements.now.held statement.now }
     ensures next { result ≡ place_behind statement.now statements.now.held at }
     ensures follows { KeepsUp progress.old founding.now learning.now.courses.held learning.now.registrations.held
         (marked (take at statements.now.held))
         → KeepsUp progress.new founding.now learning.now.courses.held learning.now.registrations.held
         (marked (take result statements.now.held)) }
-    ensures places { KeepsPlaces progress.old.sessions progress.new.sessions }
+    ensures slots { KeepsSlots progress.old.sessions progress.new.sessions }
 {
     let long = statements.len();
     if at < long {
@@ -235,14 +235,14 @@ fn follow_at(
     requires distinct { IsTrue (are_distinct (ids_of statements.now.held)) }
     requires there { is_at statement.now statements.now.held at ≡ true
         → slice_get statements.now.held at ≡ Some statement.now }
-    requires places { HasPlacesFor progress.old.sessions statement.now }
+    requires slots { HasSlotsFor progress.old.sessions statement.now }
     requires voided { option_copied voided ≡ voided_in statements.now.held statement.now }
     ensures next { result ≡ place_behind statement.now statements.now.held at }
     ensures follows { KeepsUp progress.old founding.now learning.now.courses.held learning.now.registrations.held
         (marked (take at statements.now.held))
         → KeepsUp progress.new founding.now learning.now.courses.held learning.now.registrations.held
         (marked (take result statements.now.held)) }
-    ensures places { KeepsPlaces progress.old.sessions progress.new.sessions }
+    ensures slots { KeepsSlots progress.old.sessions progress.new.sessions }
 {
     if is_at(statements, statement, at) {
         follow(
@@ -277,13 +277,13 @@ fn follow(
     requires few { at + 1 < 2 ^ 64 }
     requires distinct { IsTrue (are_distinct (ids_of statements.now.held)) }
     requires there { slice_get statements.now.held at ≡ Some statement.now }
-    requires places { HasPlacesFor progress.old.sessions statement.now }
+    requires slots { HasSlotsFor progress.old.sessions statement.now }
     requires voided { option_copied voided ≡ voided_in statements.now.held statement.now }
     ensures follows { KeepsUp progress.old founding.now learning.now.courses.held learning.now.registrations.held
         (marked (take at statements.now.held))
         → KeepsUp progress.new founding.now learning.now.courses.held learning.now.registrations.held
         (marked (take (at + 1) statements.now.held)) }
-    ensures places { KeepsPlaces progress.old.sessions progress.new.sessions }
+    ensures slots { KeepsSlots progress.old.sessions progress.new.sessions }
 {
     let already = statements.is_voided_at(at + 1, at);
     take_in(progress, founding, learning, statement, already);
@@ -298,12 +298,12 @@ fn take_in(
     statement: &StoredStatement,
     voided: bool,
 )
-    requires { HasPlacesFor progress.old.sessions statement.now }
+    requires { HasSlotsFor progress.old.sessions statement.now }
     ensures follows { (those : List MarkedStatement) → length those + 1 < 2 ^ 64
         → KeepsUp progress.old founding.now learning.now.courses.held learning.now.registrations.held those
         → KeepsUp progress.new founding.now learning.now.courses.held learning.now.registrations.held
         (those ++ mark statement.now voided ∷ []) }
-    ensures places { KeepsPlaces progress.old.sessions progress.new.sessions }
+    ensures slots { KeepsSlots progress.old.sessions progress.new.sessions }
 {
     progress.sessions.install(statement, voided);
     count(&mut progress.running, founding, learning, statement, voided);
@@ -368,7 +368,7 @@ fn void_by(
         ++ mark s (is_voided (take (at + 1) statements.now.held) s) ∷ [])
         → KeepsUp progress.new founding.now learning.now.courses.held learning.now.registrations.held
         (marked (take (at + 1) statements.now.held)) }
-    ensures places { KeepsPlaces progress.old.sessions progress.new.sessions }
+    ensures slots { KeepsSlots progress.old.sessions progress.new.sessions }
 {
     if voids_anew(statements, at) {
         void_tree(progress, founding, learning, voided);
@@ -420,7 +420,7 @@ fn void_tree(
         (before ++ mark s false ∷ behind)
         → KeepsUp progress.new founding.now learning.now.courses.held learning.now.registrations.held
         (before ++ mark s true ∷ behind) }
-    ensures places { KeepsPlaces progress.old.sessions progress.new.sessions }
+    ensures slots { KeepsSlots progress.old.sessions progress.new.sessions }
 {
     if let Some(statement) = voided {
         void(progress, founding, learning, statement);
@@ -438,7 +438,7 @@ fn void(
         (before ++ mark statement.now false ∷ behind)
         → KeepsUp progress.new founding.now learning.now.courses.held learning.now.registrations.held
         (before ++ mark statement.now true ∷ behind) }
-    ensures places { KeepsPlaces progress.old.sessions progress.new.sessions }
+    ensures slots { KeepsSlots progress.old.sessions progress.new.sessions }
 {
     progress.sessions.void(statement);
     discount(&mut progress.running, founding, learning, statement);

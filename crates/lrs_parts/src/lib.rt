@@ -16,7 +16,7 @@ pub use lrs_state::{
     Acceptance, Courses, CoursesChange, Effect, Founding, HeldKey, HeldProvider, HeldRegistration,
     HeldSession, HeldToken, KeysChange, LaunchesChange, Learner, Learning, MadeSession,
     MadeSessionsChange, ProvidersChange, Registrations, RegistrationsChange, SessionsChange,
-    TokensChange, course_id, is_admin, is_base, is_learner, is_name, is_token, place_of_course,
+    TokensChange, course_id, index_of_course, is_admin, is_base, is_learner, is_name, is_token,
 };
 pub use parts::Parts;
 pub use progress::Progress;

@@ -3,8 +3,8 @@ ghost use Rattle.std.specs.Prelude.{◌≡◌, ◌<◌, ◌^◌, OnOk};
 ghost use Rattle.std.specs.Vec.Iter.{into_iter_items};
 ghost use Rattle.cmi5_running_verdicts.specs.XapiIndexAhead.{AreTextsOf};
 ghost use Rattle.lrs_state.specs.Founding.{founding_after};
-ghost use Rattle.lrs_parts.specs.Parts.{state_of, used_with, AddsNoPlaces, HoldsNothingMore, IsReadyFor};
-ghost use Rattle.lrs_parts.specs.Parts.{MakesPlacesFor, SeenParts};
+ghost use Rattle.lrs_parts.specs.Parts.{state_of, used_with, AddsNoSlots, HoldsNothingMore, IsReadyFor};
+ghost use Rattle.lrs_parts.specs.Parts.{MakesSlotsFor, SeenParts};
 ghost use Rattle.lrs_state.specs.State.{apply, nothing};
 
 use crate::following::{enrol_new, take_in_each};
@@ -96,7 +96,7 @@ impl Parts {
         requires { AreTextsOf (into_iter_items texts.old) effect.now.statements }
         ensures same { state_of self.new ≡ state_of self.old }
         ensures ready { OnOk result (IsReadyFor self.new effect.now) }
-        ensures made { MakesPlacesFor self.old self.new effect.now }
+        ensures made { MakesSlotsFor self.old self.new effect.now }
     {
         ready_each(
             &mut self.progress,
@@ -111,11 +111,11 @@ impl Parts {
         )
     }
 
-    /// Takes back the places that were made for an effect which doesn't come: then there are none but those before.
+    /// Takes back the slots that were made for an effect which doesn't come: then there are none but those before.
     pub fn release(&mut self, effect: &Effect)
         ensures same { state_of self.new ≡ state_of self.old }
-        ensures undone { (before : SeenParts) → MakesPlacesFor before self.old effect.now
-            → AddsNoPlaces before self.new }
+        ensures undone { (before : SeenParts) → MakesSlotsFor before self.old effect.now
+            → AddsNoSlots before self.new }
     {
         self.providers.release(&effect.providers);
         self.statements.release();

@@ -1,6 +1,6 @@
 // What is kept of how far sessions and registrations have come.
 ghost use Rattle.std.specs.Prelude.{◌≡◌, [], None, IfSome, OnOk};
-ghost use Rattle.cmi5_running_sessions.specs.Room.{HasPlacesForEach, MakesPlaces, TakesPlacesBack};
+ghost use Rattle.cmi5_running_sessions.specs.Room.{HasSlotsForEach, MakesSlots, TakesSlotsBack};
 ghost use Rattle.cmi5_running_verdicts.specs.Holding.{StandBehindHolders};
 ghost use Rattle.cmi5_running_verdicts.specs.Running.{HasCounted};
 ghost use Rattle.cmi5_running_sessions.specs.Cmi5SessionMarked.{marked};
@@ -41,7 +41,7 @@ impl Progress {
         }
     }
 
-    // Makes places for what statements say that are to come, counts what the held ones say of a registration, if one
+    // Makes slots for what statements say that are to come, counts what the held ones say of a registration, if one
     // comes, and reads the trees of those that the statements void.
     pub(crate) fn ready(
         &mut self,
@@ -50,9 +50,9 @@ impl Progress {
         enrolment: Option<&Enrolment<'_>>,
     ) -> Result<(), Memory>
         requires { IfSome enrolment (λ e. StandBehindHolders e.now.nodes.now) }
-        ensures made { MakesPlaces coming.now self.old.sessions self.new.sessions }
+        ensures made { MakesSlots coming.now self.old.sessions self.new.sessions }
         ensures held { self.new.running.held ≡ self.old.running.held }
-        ensures sessions { OnOk result (HasPlacesForEach self.new.sessions coming.now) }
+        ensures sessions { OnOk result (HasSlotsForEach self.new.sessions coming.now) }
         ensures running { OnOk result (IfSome enrolment.entry
             (λ e. HasCounted self.new.running (marked statements.now.held) (seen e.now))) }
         ensures targets { OnOk result (AreTargets self.new.targets statements.now.held coming.now) }
@@ -64,7 +64,7 @@ impl Progress {
 
     // Takes back what was made ready.
     pub(crate) fn release(&mut self, statements: &[StoredStatement])
-        ensures back { TakesPlacesBack statements.now self.old.sessions self.new.sessions }
+        ensures back { TakesSlotsBack statements.now self.old.sessions self.new.sessions }
         ensures held { self.new.running.held ≡ self.old.running.held }
         ensures nothing { self.new.running.coming ≡ None }
         ensures targets { self.new.targets ≡ [] }

@@ -5,8 +5,8 @@ ghost use Rattle.std.specs.Ordering.{nat_cmp};
 ghost use Rattle.cmi5_running_sessions.specs.Room as room;
 ghost use Rattle.cmi5_running_verdicts.specs.Holding.{StandBehindHolders};
 ghost use Rattle.cmi5_running_verdicts.specs.Cmi5VerdictNodes.{seen};
-ghost use Rattle.lrs_state.specs.Counted.{HasRoomToCount, MakesPlaceFor};
-ghost use Rattle.lrs_state.specs.Learning.{IsLearningReadyFor, KeepsLearning, MakesLearningPlaces};
+ghost use Rattle.lrs_state.specs.Counted.{HasRoomToCount, MakesSlotFor};
+ghost use Rattle.lrs_state.specs.Learning.{IsLearningReadyFor, KeepsLearning, MakesLearningSlots};
 ghost use Rattle.lrs_parts.specs.Progress.{IsEnrolmentOf, IsProgressReadyFor};
 ghost use Rattle.lrs_state.specs.Providers.{token_of};
 ghost use Rattle.lrs_state.specs.declared.registrations.HeldRegistration.{HeldRegistration as SpecRegistration};
@@ -39,7 +39,7 @@ pub(crate) fn ready_progress(
     statements: &Index,
     effect: &Effect,
 ) -> Result<(), Memory>
-    ensures made { room.MakesPlaces effect.now.statements progress.old.sessions progress.new.sessions }
+    ensures made { room.MakesSlots effect.now.statements progress.old.sessions progress.new.sessions }
     ensures held { progress.new.running.held ≡ progress.old.running.held }
     ensures ready { OnOk result (IsProgressReadyFor progress.new founding.now courses.now.held statements.now.held
         effect.now) }
@@ -141,11 +141,11 @@ pub(crate) fn ready_each(
     ensures ready_documents { OnOk result (HasRoomForDocuments documents.new effect.now.documents) }
     ensures ready_learning { OnOk result (IsLearningReadyFor learning.new effect.now) }
     ensures countable { OnOk result (entries + 1 < 2 ^ 64) }
-    ensures made_sessions { room.MakesPlaces effect.now.statements progress.old.sessions progress.new.sessions }
-    ensures made_providers { MakesPlaceFor (slice_cmp nat_cmp) token_of effect.now.providers
+    ensures made_sessions { room.MakesSlots effect.now.statements progress.old.sessions progress.new.sessions }
+    ensures made_providers { MakesSlotFor (slice_cmp nat_cmp) token_of effect.now.providers
         providers.old providers.new }
-    ensures made_documents { docs.MakesPlaces (is_written effect.now.documents) documents.old documents.new }
-    ensures made_learning { MakesLearningPlaces learning.old learning.new effect.now }
+    ensures made_documents { docs.MakesSlots (is_written effect.now.documents) documents.old documents.new }
+    ensures made_learning { MakesLearningSlots learning.old learning.new effect.now }
 {
     ready_progress(progress, founding, &learning.courses, statements, effect)?;
     if entries == u64::MAX {

@@ -87,17 +87,17 @@ impl Parts {
         alloc: Global,
         registration: &HeldRegistration,
         enrolment: &Enrolment<'_>,
-        place: u32,
+        index: u32,
     ) -> Result<bool, Memory>
         requires enrolled { enrolment_in self.now.founding self.now.learning.courses.held registration.now
             ≡ Some (seen enrolment.now) }
-        requires place { place < length enrolment.now.nodes.now }
+        requires index { index < length enrolment.now.nodes.now }
         ensures { IfOk result (λ told. told ≡ stands self.now.statements.held enrolment.now.registration.now
-            (activity_at (seen enrolment.now) place) waived) }
+            (activity_at (seen enrolment.now) index) waived) }
     {
         match number_held(&self.learning.registrations, registration) {
-            Some(number) => Ok(self.progress.running.is_waived(number, place)),
-            None => self.waived_by_fold(alloc, enrolment, place),
+            Some(number) => Ok(self.progress.running.is_waived(number, index)),
+            None => self.waived_by_fold(alloc, enrolment, index),
         }
     }
 
@@ -112,8 +112,8 @@ impl Parts {
     ) -> Result<Vec<u32>, Memory>
         requires enrolled { enrolment_in self.now.founding self.now.learning.courses.held registration.now
             ≡ Some (seen enrolment.now) }
-        ensures { IfOk result (λ places.
-            places.items ≡ owed (seen enrolment.now) (self.now.statements.held ++ new.now)) }
+        ensures { IfOk result (λ indices.
+            indices.items ≡ owed (seen enrolment.now) (self.now.statements.held ++ new.now)) }
     {
         match number_held(&self.learning.registrations, registration) {
             Some(number) => self.owed_by_tallies(alloc, number, enrolment, new),
@@ -132,8 +132,8 @@ impl Parts {
     ) -> Result<Vec<u32>, Memory>
         requires { TalliesStandFor self.now.progress.running (marked self.now.statements.held) number
             (seen enrolment.now) }
-        ensures { IfOk result (λ places.
-            places.items ≡ owed (seen enrolment.now) (self.now.statements.held ++ new.now)) }
+        ensures { IfOk result (λ indices.
+            indices.items ≡ owed (seen enrolment.now) (self.now.statements.held ++ new.now)) }
     {
         let statements = self.behind_held(new);
         self.progress
@@ -157,12 +157,12 @@ impl Parts {
         &self,
         alloc: Global,
         enrolment: &Enrolment<'_>,
-        place: u32,
+        index: u32,
     ) -> Result<bool, Memory>
         ensures { IfOk result (λ told. told ≡ stands self.now.statements.held enrolment.now.registration.now
-            (activity_at (seen enrolment.now) place) waived) }
+            (activity_at (seen enrolment.now) index) waived) }
     {
-        waived(alloc, &self.held_alone(), enrolment, place)
+        waived(alloc, &self.held_alone(), enrolment, index)
     }
 
     fn owed_by_fold(
@@ -171,8 +171,8 @@ impl Parts {
         enrolment: &Enrolment<'_>,
         new: &[StoredStatement],
     ) -> Result<Vec<u32>, Memory>
-        ensures { IfOk result (λ places.
-            places.items ≡ owed (seen enrolment.now) (self.now.statements.held ++ new.now)) }
+        ensures { IfOk result (λ indices.
+            indices.items ≡ owed (seen enrolment.now) (self.now.statements.held ++ new.now)) }
     {
         owed(alloc, &self.behind_held(new), enrolment)
     }
@@ -203,7 +203,7 @@ impl Parts {
 fn number_held(registrations: &Registrations, registration: &HeldRegistration) -> Option<u32>
     ensures { result ≡ number_held registration.now registrations.now.held }
 {
-    match registrations.place(&registration.id) {
+    match registrations.index_of(&registration.id) {
         Some(number) => number_in(registrations, registration, number),
         None => None,
     }

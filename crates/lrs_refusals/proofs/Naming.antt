@@ -17,7 +17,7 @@ with_ids_again supply [] = refl
 with_ids_again supply (t ∷ ts) =
     ap (λ ns. record { id = id_for (supply 0) (own_id (view t)); tree = t } ∷ ns) (with_ids_again (supply_behind supply (own_id (view t))) ts)
 
--- ---- a walk over both lists by place
+-- ---- a walk over both lists by index
 
 -- the next of both
 pub next_with_id : (ids : List (List ℕ)) (ts : List Tree) (at : ℕ) (id : List ℕ) (t : Tree) → slice_get ids at ≡ Some id → slice_get ts at ≡ Some t

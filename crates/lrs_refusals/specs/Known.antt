@@ -31,7 +31,7 @@ is_own_held st t = is_given_held st (own_id (view t))
 abbrev pub own_held : State → List Tree → List Bool
 own_held st ts = map (is_own_held st) ts
 
--- Each of these tells whether a statement is held under the id at its place. There may be more ids, of which nothing is
+-- Each of these tells whether a statement is held under the id at its index. There may be more ids, of which nothing is
 -- told.
 abbrev pub TellHeld : State → List Bool → List (List ℕ) → Type 0
 TellHeld st [] ids = Unit {0}

@@ -72,6 +72,6 @@ refused_behind st session [] = None
 refused_behind st session (n ∷ ns) =
     option_or (refused_next st session n.tree) (refused_behind st (session_behind st session n) ns)
 
--- the same of those from that place on
+-- the same of those from that index on
 abbrev pub refused_from : State → SeenSession → List (List ℕ) → List Tree → ℕ → Option Refusal
 refused_from st session ids trees at = refused_behind st session (with_these_ids (drop at ids) (drop at trees))

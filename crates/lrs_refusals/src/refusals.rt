@@ -22,7 +22,7 @@ use lrs_json::{Memory, Text};
 use lrs_made::lrs_history::{
     barred, refused_actor, refused_agent, refused_document, refused_idle, refused_name,
 };
-use lrs_made::lrs_parts::{Parts, place_of_course};
+use lrs_made::lrs_parts::{Parts, index_of_course};
 use lrs_made::target;
 use lrs_media::is_json;
 use lrs_names::{Draw, Id, Iri};
@@ -136,7 +136,7 @@ fn missing(parts: &Parts, write: &Write) -> Option<Refusal>
     ensures { result ≡ missing (state_of parts.now) write.now }
 {
     match write {
-        Write::Enrol { course, .. } => match place_of_course(&parts.learning.courses, course) {
+        Write::Enrol { course, .. } => match index_of_course(&parts.learning.courses, course) {
             Some(_) => None,
             None => Some(Refusal::NotFound),
         },
@@ -154,7 +154,7 @@ fn missing(parts: &Parts, write: &Write) -> Option<Refusal>
             unit,
             ..
         } => missing_unit(parts, registration, unit),
-        Write::Abandon { session } => match parts.learning.launches.place(session) {
+        Write::Abandon { session } => match parts.learning.launches.index_of(session) {
             Some(_) => None,
             None => Some(Refusal::NotFound),
         },

@@ -32,10 +32,10 @@ fn who_presents(parts: &Parts, token: &Text) -> Who
     if is_admin(&parts.founding, token) {
         return Who::Admin;
     }
-    known_as(parts, parts.providers.place(token), token)
+    known_as(parts, parts.providers.index_of(token), token)
 }
 
-// The provider of that place, or the session that a token opens.
+// The provider of that index, or the session that a token opens.
 fn known_as(parts: &Parts, provider: Option<u32>, token: &Text) -> Who
     ensures { result ≡ known_as provider (launch_of_token token.now (state_of parts.now).tokens) }
 {

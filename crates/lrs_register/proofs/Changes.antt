@@ -24,7 +24,7 @@ replaced-alike f g alike xs (Some item) = with_first-alike (λ x. f x item) (λ 
 pub change-alike : {A : Type 0} (f g : A → A → Bool) → ((x y : A) → f x y ≡ g x y) → (xs : List A) (change : Change A) → with_change f xs change ≡ with_change g xs change
 change-alike f g alike xs change = replaced-alike f g alike (with_new xs change.new) change.replaced
 
--- ---- what is found keeps its place
+-- ---- what is found keeps its index
 
 from-more : {A : Type 0} (p : A → Bool) (i : ℕ) (xs ys : List A) (k : ℕ) → position_from p i xs ≡ Some k → position_from p i (xs ++ ys) ≡ Some k
 from-more p i [] ys k is = cc is

@@ -1,4 +1,4 @@
--- The first item of a list that passes, its place, and another one put there.
+-- The first item of a list that passes, its index, and another one put there.
 use Rattle.std.proofs.Common.{◌≡◌, ◌+◌, ◌-◌, ◌≤◌, suc, slice_set, slice_get, nat_lt, subst, ℕ, List, [], ◌∷◌, ◌++◌, length, refl, sym, ◌∙◌, ap, arith, Option, Some, None, Bool, true, false, cond}
 use Rattle.std.specs.Prelude.{position, find, option_and_then}
 use Rattle.std.specs.List.{position_from, position_or_len}
@@ -57,7 +57,7 @@ with_first-at p y xs k is =
 pub with_first-same : {A : Type 0} (p : A → Bool) (y : A) (xs : List A) → position p xs ≡ None → with_first p y xs ≡ xs
 with_first-same p y xs is = with_first-none p y 0 xs (sym (position_from-zero p xs) ∙ is)
 
--- what stands at the first place that passes is the first item that does
+-- what stands at the first index that passes is the first item that does
 pub position-item : {A : Type 0} (p : A → Bool) (xs : List A) → option_and_then (λ k. slice_get xs k) (position p xs) ≡ find p xs
 position-item p xs = by_test (nat_lt (position_or_len p xs) (length xs)) refl
   where
@@ -68,12 +68,12 @@ position-item p xs = by_test (nat_lt (position_or_len p xs) (length xs)) refl
     by_test true is = sym (find_at p xs)
     by_test false is = sym (find_at p xs ∙ slice_get_past xs (position_or_len p xs) (past is))
 
--- what stands at the place of the first item that passes, and that there is none
+-- what stands at the index of the first item that passes, and that there is none
 pub item-at : {A : Type 0} (p : A → Bool) (xs : List A) (o : Option ℕ) (k : ℕ) → o ≡ Some k → o ≡ position p xs → slice_get xs k ≡ find p xs
-item-at p xs o k at place = ap (λ q. option_and_then (λ i. slice_get xs i) q) (sym at ∙ place) ∙ position-item p xs
+item-at p xs o k at index = ap (λ q. option_and_then (λ i. slice_get xs i) q) (sym at ∙ index) ∙ position-item p xs
 
 pub item-none : {A : Type 0} (p : A → Bool) (xs : List A) (o : Option ℕ) → o ≡ None → o ≡ position p xs → None ≡ find p xs
-item-none p xs o none place = ap (λ q. option_and_then (λ i. slice_get xs i) q) (sym none ∙ place) ∙ position-item p xs
+item-none p xs o none index = ap (λ q. option_and_then (λ i. slice_get xs i) q) (sym none ∙ index) ∙ position-item p xs
 
 pub with_first-alike : {A : Type 0} (p q : A → Bool) (y : A) (xs : List A) → ((x : A) → p x ≡ q x) → with_first p y xs ≡ with_first q y xs
 with_first-alike p q y [] alike = refl

@@ -3,28 +3,28 @@ use Rattle.std.specs.Prelude.{◌≡◌, ◌≤◌, ℕ, Bool, false, List, [], 
 use Rattle.std.specs.Prelude.{None}
 use Rattle.std.specs.BTreeMap.{is_at}
 use Rattle.std.specs.declared.cmp.Ordering.{Ordering}
-use Rattle.lrs_register.specs.Places.{HasPlace, place_of}
+use Rattle.lrs_register.specs.Slots.{HasSlot, index_of}
 
--- What is seen of a register: its items, the places by key, and for how many items more there is room in the list.
+-- What is seen of a register: its items, the slots by key, and for how many items more there is room in the list.
 pub record Registered (K T : Type 0) : Type 0 where
   pub held : List T
-  pub places : List (K × Option ℕ)
+  pub slots : List (K × Option ℕ)
   pub spare : ℕ
 
--- the place of the first item under a key, where a test tells which keys are the same
-abbrev pub place_under : {K T : Type 0} → (K → K → Bool) → (T → K) → K → List T → Option ℕ
-place_under same key_of key held = position (λ x. same (key_of x) key) held
+-- the index of the first item under a key, where a test tells which keys are the same
+abbrev pub index_under : {K T : Type 0} → (K → K → Bool) → (T → K) → K → List T → Option ℕ
+index_under same key_of key held = position (λ x. same (key_of x) key) held
 
--- each key has the place of the first item under it
-pub record IsIndexed {K T : Type 0} (cmp : K → K → Ordering) (key_of : T → K) (places : List (K × Option ℕ))
+-- each key has the index of the first item under it
+pub record IsIndexed {K T : Type 0} (cmp : K → K → Ordering) (key_of : T → K) (slots : List (K × Option ℕ))
     (held : List T) : Type 0 where
-  pub found : (k : K) → place_of cmp places k ≡ place_under (λ key. is_at (cmp key)) key_of k held
+  pub found : (k : K) → index_of cmp slots k ≡ index_under (λ key. is_at (cmp key)) key_of k held
 
 -- ---- room
 
 -- there is room for an item
 abbrev pub HasRoomFor : {K T : Type 0} → (K → K → Ordering) → (T → K) → Registered K T → T → Type 0
-HasRoomFor cmp key_of r item = (1 ≤ r.spare) × HasPlace cmp r.places (key_of item)
+HasRoomFor cmp key_of r item = (1 ≤ r.spare) × HasSlot cmp r.slots (key_of item)
 
 -- there is room for an item that may come
 abbrev pub HasRoomForNew : {K T : Type 0} → (K → K → Ordering) → (T → K) → Registered K T → Option T → Type 0

@@ -2,9 +2,9 @@
 #![tactic(auto)]
 
 mod change;
-mod places;
 mod register;
+mod slots;
 
 pub use change::Change;
-pub use places::Places;
 pub use register::{Keyed, Register};
+pub use slots::Slots;

@@ -2,11 +2,11 @@
 ghost use Rattle.std.specs.Prelude.{◌≡◌, ◌≤◌, ◌+◌, ◌<◌, [], ◌∷◌, ◌++◌, length, slice_get, slice_set, get_or, find, IfOk, OnOk};
 ghost use Rattle.std.specs.Option.{option_copied};
 ghost use Rattle.std.specs.BTreeMap.{is_at};
-ghost use Rattle.lrs_register.specs.Places.{KeepsPlaces, MakesPlaces, TakesPlacesBack};
+ghost use Rattle.lrs_register.specs.Slots.{KeepsSlots, MakesSlots, TakesSlotsBack};
 ghost use Rattle.lrs_register.specs.Changes.{with_change, with_replaced, HasRoomForChange};
-ghost use Rattle.lrs_register.specs.Register.{is_key_of, place_under, with_first, with_new, HasRoomFor, HasRoomForNew};
+ghost use Rattle.lrs_register.specs.Register.{is_key_of, index_under, with_first, with_new, HasRoomFor, HasRoomForNew};
 
-use crate::{Change, Places};
+use crate::{Change, Slots};
 use std::alloc::{AllocError, Global};
 use std::marker::Model;
 
@@ -17,7 +17,7 @@ pub trait Keyed<K> {
     fn key(&self) -> &K
         ensures { result.now ≡ key self.now };
 
-    /// A second copy of the key, under which its place is made.
+    /// A second copy of the key, under which its slot is made.
     fn key_copy(&self) -> Result<K, AllocError>
         ensures { IfOk result (λ copy. copy ≡ key self.now) };
 }
@@ -25,7 +25,7 @@ pub trait Keyed<K> {
 /// Items in the order in which they came, found by key: of equal keys the first counts.
 #[derive(Drop)]
 pub struct Register<K: Ord + Drop, T: Keyed<K> + Drop> {
-    places: Places<K>,
+    slots: Slots<K>,
     held: Vec<T>,
 }
 
@@ -37,12 +37,12 @@ impl<K: Ord + Drop, T: Keyed<K> + Drop> Model for Register<K, T> {
 
     ghost view = { λ r. record {
       held = r.held.items;
-      places = r.places;
+      slots = r.slots;
       spare = vec_capacity r.held - vec_len
           r.held;
     } };
 
-    ghost invariant = { λ r. IsIndexed K.cmp T.key r.places r.held.items };
+    ghost invariant = { λ r. IsIndexed K.cmp T.key r.slots r.held.items };
 }
 
 impl<K: Ord + Drop, T: Keyed<K> + Drop> Register<K, T> {
@@ -50,7 +50,7 @@ impl<K: Ord + Drop, T: Keyed<K> + Drop> Register<K, T> {
         ensures { result.held ≡ [] }
     {
         Register {
-            places: Places::new(alloc),
+            slots: Slots::new(alloc),
             held: Vec::new(alloc),
         }
     }
@@ -62,47 +62,47 @@ impl<K: Ord + Drop, T: Keyed<K> + Drop> Register<K, T> {
         self.held.len()
     }
 
-    /// The place of the first item under a key.
-    pub fn place(&self, key: &K) -> Option<usize>
-        ensures { result ≡ place_under (λ k. is_at (K.cmp k)) T.key key.now self.now.held }
+    /// The index of the first item under a key.
+    pub fn index_of(&self, key: &K) -> Option<usize>
+        ensures { result ≡ index_under (λ k. is_at (K.cmp k)) T.key key.now self.now.held }
     {
-        self.places.get(key)
+        self.slots.get(key)
     }
 
     /// The first item under a key.
     pub fn find(&self, key: &K) -> Option<&T>
         ensures { option_copied result ≡ find (λ x. is_at (K.cmp (T.key x)) key.now) self.now.held }
     {
-        match self.place(key) {
-            Some(place) => self.get(place),
+        match self.index_of(key) {
+            Some(index) => self.get(index),
             None => None,
         }
     }
 
-    /// The item at a place.
-    pub fn get(&self, place: usize) -> Option<&T>
-        ensures { option_copied result ≡ slice_get self.now.held place }
+    /// The item at an index.
+    pub fn get(&self, index: usize) -> Option<&T>
+        ensures { option_copied result ≡ slice_get self.now.held index }
     {
-        self.held.get(place)
+        self.held.get(index)
     }
 
     /// Makes room for an item.
     pub fn ready(&mut self, item: &T) -> Result<(), AllocError>
         ensures held { self.new.held ≡ self.old.held }
         ensures room { OnOk result (HasRoomFor K.cmp T.key self.new item.now) }
-        ensures made { MakesPlaces K.cmp (λ q. is_at (K.cmp (T.key item.now)) q) self.old.places self.new.places }
+        ensures made { MakesSlots K.cmp (λ q. is_at (K.cmp (T.key item.now)) q) self.old.slots self.new.slots }
     {
         self.held.reserve(1)?;
-        self.places.make(item.key_copy()?)
+        self.slots.make(item.key_copy()?)
     }
 
-    /// Takes back the place that was made for an item, where none came.
+    /// Takes back the slot that was made for an item, where none came.
     pub fn release(&mut self, item: &T)
         ensures held { self.new.held ≡ self.old.held }
-        ensures back { TakesPlacesBack K.cmp (λ q. is_at (K.cmp (T.key item.now)) q)
-            self.old.places self.new.places }
+        ensures back { TakesSlotsBack K.cmp (λ q. is_at (K.cmp (T.key item.now)) q)
+            self.old.slots self.new.slots }
     {
-        self.places.release(item.key());
+        self.slots.release(item.key());
     }
 
     /// Takes an item in for which there is room. It takes no memory.
@@ -110,9 +110,9 @@ impl<K: Ord + Drop, T: Keyed<K> + Drop> Register<K, T> {
         requires { HasRoomFor K.cmp T.key self.old item }
         ensures held { self.new.held ≡ self.old.held ++ item ∷ [] }
         ensures spare { self.new.spare + 1 ≡ self.old.spare }
-        ensures kept { KeepsPlaces K.cmp self.old.places self.new.places }
+        ensures kept { KeepsSlots K.cmp self.old.slots self.new.slots }
     {
-        self.places.fill(item.key(), self.held.len());
+        self.slots.fill(item.key(), self.held.len());
         self.held.push_reserved(item);
     }
 
@@ -120,8 +120,8 @@ impl<K: Ord + Drop, T: Keyed<K> + Drop> Register<K, T> {
     pub fn ready_change(&mut self, change: &Change<T>) -> Result<(), AllocError>
         ensures held { self.new.held ≡ self.old.held }
         ensures room { OnOk result (HasRoomForChange K.cmp T.key self.new change.now) }
-        ensures made { MakesPlaces K.cmp (λ q. is_key_of K.cmp T.key change.now.new q)
-            self.old.places self.new.places }
+        ensures made { MakesSlots K.cmp (λ q. is_key_of K.cmp T.key change.now.new q)
+            self.old.slots self.new.slots }
     {
         match &change.new {
             Some(item) => self.ready(item),
@@ -129,11 +129,11 @@ impl<K: Ord + Drop, T: Keyed<K> + Drop> Register<K, T> {
         }
     }
 
-    /// Takes back the place that was made for a change that didn't come.
+    /// Takes back the slot that was made for a change that didn't come.
     pub fn release_change(&mut self, change: &Change<T>)
         ensures held { self.new.held ≡ self.old.held }
-        ensures back { TakesPlacesBack K.cmp (λ q. is_key_of K.cmp T.key change.now.new q)
-            self.old.places self.new.places }
+        ensures back { TakesSlotsBack K.cmp (λ q. is_key_of K.cmp T.key change.now.new q)
+            self.old.slots self.new.slots }
     {
         if let Some(item) = &change.new {
             self.release(item);
@@ -169,26 +169,26 @@ impl<K: Ord + Drop, T: Keyed<K> + Drop> Register<K, T> {
         }
     }
 
-    /// Puts an item in the place of one with its key. It takes no memory.
-    pub fn replace(&mut self, place: usize, item: T)
-        requires within { place < length self.old.held }
+    /// Puts an item in place of one with its key. It takes no memory.
+    pub fn replace(&mut self, index: usize, item: T)
+        requires within { index < length self.old.held }
         requires same { (q : K) →
-            is_at (K.cmp (T.key item)) q ≡ is_at (K.cmp (T.key (get_or self.old.held place item))) q }
-        ensures held { self.new.held ≡ slice_set self.old.held place item }
+            is_at (K.cmp (T.key item)) q ≡ is_at (K.cmp (T.key (get_or self.old.held index item))) q }
+        ensures held { self.new.held ≡ slice_set self.old.held index item }
         ensures spare { self.new.spare ≡ self.old.spare }
-        ensures places { self.new.places ≡ self.old.places }
+        ensures slots { self.new.slots ≡ self.old.slots }
     {
-        self.held[place] = item;
+        self.held[index] = item;
     }
 
-    /// Puts an item in the place of the first with its key, if there is one. It takes no memory.
+    /// Puts an item in place of the first with its key, if there is one. It takes no memory.
     pub fn replace_first(&mut self, item: T)
         ensures held { self.new.held ≡ with_first (λ x. is_at (K.cmp (T.key x)) (T.key item)) item self.old.held }
         ensures spare { self.new.spare ≡ self.old.spare }
-        ensures places { self.new.places ≡ self.old.places }
+        ensures slots { self.new.slots ≡ self.old.slots }
     {
-        if let Some(place) = self.place(item.key()) {
-            self.replace(place, item);
+        if let Some(index) = self.index_of(item.key()) {
+            self.replace(index, item);
         }
     }
 }

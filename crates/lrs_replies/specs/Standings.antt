@@ -2,8 +2,8 @@
 -- which of them are satisfied.
 use Rattle.std.specs.Prelude.{ℕ, List, [], ◌∷◌, ◌++◌, map, Bool, true, false, codes}
 use Rattle.std.specs.List.{zip}
-use Rattle.cmi5_course.specs.declared.course.Kind.{Kind}
-use Rattle.cmi5_course.specs.declared.course.Kind.TheVariants.{Course, Block, Unit as UnitKind}
+use Rattle.cmi5_course.specs.declared.course.NodeKind.{NodeKind}
+use Rattle.cmi5_course.specs.declared.course.NodeKind.TheVariants.{Course, Block, Unit as UnitKind}
 use Rattle.cmi5_course.specs.declared.course.Node.{Node}
 use Rattle.lrs_json.specs.Json.{boolean, string}
 use Rattle.lrs_json.specs.Written.{comma_if, written}
@@ -12,7 +12,7 @@ use Rattle.lrs_names.specs.Ids.{id_text}
 -- what is told of a node
 pub record SeenNode : Type 0 where
   pub id : List ℕ
-  pub kind : Kind
+  pub kind : NodeKind
   pub satisfied : Bool
 
 abbrev pub seen_node : Node × Bool → SeenNode
@@ -22,7 +22,7 @@ seen_node pair = record { id = pair.0.id; kind = pair.0.kind; satisfied = pair.1
 abbrev pub nodes_of : List Node → List Bool → List SeenNode
 nodes_of nodes verdicts = map seen_node (zip nodes verdicts)
 
-abbrev pub kind_text : Kind → List ℕ
+abbrev pub kind_text : NodeKind → List ℕ
 kind_text Course = codes "course"
 kind_text Block = codes "block"
 kind_text UnitKind = codes "unit"

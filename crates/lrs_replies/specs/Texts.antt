@@ -9,9 +9,9 @@ use Rattle.lrs_json.specs.Written.{comma_if, written}
 use Rattle.lrs_names.specs.Ids.{id_text}
 use Rattle.lrs_record.specs.Entries.{word_text}
 
--- 32 lower-case hexadecimal digits of the secret, `-`, and the decimal place of its entry
+-- 32 lower-case hexadecimal digits of the secret, `-`, and the decimal index of its entry
 abbrev pub token_text : ℕ → ℕ → List ℕ
-token_text place secret = word_text secret ++ codes "-" ++ decimal place
+token_text index secret = word_text secret ++ codes "-" ++ decimal index
 
 -- {"caller":k,"token":"T"}
 abbrev pub provider_body : ℕ → List ℕ → List ℕ

@@ -13,14 +13,14 @@ use lrs_names::Id;
 use lrs_record::put_word;
 use std::alloc::Global;
 
-/// The token, or the fetch key, that an entry gives away. The entry stands at that place and was
+/// The token, or the fetch key, that an entry gives away. The entry stands at that index and was
 /// drawn with that secret.
-pub fn token_text(alloc: Global, place: u64, secret: u128) -> Result<Text, Memory>
-    ensures { IfOk result (λ token. token ≡ token_text place secret) }
+pub fn token_text(alloc: Global, index: u64, secret: u128) -> Result<Text, Memory>
+    ensures { IfOk result (λ token. token ≡ token_text index secret) }
 {
     let digits = digits_of(secret);
     let digits = utf8_text(&digits);
-    let text = format!(in alloc; "{digits}-{place}")?;
+    let text = format!(in alloc; "{digits}-{index}")?;
     Text::of(alloc, text.as_str())
 }
 
@@ -33,13 +33,13 @@ fn digits_of(word: u128) -> [u8; 32]
     digits
 }
 
-/// The body that tells of a provider its place and its token.
-pub fn provider_text(alloc: Global, place: usize, token: &Text) -> Result<Vec<u8>, Memory>
-    ensures { IfOk result (λ body. body.items ≡ provider_body place token.now) }
+/// The body that tells of a provider its index and its token.
+pub fn provider_text(alloc: Global, index: usize, token: &Text) -> Result<Vec<u8>, Memory>
+    ensures { IfOk result (λ body. body.items ≡ provider_body index token.now) }
 {
-    let place = place.to_string(alloc)?;
+    let index = index.to_string(alloc)?;
     let mut body = b"{\"caller\":".to_vec(alloc)?;
-    body.extend_from_slice(place.as_bytes())?;
+    body.extend_from_slice(index.as_bytes())?;
     body.extend_from_slice(b",\"token\":\"")?;
     body.extend_from_slice(token.as_bytes())?;
     body.extend_from_slice(b"\"}")?;

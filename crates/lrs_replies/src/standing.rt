@@ -5,7 +5,7 @@ ghost use Rattle.lrs_json.specs.Written.{comma_if, written};
 ghost use Rattle.lrs_names.specs.Ids.{id_text};
 ghost use Rattle.lrs_replies.specs.Standings.{is_course_satisfied, kind_text, node_text, nodes_of, nodes_text, seen_node, standing_body};
 
-use cmi5_course::{Kind, Node};
+use cmi5_course::{Node, NodeKind};
 use lrs_json::appending::{put_comma, put_quoted};
 use lrs_json::{Memory, Text};
 use lrs_names::{Id, Iri};
@@ -125,7 +125,7 @@ fn put_id(id: &Iri, body: &mut Vec<u8>) -> Result<(), Memory>
     put_quoted(id.text().as_str(), body)
 }
 
-fn put_kind(kind: Kind, body: &mut Vec<u8>) -> Result<(), Memory>
+fn put_kind(kind: NodeKind, body: &mut Vec<u8>) -> Result<(), Memory>
     ensures { OnOk result (body.new.items ≡ body.old.items ++ codes ",\"kind\":\"" ++ kind_text kind) }
 {
     body.extend_from_slice(b",\"kind\":\"")?;
@@ -133,13 +133,13 @@ fn put_kind(kind: Kind, body: &mut Vec<u8>) -> Result<(), Memory>
     Ok(())
 }
 
-fn kind_text(kind: Kind) -> &'static str
+fn kind_text(kind: NodeKind) -> &'static str
     ensures { result.now ≡ kind_text kind }
 {
     match kind {
-        Kind::Course => "course",
-        Kind::Block => "block",
-        Kind::Unit => "unit",
+        NodeKind::Course => "course",
+        NodeKind::Block => "block",
+        NodeKind::Unit => "unit",
     }
 }
 

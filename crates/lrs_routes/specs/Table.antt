@@ -99,7 +99,7 @@ abbrev pub methods_of : Allow → List Method
 methods_of allow = map (λ own. own.0) (row_of allow.route).methods
 
 -- their names, with a comma and a space between them (RFC 9110, section 10.2.1)
-abbrev pub listed : List Method → List ℕ
-listed [] = []
-listed (method ∷ []) = method_name method
-listed (method ∷ next ∷ methods) = method_name method ++ codes ", " ++ listed (next ∷ methods)
+abbrev pub method_names : List Method → List ℕ
+method_names [] = []
+method_names (method ∷ []) = method_name method
+method_names (method ∷ next ∷ methods) = method_name method ++ codes ", " ++ method_names (next ∷ methods)

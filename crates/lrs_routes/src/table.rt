@@ -1,5 +1,5 @@
 ghost use Rattle.std.specs.Prelude.{◌≡◌, Some, None, MatchResult};
-ghost use Rattle.lrs_routes.specs.Table.{allow_of, listed, methods_of, operation_of, row_of};
+ghost use Rattle.lrs_routes.specs.Table.{allow_of, method_names, methods_of, operation_of, row_of};
 
 use crate::operation::Operation;
 use lrs_command::Area;
@@ -34,7 +34,7 @@ pub struct Allow {
 impl Allow {
     /// The methods' names, as in `GET, POST, PUT`.
     pub fn text(&self) -> &'static str
-        ensures { result.now ≡ listed (methods_of self.now) }
+        ensures { result.now ≡ method_names (methods_of self.now) }
     {
         match self.route {
             Route::Providers

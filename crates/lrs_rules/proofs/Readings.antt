@@ -10,10 +10,10 @@ use Rattle.lrs_rules.specs.Rules.{BreaksJson, json_rule}
 use Rattle.lrs_rules.specs.declared.rule.Rule.{Rule}
 
 module _ (bytes : List ℕ) (r : Result Tree ReadRefused) (deep : (r ≡ Err read.TooDeep) ↔ IsTrue (is_too_deep DEPTH bytes)) (bad : Refuses r read.Bad (IsBad DEPTH bytes))
-    (repeated : (place : ℕ) → Refuses r (read.Repeated place) (RepeatedAt DEPTH bytes place)) (range : (place : ℕ) → Refuses r (read.NumberRange place) (OutOfRangeAt DEPTH bytes place)) where
+    (repeated : (offset : ℕ) → Refuses r (read.Repeated offset) (RepeatedAt DEPTH bytes offset)) (range : (offset : ℕ) → Refuses r (read.NumberRange offset) (OutOfRangeAt DEPTH bytes offset)) where
   pub breaks_json : (x : ReadRefused) (rule : Rule) → r ≡ Err x → json_rule x ≡ Some rule → BreaksJson bytes rule
   breaks_json read.TooDeep rule is means = inl (cc means, deep.0 is)
   breaks_json read.Bad rule is means = inr (inl (cc means, bad.only is))
-  breaks_json (read.Repeated place) rule is means = inr (inr (inl (cc means, (place, (repeated place).only is))))
-  breaks_json (read.NumberRange place) rule is means = inr (inr (inr (cc means, (place, (range place).only is))))
+  breaks_json (read.Repeated offset) rule is means = inr (inr (inl (cc means, (offset, (repeated offset).only is))))
+  breaks_json (read.NumberRange offset) rule is means = inr (inr (inr (cc means, (offset, (range offset).only is))))
   breaks_json read.Memory rule is means = absurd (cc means)

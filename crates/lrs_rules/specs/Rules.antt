@@ -40,13 +40,13 @@ abbrev pub BreaksJson : List ℕ → Rule → Type 0
 BreaksJson bytes r =
     ((r ≡ J 1) × IsTrue (is_too_deep DEPTH bytes))
     ⊎ (((r ≡ J 2) × IsBad DEPTH bytes)
-    ⊎ (((r ≡ J 3) × ((place : ℕ) × RepeatedAt DEPTH bytes place))
-    ⊎ ((r ≡ J 4) × ((place : ℕ) × OutOfRangeAt DEPTH bytes place))))
+    ⊎ (((r ≡ J 3) × ((offset : ℕ) × RepeatedAt DEPTH bytes offset))
+    ⊎ ((r ≡ J 4) × ((offset : ℕ) × OutOfRangeAt DEPTH bytes offset))))
 
 -- the rule that a refusal means; none means that memory ran out
 abbrev pub json_rule : ReadRefused → Option Rule
 json_rule read.TooDeep = Some (J 1)
 json_rule read.Bad = Some (J 2)
-json_rule (read.Repeated place) = Some (J 3)
-json_rule (read.NumberRange place) = Some (J 4)
+json_rule (read.Repeated offset) = Some (J 3)
+json_rule (read.NumberRange offset) = Some (J 4)
 json_rule read.Memory = None

@@ -2,7 +2,7 @@
 use Rattle.std.proofs.Common.{◌≡◌, [], refl}
 use Rattle.std.specs.Prelude.{codes, unwrap_or}
 use Rattle.cmi5_course.specs.Courses.{first_id, node_of, nodes_of}
-use Rattle.cmi5_course.specs.Places.{nodes_in}
+use Rattle.cmi5_course.specs.SpelledNodes.{nodes_in}
 use Rattle.lrs_json.specs.Json.{Json, null, boolean, number, string, array, object}
 use Rattle.lrs_names.specs.Members.{text_under}
 

@@ -3,7 +3,7 @@ use Rattle.std.specs.Prelude.{◌+◌, ◌<◌, ◌^◌, ℕ, Bool, List, length
 use Rattle.std.specs.Str.{bytes_eq}
 use Rattle.std.specs.declared.cmp.Ordering.{Ordering}
 use Rattle.lrs_register.specs.Changes.{HasRoomForChange, with_change}
-use Rattle.lrs_register.specs.Places.{AddsNoPlace, MakesPlaces, TakesPlacesBack}
+use Rattle.lrs_register.specs.Slots.{AddsNoSlot, MakesSlots, TakesSlotsBack}
 use Rattle.lrs_register.specs.Register as register
 use Rattle.lrs_register.specs.Register.{Registered, is_key_of}
 use Rattle.lrs_register.specs.declared.change.Change.{Change}
@@ -14,9 +14,9 @@ use Rattle.lrs_register.specs.declared.change.Change.{Change}
 abbrev pub first_under : {A : Type 0} → (A → List ℕ) → List ℕ → List A → Option A
 first_under key_of key xs = find (λ x. bytes_eq (key_of x) key) xs
 
--- the place of that item
-abbrev pub place_under : {A : Type 0} → (A → List ℕ) → List ℕ → List A → Option ℕ
-place_under key_of key xs = register.place_under bytes_eq key_of key xs
+-- the index of that item
+abbrev pub index_under : {A : Type 0} → (A → List ℕ) → List ℕ → List A → Option ℕ
+index_under key_of key xs = register.index_under bytes_eq key_of key xs
 
 abbrev pub has_key_of : {A : Type 0} → (A → List ℕ) → A → A → Bool
 has_key_of key_of x y = bytes_eq (key_of x) (key_of y)
@@ -33,17 +33,17 @@ pub record HasRoomToCount {K T : Type 0} (cmp : K → K → Ordering) (key_of : 
   pub room : HasRoomForChange cmp key_of r change
   pub few : length r.held + 1 < 2 ^ 32
 
--- a place was made for the key of an item that is to come
-abbrev pub MakesPlaceFor : {K T : Type 0} → (K → K → Ordering) → (T → K) → Change T → Registered K T
+-- a slot was made for the key of an item that is to come
+abbrev pub MakesSlotFor : {K T : Type 0} → (K → K → Ordering) → (T → K) → Change T → Registered K T
     → Registered K T → Type 0
-MakesPlaceFor cmp key_of change old new = MakesPlaces cmp (λ k. is_key_of cmp key_of change.new k) old.places new.places
+MakesSlotFor cmp key_of change old new = MakesSlots cmp (λ k. is_key_of cmp key_of change.new k) old.slots new.slots
 
 -- and taken back, where none came
-abbrev pub TakesPlaceBackFor : {K T : Type 0} → (K → K → Ordering) → (T → K) → Change T → Registered K T
+abbrev pub TakesSlotBackFor : {K T : Type 0} → (K → K → Ordering) → (T → K) → Change T → Registered K T
     → Registered K T → Type 0
-TakesPlaceBackFor cmp key_of change old new =
-    TakesPlacesBack cmp (λ k. is_key_of cmp key_of change.new k) old.places new.places
+TakesSlotBackFor cmp key_of change old new =
+    TakesSlotsBack cmp (λ k. is_key_of cmp key_of change.new k) old.slots new.slots
 
--- it has no place that the old one hadn't
+-- it has no slot that the old one hadn't
 abbrev pub AddsNone : {K T : Type 0} → (K → K → Ordering) → Registered K T → Registered K T → Type 0
-AddsNone cmp old new = AddsNoPlace cmp old.places new.places
+AddsNone cmp old new = AddsNoSlot cmp old.slots new.slots

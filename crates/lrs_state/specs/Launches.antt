@@ -2,7 +2,7 @@
 use Rattle.std.specs.Prelude.{ℕ, Bool, List, Option, is_some, map, option_map}
 use Rattle.cmi5_course.specs.Launches.{session_of}
 use Rattle.cmi5_course.specs.declared.launch.Launch.{Launch}
-use Rattle.lrs_state.specs.Counted.{first_under, list_after, place_under}
+use Rattle.lrs_state.specs.Counted.{first_under, list_after, index_under}
 use Rattle.lrs_state.specs.declared.launches.HeldKey.{HeldKey}
 use Rattle.lrs_state.specs.declared.launches.HeldToken.{HeldToken}
 use Rattle.lrs_register.specs.Changes.{unchanged}
@@ -20,8 +20,8 @@ text_of_token token = token.token
 abbrev pub launch_under : List ℕ → List Launch → Option Launch
 launch_under session launches = first_under session_of session launches
 
-abbrev pub place_of_session : List ℕ → List Launch → Option ℕ
-place_of_session session launches = place_under session_of session launches
+abbrev pub index_of_session : List ℕ → List Launch → Option ℕ
+index_of_session session launches = index_under session_of session launches
 
 -- a launch's session has that id
 abbrev pub is_session : List ℕ → List Launch → Bool

@@ -4,7 +4,7 @@ use Rattle.std.specs.Cmp.Lexicographic.{slice_cmp}
 use Rattle.std.specs.Ordering.{nat_cmp}
 use Rattle.cmi5_course.specs.Courses.{course_key}
 use Rattle.cmi5_course.specs.Launches.{session_of}
-use Rattle.lrs_state.specs.Counted.{AddsNone, HasRoomToCount, MakesPlaceFor, TakesPlaceBackFor}
+use Rattle.lrs_state.specs.Counted.{AddsNone, HasRoomToCount, MakesSlotFor, TakesSlotBackFor}
 use Rattle.lrs_state.specs.Launches.{text_of_key, text_of_token}
 use Rattle.lrs_state.specs.Registrations.{registration_key}
 use Rattle.lrs_state.specs.Sessions.{HasRoomForSession, made_session_id}
@@ -31,30 +31,30 @@ pub record IsLearningReadyFor (learning : Learning) (effect : Effect) : Type 0 w
   pub keys : HasRoomToCount (slice_cmp nat_cmp) text_of_key learning.keys effect.keys
   pub tokens : HasRoomToCount (slice_cmp nat_cmp) text_of_token learning.tokens effect.tokens
 
--- places were made for what an effect brings, and for nothing else
-pub record MakesLearningPlaces (old new : Learning) (effect : Effect) : Type 0 where
-  pub courses : MakesPlaceFor (slice_cmp nat_cmp) course_key effect.courses old.courses new.courses
-  pub registrations : MakesPlaceFor (slice_cmp nat_cmp) registration_key effect.registrations
+-- slots were made for what an effect brings, and for nothing else
+pub record MakesLearningSlots (old new : Learning) (effect : Effect) : Type 0 where
+  pub courses : MakesSlotFor (slice_cmp nat_cmp) course_key effect.courses old.courses new.courses
+  pub registrations : MakesSlotFor (slice_cmp nat_cmp) registration_key effect.registrations
       old.registrations new.registrations
-  pub launches : MakesPlaceFor (slice_cmp nat_cmp) session_of effect.launches old.launches new.launches
-  pub made_sessions : MakesPlaceFor (slice_cmp nat_cmp) made_session_id effect.made_sessions old.made_sessions
+  pub launches : MakesSlotFor (slice_cmp nat_cmp) session_of effect.launches old.launches new.launches
+  pub made_sessions : MakesSlotFor (slice_cmp nat_cmp) made_session_id effect.made_sessions old.made_sessions
       new.made_sessions
-  pub keys : MakesPlaceFor (slice_cmp nat_cmp) text_of_key effect.keys old.keys new.keys
-  pub tokens : MakesPlaceFor (slice_cmp nat_cmp) text_of_token effect.tokens old.tokens new.tokens
+  pub keys : MakesSlotFor (slice_cmp nat_cmp) text_of_key effect.keys old.keys new.keys
+  pub tokens : MakesSlotFor (slice_cmp nat_cmp) text_of_token effect.tokens old.tokens new.tokens
 
 -- and taken back, where nothing came
-pub record TakesLearningPlacesBack (old new : Learning) (effect : Effect) : Type 0 where
-  pub courses : TakesPlaceBackFor (slice_cmp nat_cmp) course_key effect.courses old.courses new.courses
-  pub registrations : TakesPlaceBackFor (slice_cmp nat_cmp) registration_key effect.registrations
+pub record TakesLearningSlotsBack (old new : Learning) (effect : Effect) : Type 0 where
+  pub courses : TakesSlotBackFor (slice_cmp nat_cmp) course_key effect.courses old.courses new.courses
+  pub registrations : TakesSlotBackFor (slice_cmp nat_cmp) registration_key effect.registrations
       old.registrations new.registrations
-  pub launches : TakesPlaceBackFor (slice_cmp nat_cmp) session_of effect.launches old.launches new.launches
-  pub made_sessions : TakesPlaceBackFor (slice_cmp nat_cmp) made_session_id effect.made_sessions old.made_sessions
+  pub launches : TakesSlotBackFor (slice_cmp nat_cmp) session_of effect.launches old.launches new.launches
+  pub made_sessions : TakesSlotBackFor (slice_cmp nat_cmp) made_session_id effect.made_sessions old.made_sessions
       new.made_sessions
-  pub keys : TakesPlaceBackFor (slice_cmp nat_cmp) text_of_key effect.keys old.keys new.keys
-  pub tokens : TakesPlaceBackFor (slice_cmp nat_cmp) text_of_token effect.tokens old.tokens new.tokens
+  pub keys : TakesSlotBackFor (slice_cmp nat_cmp) text_of_key effect.keys old.keys new.keys
+  pub tokens : TakesSlotBackFor (slice_cmp nat_cmp) text_of_token effect.tokens old.tokens new.tokens
 
--- none of it has a place that it hadn't
-pub record AddsNoLearningPlaces (old new : Learning) : Type 0 where
+-- none of it has a slot that it hadn't
+pub record AddsNoLearningSlots (old new : Learning) : Type 0 where
   pub courses : AddsNone (slice_cmp nat_cmp) old.courses new.courses
   pub registrations : AddsNone (slice_cmp nat_cmp) old.registrations new.registrations
   pub launches : AddsNone (slice_cmp nat_cmp) old.launches new.launches

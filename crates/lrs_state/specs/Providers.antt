@@ -2,7 +2,7 @@
 use Rattle.std.specs.Prelude.{ℕ, ◌==◌, ◌&&◌, ◌||◌, nat_le, Bool, List, length, Option}
 use Rattle.std.specs.List.{list_all}
 use Rattle.std.specs.Char.{is_ascii_alphanumeric}
-use Rattle.lrs_state.specs.Counted.{list_after, place_under}
+use Rattle.lrs_state.specs.Counted.{list_after, index_under}
 use Rattle.lrs_state.specs.declared.providers.HeldProvider.{HeldProvider}
 use Rattle.lrs_state.specs.declared.providers.TheConstants.{LONGEST_NAME}
 use Rattle.lrs_register.specs.Changes.{unchanged}
@@ -11,9 +11,9 @@ use Rattle.lrs_register.specs.declared.change.Change.{Change}
 abbrev pub token_of : HeldProvider → List ℕ
 token_of provider = provider.token
 
--- the place of the first provider with the token
-abbrev pub place_of_token : List ℕ → List HeldProvider → Option ℕ
-place_of_token token providers = place_under token_of token providers
+-- the index of the first provider with the token
+abbrev pub index_of_token : List ℕ → List HeldProvider → Option ℕ
+index_of_token token providers = index_under token_of token providers
 
 -- ---- what is changed
 

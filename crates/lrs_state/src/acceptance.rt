@@ -9,9 +9,9 @@ pub enum Acceptance {
     Plain,
     /// The ids under which its own statements go.
     Ids(Items<Id>),
-    /// The place of the provider that it makes, and its token.
+    /// The index of the provider that it makes, and its token.
     Provider {
-        place: usize,
+        index: usize,
         token: Text,
     },
     /// The id of the course that stands.

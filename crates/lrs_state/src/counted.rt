@@ -1,7 +1,7 @@
 // Registers whose items have numbers of 32 bits.
 ghost use Rattle.std.specs.Prelude.{◌≡◌, [], find, is_some, length, position, slice_get, OnOk};
 ghost use Rattle.std.specs.Option.{option_copied};
-ghost use Rattle.lrs_state.specs.Counted.{HasRoomToCount, MakesPlaceFor, TakesPlaceBackFor};
+ghost use Rattle.lrs_state.specs.Counted.{HasRoomToCount, MakesSlotFor, TakesSlotBackFor};
 ghost use Rattle.lrs_register.specs.Changes.{with_change};
 
 use lrs_ids::UsedIds;
@@ -44,12 +44,12 @@ impl<K: Ord + Drop, T: Keyed<K> + Drop> Counted<K, T> {
         self.list.len()
     }
 
-    /// The place of the first item under a key.
-    pub fn place(&self, key: &K) -> Option<u32>
+    /// The index of the first item under a key.
+    pub fn index_of(&self, key: &K) -> Option<u32>
         ensures { result ≡ position (λ x. K.eq (T.key x) key.now) self.now.held }
     {
-        match self.list.place(key) {
-            Some(place) => Some(place as u32),
+        match self.list.index_of(key) {
+            Some(index) => Some(index as u32),
             None => None,
         }
     }
@@ -68,18 +68,18 @@ impl<K: Ord + Drop, T: Keyed<K> + Drop> Counted<K, T> {
         self.find(key).is_some()
     }
 
-    /// The item at a place.
-    pub fn get(&self, place: u32) -> Option<&T>
-        ensures { option_copied result ≡ slice_get self.now.held place }
+    /// The item at an index.
+    pub fn get(&self, index: u32) -> Option<&T>
+        ensures { option_copied result ≡ slice_get self.now.held index }
     {
-        self.list.get(place as usize)
+        self.list.get(index as usize)
     }
 
     /// Makes room for a change. There is none if the items can't be numbered any more.
     pub fn ready(&mut self, change: &Change<T>) -> Result<(), Memory>
         ensures held { self.new.held ≡ self.old.held }
         ensures room { OnOk result (HasRoomToCount K.cmp T.key self.new change.now) }
-        ensures made { MakesPlaceFor K.cmp T.key change.now self.old self.new }
+        ensures made { MakesSlotFor K.cmp T.key change.now self.old self.new }
     {
         if self.list.len() >= u32::MAX as usize {
             return Err(Memory);
@@ -88,10 +88,10 @@ impl<K: Ord + Drop, T: Keyed<K> + Drop> Counted<K, T> {
         Ok(())
     }
 
-    /// Takes back the place that was made for a change that didn't come.
+    /// Takes back the slot that was made for a change that didn't come.
     pub fn release(&mut self, change: &Change<T>)
         ensures held { self.new.held ≡ self.old.held }
-        ensures back { TakesPlaceBackFor K.cmp T.key change.now self.old self.new }
+        ensures back { TakesSlotBackFor K.cmp T.key change.now self.old self.new }
     {
         self.list.release_change(change);
     }

@@ -1,7 +1,7 @@
 // The courses.
 ghost use Rattle.std.specs.Prelude.{◌≡◌, IfOk};
 ghost use Rattle.cmi5_course.specs.Courses.{course_key, course_of};
-ghost use Rattle.lrs_state.specs.Courses.{place_of_course};
+ghost use Rattle.lrs_state.specs.Courses.{index_of_course};
 
 use crate::Counted;
 use cmi5_course::Course;
@@ -32,9 +32,9 @@ fn id_in(tree: &Tree) -> &str
     }
 }
 
-/// The place of the course of that id.
-pub fn place_of_course(courses: &Courses, id: &Iri) -> Option<u32>
-    ensures { result ≡ place_of_course id.now courses.now.held }
+/// The index of the course of that id.
+pub fn index_of_course(courses: &Courses, id: &Iri) -> Option<u32>
+    ensures { result ≡ index_of_course id.now courses.now.held }
 {
-    courses.place(id.text())
+    courses.index_of(id.text())
 }

@@ -11,7 +11,7 @@ use std::alloc::AllocError;
 /// A key for which the token of a session is given away, once (cmi5 Quartz, section 8.2, `fetch`).
 #[derive(Drop)]
 pub struct HeldKey {
-    /// 32 hexadecimal digits, `-`, and the place of its entry.
+    /// 32 hexadecimal digits, `-`, and the index of its entry.
     pub key: Text,
     /// The number of the launch that made it. Launches are counted from 0, in their order.
     pub launch: u32,
@@ -22,7 +22,7 @@ pub struct HeldKey {
 /// A token that was given away for a key: whoever presents it acts in the session of its launch.
 #[derive(Drop)]
 pub struct HeldToken {
-    /// 32 hexadecimal digits, `-`, and the place of its entry.
+    /// 32 hexadecimal digits, `-`, and the index of its entry.
     pub token: Text,
     /// The number of the launch.
     pub launch: u32,

@@ -1,7 +1,7 @@
 // Courses and their learners.
 ghost use Rattle.std.specs.Prelude.{◌≡◌, [], OnOk};
-ghost use Rattle.lrs_state.specs.Learning.{IsLearningReadyFor, KeepsLearning, MakesLearningPlaces};
-ghost use Rattle.lrs_state.specs.Learning.{TakesLearningPlacesBack};
+ghost use Rattle.lrs_state.specs.Learning.{IsLearningReadyFor, KeepsLearning, MakesLearningSlots};
+ghost use Rattle.lrs_state.specs.Learning.{TakesLearningSlotsBack};
 
 use crate::{Courses, Effect, HeldSessions, Keys, Launches, MadeSessions, Registrations, Tokens};
 use lrs_json::Memory;
@@ -45,7 +45,7 @@ impl Learning {
     pub fn ready(&mut self, effect: &Effect) -> Result<(), Memory>
         ensures same { KeepsLearning self.old self.new }
         ensures ready { OnOk result (IsLearningReadyFor self.new effect.now) }
-        ensures made { MakesLearningPlaces self.old self.new effect.now }
+        ensures made { MakesLearningSlots self.old self.new effect.now }
     {
         self.courses.ready(&effect.courses)?;
         self.registrations.ready(&effect.registrations)?;
@@ -56,10 +56,10 @@ impl Learning {
         self.tokens.ready(&effect.tokens)
     }
 
-    /// Takes back the places that were made for an effect which doesn't come.
+    /// Takes back the slots that were made for an effect which doesn't come.
     pub fn release(&mut self, effect: &Effect)
         ensures same { KeepsLearning self.old self.new }
-        ensures back { TakesLearningPlacesBack self.old self.new effect.now }
+        ensures back { TakesLearningSlotsBack self.old self.new effect.now }
     {
         self.courses.release(&effect.courses);
         self.registrations.release(&effect.registrations);

@@ -16,7 +16,7 @@ mod sessions;
 
 pub use acceptance::Acceptance;
 pub use counted::Counted;
-pub use courses::{Courses, CoursesChange, course_id, place_of_course};
+pub use courses::{Courses, CoursesChange, course_id, index_of_course};
 pub use effect::Effect;
 pub use founding::{Founding, is_admin, is_base, is_token};
 pub use launches::{

@@ -13,7 +13,7 @@ use std::alloc::AllocError;
 pub struct HeldProvider {
     /// 1 to 64 letters, digits, `.`, `_`.
     pub name: Text,
-    /// 32 hexadecimal digits, `-`, and the place of its entry.
+    /// 32 hexadecimal digits, `-`, and the index of its entry.
     pub token: Text,
 }
 

@@ -68,7 +68,7 @@ fn has_account(ifi: &Ifi) -> bool
 #[derive(Drop)]
 pub struct HeldRegistration {
     pub id: Id,
-    /// The place of the course.
+    /// The index of the course.
     pub course: u32,
     /// Who the learner is.
     pub actor: Learner,

@@ -4,7 +4,7 @@ use Rattle.std.specs.List.{AllByRecursion}
 use Rattle.std.proofs.lemmas.List.Elements.{All-from_recursion}
 use Rattle.std.proofs.lemmas.Str.{IsUtf8-from_ascii}
 use Rattle.std.proofs.lemmas.Str.Ascii.{IsAscii-from_all}
-use Rattle.lrs_time.specs.Timestamp.{Zone, utc, stamp_text, IsFraction, IsMomentText}
+use Rattle.lrs_time.specs.Timestamp.{Zone, utc, stamp_text, IsFractionOfSecond, IsMomentText}
 use Rattle.lrs_decimal.proofs.NumeralLemmas.{digit_range}
 
 abbrev stamp_of : (y m d h n c a b e : ℕ) → List ℕ
@@ -14,7 +14,7 @@ each_small : (y m d h n c a b e : ℕ) → y < 10000 → m < 100 → d < 100 →
 each_small y m d h n c a b e ly lm ld lh ln lc la lb le =
     (omega arith, (omega arith, (omega arith, (omega arith, (omega arith, (omega arith, (omega arith, (omega arith, (omega arith, (omega arith, (omega arith, (omega arith, (omega arith, (omega arith, (omega arith, (omega arith, (omega arith, (omega arith, (omega arith, (omega arith, (omega arith, (omega arith, (omega arith, (omega arith, tt))))))))))))))))))))))))
 
-at_three : (y m d h n c : ℕ) (f : List ℕ) (z : Zone) → y < 10000 → m < 100 → d < 100 → h < 24 → n < 60 → c < 60 → length f ≡ 3 → IsFraction f → z ≡ utc
+at_three : (y m d h n c : ℕ) (f : List ℕ) (z : Zone) → y < 10000 → m < 100 → d < 100 → h < 24 → n < 60 → c < 60 → length f ≡ 3 → IsFractionOfSecond f → z ≡ utc
     → IsUtf8 (stamp_text (record { year = y; month = m; day = d; hour = h; minute = n; second = c; fraction = f; zone = z }))
 at_three y m d h n c [] z ly lm ld lh ln lc l is u = absurd (omega arith)
 at_three y m d h n c (a ∷ []) z ly lm ld lh ln lc l is u = absurd (omega arith)

@@ -7,7 +7,7 @@ use Rattle.std.proofs.lemmas.Grind.{common_steps}
 use Rattle.std.proofs.lemmas.List.{append-nil}
 use Rattle.std.proofs.lemmas.Option.{cond_some, option_and_then_some, same_Some, none-some}
 use Rattle.lrs_time.specs.Digits.{IsNumeral, cut_fraction}
-use Rattle.lrs_time.specs.Duration.{Amount, is_decimal_sign, IsDecimalPart, IsAmount, billionths, field_text, fields_text, EachAmount, all_missing, FractionIsLast, Fields, date_fields, clock_fields, date_units, clock_units, clock_text, SpellsDuration, Span, span_of, IsNoDuration, IsDurationOf, IsSame, same_span}
+use Rattle.lrs_time.specs.Duration.{Amount, is_decimal_sign, IsDecimalPart, IsAmount, billionths, field_text, fields_text, EachAmount, all_missing, FractionIsLast, Fields, date_fields, clock_fields, date_units, clock_units, clock_text, SpellsDuration, Span, span_of, IsNoDuration, IsDurationOf, IsSameSpan, same_span}
 use Rattle.lrs_time.specs.Reading.{numeral_at, after, quantity_behind, quantity_at, is_empty, unit_behind, field_at, fields_at, all_none, if_some_field, clock_fields_at, span_from, fields_together, duration_at}
 use Rattle.lrs_time.specs.declared.durations.Quantity.{Quantity}
 use Rattle.lrs_time.specs.declared.durations.TheConstants.{BILLION}
@@ -16,7 +16,7 @@ use Rattle.lrs_time.proofs.TimestampLemmas.{after_found, after_again}
 
 -- ---- sameness
 
-same_true : (a b : Span) → same_span a b ≡ true → IsSame a b
+same_true : (a b : Span) → same_span a b ≡ true → IsSameSpan a b
 same_true a b h = record {
   years = grind (arith, common_steps);
   months = grind (arith, common_steps);
@@ -27,13 +27,13 @@ same_true a b h = record {
   seconds = grind (arith, common_steps);
 }
 
-true_same : (a b : Span) → IsSame a b → same_span a b ≡ true
+true_same : (a b : Span) → IsSameSpan a b → same_span a b ≡ true
 true_same a b h = grind (arith, common_steps)
 
-turned : (a b : Span) → IsSame a b → IsSame b a
+turned : (a b : Span) → IsSameSpan a b → IsSameSpan b a
 turned a b h = record { years = sym h.years; months = sym h.months; weeks = sym h.weeks; days = sym h.days; hours = sym h.hours; minutes = sym h.minutes; seconds = sym h.seconds }
 
-joined : (a b c : Span) → IsSame a b → IsSame b c → IsSame a c
+joined : (a b c : Span) → IsSameSpan a b → IsSameSpan b c → IsSameSpan a c
 joined a b c h k = record { years = h.years ∙ k.years; months = h.months ∙ k.months; weeks = h.weeks ∙ k.weeks; days = h.days ∙ k.days; hours = h.hours ∙ k.hours; minutes = h.minutes ∙ k.minutes; seconds = h.seconds ∙ k.seconds }
 
 pub same_span_equivalence : IsEquivalence same_span

@@ -7,7 +7,7 @@ use Rattle.jiff_core.specs.Calendar.{days_from_civil}
 use Rattle.jiff_core.proofs.DateLemmas.{epoch_day_injective, epoch_day_range}
 use Rattle.jiff_core.proofs.SignedLemmas.{signed_arith}
 use Rattle.lrs_time.specs.Digits.{cut_fraction}
-use Rattle.lrs_time.specs.Timestamp.{Stamp, stamp_text, IsStamp, HasDay, Zone, utc, is_west, zone_minutes, seconds_ahead, instant_of, nanoseconds, IsFraction, IsMomentText}
+use Rattle.lrs_time.specs.Timestamp.{Stamp, stamp_text, IsStamp, HasDay, Zone, utc, is_west, zone_minutes, seconds_ahead, instant_of, nanoseconds, IsFractionOfSecond, IsMomentText}
 use Rattle.lrs_decimal.proofs.NumeralLemmas.{digit_range}
 
 -- ---- the parts of an instant
@@ -44,7 +44,7 @@ cut_of_three (a ∷ b ∷ []) e = absurd (omega arith)
 cut_of_three (a ∷ b ∷ c ∷ []) e = refl
 cut_of_three (a ∷ b ∷ c ∷ d ∷ more) e = absurd (omega arith)
 
-digits_of : (ds : List ℕ) → IsFraction ds → AllDigits 10 ds
+digits_of : (ds : List ℕ) → IsFractionOfSecond ds → AllDigits 10 ds
 digits_of [] h = tt
 digits_of (d ∷ ds) h = h.digits
 

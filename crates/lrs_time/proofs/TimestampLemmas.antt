@@ -4,7 +4,7 @@ use Rattle.std.specs.Char.{is_ascii_digit}
 use Rattle.std.proofs.lemmas.Grind.{common_steps}
 use Rattle.std.proofs.lemmas.Option.{cond_some, option_and_then_some, same_Some, none-some}
 use Rattle.lrs_time.specs.Digits.{two_digits, four_digits, IsNumeral, cut_fraction}
-use Rattle.lrs_time.specs.Timestamp.{Zone, absent, utc, hours, basic, extended, sign, zone_text, IsZone, zone_minutes, is_west, IsNegativeZero, Stamp, fraction_text, IsFraction, date_text, clock_text, stamp_text, Spells, IsDay, HasDay, instant_of, IsNoTimestamp, NamesNoDay, HasNegativeZero, IsTimestampOf}
+use Rattle.lrs_time.specs.Timestamp.{Zone, absent, utc, hours, basic, extended, sign, zone_text, IsZone, zone_minutes, is_west, IsNegativeZero, Stamp, fraction_text, IsFractionOfSecond, date_text, clock_text, stamp_text, SpellsStamp, IsDay, HasDay, instant_of, IsNoTimestamp, NamesNoDay, HasNegativeZero, IsTimestampOf}
 use Rattle.lrs_time.specs.Reading.{numeral_at, after, two_digits_at, below_at, date_at, clock_at, fraction_at, without_colon, whole, minutes_at, offset_minutes_at, offset_at, parts_at, is_day, is_negative_zero, instant_of_parts, judged, timestamp_at}
 use Rattle.lrs_time.specs.declared.timestamps.CivilDay.{CivilDay}
 use Rattle.lrs_time.specs.declared.timestamps.Offset.{Offset}
@@ -143,7 +143,7 @@ clock_again hour minute second rest h m s =
 -- the bytes are a fraction or none, and those after it
 abbrev IsFractionFront : List ℕ → ℕ × List ℕ → Type 0
 IsFractionFront text n =
-    (ds : List ℕ) × IsFraction ds × (n.0 ≡ cut_fraction 9 ds) × (text ≡ fraction_text ds ++ n.1)
+    (ds : List ℕ) × IsFractionOfSecond ds × (n.0 ≡ cut_fraction 9 ds) × (text ≡ fraction_text ds ++ n.1)
 
 fraction_is : (rest ds more : List ℕ) → IsNumeral 30 ds → rest ≡ ds ++ more → IsFractionFront (46 ∷ rest) (cut_fraction 9 ds, more)
 fraction_is rest [] more n e = absurd (omega (arith, n.some))
@@ -171,7 +171,7 @@ Ends-Stops : (rest : List ℕ) → Ends rest → Stops rest
 Ends-Stops [] h = tt
 Ends-Stops (b ∷ bs) h = h.0
 
-fraction_again : (ds rest : List ℕ) → IsFraction ds → Ends rest → fraction_at (fraction_text ds ++ rest) ≡ Some (cut_fraction 9 ds, rest)
+fraction_again : (ds rest : List ℕ) → IsFractionOfSecond ds → Ends rest → fraction_at (fraction_text ds ++ rest) ≡ Some (cut_fraction 9 ds, rest)
 unfolding fraction_at
 fraction_again [] [] n ends = refl
 fraction_again [] (b ∷ bs) n ends = rw ends.1 refl
@@ -287,7 +287,7 @@ parts_of s = record {
 }
 
 abbrev IsPartsOf : List ℕ → Parts → Type 0
-IsPartsOf text p = (s : Stamp) × Spells text s × (parts_of s ≡ p)
+IsPartsOf text p = (s : Stamp) × SpellsStamp text s × (parts_of s ≡ p)
 
 parts_is : (text : List ℕ) (d : CivilDay × List ℕ) (r : List ℕ) (t n : ℕ × List ℕ) (o : Offset) → IsDateFront text d → d.1 ≡ 84 ∷ r → IsClockFront r t → IsFractionFront t.1 n → IsZoneText n.1 o → IsPartsOf text (record { date = d.0; second = t.0; nanosecond = n.0; offset = o })
 parts_is text d r t n o a b c f z =
@@ -309,7 +309,7 @@ parts_found text p e =
 stamp_text-parts : (s : Stamp) → stamp_text s ≡ date_text s ++ (84 ∷ (clock_text s ++ (fraction_text s.fraction ++ zone_text s.zone)))
 stamp_text-parts s = refl
 
-pub parts_again : (text : List ℕ) (s : Stamp) → Spells text s → parts_at text ≡ Some (parts_of s)
+pub parts_again : (text : List ℕ) (s : Stamp) → SpellsStamp text s → parts_at text ≡ Some (parts_of s)
 unfolding parts_at
 parts_again text s h =
     let p = h.parts in
@@ -328,11 +328,11 @@ true_zero o h k = grind (arith, common_steps)
 -- One of four comes of a text, as its parts are.
 pub data Outcome (text : List ℕ) (r : Result ℤ TimeRefused) : Type 0 where
   no_shape : IsNoTimestamp text → r ≡ Err Shape → Outcome text r
-  no_day : (s : Stamp) → Spells text s → ¬ (HasDay s) → r ≡ Err NoSuchDay → Outcome text r
-  zero_west : (s : Stamp) → Spells text s → HasDay s → IsNegativeZero s.zone → r ≡ Err NegativeZero → Outcome text r
-  instant : (s : Stamp) → Spells text s → HasDay s → ¬ (IsNegativeZero s.zone) → r ≡ Ok (instant_of s) → Outcome text r
+  no_day : (s : Stamp) → SpellsStamp text s → ¬ (HasDay s) → r ≡ Err NoSuchDay → Outcome text r
+  zero_west : (s : Stamp) → SpellsStamp text s → HasDay s → IsNegativeZero s.zone → r ≡ Err NegativeZero → Outcome text r
+  instant : (s : Stamp) → SpellsStamp text s → HasDay s → ¬ (IsNegativeZero s.zone) → r ≡ Ok (instant_of s) → Outcome text r
 
-judged_at : (text : List ℕ) (s : Stamp) (d z : Bool) → Spells text s → is_day s.year s.month s.day ≡ d → is_negative_zero (offset_of s.zone) ≡ z → Outcome text (if d then (if z then Err NegativeZero else Ok (instant_of s)) else Err NoSuchDay)
+judged_at : (text : List ℕ) (s : Stamp) (d z : Bool) → SpellsStamp text s → is_day s.year s.month s.day ≡ d → is_negative_zero (offset_of s.zone) ≡ z → Outcome text (if d then (if z then Err NegativeZero else Ok (instant_of s)) else Err NoSuchDay)
 judged_at text s false z h is-d is-z = no_day s h (λ day. true≢false (sym (is_day-true s.year s.month s.day day) ∙ is-d)) refl
 judged_at text s true true h is-d is-z = zero_west s h (true-is_day s.year s.month s.day is-d) (zero_true (offset_of s.zone) is-z) refl
 judged_at text s true false h is-d is-z = instant s h (true-is_day s.year s.month s.day is-d) (λ west. true≢false (sym (true_zero (offset_of s.zone) west.0 west.1) ∙ is-z)) refl
@@ -348,7 +348,7 @@ unfolding timestamp_at
 outcome text r e = subst (Outcome text) (sym e) (outcome_at text (parts_at text) refl)
 
 -- two readings of one text say the same
-pub one_reading : (text : List ℕ) (s s' : Stamp) → Spells text s → Spells text s' → parts_of s ≡ parts_of s'
+pub one_reading : (text : List ℕ) (s s' : Stamp) → SpellsStamp text s → SpellsStamp text s' → parts_of s ≡ parts_of s'
 one_reading text s s' h h' = same_Some _ _ (sym (parts_again text s h) ∙ parts_again text s' h')
 
 same_day : (s s' : Stamp) → parts_of s ≡ parts_of s' → HasDay s → HasDay s'

@@ -144,7 +144,7 @@ abbrev pub hundredths : ℕ → ℕ
 hundredths n = n / 10_000_000
 
 -- All fields agree, the seconds to the hundredth. A minute is another field than sixty seconds.
-pub record IsSame (a b : Span) : Type 0 where
+pub record IsSameSpan (a b : Span) : Type 0 where
   pub years : a.years ≡ b.years
   pub months : a.months ≡ b.months
   pub weeks : a.weeks ≡ b.weeks

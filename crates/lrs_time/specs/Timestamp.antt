@@ -75,9 +75,9 @@ abbrev pub fraction_text : List ℕ → List ℕ
 fraction_text [] = []
 fraction_text (d ∷ ds) = 46 ∷ d ∷ ds
 
-abbrev pub IsFraction : List ℕ → Type 0
-IsFraction [] = Unit {0}
-IsFraction (d ∷ ds) = IsNumeral 30 (d ∷ ds)
+abbrev pub IsFractionOfSecond : List ℕ → Type 0
+IsFractionOfSecond [] = Unit {0}
+IsFractionOfSecond (d ∷ ds) = IsNumeral 30 (d ∷ ds)
 
 -- YYYY-MM-DD
 abbrev pub date_text : Stamp → List ℕ
@@ -99,11 +99,11 @@ pub record IsStamp (s : Stamp) : Type 0 where
   pub hour : s.hour < 24
   pub minute : s.minute < 60
   pub second : s.second < 60
-  pub fraction : IsFraction s.fraction
+  pub fraction : IsFractionOfSecond s.fraction
   pub zone : IsZone s.zone
 
 -- the text has the shape of a timestamp, with these parts
-pub record Spells (text : List ℕ) (s : Stamp) : Type 0 where
+pub record SpellsStamp (text : List ℕ) (s : Stamp) : Type 0 where
   pub parts : IsStamp s
   pub spelling : text ≡ stamp_text s
 
@@ -130,20 +130,20 @@ instant_of s =
 
 -- the text has another shape
 abbrev pub IsNoTimestamp : List ℕ → Type 0
-IsNoTimestamp text = (s : Stamp) → ¬ (Spells text s)
+IsNoTimestamp text = (s : Stamp) → ¬ (SpellsStamp text s)
 
 -- the shape is right, and the calendar has no such day
 abbrev pub NamesNoDay : List ℕ → Type 0
-NamesNoDay text = (s : Stamp) × Spells text s × (¬ (HasDay s))
+NamesNoDay text = (s : Stamp) × SpellsStamp text s × (¬ (HasDay s))
 
 -- the day is right, and the offset is a negative zero
 abbrev pub HasNegativeZero : List ℕ → Type 0
-HasNegativeZero text = (s : Stamp) × Spells text s × HasDay s × IsNegativeZero s.zone
+HasNegativeZero text = (s : Stamp) × SpellsStamp text s × HasDay s × IsNegativeZero s.zone
 
 -- the text is a timestamp of this instant
 abbrev pub IsTimestampOf : List ℕ → ℤ → Type 0
 IsTimestampOf text instant =
-    (s : Stamp) × Spells text s × HasDay s × (¬ (IsNegativeZero s.zone)) × (instant_of s ≡ instant)
+    (s : Stamp) × SpellsStamp text s × HasDay s × (¬ (IsNegativeZero s.zone)) × (instant_of s ≡ instant)
 
 -- the instant of a moment
 abbrev pub instant_of_moment : ℕ → ℤ
@@ -153,7 +153,7 @@ instant_of_moment moment = pos (moment * 1_000_000)
 -- 1970-01-01T00:00:00Z.
 abbrev pub IsMomentText : ℕ → List ℕ → Type 0
 IsMomentText moment text =
-    (s : Stamp) × Spells text s × HasDay s × (length s.fraction ≡ 3) × (s.zone ≡ utc)
+    (s : Stamp) × SpellsStamp text s × HasDay s × (length s.fraction ≡ 3) × (s.zone ≡ utc)
     × (instant_of s ≡ instant_of_moment moment)
 
 -- what the places of such a text spell

@@ -1,7 +1,7 @@
 //! Durations, and the seconds of one.
 ghost use Rattle.std.specs.Prelude.{◌≡◌, ◌↔◌, ◌+◌, ◌*◌, ◌<◌, ◌≤◌, ◌++◌, ◌∷◌, [], option_map, Some, None, IsTrue, IsNone, IfSome};
 ghost use Rattle.std.specs.Cmp.{IsEquivalence};
-ghost use Rattle.lrs_time.specs.Duration.{Span, IsNoDuration, IsDurationOf, IsSame, same_span, date_units};
+ghost use Rattle.lrs_time.specs.Duration.{Span, IsNoDuration, IsDurationOf, IsSameSpan, same_span, date_units};
 ghost use Rattle.lrs_time.specs.Reading.{quantity_at, field_at, fields_at, clock_fields_at, duration_at};
 
 use crate::digits::{after, cut, read_numeral};
@@ -169,7 +169,7 @@ impl Duration {
 
     /// Whether all fields agree, the seconds to the hundredth, where what is less is cut off.
     pub fn same(&self, other: &Duration) -> bool
-        ensures fields { IsTrue result ↔ IsSame self.now other.now }
+        ensures fields { IsTrue result ↔ IsSameSpan self.now other.now }
         ensures equivalence { IsEquivalence same_span }
 
         // The same as a function of the two.

@@ -4,7 +4,7 @@ use Rattle.std.proofs.lemmas.Bool.{and_from}
 use Rattle.std.specs.Cmp.{first_so, second_so}
 use Rattle.std.specs.Str.{bytes_eq}
 use Rattle.xapi_values.specs.declared.kinds.Kind.{Kind}
-use Rattle.xapi_alike.specs.declared.place.Place.TheVariants.{Statement}
+use Rattle.xapi_alike.specs.declared.role.Role.TheVariants.{Statement}
 use Rattle.xapi_alike.specs.Normal.{Words, Normal, nothing, truth, amount, words, items, thing, Normals, none, more, Named, unnamed, named, normal}
 use Rattle.xapi_values.specs.Kinds.{same_kind}
 use Rattle.xapi_alike.specs.Alike.{same_truth, same_words, same_amount, alike, all_alike, same_bag, has_name, any_named, named_alike, are_named}

@@ -7,8 +7,8 @@ use Rattle.lrs_json.specs.Json.{Json, null, boolean, number, string, array, obje
 use Rattle.lrs_json.specs.Names.{is_among}
 use Rattle.lrs_json.specs.Fits.{Fits, FitElements, FitMembers}
 use Rattle.xapi_values.specs.Kinds.{kind_of}
-use Rattle.xapi_alike.specs.declared.place.Place.{Place}
-use Rattle.xapi_alike.specs.Places.{is_passed_over, kind_at, place_of_object, place_of_member, place_of_item, is_plural}
+use Rattle.xapi_alike.specs.declared.role.Role.{Role}
+use Rattle.xapi_alike.specs.Roles.{is_passed_over, kind_at, role_of_object, role_of_member, role_of_item, is_plural}
 use Rattle.xapi_alike.specs.Normal.{Normal, nothing, truth, amount, words, items, thing, Normals, none, more, Named, unnamed, named, normal, normal_items, normal_members}
 
 abbrev mutual
@@ -50,24 +50,24 @@ neat_member true k names x ms e n ns = behind_fewer (k ∷ names) names ms (λ i
 neat_member false k names x ms e n ns = (e, n, ns)
 
 mutual
-  pub neat : (p : Place) (j : Json) → Fits j → Neat (normal p j)
+  pub neat : (p : Role) (j : Json) → Fits j → Neat (normal p j)
   neat p null f = tt
   neat p (boolean b) f = tt
   neat p (number s) f = tt
   neat p (string s) f = tt
-  neat p (array js) f = neat_items (place_of_item p) js f
+  neat p (array js) f = neat_items (role_of_item p) js f
   neat p (object ms) f =
       let kind = kind_at p (kind_of (object ms)) in
-      neat_alone (is_plural p) (thing kind (normal_members (place_of_object p kind) ms)) (neat_members (place_of_object p kind) ms [] f)
+      neat_alone (is_plural p) (thing kind (normal_members (role_of_object p kind) ms)) (neat_members (role_of_object p kind) ms [] f)
 
-  neat_items : (p : Place) (js : Elements) → FitElements js → NeatAll (normal_items p js)
+  neat_items : (p : Role) (js : Elements) → FitElements js → NeatAll (normal_items p js)
   neat_items p no_elements f = tt
   neat_items p (element j js) f = (neat p j f.0, neat_items p js f.1)
 
-  neat_members : (p : Place) (ms : Members) (names : List (List ℕ)) → FitMembers names ms → NeatNamed names (normal_members p ms)
+  neat_members : (p : Role) (ms : Members) (names : List (List ℕ)) → FitMembers names ms → NeatNamed names (normal_members p ms)
   neat_members p no_members names f = tt
   neat_members p (member k j ms) names f =
-      neat_member (is_passed_over p k) k names (normal (place_of_member p k) j) (normal_members p ms) f.1 (neat (place_of_member p k) j f.2) (neat_members p ms (k ∷ names) f.3)
+      neat_member (is_passed_over p k) k names (normal (role_of_member p k) j) (normal_members p ms) f.1 (neat (role_of_member p k) j f.2) (neat_members p ms (k ∷ names) f.3)
 
 -- ---- looking up
 

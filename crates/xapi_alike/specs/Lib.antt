@@ -1,4 +1,4 @@
-pub mod Places
+pub mod Roles
 pub mod Normal
 pub mod Alike
 pub mod Steps

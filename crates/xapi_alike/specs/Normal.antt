@@ -8,14 +8,14 @@ use Rattle.lrs_time.specs.Reading.{timestamp_at, duration_at}
 use Rattle.lrs_time.specs.declared.timestamps.TimeRefused.{TimeRefused}
 use Rattle.xapi_values.specs.Kinds.{kind_of}
 use Rattle.xapi_values.specs.declared.kinds.Kind.{Kind}
-use Rattle.xapi_alike.specs.declared.place.Place.{Place}
-use Rattle.xapi_alike.specs.declared.place.Place.TheVariants.{Statement, SubStatement, Object, Agent, GroupMembers}
-use Rattle.xapi_alike.specs.declared.place.Place.TheVariants.{Activity, Reference, Context, ContextActivities}
-use Rattle.xapi_alike.specs.declared.place.Place.TheVariants.{Activities, Outcome, Id, Timestamp, Duration, Plain}
-use Rattle.xapi_alike.specs.Places.{is_passed_over, kind_at, place_of_object, place_of_member, place_of_item}
-use Rattle.xapi_alike.specs.Places.{is_unordered, is_plural}
+use Rattle.xapi_alike.specs.declared.role.Role.{Role}
+use Rattle.xapi_alike.specs.declared.role.Role.TheVariants.{Statement, SubStatement, Object, Agent, GroupMembers}
+use Rattle.xapi_alike.specs.declared.role.Role.TheVariants.{Activity, Reference, Context, ContextActivities}
+use Rattle.xapi_alike.specs.declared.role.Role.TheVariants.{Activities, Outcome, Id, Timestamp, Duration, Plain}
+use Rattle.xapi_alike.specs.Roles.{is_passed_over, kind_at, role_of_object, role_of_member, role_of_item}
+use Rattle.xapi_alike.specs.Roles.{is_unordered, is_plural}
 
--- what a text says at its place
+-- what a text says at its role
 pub data Words : Type 0 where
   letters : List ℕ → Words
   -- sixteen bytes
@@ -33,7 +33,7 @@ mutual
     words : Words → Normal
     -- an array, and whether it is without order
     items : Bool → Normals → Normal
-    -- an object, with its kind if its place asks for one
+    -- an object, with its kind if its role asks for one
     thing : Kind → Named → Normal
 
   pub data Normals : Type 0 where
@@ -57,7 +57,7 @@ span_or text None = letters text
 span_or text (Some s) = lasting s
 
 -- what a text says: an id, an instant or a span of time where one is asked for, else its letters
-unfoldable pub said_at : Place → List ℕ → Words
+unfoldable pub said_at : Role → List ℕ → Words
 said_at Statement text = letters text
 said_at SubStatement text = letters text
 said_at Object text = letters text
@@ -74,39 +74,39 @@ said_at Timestamp text = instant_or text (timestamp_at text)
 said_at Duration text = span_or text (duration_at text)
 said_at Plain text = letters text
 
--- what an object is at a place: where an array may stand, an array of it
-abbrev pub alone : Place → Normal → Normal
-alone place x = if is_plural place then items false (more x none) else x
+-- what an object is at a role: where an array may stand, an array of it
+abbrev pub alone : Role → Normal → Normal
+alone role x = if is_plural role then items false (more x none) else x
 
 abbrev mutual
-  pub normal : Place → Json → Normal
-  normal place null = nothing
-  normal place (boolean b) = truth b
-  normal place (number s) = amount s
-  normal place (string s) = words (said_at place s)
-  normal place (array js) = items (is_unordered place) (normal_items (place_of_item place) js)
-  normal place (object ms) =
-      let kind = kind_at place (kind_of (object ms)) in
-      alone place (thing kind (normal_members (place_of_object place kind) ms))
+  pub normal : Role → Json → Normal
+  normal role null = nothing
+  normal role (boolean b) = truth b
+  normal role (number s) = amount s
+  normal role (string s) = words (said_at role s)
+  normal role (array js) = items (is_unordered role) (normal_items (role_of_item role) js)
+  normal role (object ms) =
+      let kind = kind_at role (kind_of (object ms)) in
+      alone role (thing kind (normal_members (role_of_object role kind) ms))
 
-  pub normal_items : Place → Elements → Normals
-  normal_items place no_elements = none
-  normal_items place (element j js) = more (normal place j) (normal_items place js)
+  pub normal_items : Role → Elements → Normals
+  normal_items role no_elements = none
+  normal_items role (element j js) = more (normal role j) (normal_items role js)
 
   -- without the members that are passed over
-  pub normal_members : Place → Members → Named
-  normal_members place no_members = unnamed
-  normal_members place (member name j ms) =
-      if is_passed_over place name then normal_members place ms
-      else named name (normal (place_of_member place name) j) (normal_members place ms)
+  pub normal_members : Role → Members → Named
+  normal_members role no_members = unnamed
+  normal_members role (member name j ms) =
+      if is_passed_over role name then normal_members role ms
+      else named name (normal (role_of_member role name) j) (normal_members role ms)
 
 -- the same where no array may stand for an object
-abbrev pub normal_one : Place → Json → Normal
-normal_one place null = nothing
-normal_one place (boolean b) = truth b
-normal_one place (number s) = amount s
-normal_one place (string s) = words (said_at place s)
-normal_one place (array js) = items (is_unordered place) (normal_items (place_of_item place) js)
-normal_one place (object ms) =
-    let kind = kind_at place (kind_of (object ms)) in
-    thing kind (normal_members (place_of_object place kind) ms)
+abbrev pub normal_one : Role → Json → Normal
+normal_one role null = nothing
+normal_one role (boolean b) = truth b
+normal_one role (number s) = amount s
+normal_one role (string s) = words (said_at role s)
+normal_one role (array js) = items (is_unordered role) (normal_items (role_of_item role) js)
+normal_one role (object ms) =
+    let kind = kind_at role (kind_of (object ms)) in
+    thing kind (normal_members (role_of_object role kind) ms)

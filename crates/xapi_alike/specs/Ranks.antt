@@ -4,10 +4,10 @@ use Rattle.lrs_json.specs.Json.{Json, null, boolean, number, string, array, obje
 use Rattle.lrs_json.specs.Json.{Members, no_members, member}
 use Rattle.xapi_alike.specs.Steps.{has_member_named}
 
--- the places below a count
-abbrev pub places_to : ℕ → List ℕ
-places_to zero = []
-places_to (suc n) = places_to n ++ n ∷ []
+-- the indices below a count
+abbrev pub indices_to : ℕ → List ℕ
+indices_to zero = []
+indices_to (suc n) = indices_to n ++ n ∷ []
 
 -- no object in it repeats a name, and there is no array in it
 abbrev mutual

@@ -4,7 +4,7 @@ use Rattle.lrs_json.specs.Json.{Json}
 use Rattle.lrs_json.specs.Fits.{Fits}
 use Rattle.xapi_alike.specs.Normal.{normal}
 use Rattle.xapi_alike.specs.Alike.{alike}
-use Rattle.xapi_alike.specs.declared.place.Place.TheVariants.{Statement}
+use Rattle.xapi_alike.specs.declared.role.Role.TheVariants.{Statement}
 
 -- two statements as they were received
 abbrev pub same : Json → Json → Bool

@@ -5,7 +5,7 @@ ghost use Rattle.xapi_alike.specs.Alike.{same_amount, same_words};
 ghost use Rattle.lrs_names.specs.Ids.{id_of};
 ghost use Rattle.lrs_time.specs.Reading.{timestamp_at, duration_at};
 
-use crate::place::Place;
+use crate::role::Role;
 use lrs_json::{Number, Text};
 use lrs_names::Id;
 use lrs_time::{Duration, read_timestamp};
@@ -18,15 +18,15 @@ pub fn is_same_amount(a: &Number, b: &Number) -> bool
     a == b || are_equal(a.as_bytes(), b.as_bytes())
 }
 
-/// Whether the texts say the same at that place.
+/// Whether the texts say the same at that role.
 #[tactic(auto, unfolding(crate::specs::Normal::said_at))]
-pub fn is_same_text(place: Place, a: &Text, b: &Text) -> bool
-    ensures { result ≡ same_words (said_at place a.now) (said_at place b.now) }
+pub fn is_same_text(role: Role, a: &Text, b: &Text) -> bool
+    ensures { result ≡ same_words (said_at role a.now) (said_at role b.now) }
 {
-    match place {
-        Place::Id => is_same_id(a, b),
-        Place::Timestamp => is_same_instant(a, b),
-        Place::Duration => is_same_span(a, b),
+    match role {
+        Role::Id => is_same_id(a, b),
+        Role::Timestamp => is_same_instant(a, b),
+        Role::Duration => is_same_span(a, b),
         _ => a == b,
     }
 }

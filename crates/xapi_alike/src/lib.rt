@@ -3,8 +3,8 @@
 
 mod alike;
 mod leaves;
-mod place;
 mod ranks;
+mod role;
 mod statements;
 
 pub use statements::same_received;

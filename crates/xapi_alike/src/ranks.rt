@@ -2,7 +2,7 @@
 ghost use Rattle.std.specs.Prelude.{◌≡◌, ◌≤◌, [], length, map, IsTrue};
 ghost use Rattle.std.specs.List.Sorted.{IsPermutation};
 ghost use Rattle.lrs_json.specs.View.{view, member_view, elements_of, members_of};
-ghost use Rattle.xapi_alike.specs.Ranks.{places_to, has_own_names, have_own_names, are_own_names};
+ghost use Rattle.xapi_alike.specs.Ranks.{indices_to, has_own_names, have_own_names, are_own_names};
 
 use crate::alike::has_member_named;
 use arrayvec::ArrayVec;
@@ -15,31 +15,31 @@ pub const MOST: usize = 16_384;
 /// The most members of an object that are held against each other. An Agent has six at most.
 const NAMES: usize = 8;
 
-/// Places of members.
-pub type Places = ArrayVec<u16, MOST>;
+/// Indices of members.
+pub type Indices = ArrayVec<u16, MOST>;
 
-/// The places of all items, by rank. Any order serves, but if items that are alike don't come together, ranks don't
+/// The indices of all items, by rank. Any order serves, but if items that are alike don't come together, ranks don't
 /// tell.
-pub fn rank(items: &[Tree], into: &mut Places)
+pub fn rank(items: &[Tree], into: &mut Indices)
     requires room { length items.now ≤ MOST }
     requires empty { into.old.items ≡ [] }
-    ensures { IsPermutation (places_to (length items.now)) into.new.items }
+    ensures { IsPermutation (indices_to (length items.now)) into.new.items }
 {
     fill(items.len(), into);
     into.sort_unstable_by(|i, j| order_at(items, *i, items, *j));
 }
 
-fn fill(count: usize, into: &mut Places)
+fn fill(count: usize, into: &mut Indices)
     requires room { count ≤ MOST }
     requires empty { into.old.items ≡ [] }
-    ensures { into.new.items ≡ places_to count }
+    ensures { into.new.items ≡ indices_to count }
 {
-    for place in 0..count {
-        into.push(place as u16);
+    for index in 0..count {
+        into.push(index as u16);
     }
 }
 
-/// The place of the first item of `a`, by rank, beside which none of `b` is left. What comes of it is right whichever
+/// The index of the first item of `a`, by rank, beside which none of `b` is left. What comes of it is right whichever
 /// it is.
 pub fn first_extra(a: &[Tree], left: &[u16], b: &[Tree], right: &[u16]) -> Option<u16> {
     let mut rest = right;

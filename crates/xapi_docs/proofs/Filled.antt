@@ -1,4 +1,4 @@
--- Places found by key, of which some are filled, and the list of those alone.
+-- Slots found by key, of which some are filled, and the list of those alone.
 use Rattle.std.proofs.Common.{◌≡◌, Bool, true, false, cond, not, ◌||◌, List, [], ◌∷◌, Option, Some, None, Ordering, Less, Equal, Greater, filter, filter_map, option_map, is_eq, is_some, refl, sym, ap, subst, ◌∙◌, ⊎_elim, true≢false}
 use Rattle.std.specs.BTreeMap.{insert_entry, is_at}
 use Rattle.std.specs.Cmp.{IsTotalOrder}
@@ -15,15 +15,15 @@ use Rattle.std.proofs.lemmas.Map.Keys.{IsDistinct-from_sorted, sorted_head, sort
 use Rattle.std.proofs.lemmas.Map.Lookups.{CmpEqualImpliesEq}
 
 module _ {K X : Type 0} where
-  -- those whose places are filled
+  -- those whose slots are filled
   abbrev pub filled : List (K × Option X) → List (K × X)
-  filled places = filter_map (λ place. option_map (λ x. (place.0, x)) place.1) places
+  filled slots = filter_map (λ slot. option_map (λ x. (slot.0, x)) slot.1) slots
 
-  -- a test that no place passes is passed by none that is filled
-  pub none_filled : (test : K → Bool) (places : List (K × Option X)) → NonePasses test places → NonePasses test (filled places)
+  -- a test that no slot passes is passed by none that is filled
+  pub none_filled : (test : K → Bool) (slots : List (K × Option X)) → NonePasses test slots → NonePasses test (filled slots)
   none_filled test [] none = tt
-  none_filled test ((k, None) ∷ places) none = none_filled test places none.1
-  none_filled test ((k, Some x) ∷ places) none = (none.0, none_filled test places none.1)
+  none_filled test ((k, None) ∷ slots) none = none_filled test slots none.1
+  none_filled test ((k, Some x) ∷ slots) none = (none.0, none_filled test slots none.1)
 
   -- a filter that all pass leaves the list
   pub all_stay : (test : K → Bool) (xs : List (K × X)) → NonePasses test xs → filter (λ x. not (test x.0 || false)) xs ≡ xs
@@ -31,34 +31,34 @@ module _ {K X : Type 0} where
   all_stay test (x ∷ xs) none = rw none.0 (ap (λ l. x ∷ l) (all_stay test xs none.1))
 
   module _ {R : K → K → Ordering} (o : IsTotalOrder R) where
-    past : (q k : K) (p : Option X) (places : List (K × Option X)) → IsStrictlySortedBy R (keys_of ((k, p) ∷ places)) → is_at (R q) k ≡ true → NonePasses (is_at (R q)) places
-    past q k p places s is = none_past_head (eq_by_cmp_equiv o) q (k, p) places (IsDistinct-from_sorted R _ s) is
+    past : (q k : K) (p : Option X) (slots : List (K × Option X)) → IsStrictlySortedBy R (keys_of ((k, p) ∷ slots)) → is_at (R q) k ≡ true → NonePasses (is_at (R q)) slots
+    past q k p slots s is = none_past_head (eq_by_cmp_equiv o) q (k, p) slots (IsDistinct-from_sorted R _ s) is
 
-    -- what stands under a key is what fills its place
-    pub found : (q : K) (places : List (K × Option X)) → IsStrictlySortedBy R (keys_of places) → lookup (is_at (R q)) (filled places) ≡ option_flatten (lookup (is_at (R q)) places)
+    -- what stands under a key is what fills its slot
+    pub found : (q : K) (slots : List (K × Option X)) → IsStrictlySortedBy R (keys_of slots) → lookup (is_at (R q)) (filled slots) ≡ option_flatten (lookup (is_at (R q)) slots)
     found q [] s = refl
-    found q ((k, None) ∷ places) s = ⊎_elim
-        (λ is. lookup-none (is_at (R q)) (filled places) (none_filled (is_at (R q)) places (past q k None places s is)) ∙ sym (ap option_flatten (lookup_head (is_at (R q)) (k, None) places is)))
-        (λ off. found q places (sorted_tail R k (keys_of places) s) ∙ sym (ap option_flatten (lookup_tail (is_at (R q)) (k, None) places off)))
+    found q ((k, None) ∷ slots) s = ⊎_elim
+        (λ is. lookup-none (is_at (R q)) (filled slots) (none_filled (is_at (R q)) slots (past q k None slots s is)) ∙ sym (ap option_flatten (lookup_head (is_at (R q)) (k, None) slots is)))
+        (λ off. found q slots (sorted_tail R k (keys_of slots) s) ∙ sym (ap option_flatten (lookup_tail (is_at (R q)) (k, None) slots off)))
         (cases_Bool (is_at (R q) k))
-    found q ((k, Some x) ∷ places) s = ⊎_elim
-        (λ is. lookup_head (is_at (R q)) (k, x) (filled places) is ∙ sym (ap option_flatten (lookup_head (is_at (R q)) (k, Some x) places is)))
-        (λ off. lookup_tail (is_at (R q)) (k, x) (filled places) off ∙ found q places (sorted_tail R k (keys_of places) s) ∙ sym (ap option_flatten (lookup_tail (is_at (R q)) (k, Some x) places off)))
+    found q ((k, Some x) ∷ slots) s = ⊎_elim
+        (λ is. lookup_head (is_at (R q)) (k, x) (filled slots) is ∙ sym (ap option_flatten (lookup_head (is_at (R q)) (k, Some x) slots is)))
+        (λ off. lookup_tail (is_at (R q)) (k, x) (filled slots) off ∙ found q slots (sorted_tail R k (keys_of slots) s) ∙ sym (ap option_flatten (lookup_tail (is_at (R q)) (k, Some x) slots off)))
         (cases_Bool (is_at (R q) k))
 
-    -- a place is let go, and so is what filled it
-    pub removed : (q : K) (places : List (K × Option X)) → IsStrictlySortedBy R (keys_of places) → filled (remove_entry (is_at (R q)) places) ≡ filter (λ x. not (is_at (R q) x.0 || false)) (filled places)
+    -- a slot is let go, and so is what filled it
+    pub removed : (q : K) (slots : List (K × Option X)) → IsStrictlySortedBy R (keys_of slots) → filled (remove_entry (is_at (R q)) slots) ≡ filter (λ x. not (is_at (R q) x.0 || false)) (filled slots)
     removed q [] s = refl
-    removed q ((k, None) ∷ places) s = ⊎_elim
-        (λ is. ap (λ b. filled (cond b places ((k, None) ∷ remove_entry (is_at (R q)) places))) is ∙ sym (all_stay (is_at (R q)) (filled places) (none_filled (is_at (R q)) places (past q k None places s is))))
-        (λ off. ap (λ b. filled (cond b places ((k, None) ∷ remove_entry (is_at (R q)) places))) off ∙ removed q places (sorted_tail R k (keys_of places) s))
+    removed q ((k, None) ∷ slots) s = ⊎_elim
+        (λ is. ap (λ b. filled (cond b slots ((k, None) ∷ remove_entry (is_at (R q)) slots))) is ∙ sym (all_stay (is_at (R q)) (filled slots) (none_filled (is_at (R q)) slots (past q k None slots s is))))
+        (λ off. ap (λ b. filled (cond b slots ((k, None) ∷ remove_entry (is_at (R q)) slots))) off ∙ removed q slots (sorted_tail R k (keys_of slots) s))
         (cases_Bool (is_at (R q) k))
-    removed q ((k, Some x) ∷ places) s =
-        let rest = filter (λ (e : K × X). not (is_at (R q) e.0 || false)) (filled places) in
+    removed q ((k, Some x) ∷ slots) s =
+        let rest = filter (λ (e : K × X). not (is_at (R q) e.0 || false)) (filled slots) in
         ⊎_elim
-        (λ is. ap (λ b. filled (cond b places ((k, Some x) ∷ remove_entry (is_at (R q)) places))) is ∙ sym (all_stay (is_at (R q)) (filled places) (none_filled (is_at (R q)) places (past q k (Some x) places s is)))
+        (λ is. ap (λ b. filled (cond b slots ((k, Some x) ∷ remove_entry (is_at (R q)) slots))) is ∙ sym (all_stay (is_at (R q)) (filled slots) (none_filled (is_at (R q)) slots (past q k (Some x) slots s is)))
         ∙ sym (ap (λ b. cond (not (b || false)) ((k, x) ∷ rest) rest) is))
-        (λ off. ap (λ b. filled (cond b places ((k, Some x) ∷ remove_entry (is_at (R q)) places))) off ∙ ap (λ l. (k, x) ∷ l) (removed q places (sorted_tail R k (keys_of places) s))
+        (λ off. ap (λ b. filled (cond b slots ((k, Some x) ∷ remove_entry (is_at (R q)) slots))) off ∙ ap (λ l. (k, x) ∷ l) (removed q slots (sorted_tail R k (keys_of slots) s))
         ∙ sym (ap (λ b. cond (not (b || false)) ((k, x) ∷ rest) rest) off))
         (cases_Bool (is_at (R q) k))
 
@@ -66,16 +66,16 @@ module _ {K X : Type 0} where
   in_place q None few all h = h
   in_place q (Some x) few all h = ap (λ l. (q, x) ∷ l) h
 
-  -- a place that is made is empty
-  pub made : (R : K → K → Ordering) (k : K) (places : List (K × Option X)) → lookup (is_at (R k)) places ≡ None → filled (insert_entry R places k None) ≡ filled places
+  -- a slot that is made is empty
+  pub made : (R : K → K → Ordering) (k : K) (slots : List (K × Option X)) → lookup (is_at (R k)) slots ≡ None → filled (insert_entry R slots k None) ≡ filled slots
   made R k [] none = refl
-  made R k ((q, p) ∷ places) none = by_order (R k q) refl (λ off. made R k places off)
+  made R k ((q, p) ∷ slots) none = by_order (R k q) refl (λ off. made R k slots off)
     where
-      by_order : (r : Ordering) → R k q ≡ r → (lookup (is_at (R k)) places ≡ None → filled (insert_entry R places k None) ≡ filled places)
-          → filled (match_ordering r ((k, None) ∷ (q, p) ∷ places) ((q, None) ∷ places) ((q, p) ∷ insert_entry R places k None)) ≡ filled ((q, p) ∷ places)
+      by_order : (r : Ordering) → R k q ≡ r → (lookup (is_at (R k)) slots ≡ None → filled (insert_entry R slots k None) ≡ filled slots)
+          → filled (match_ordering r ((k, None) ∷ (q, p) ∷ slots) ((q, None) ∷ slots) ((q, p) ∷ insert_entry R slots k None)) ≡ filled ((q, p) ∷ slots)
       by_order Less e rest = refl
-      by_order Equal e rest = absurd (true≢false (ap is_some (sym (lookup_head (is_at (R k)) (q, p) places (ap is_eq e)) ∙ none)))
-      by_order Greater e rest = in_place q p (insert_entry R places k None) places (rest (sym (lookup_tail (is_at (R k)) (q, p) places (ap is_eq e)) ∙ none))
+      by_order Equal e rest = absurd (true≢false (ap is_some (sym (lookup_head (is_at (R k)) (q, p) slots (ap is_eq e)) ∙ none)))
+      by_order Greater e rest = in_place q p (insert_entry R slots k None) slots (rest (sym (lookup_tail (is_at (R k)) (q, p) slots (ap is_eq e)) ∙ none))
 
   -- ---- what is written
 
@@ -83,38 +83,38 @@ module _ {K X : Type 0} where
   in_front R k x [] less = refl
   in_front R k x (e ∷ es) less = ap (λ r. match_ordering r ((k, x) ∷ e ∷ es) ((e.0, x) ∷ es) (e ∷ insert_entry R es k x)) less.0
 
-  less_filled : (R : K → K → Ordering) (k : K) (places : List (K × Option X)) → AllByRecursion (λ q. R k q ≡ Less) (keys_of places) → AllByRecursion (λ q. R k q ≡ Less) (keys_of (filled places))
+  less_filled : (R : K → K → Ordering) (k : K) (slots : List (K × Option X)) → AllByRecursion (λ q. R k q ≡ Less) (keys_of slots) → AllByRecursion (λ q. R k q ≡ Less) (keys_of (filled slots))
   less_filled R k [] less = tt
-  less_filled R k ((q, None) ∷ places) less = less_filled R k places less.1
-  less_filled R k ((q, Some x) ∷ places) less = (less.0, less_filled R k places less.1)
+  less_filled R k ((q, None) ∷ slots) less = less_filled R k slots less.1
+  less_filled R k ((q, Some x) ∷ slots) less = (less.0, less_filled R k slots less.1)
 
-  -- what is written into the place at a key, and what is written behind it
-  module _ {R : K → K → Ordering} (o : IsTotalOrder R) (exact : CmpEqualImpliesEq R) (k q : K) (x : X) (p : Option X) (places : List (K × Option X)) where
-    here : (p : Option X) → R k q ≡ Equal → AllByRecursion (λ y. R q y ≡ Less) (keys_of places) → (q, x) ∷ filled places ≡ insert_entry R (filled ((q, p) ∷ places)) k x
+  -- what is written into the slot at a key, and what is written behind it
+  module _ {R : K → K → Ordering} (o : IsTotalOrder R) (exact : CmpEqualImpliesEq R) (k q : K) (x : X) (p : Option X) (slots : List (K × Option X)) where
+    here : (p : Option X) → R k q ≡ Equal → AllByRecursion (λ y. R q y ≡ Less) (keys_of slots) → (q, x) ∷ filled slots ≡ insert_entry R (filled ((q, p) ∷ slots)) k x
     here None e less =
         let same = exact k q e in
-        ap (λ (z : K). (z, x) ∷ filled places) (sym same)
-        ∙ sym (in_front R k x (filled places) (subst (λ (z : K). AllByRecursion (λ y. R z y ≡ Less) (keys_of (filled places))) (sym same) (less_filled R q places less)))
-    here (Some y) e less = sym (ap (λ r. match_ordering r ((k, x) ∷ (q, y) ∷ filled places) ((q, x) ∷ filled places) ((q, y) ∷ insert_entry R (filled places) k x)) e)
+        ap (λ (z : K). (z, x) ∷ filled slots) (sym same)
+        ∙ sym (in_front R k x (filled slots) (subst (λ (z : K). AllByRecursion (λ y. R z y ≡ Less) (keys_of (filled slots))) (sym same) (less_filled R q slots less)))
+    here (Some y) e less = sym (ap (λ r. match_ordering r ((k, x) ∷ (q, y) ∷ filled slots) ((q, x) ∷ filled slots) ((q, y) ∷ insert_entry R (filled slots) k x)) e)
 
-    behind : (p : Option X) → R k q ≡ Greater → filled (set_value (is_at (R k)) places (Some x)) ≡ insert_entry R (filled places) k x
-        → filled ((q, p) ∷ set_value (is_at (R k)) places (Some x)) ≡ insert_entry R (filled ((q, p) ∷ places)) k x
+    behind : (p : Option X) → R k q ≡ Greater → filled (set_value (is_at (R k)) slots (Some x)) ≡ insert_entry R (filled slots) k x
+        → filled ((q, p) ∷ set_value (is_at (R k)) slots (Some x)) ≡ insert_entry R (filled ((q, p) ∷ slots)) k x
     behind None e h = h
-    behind (Some y) e h = ap (λ l. (q, y) ∷ l) h ∙ sym (ap (λ r. match_ordering r ((k, x) ∷ (q, y) ∷ filled places) ((q, x) ∷ filled places) ((q, y) ∷ insert_entry R (filled places) k x)) e)
+    behind (Some y) e h = ap (λ l. (q, y) ∷ l) h ∙ sym (ap (λ r. match_ordering r ((k, x) ∷ (q, y) ∷ filled slots) ((q, x) ∷ filled slots) ((q, y) ∷ insert_entry R (filled slots) k x)) e)
 
-    by_order : (r : Ordering) → R k q ≡ r → IsStrictlySortedBy R (keys_of ((q, p) ∷ places)) → is_some (lookup (is_at (R k)) ((q, p) ∷ places)) ≡ true
-        → (is_some (lookup (is_at (R k)) places) ≡ true → filled (set_value (is_at (R k)) places (Some x)) ≡ insert_entry R (filled places) k x)
-        → filled (cond (is_eq r) ((q, Some x) ∷ places) ((q, p) ∷ set_value (is_at (R k)) places (Some x))) ≡ insert_entry R (filled ((q, p) ∷ places)) k x
-    by_order Less e s some rest = absurd (true≢false (sym some ∙ ap is_some (lookup-none (is_at (R k)) ((q, p) ∷ places) (none_below_head o k (q, p) places s e))))
-    by_order Equal e s some rest = here p e (sorted_head R q (keys_of places) s)
-    by_order Greater e s some rest = behind p e (rest (ap is_some (sym (lookup_tail (is_at (R k)) (q, p) places (ap is_eq e))) ∙ some))
+    by_order : (r : Ordering) → R k q ≡ r → IsStrictlySortedBy R (keys_of ((q, p) ∷ slots)) → is_some (lookup (is_at (R k)) ((q, p) ∷ slots)) ≡ true
+        → (is_some (lookup (is_at (R k)) slots) ≡ true → filled (set_value (is_at (R k)) slots (Some x)) ≡ insert_entry R (filled slots) k x)
+        → filled (cond (is_eq r) ((q, Some x) ∷ slots) ((q, p) ∷ set_value (is_at (R k)) slots (Some x))) ≡ insert_entry R (filled ((q, p) ∷ slots)) k x
+    by_order Less e s some rest = absurd (true≢false (sym some ∙ ap is_some (lookup-none (is_at (R k)) ((q, p) ∷ slots) (none_below_head o k (q, p) slots s e))))
+    by_order Equal e s some rest = here p e (sorted_head R q (keys_of slots) s)
+    by_order Greater e s some rest = behind p e (rest (ap is_some (sym (lookup_tail (is_at (R k)) (q, p) slots (ap is_eq e))) ∙ some))
 
-  -- a place that is filled, or filled anew
-  pub written : {R : K → K → Ordering} (o : IsTotalOrder R) → CmpEqualImpliesEq R → (k : K) (x : X) (places : List (K × Option X)) → IsStrictlySortedBy R (keys_of places)
-      → is_some (lookup (is_at (R k)) places) ≡ true → filled (set_value (is_at (R k)) places (Some x)) ≡ insert_entry R (filled places) k x
+  -- a slot that is filled, or filled anew
+  pub written : {R : K → K → Ordering} (o : IsTotalOrder R) → CmpEqualImpliesEq R → (k : K) (x : X) (slots : List (K × Option X)) → IsStrictlySortedBy R (keys_of slots)
+      → is_some (lookup (is_at (R k)) slots) ≡ true → filled (set_value (is_at (R k)) slots (Some x)) ≡ insert_entry R (filled slots) k x
   written {R} o exact k x [] s some = absurd (true≢false (sym some))
-  written {R} o exact k x ((q, p) ∷ places) s some =
-      by_order o exact k q x p places (R k q) refl s some (written o exact k x places (sorted_tail R q (keys_of places) s))
+  written {R} o exact k x ((q, p) ∷ slots) s some =
+      by_order o exact k q x p slots (R k q) refl s some (written o exact k x slots (sorted_tail R q (keys_of slots) s))
 
   -- ---- without many keys, one after the other
 

@@ -4,4 +4,4 @@ pub mod Keyed
 pub mod Ahead
 pub mod Back
 pub mod Listed
-pub mod NamePlaces
+pub mod NameIndices

@@ -1,4 +1,4 @@
--- The filled places whose keys pass a test, where these keys stand together: they are walked from the least of them on.
+-- The filled slots whose keys pass a test, where these keys stand together: they are walked from the least of them on.
 use Rattle.std.proofs.Common.{◌≡◌, Bool, true, false, cond, List, [], ◌∷◌, ◌++◌, map, Option, Some, None, Ordering, Less, filter, refl, sym, ap, ◌∙◌, ⊎_elim, true≢false, append_assoc, append-nil}
 use Rattle.std.specs.BTreeMap.Range.{entries_between, range_contains}
 use Rattle.std.specs.declared.ops.Bound.TheVariants.{Included, Unbounded}
@@ -16,49 +16,49 @@ pub record StandTogether {K : Type 0} (R : K → K → Ordering) (first : K) (pa
 
 module _ {K X Y : Type 0} (R : K → K → Ordering) (first : K) (test : K × X → Bool) (shows : K × X → Y) where
   abbrev pub picked : List (K × Option X) → List Y
-  picked places = map shows (filter test (filled places))
+  picked slots = map shows (filter test (filled slots))
 
-  -- what was shown so far, and what is shown of the places that are left, are all that is shown
+  -- what was shown so far, and what is shown of the slots that are left, are all that is shown
   pub record Walks (done : List Y) (rest all : List (K × Option X)) : Type 0 where
     pub whole : done ++ picked rest ≡ picked all
     pub sorted : IsStrictlySortedBy R (keys_of rest)
     pub inside : AllByRecursion (λ q. range_contains R (Included first) Unbounded q ≡ true) (keys_of rest)
 
   abbrev pub between : List (K × Option X) → List (K × Option X)
-  between places = entries_between R (Included first) Unbounded places
+  between slots = entries_between R (Included first) Unbounded slots
 
-  less_between : (k : K) (places : List (K × Option X)) → AllByRecursion (λ q. R k q ≡ Less) (keys_of places) → AllByRecursion (λ q. R k q ≡ Less) (keys_of (between places))
+  less_between : (k : K) (slots : List (K × Option X)) → AllByRecursion (λ q. R k q ≡ Less) (keys_of slots) → AllByRecursion (λ q. R k q ≡ Less) (keys_of (between slots))
   less_between k [] less = tt
-  less_between k (e ∷ places) less = ⊎_elim
-      (λ is. rw is (less.0, less_between k places less.1))
-      (λ off. rw off (less_between k places less.1))
+  less_between k (e ∷ slots) less = ⊎_elim
+      (λ is. rw is (less.0, less_between k slots less.1))
+      (λ off. rw off (less_between k slots less.1))
       (cases_Bool (range_contains R (Included first) Unbounded e.0))
 
-  sorted_between : (places : List (K × Option X)) → IsStrictlySortedBy R (keys_of places) → IsStrictlySortedBy R (keys_of (between places))
+  sorted_between : (slots : List (K × Option X)) → IsStrictlySortedBy R (keys_of slots) → IsStrictlySortedBy R (keys_of (between slots))
   unfolding IsStrictlySortedBy
   sorted_between [] s = tt
-  sorted_between (e ∷ places) s = ⊎_elim
-      (λ is. rw is (less_between e.0 places s.0, sorted_between places s.1))
-      (λ off. rw off (sorted_between places s.1))
+  sorted_between (e ∷ slots) s = ⊎_elim
+      (λ is. rw is (less_between e.0 slots s.0, sorted_between slots s.1))
+      (λ off. rw off (sorted_between slots s.1))
       (cases_Bool (range_contains R (Included first) Unbounded e.0))
 
-  all_inside : (places : List (K × Option X)) → AllByRecursion (λ q. range_contains R (Included first) Unbounded q ≡ true) (keys_of (between places))
+  all_inside : (slots : List (K × Option X)) → AllByRecursion (λ q. range_contains R (Included first) Unbounded q ≡ true) (keys_of (between slots))
   all_inside [] = tt
-  all_inside (e ∷ places) = ⊎_elim
-      (λ is. rw is (is, all_inside places))
-      (λ off. rw off (all_inside places))
+  all_inside (e ∷ slots) = ⊎_elim
+      (λ is. rw is (is, all_inside slots))
+      (λ off. rw off (all_inside slots))
       (cases_Bool (range_contains R (Included first) Unbounded e.0))
 
-  pub shown : (k : K) (x : X) (places : List (K × Option X)) → test (k, x) ≡ true → picked ((k, Some x) ∷ places) ≡ shows (k, x) ∷ picked places
-  shown k x places is = ap (λ b. map shows (cond b ((k, x) ∷ filter test (filled places)) (filter test (filled places)))) is
+  pub shown : (k : K) (x : X) (slots : List (K × Option X)) → test (k, x) ≡ true → picked ((k, Some x) ∷ slots) ≡ shows (k, x) ∷ picked slots
+  shown k x slots is = ap (λ b. map shows (cond b ((k, x) ∷ filter test (filled slots)) (filter test (filled slots)))) is
 
-  pub not_shown : (k : K) (x : X) (places : List (K × Option X)) → test (k, x) ≡ false → picked ((k, Some x) ∷ places) ≡ picked places
-  not_shown k x places off = ap (λ b. map shows (cond b ((k, x) ∷ filter test (filled places)) (filter test (filled places)))) off
+  pub not_shown : (k : K) (x : X) (slots : List (K × Option X)) → test (k, x) ≡ false → picked ((k, Some x) ∷ slots) ≡ picked slots
+  not_shown k x slots off = ap (λ b. map shows (cond b ((k, x) ∷ filter test (filled slots)) (filter test (filled slots)))) off
 
   module _ (passes : K → Bool) (together : StandTogether R first passes) (only : (k : K) (x : X) → passes k ≡ false → test (k, x) ≡ false) where
-    unseen : (k : K) (p : Option X) (places : List (K × Option X)) → passes k ≡ false → picked ((k, p) ∷ places) ≡ picked places
-    unseen k None places off = refl
-    unseen k (Some x) places off = not_shown k x places (only k x off)
+    unseen : (k : K) (p : Option X) (slots : List (K × Option X)) → passes k ≡ false → picked ((k, p) ∷ slots) ≡ picked slots
+    unseen k None slots off = refl
+    unseen k (Some x) slots off = not_shown k x slots (only k x off)
 
     outside : (k : K) (b : Bool) → passes k ≡ b → range_contains R (Included first) Unbounded k ≡ false → passes k ≡ false
     outside k true e off = absurd (true≢false (sym (together.least k e) ∙ off))
@@ -71,19 +71,19 @@ module _ {K X Y : Type 0} (R : K → K → Ordering) (first : K) (test : K × X 
         (λ off. not_shown k x few off ∙ same ∙ sym (not_shown k x all off))
         (cases_Bool (test (k, x)))
 
-    picked_between : (places : List (K × Option X)) → picked (between places) ≡ picked places
+    picked_between : (slots : List (K × Option X)) → picked (between slots) ≡ picked slots
     picked_between [] = refl
-    picked_between (e ∷ places) = ⊎_elim
-        (λ is. ap (λ b. picked (cond b (e ∷ between places) (between places))) is ∙ seen e.0 e.1 (between places) places (picked_between places))
-        (λ off. ap (λ b. picked (cond b (e ∷ between places) (between places))) off ∙ picked_between places ∙ sym (unseen e.0 e.1 places (outside e.0 (passes e.0) refl off)))
+    picked_between (e ∷ slots) = ⊎_elim
+        (λ is. ap (λ b. picked (cond b (e ∷ between slots) (between slots))) is ∙ seen e.0 e.1 (between slots) slots (picked_between slots))
+        (λ off. ap (λ b. picked (cond b (e ∷ between slots) (between slots))) off ∙ picked_between slots ∙ sym (unseen e.0 e.1 slots (outside e.0 (passes e.0) refl off)))
         (cases_Bool (range_contains R (Included first) Unbounded e.0))
 
-    none_later : (k : K) (places : List (K × Option X)) → range_contains R (Included first) Unbounded k ≡ true → passes k ≡ false → AllByRecursion (λ q. R k q ≡ Less) (keys_of places) → picked places ≡ []
+    none_later : (k : K) (slots : List (K × Option X)) → range_contains R (Included first) Unbounded k ≡ true → passes k ≡ false → AllByRecursion (λ q. R k q ≡ Less) (keys_of slots) → picked slots ≡ []
     none_later k [] from off less = refl
-    none_later k (e ∷ places) from off less = unseen e.0 e.1 places (together.later k e.0 from off less.0) ∙ none_later k places from off less.1
+    none_later k (e ∷ slots) from off less = unseen e.0 e.1 slots (together.later k e.0 from off less.0) ∙ none_later k slots from off less.1
 
-    pub begins : (places : List (K × Option X)) → IsStrictlySortedBy R (keys_of places) → Walks [] (between places) places
-    begins places s = record { whole = picked_between places; sorted = sorted_between places s; inside = all_inside places }
+    pub begins : (slots : List (K × Option X)) → IsStrictlySortedBy R (keys_of slots) → Walks [] (between slots) slots
+    begins slots s = record { whole = picked_between slots; sorted = sorted_between slots s; inside = all_inside slots }
 
     pub stops : (done : List Y) (k : K) (p : Option X) (rest all : List (K × Option X)) → Walks done ((k, p) ∷ rest) all → passes k ≡ false → done ≡ picked all
     stops done k p rest all walks off =

@@ -22,14 +22,14 @@ abbrev pub with_members : Members → Members → Members
 with_members old no_members = old
 with_members old (member k j ms) = with_members (with_member k j old) ms
 
--- the place of the first member of a name
-abbrev pub place_in : List ℕ → Members → Option ℕ
-place_in name no_members = None
-place_in name (member k j ms) = if bytes_eq k name then Some 0 else option_map suc (place_in name ms)
+-- the index of the first member of a name
+abbrev pub index_in : List ℕ → Members → Option ℕ
+index_in name no_members = None
+index_in name (member k j ms) = if bytes_eq k name then Some 0 else option_map suc (index_in name ms)
 
--- each name has the place of its member, and no other name has one
-abbrev pub HasPlaces : BTreeMap (List ℕ) ℕ → Members → Type 0
-HasPlaces places ms = (name : List ℕ) → get (slice_cmp nat_cmp) places name ≡ place_in name ms
+-- each name has the index of its member, and no other name has one
+abbrev pub HasIndices : BTreeMap (List ℕ) ℕ → Members → Type 0
+HasIndices indices ms = (name : List ℕ) → get (slice_cmp nat_cmp) indices name ≡ index_in name ms
 
 -- the members of the object that the bytes spell, None where they spell none
 abbrev pub object_in : List ℕ → Option Members

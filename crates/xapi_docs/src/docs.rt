@@ -4,7 +4,7 @@ ghost use Rattle.std.specs.Cmp.Lexicographic.{slice_cmp};
 ghost use Rattle.std.specs.Ordering.{nat_cmp};
 ghost use Rattle.std.specs.Option.{option_copied, option_map_or};
 ghost use Rattle.xapi_docs.specs.Changes.{documents_after};
-ghost use Rattle.xapi_docs.specs.Docs.{HasPlaceFor, HasRoomForDocuments, MakesPlaces, TakesPlacesBack, documents_in, is_empty_at, is_written};
+ghost use Rattle.xapi_docs.specs.Docs.{HasSlotFor, HasRoomForDocuments, MakesSlots, TakesSlotsBack, documents_in, is_empty_at, is_written};
 ghost use Rattle.xapi_docs.specs.Documents.{document_under, ids_in, is_later, keys_in, with_document, without_documents};
 ghost use Rattle.xapi_keys.specs.Keys.{is_same_key, is_state};
 ghost use Rattle.xapi_keys.specs.declared.state_key.StateKey.{StateKey as SpecKey};
@@ -19,7 +19,7 @@ use std::collections::BTreeMap;
 use std::marker::Model;
 use xapi_keys::{StateKey, is_of, is_state};
 
-/// The documents, found by key. A key's place is made before its document comes.
+/// The documents, found by key. A key's slot is made before its document comes.
 #[derive(Drop)]
 pub struct Docs {
     map: BTreeMap<StateKey, Option<Document>>,
@@ -28,10 +28,10 @@ pub struct Docs {
 impl Model for Docs {
     ghost use Rattle.std.specs.List.Sorted.{IsStrictlySortedBy};
     ghost use Rattle.std.specs.Map.{keys_of};
-    ghost use Rattle.xapi_docs.specs.Docs.{Places};
+    ghost use Rattle.xapi_docs.specs.Docs.{Slots};
     ghost use Rattle.xapi_keys.specs.Keys.{key_cmp};
 
-    ghost Value = { Places };
+    ghost Value = { Slots };
 
     ghost view = { λ d. d.map.entries };
 
@@ -52,7 +52,7 @@ impl Docs {
         ensures { option_copied result ≡ document_under key.now (documents_in self.now) }
     {
         match self.map.get(key) {
-            Some(place) => place.as_ref(),
+            Some(slot) => slot.as_ref(),
             None => None,
         }
     }
@@ -73,11 +73,11 @@ impl Docs {
         let alloc = activity.text().allocator();
         let mut ids = Vec::new(alloc);
         let first = first_key(alloc, activity, agent, registration)?;
-        for (key, place) in self.map.range(first..) {
+        for (key, slot) in self.map.range(first..) {
             if !is_of(key, activity, agent, registration) {
                 return Ok(ids);
             }
-            if is_listed(place, since) {
+            if is_listed(slot, since) {
                 ids.push(key.state.clone()?)?;
             }
         }
@@ -99,11 +99,11 @@ impl Docs {
         let alloc = activity.text().allocator();
         let mut keys = Items::new(alloc);
         let first = first_key(alloc, activity, agent, registration)?;
-        for (key, place) in self.map.range(first..) {
+        for (key, slot) in self.map.range(first..) {
             if !is_of(key, activity, agent, registration) {
                 return Ok(keys);
             }
-            if is_named(key, place, state) {
+            if is_named(key, slot, state) {
                 keys.push(key.copy()?)?;
             }
         }
@@ -112,9 +112,9 @@ impl Docs {
 
     /// Makes room for a document under a key.
     pub fn ready(&mut self, key: &StateKey) -> Result<(), Memory>
-        ensures made { MakesPlaces (λ k. is_same_key key.now k) self.old self.new }
-        ensures ready { OnOk result (HasPlaceFor self.new key.now) }
-        ensures kept { (k : SpecKey) → HasPlaceFor self.old k → HasPlaceFor self.new k }
+        ensures made { MakesSlots (λ k. is_same_key key.now k) self.old self.new }
+        ensures ready { OnOk result (HasSlotFor self.new key.now) }
+        ensures kept { (k : SpecKey) → HasSlotFor self.old k → HasSlotFor self.new k }
     {
         if !self.map.contains_key(key) {
             let before = self.map.insert(key.copy()?, None)?;
@@ -123,13 +123,13 @@ impl Docs {
         Ok(())
     }
 
-    /// Takes back the place that was made for a key, where it is empty.
+    /// Takes back the slot that was made for a key, where it is empty.
     pub fn release(&mut self, key: &StateKey)
-        ensures { TakesPlacesBack (λ k. is_same_key key.now k) self.old self.new }
+        ensures { TakesSlotsBack (λ k. is_same_key key.now k) self.old self.new }
     {
         if self.is_empty_at(key) {
-            let place = self.map.remove(key);
-            drop(place);
+            let slot = self.map.remove(key);
+            drop(slot);
         }
     }
 
@@ -137,35 +137,35 @@ impl Docs {
         ensures { result ≡ is_empty_at self.now key.now }
     {
         match self.map.get(key) {
-            Some(place) => place.is_none(),
+            Some(slot) => slot.is_none(),
             None => false,
         }
     }
 
     /// Takes a document in for which there is room, in place of the one under its key. It takes no memory.
     pub fn install(&mut self, key: StateKey, document: Document)
-        requires { HasPlaceFor self.old key }
+        requires { HasSlotFor self.old key }
         ensures held { documents_in self.new ≡ with_document key document (documents_in self.old) }
-        ensures places { (k : SpecKey) → HasPlaceFor self.old k → HasPlaceFor self.new k }
+        ensures slots { (k : SpecKey) → HasSlotFor self.old k → HasSlotFor self.new k }
     {
-        if let Some(place) = self.map.get_mut(&key) {
-            *place = Some(document);
+        if let Some(slot) = self.map.get_mut(&key) {
+            *slot = Some(document);
         }
     }
 
     /// Lets the document under a key go, where there is one. It takes no memory.
     pub fn remove(&mut self, key: &StateKey)
         ensures gone { documents_in self.new ≡ without_documents (key.now ∷ []) (documents_in self.old) }
-        ensures places { (k : SpecKey) → is_same_key key.now k ≡ false
-            → HasPlaceFor self.old k → HasPlaceFor self.new k }
+        ensures slots { (k : SpecKey) → is_same_key key.now k ≡ false
+            → HasSlotFor self.old k → HasSlotFor self.new k }
     {
-        let place = self.map.remove(key);
-        drop(place);
+        let slot = self.map.remove(key);
+        drop(slot);
     }
 
     /// Makes room for a change.
     pub fn ready_change(&mut self, change: &DocumentsChange) -> Result<(), Memory>
-        ensures made { MakesPlaces (is_written change.now) self.old self.new }
+        ensures made { MakesSlots (is_written change.now) self.old self.new }
         ensures room { OnOk result (HasRoomForDocuments self.new change.now) }
     {
         match change {
@@ -174,9 +174,9 @@ impl Docs {
         }
     }
 
-    /// Takes back the place that was made for a change that doesn't come.
+    /// Takes back the slot that was made for a change that doesn't come.
     pub fn release_change(&mut self, change: &DocumentsChange)
-        ensures { TakesPlacesBack (is_written change.now) self.old self.new }
+        ensures { TakesSlotsBack (is_written change.now) self.old self.new }
     {
         match change {
             DocumentsChange::Written { key, document: _ } => self.release(key),
@@ -227,20 +227,20 @@ fn first_key(
     })
 }
 
-// Whether a place holds a document that was written later, where an instant is given.
-fn is_listed(place: &Option<Document>, since: Option<Instant>) -> bool
-    ensures { result ≡ option_map_or (is_later since) place.now false }
+// Whether a slot holds a document that was written later, where an instant is given.
+fn is_listed(slot: &Option<Document>, since: Option<Instant>) -> bool
+    ensures { result ≡ option_map_or (is_later since) slot.now false }
 {
-    match (place, since) {
+    match (slot, since) {
         (None, _) => false,
         (Some(_), None) => true,
         (Some(document), Some(first)) => first < document.moment.instant(),
     }
 }
 
-// Whether a place holds a document of that state id, where one is given.
-fn is_named(key: &StateKey, place: &Option<Document>, state: &Option<Text>) -> bool
-    ensures { result ≡ (is_some place.now && is_state state.now key.now) }
+// Whether a slot holds a document of that state id, where one is given.
+fn is_named(key: &StateKey, slot: &Option<Document>, state: &Option<Text>) -> bool
+    ensures { result ≡ (is_some slot.now && is_state state.now key.now) }
 {
-    place.is_some() && is_state(key, state)
+    slot.is_some() && is_state(key, state)
 }

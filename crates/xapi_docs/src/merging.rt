@@ -2,7 +2,7 @@ ghost use Rattle.std.specs.Prelude.{◌≡◌, ◌⊎◌, None, Some, Err, IfOk,
 ghost use Rattle.lrs_json.specs.Json.{object};
 ghost use Rattle.lrs_json.specs.View.{member_view, members_of};
 ghost use Rattle.lrs_json.specs.Written.{written};
-ghost use Rattle.xapi_docs.specs.Merging.{HasPlaces, merge, object_in, with_member, with_members};
+ghost use Rattle.xapi_docs.specs.Merging.{HasIndices, merge, object_in, with_member, with_members};
 
 use lrs_json::{Items, Member, Memory, Text, Tree, write};
 use lrs_json_spelled::value_in;
@@ -67,46 +67,46 @@ fn members_of_text(alloc: Global, bytes: &[u8]) -> Result<Vec<Member>, MergeRefu
     }
 }
 
-// Puts each of the new members in the place of the held one of its name, or after all. The places of names are kept
+// Puts each of the new members in the place of the held one of its name, or after all. The indices of names are kept
 // beside them, since a body may have very many.
 fn put_members(alloc: Global, held: &mut Vec<Member>, members: Vec<Member>) -> Result<(), Memory>
     ensures { OnOk result (members_of (map member_view held.new.items)
         ≡ with_members (members_of (map member_view held.old.items)) (members_of (map member_view members.items))) }
 {
-    let mut places = places_of(alloc, held.as_slice())?;
+    let mut indices = indices_of(alloc, held.as_slice())?;
     for member in members {
-        put_member(&mut places, held, member)?;
+        put_member(&mut indices, held, member)?;
     }
     Ok(())
 }
 
-// The place of each name, the first where it stands twice.
-fn places_of(alloc: Global, members: &[Member]) -> Result<BTreeMap<Text, usize>, Memory>
-    ensures { IfOk result (λ places. HasPlaces places (members_of (map member_view members.now))) }
+// The index of each name, the first where it stands twice.
+fn indices_of(alloc: Global, members: &[Member]) -> Result<BTreeMap<Text, usize>, Memory>
+    ensures { IfOk result (λ indices. HasIndices indices (members_of (map member_view members.now))) }
 {
-    let mut places = BTreeMap::new(alloc);
+    let mut indices = BTreeMap::new(alloc);
     for (at, member) in members.iter().enumerate() {
-        if !places.contains_key(&member.name) {
-            places.insert(member.name.clone()?, at)?;
+        if !indices.contains_key(&member.name) {
+            indices.insert(member.name.clone()?, at)?;
         }
     }
-    Ok(places)
+    Ok(indices)
 }
 
 fn put_member(
-    places: &mut BTreeMap<Text, usize>,
+    indices: &mut BTreeMap<Text, usize>,
     held: &mut Vec<Member>,
     member: Member,
 ) -> Result<(), Memory>
-    requires { HasPlaces places.old (members_of (map member_view held.old.items)) }
+    requires { HasIndices indices.old (members_of (map member_view held.old.items)) }
     ensures put { OnOk result (members_of (map member_view held.new.items)
         ≡ with_member (member_view member).0 (member_view member).1 (members_of (map member_view held.old.items))) }
-    ensures places { OnOk result (HasPlaces places.new (members_of (map member_view held.new.items))) }
+    ensures indices { OnOk result (HasIndices indices.new (members_of (map member_view held.new.items))) }
 {
-    match places.get(&member.name) {
+    match indices.get(&member.name) {
         Some(at) => held[*at].value = member.value,
         None => {
-            places.insert(member.name.clone()?, held.len())?;
+            indices.insert(member.name.clone()?, held.len())?;
             held.push(member)?;
         }
     }

@@ -9,7 +9,7 @@ use Rattle.uuid.proofs.TextLemmas.{nibble_small}
 use Rattle.lrs_json.specs.Written.{escaped, is_plain}
 use Rattle.xapi_values.specs.LrsNamesIds.{id_text}
 use Rattle.xapi_values.specs.LrsTimeDigits.{two_digits}
-use Rattle.xapi_values.specs.LrsTimeTimestamp.{IsFraction, IsMomentText, Zone, stamp_text, utc}
+use Rattle.xapi_values.specs.LrsTimeTimestamp.{IsFractionOfSecond, IsMomentText, Zone, stamp_text, utc}
 
 -- what stands for it in a string is the text itself
 abbrev pub IsPlain : List ℕ → Type 0
@@ -87,7 +87,7 @@ plain_date y m d rest ly lm ld plain =
     plain_two (y / 100) (two_digits (y % 100) ++ marked 45 m (marked 45 d rest)) (omega arith) (plain_two (y % 100) (marked 45 m (marked 45 d rest)) (omega arith)
     (plain_marked 45 m (marked 45 d rest) refl lm (plain_marked 45 d rest refl ld plain)))
 
-at_three : (y m d h n c : ℕ) (f : List ℕ) (z : Zone) → y < 10000 → m < 100 → d < 100 → h < 24 → n < 60 → c < 60 → length f ≡ 3 → IsFraction f → z ≡ utc
+at_three : (y m d h n c : ℕ) (f : List ℕ) (z : Zone) → y < 10000 → m < 100 → d < 100 → h < 24 → n < 60 → c < 60 → length f ≡ 3 → IsFractionOfSecond f → z ≡ utc
     → IsPlain (stamp_text (record { year = y; month = m; day = d; hour = h; minute = n; second = c; fraction = f; zone = z }))
 at_three y m d h n c [] z ly lm ld lh ln lc l is u = absurd (omega arith)
 at_three y m d h n c (a ∷ []) z ly lm ld lh ln lc l is u = absurd (omega arith)

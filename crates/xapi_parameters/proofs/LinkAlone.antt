@@ -2,7 +2,7 @@
 use Rattle.std.proofs.Common.{◌≡◌, ℕ, List, Option, Some, None, codes, refl, sym, ap, ◌∙◌}
 use Rattle.lrs_json.specs.Json.{Json}
 use Rattle.lrs_json.specs.declared.limits.TheConstants.{DEPTH}
-use Rattle.lrs_json_reader.specs.Placed.{plain}
+use Rattle.lrs_json_reader.specs.Located.{plain}
 use Rattle.lrs_json_reader.specs.Refusals.{Spells}
 use Rattle.lrs_agents.specs.Identifiers.{identifier_of}
 use Rattle.lrs_agents.specs.declared.identifiers.Ifi.{Ifi}
@@ -16,7 +16,7 @@ use Rattle.xapi_query.specs.declared.query.Query.{Query}
 use Rattle.xapi_parameters.proofs.OneJson.{one_json}
 
 one_value : (text : List ℕ) (j k : Json) → Spells DEPTH text j → Spells DEPTH text k → j ≡ k
-one_value text j k a b = sym a.is ∙ ap plain (one_json text a.placed b.placed a.spelled b.spelled) ∙ b.is
+one_value text j k a b = sym a.is ∙ ap plain (one_json text a.located b.located a.spelled b.spelled) ∙ b.is
 
 pub one_actor : (text : List ℕ) (a b : Ifi) → IsActorOf text a → IsActorOf text b → a ≡ b
 one_actor text a b x y =

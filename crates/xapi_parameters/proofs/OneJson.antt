@@ -2,8 +2,8 @@
 use Rattle.std.proofs.Common.{◌≡◌, ℕ, List, sym, ◌∙◌}
 use Rattle.std.proofs.lemmas.Option.{same_Some}
 use Rattle.lrs_json_reader.specs.Grammar.{IsText}
-use Rattle.lrs_json_reader.specs.Placed.{Placed}
-use Rattle.lrs_json_spelled.proofs.Law.{placed_again}
+use Rattle.lrs_json_reader.specs.Located.{Located}
+use Rattle.lrs_json_spelled.proofs.Law.{located_again}
 
-pub one_json : (bytes : List ℕ) (p q : Placed) → IsText p bytes → IsText q bytes → p ≡ q
-one_json bytes p q h k = same_Some p q (sym (placed_again bytes p h) ∙ placed_again bytes q k)
+pub one_json : (bytes : List ℕ) (p q : Located) → IsText p bytes → IsText q bytes → p ≡ q
+one_json bytes p q h k = same_Some p q (sym (located_again bytes p h) ∙ located_again bytes q k)

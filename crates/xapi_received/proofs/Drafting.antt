@@ -7,7 +7,7 @@ use Rattle.std.proofs.lemmas.List.{append-nil, drop-append-le, take_rest}
 use Rattle.lrs_json.specs.Json.{Json, array, element, no_elements}
 use Rattle.lrs_json.specs.Spellable.{IsSpellable}
 use Rattle.lrs_json.specs.Written.{written}
-use Rattle.xapi_received.specs.Marking.{Adds, Marks, shown_text}
+use Rattle.xapi_received.specs.Marking.{AddsText, Marks, shown_text}
 use Rattle.xapi_received.specs.Excerpts.{listed}
 use Rattle.xapi_received.specs.Received.{AreWithin, bracket_text, excerpt_text, excerpts_text}
 use Rattle.xapi_received.specs.declared.draft.Draft.{Draft}
@@ -15,7 +15,7 @@ use Rattle.xapi_received.specs.declared.marks.Bracket.{Bracket}
 use Rattle.xapi_received.specs.declared.marks.Bracket.TheVariants.{Opening, Closing}
 use Rattle.xapi_received.specs.declared.marks.Excerpt.{Excerpt}
 use Rattle.xapi_format.proofs.Appending.{behind}
-use Rattle.xapi_received.proofs.Places.{longer, excerpt_at, excerpts_grown, within_append, within_more}
+use Rattle.xapi_received.proofs.Spans.{longer, excerpt_at, excerpts_grown, within_append, within_more}
 
 -- ---- over plain lists
 
@@ -71,10 +71,10 @@ passed_over text more excerpts from is s =
 
 -- ---- over drafts
 
-pub nothing_added : (d : Draft) → Adds [] [] d d
+pub nothing_added : (d : Draft) → AddsText [] [] d d
 nothing_added d = record { writes = sym (append-nil d.text.items); shows = λ sound. (sound, sym (append-nil (shown_text d))) }
 
-pub text_added : (old new : Draft) (more : List ℕ) → new.text.items ≡ old.text.items ++ more → listed new.excerpts ≡ listed old.excerpts → new.from ≡ old.from → Adds more more old new
+pub text_added : (old new : Draft) (more : List ℕ) → new.text.items ≡ old.text.items ++ more → listed new.excerpts ≡ listed old.excerpts → new.from ≡ old.from → AddsText more more old new
 text_added old new more text excerpts from = record {
   writes = text;
   shows = λ sound. same_fields (shown_text old ++ more) (old.text.items ++ more) new.text.items (listed old.excerpts) (listed new.excerpts) old.from new.from text excerpts from
@@ -88,7 +88,7 @@ tree_marked (Ok x) j old new excerpts from text spellable = record { spellable =
 tree_marked (Err e) j old new excerpts from text spellable = text
 
 pub excerpt_added : (old new : Draft) (b : Bracket) → new.text.items ≡ old.text.items → listed new.excerpts ≡ listed old.excerpts ++ (excerpt_at old.from new.from b ∷ []) → new.from ≡ length old.text.items
-    → Adds [] (bracket_text b) old new
+    → AddsText [] (bracket_text b) old new
 excerpt_added old new b text excerpts from =
     let excerpts_are : listed new.excerpts ≡ listed old.excerpts ++ (excerpt_at old.from (length old.text.items) b ∷ []) =
     excerpts ∙ ap (λ (n : ℕ). listed old.excerpts ++ (excerpt_at old.from n b ∷ [])) from in record {
@@ -97,8 +97,8 @@ excerpt_added old new b text excerpts from =
           text excerpts_are from (excerpt_ended old.text.items (listed old.excerpts) old.from b sound);
     }
 
-pub left_out : (old mid new : Draft) (more : List ℕ) → Adds [] [] old mid → mid.from ≡ length mid.text.items → new.text.items ≡ mid.text.items ++ more → listed new.excerpts ≡ listed mid.excerpts
-    → new.from ≡ length new.text.items → Adds more [] old new
+pub left_out : (old mid new : Draft) (more : List ℕ) → AddsText [] [] old mid → mid.from ≡ length mid.text.items → new.text.items ≡ mid.text.items ++ more → listed new.excerpts ≡ listed mid.excerpts
+    → new.from ≡ length new.text.items → AddsText more [] old new
 left_out old mid new more paused ends text excerpts from = record {
   writes = text ∙ ap (λ (t : List ℕ). t ++ more) (paused.writes ∙ append-nil old.text.items);
   shows = λ sound.
@@ -110,7 +110,7 @@ left_out old mid new more paused ends text excerpts from = record {
 
 -- ---- one after the other
 
-pub adds_both : (old mid new : Draft) (r r' s s' : List ℕ) → Adds r s old mid → Adds r' s' mid new → Adds (r ++ r') (s ++ s') old new
+pub adds_both : (old mid new : Draft) (r r' s s' : List ℕ) → AddsText r s old mid → AddsText r' s' mid new → AddsText (r ++ r') (s ++ s') old new
 adds_both old mid new r r' s s' first second = record {
   writes = behind old.text.items mid.text.items new.text.items r r' first.writes second.writes;
   shows = λ sound.
@@ -119,10 +119,10 @@ adds_both old mid new r r' s s' first second = record {
       (other.0, behind (shown_text old) (shown_text mid) (shown_text new) s s' one.1 other.1);
 }
 
-pub adds_as : (old new : Draft) (r r' s s' : List ℕ) → r ≡ r' → s ≡ s' → Adds r s old new → Adds r' s' old new
-adds_as old new r r' s s' e f a = subst (λ (t : List ℕ). Adds r' t old new) f (subst (λ (t : List ℕ). Adds t s old new) e a)
+pub adds_as : (old new : Draft) (r r' s s' : List ℕ) → r ≡ r' → s ≡ s' → AddsText r s old new → AddsText r' s' old new
+adds_as old new r r' s s' e f a = subst (λ (t : List ℕ). AddsText r' t old new) f (subst (λ (t : List ℕ). AddsText t s old new) e a)
 
-pub in_brackets : (j : Json) (a b d e : Draft) → Adds [] (bracket_text Opening) a b → Marks j j b d → Adds [] (bracket_text Closing) d e → Marks j (array (element j no_elements)) a e
+pub in_brackets : (j : Json) (a b d e : Draft) → AddsText [] (bracket_text Opening) a b → Marks j j b d → AddsText [] (bracket_text Closing) d e → Marks j (array (element j no_elements)) a e
 in_brackets j a b d e opens n closes = record {
   spellable = n.spellable;
   adds = adds_as a e ([] ++ (written j ++ [])) (written j) (bracket_text Opening ++ (written j ++ bracket_text Closing)) (written (array (element j no_elements))) (append-nil (written j)) refl

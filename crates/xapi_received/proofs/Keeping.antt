@@ -15,36 +15,36 @@ use Rattle.lrs_json.specs.Written.{comma_if, members_text, quoted, written}
 use Rattle.lrs_json.specs.declared.tree.Member.{Member}
 use Rattle.xapi_format.specs.LrsNamesMembers.{is_one_of}
 use Rattle.xapi_format.specs.Completed.{added_names, kept_before, plural_member}
-use Rattle.xapi_received.specs.Marking.{Adds, IsFirst, MarksMember, SoFar, shown_text}
-use Rattle.xapi_received.specs.Received.{IsWithin, bytes_at, place_after}
+use Rattle.xapi_received.specs.Marking.{AddsText, IsFirst, MarksMember, SoFar, shown_text}
+use Rattle.xapi_received.specs.Received.{IsWithin, bytes_at, span_after}
 use Rattle.xapi_received.specs.declared.draft.Draft.{Draft}
 use Rattle.xapi_received.specs.declared.marks.Ending.{Ending}
-use Rattle.xapi_received.specs.declared.marks.Place.{Place}
+use Rattle.xapi_received.specs.declared.marks.ByteSpan.{ByteSpan}
 use Rattle.xapi_format.proofs.Appending.{member_more}
 use Rattle.xapi_received.proofs.Drafting.{adds_as, adds_both, nothing_added}
 use Rattle.xapi_received.proofs.Left.{first_left}
 use Rattle.xapi_received.proofs.Memberwise.{later_than_first, seen}
-use Rattle.xapi_received.proofs.Places.{given_grown, has_grown, place_grown}
+use Rattle.xapi_received.proofs.Spans.{given_grown, has_grown, span_grown}
 
 -- ---- the comma before a member
 
 -- where others stand in the text and none is shown, it is left out
-pub comma_left : (stands later : Bool) (a b : Draft) → stands ≡ true → later ≡ false → Adds (44 ∷ []) [] a b → Adds (comma_if stands) (comma_if later) a b
+pub comma_left : (stands later : Bool) (a b : Draft) → stands ≡ true → later ≡ false → AddsText (44 ∷ []) [] a b → AddsText (comma_if stands) (comma_if later) a b
 comma_left stands later a b s l left =
-    subst (λ (t : Bool). Adds (comma_if t) (comma_if later) a b) (sym s) (subst (λ (t : Bool). Adds (44 ∷ []) (comma_if t) a b) (sym l) left)
+    subst (λ (t : Bool). AddsText (comma_if t) (comma_if later) a b) (sym s) (subst (λ (t : Bool). AddsText (44 ∷ []) (comma_if t) a b) (sym l) left)
 
-pub comma_put : (stands later : Bool) (a b : Draft) → later ≡ true → (later ≡ true → stands ≡ true) → Adds (44 ∷ []) (44 ∷ []) a b → Adds (comma_if stands) (comma_if later) a b
+pub comma_put : (stands later : Bool) (a b : Draft) → later ≡ true → (later ≡ true → stands ≡ true) → AddsText (44 ∷ []) (44 ∷ []) a b → AddsText (comma_if stands) (comma_if later) a b
 comma_put stands later a b l ordered put =
-    subst (λ (t : Bool). Adds (comma_if t) (comma_if later) a b) (sym (ordered l)) (subst (λ (t : Bool). Adds (44 ∷ []) (comma_if t) a b) (sym l) put)
+    subst (λ (t : Bool). AddsText (comma_if t) (comma_if later) a b) (sym (ordered l)) (subst (λ (t : Bool). AddsText (44 ∷ []) (comma_if t) a b) (sym l) put)
 
-pub no_comma : (stands later : Bool) (d : Draft) → stands ≡ false → later ≡ false → Adds (comma_if stands) (comma_if later) d d
+pub no_comma : (stands later : Bool) (d : Draft) → stands ≡ false → later ≡ false → AddsText (comma_if stands) (comma_if later) d d
 no_comma stands later d s l =
-    subst (λ (t : Bool). Adds (comma_if t) (comma_if later) d d) (sym s) (subst (λ (t : Bool). Adds [] (comma_if t) d d) (sym l) (nothing_added d))
+    subst (λ (t : Bool). AddsText (comma_if t) (comma_if later) d d) (sym s) (subst (λ (t : Bool). AddsText [] (comma_if t) d d) (sym l) (nothing_added d))
 
 comma_and_member : (later : Bool) (name : List ℕ) (j : Json) → comma_if later ++ member_text false name j ≡ member_text later name j
 comma_and_member later name j = sym (append_assoc (comma_if later) (quoted name) (58 ∷ written j))
 
-pub kept_marked : (stands later : Bool) (name : List ℕ) (j changed : Json) (a b d : Draft) → Adds (comma_if stands) (comma_if later) a b → MarksMember false false name j changed b d → MarksMember stands later name j changed a d
+pub kept_marked : (stands later : Bool) (name : List ℕ) (j changed : Json) (a b d : Draft) → AddsText (comma_if stands) (comma_if later) a b → MarksMember false false name j changed b d → MarksMember stands later name j changed a d
 kept_marked stands later name j changed a b d comma n = record {
   utf8 = n.utf8;
   spellable = n.spellable;
@@ -55,33 +55,33 @@ kept_marked stands later name j changed a b d comma n = record {
 
 -- ---- the first value of a name
 
-first_kept : (text more name : List ℕ) (place : Option Place) (all : Members) (k : List ℕ) (j : Json) (ms : Members) → bytes_eq k name ≡ false → IsFirst text name place all (member k j ms) → IsFirst (text ++ more) name place all ms
-first_kept text more name place all k j ms other f = (
-  has_grown text more place f.0,
-  f.1 ∙ ap (λ (b : Bool). option_or (option_map (bytes_at text) place) (option_map written (if b then Some j else find_member name ms))) other
-      ∙ ap (λ (o : Option (List ℕ)). option_or o (option_map written (find_member name ms))) (sym (given_grown text more place f.0)),
+first_kept : (text more name : List ℕ) (span : Option ByteSpan) (all : Members) (k : List ℕ) (j : Json) (ms : Members) → bytes_eq k name ≡ false → IsFirst text name span all (member k j ms) → IsFirst (text ++ more) name span all ms
+first_kept text more name span all k j ms other f = (
+  has_grown text more span f.0,
+  f.1 ∙ ap (λ (b : Bool). option_or (option_map (bytes_at text) span) (option_map written (if b then Some j else find_member name ms))) other
+      ∙ ap (λ (o : Option (List ℕ)). option_or o (option_map written (find_member name ms))) (sym (given_grown text more span f.0)),
 )
 
-first_passed : (text more name : List ℕ) (place : Option Place) (all : Members) (k : List ℕ) (j : Json) (ms : Members) (at : Place) (b : Bool) → bytes_eq k name ≡ b → IsWithin (length (text ++ more)) at
-    → bytes_at (text ++ more) at ≡ written j → IsFirst text name place all (member k j ms) → IsFirst (text ++ more) name (if b then Some (unwrap_or place at) else place) all ms
-first_passed text more name place all k j ms at false other within value f = first_kept text more name place all k j ms other f
+first_passed : (text more name : List ℕ) (span : Option ByteSpan) (all : Members) (k : List ℕ) (j : Json) (ms : Members) (at : ByteSpan) (b : Bool) → bytes_eq k name ≡ b → IsWithin (length (text ++ more)) at
+    → bytes_at (text ++ more) at ≡ written j → IsFirst text name span all (member k j ms) → IsFirst (text ++ more) name (if b then Some (unwrap_or span at) else span) all ms
+first_passed text more name span all k j ms at false other within value f = first_kept text more name span all k j ms other f
 first_passed text more name None all k j ms at true same within value f =
     (within, f.1 ∙ ap (λ (b : Bool). option_map written (if b then Some j else find_member name ms)) same ∙ ap (λ (t : List ℕ). Some t) (sym value))
-first_passed text more name (Some p) all k j ms at true same within value f = (has_grown text more (Some p) f.0, f.1 ∙ ap (λ (t : List ℕ). Some t) (sym (place_grown text more p f.0)))
+first_passed text more name (Some p) all k j ms at true same within value f = (has_grown text more (Some p) f.0, f.1 ∙ ap (λ (t : List ℕ). Some t) (sym (span_grown text more p f.0)))
 
-first_left_out : (text after more name : List ℕ) (place next : Option Place) (all : Members) (k : List ℕ) (j : Json) (ms : Members) (at : Place) → after ≡ text ++ more → next ≡ place_after name k at place
-    → IsWithin (length after) at → bytes_at after at ≡ written j → IsFirst text name place all (member k j ms) → IsFirst after name next all ms
-first_left_out text after more name place next all k j ms at is next_is within value f =
+first_left_out : (text after more name : List ℕ) (span next : Option ByteSpan) (all : Members) (k : List ℕ) (j : Json) (ms : Members) (at : ByteSpan) → after ≡ text ++ more → next ≡ span_after name k at span
+    → IsWithin (length after) at → bytes_at after at ≡ written j → IsFirst text name span all (member k j ms) → IsFirst after name next all ms
+first_left_out text after more name span next all k j ms at is next_is within value f =
     let there : IsWithin (length (text ++ more)) at = subst (λ (t : List ℕ). IsWithin (length t) at) is within in
     let value_is : bytes_at (text ++ more) at ≡ written j = subst (λ (t : List ℕ). bytes_at t at ≡ written j) is value in
-    subst (λ (o : Option Place). IsFirst after name o all ms) (sym next_is)
-    (subst (λ (t : List ℕ). IsFirst t name (place_after name k at place) all ms) (sym is) (first_passed text more name place all k j ms at (bytes_eq k name) refl there value_is f))
+    subst (λ (o : Option ByteSpan). IsFirst after name o all ms) (sym next_is)
+    (subst (λ (t : List ℕ). IsFirst t name (span_after name k at span) all ms) (sym is) (first_passed text more name span all k j ms at (bytes_eq k name) refl there value_is f))
 
-first_stays : (text after more name : List ℕ) (place : Option Place) (all : Members) (k : List ℕ) (j : Json) (ms : Members) → after ≡ text ++ more → bytes_eq name k ≡ false → IsFirst text name place all (member k j ms)
-    → IsFirst after name place all ms
-first_stays text after more name place all k j ms is other f =
+first_stays : (text after more name : List ℕ) (span : Option ByteSpan) (all : Members) (k : List ℕ) (j : Json) (ms : Members) → after ≡ text ++ more → bytes_eq name k ≡ false → IsFirst text name span all (member k j ms)
+    → IsFirst after name span all ms
+first_stays text after more name span all k j ms is other f =
     let apart : bytes_eq k name ≡ false = nat_list_eq_equiv.symm k name ∙ other in
-    subst (λ (t : List ℕ). IsFirst t name place all ms) (sym is) (first_kept text more name place all k j ms apart f)
+    subst (λ (t : List ℕ). IsFirst t name span all ms) (sym is) (first_kept text more name span all k j ms apart f)
 
 -- ---- one member more
 
@@ -127,9 +127,9 @@ so_far_kept all ms start now next stands ending k j kept marked so =
       version = first_stays now.text.items next.text.items (member_text stands k j) (codes "version") ending.version all k j ms n.adds.writes apart.1 so.version;
     }
 
-pub so_far_left : (all ms : Members) (start now next : Draft) (stands : Bool) (ending after : Ending) (k : List ℕ) (j : Json) (at : Place) → is_one_of added_names k ≡ true → Adds (member_text stands k j) [] now next
+pub so_far_left : (all ms : Members) (start now next : Draft) (stands : Bool) (ending after : Ending) (k : List ℕ) (j : Json) (at : ByteSpan) → is_one_of added_names k ≡ true → AddsText (member_text stands k j) [] now next
     → IsWithin (length next.text.items) at → bytes_at next.text.items at ≡ written j → IsUtf8 k → IsSpellable j → after.later ≡ ending.later
-    → after.timestamp ≡ place_after (codes "timestamp") k at ending.timestamp → after.version ≡ place_after (codes "version") k at ending.version
+    → after.timestamp ≡ span_after (codes "timestamp") k at ending.timestamp → after.version ≡ span_after (codes "version") k at ending.version
     → SoFar all start stands (member k j ms) now ending → SoFar all start true ms next after
 so_far_left all ms start now next stands ending after k j at is_added a within value utf8 spellable later_is timestamp_is version_is so = record {
   writes = member_more k j ms stands now.text.items next.text.items (start.text.items ++ members_text false all) a.writes so.writes;

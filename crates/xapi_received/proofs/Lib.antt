@@ -3,5 +3,5 @@ pub mod Keeping
 pub mod Left
 pub mod Marked
 pub mod Memberwise
-pub mod Places
+pub mod Spans
 pub mod Spelling

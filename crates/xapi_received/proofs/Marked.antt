@@ -14,15 +14,15 @@ use Rattle.lrs_json.specs.Written.{members_text, quoted, written, written_tree}
 use Rattle.lrs_json.specs.declared.memory.Memory.{Memory}
 use Rattle.lrs_json.specs.declared.tree.Tree.{Tree}
 use Rattle.xapi_format.specs.Completed.{added, completed, given_or, kept_before}
-use Rattle.xapi_received.specs.Marking.{Adds, Completes, IsFirst, IsSound, Marks, SoFar, shown_text}
+use Rattle.xapi_received.specs.Marking.{AddsText, Completes, IsFirst, IsSoundDraft, Marks, SoFar, shown_text}
 use Rattle.xapi_received.specs.Excerpts.{listed}
 use Rattle.xapi_received.specs.Received.{AreWithin, EndsAs, HasEnding, IsGiven, IsReceived, bytes_at, ending_text, excerpts_text}
 use Rattle.xapi_received.specs.declared.draft.Draft.{Draft}
 use Rattle.xapi_received.specs.declared.marks.Ending.{Ending}
 use Rattle.xapi_received.specs.declared.marks.Excerpt.{Excerpt}
-use Rattle.xapi_received.specs.declared.marks.Place.{Place}
+use Rattle.xapi_received.specs.declared.marks.ByteSpan.{ByteSpan}
 use Rattle.xapi_format.proofs.Appending.{member_parts}
-use Rattle.xapi_received.proofs.Places.{given_grown, has_grown}
+use Rattle.xapi_received.proofs.Spans.{given_grown, has_grown}
 
 abbrev no_bytes : List ℕ
 no_bytes = []
@@ -33,34 +33,34 @@ nothing_after : (o : Option (List ℕ)) → option_or o None ≡ o
 nothing_after None = refl
 nothing_after (Some t) = refl
 
-given_last : (text after more name : List ℕ) (place : Option Place) (ms : Members) → after ≡ text ++ more → IsFirst text name place ms no_members → IsGiven after name (object ms) place
-given_last text after more name place ms is f =
-    subst (λ (t : List ℕ). IsGiven t name (object ms) place) (sym is)
-    (has_grown text more place f.0, given_grown text more place f.0 ∙ sym (f.1 ∙ nothing_after (option_map (bytes_at text) place)))
+given_last : (text after more name : List ℕ) (span : Option ByteSpan) (ms : Members) → after ≡ text ++ more → IsFirst text name span ms no_members → IsGiven after name (object ms) span
+given_last text after more name span ms is f =
+    subst (λ (t : List ℕ). IsGiven t name (object ms) span) (sym is)
+    (has_grown text more span f.0, given_grown text more span f.0 ∙ sym (f.1 ∙ nothing_after (option_map (bytes_at text) span)))
 
--- the bytes at the place, else this text as a string
-abbrev pub value_at : List ℕ → Option Place → List ℕ → List ℕ
-value_at text place otherwise = unwrap_or (option_map (bytes_at text) place) (quoted otherwise)
+-- the bytes at the span, else this text as a string
+abbrev pub value_at : List ℕ → Option ByteSpan → List ℕ → List ℕ
+value_at text span otherwise = unwrap_or (option_map (bytes_at text) span) (quoted otherwise)
 
 written_or : (o : Option Json) (otherwise : List ℕ) → unwrap_or (option_map written o) (quoted otherwise) ≡ written (unwrap_or o (string otherwise))
 written_or None otherwise = refl
 written_or (Some j) otherwise = refl
 
--- the bytes at its place are the value that was given, else the text stands
-pub value_is : (text name otherwise : List ℕ) (received : Json) (place : Option Place) → IsGiven text name received place → value_at text place otherwise ≡ written (given_or name received otherwise)
-value_is text name otherwise received place given =
+-- the bytes at its span are the value that was given, else the text stands
+pub value_is : (text name otherwise : List ℕ) (received : Json) (span : Option ByteSpan) → IsGiven text name received span → value_at text span otherwise ≡ written (given_or name received otherwise)
+value_is text name otherwise received span given =
     ap (λ (o : Option (List ℕ)). unwrap_or o (quoted otherwise)) given.1 ∙ written_or (find name received) otherwise
 
--- its name and the bytes at its place, or the text, are the member
-pub given_member : (text name otherwise : List ℕ) (received : Json) (place found : Option Place) → place ≡ found → IsGiven text name received place
+-- its name and the bytes at its span, or the text, are the member
+pub given_member : (text name otherwise : List ℕ) (received : Json) (span found : Option ByteSpan) → span ≡ found → IsGiven text name received span
     → name_text true name ++ value_at text found otherwise ≡ member_text true name (given_or name received otherwise)
-given_member text name otherwise received place found is given =
-    ap (λ (o : Option Place). name_text true name ++ value_at text o otherwise) (sym is)
-    ∙ (ap (λ (t : List ℕ). name_text true name ++ t) (value_is text name otherwise received place given) ∙ member_parts true name (given_or name received otherwise))
+given_member text name otherwise received span found is given =
+    ap (λ (o : Option ByteSpan). name_text true name ++ value_at text o otherwise) (sym is)
+    ∙ (ap (λ (t : List ℕ). name_text true name ++ t) (value_is text name otherwise received span given) ∙ member_parts true name (given_or name received otherwise))
 
 -- ---- the whole
 
-pub whole_object : (ms : Members) (a b d e : Draft) (ending : Ending) → Adds (123 ∷ []) (123 ∷ []) a b → SoFar ms b true no_members d ending → Adds (125 ∷ []) [] d e → e.from ≡ length e.text.items
+pub whole_object : (ms : Members) (a b d e : Draft) (ending : Ending) → AddsText (123 ∷ []) (123 ∷ []) a b → SoFar ms b true no_members d ending → AddsText (125 ∷ []) [] d e → e.from ≡ length e.text.items
     → Completes (object ms) (Some ending) a e
 unfolding completed
 whole_object ms a b d e ending opened so closed ends = record {
@@ -92,7 +92,7 @@ stays (string s) id stored authority is = refl
 stays (array js) id stored authority is = refl
 stays (object ms) id stored authority is = let bad : ◌≡◌ {A = Option Members} None (Some ms) = is in cc
 
-pub whole_other : (j : Json) (a b d : Draft) → Marks j j a b → Adds [] [] b d → d.from ≡ length d.text.items → None ≡ members_in j → Completes j None a d
+pub whole_other : (j : Json) (a b d : Draft) → Marks j j a b → AddsText [] [] b d → d.from ≡ length d.text.items → None ≡ members_in j → Completes j None a d
 whole_other j a b d n paused ends none = record {
   spellable = n.spellable;
   writes = paused.writes ∙ append-nil b.text.items ∙ n.adds.writes;
@@ -117,7 +117,7 @@ received_at text t excerpts ps ending tree u a b d is =
     subst (λ (v : Tree). IsReceived t ps ending v) d (subst (λ (q : List Excerpt). IsReceived t q ending tree) (sym b) (subst (λ (s : List ℕ). IsReceived s excerpts ending tree) (sym a) is))
 
 module _ (start : Draft) (no_text : start.text.items ≡ []) (no_excerpts : listed start.excerpts ≡ []) (from_start : start.from ≡ 0) where
-  nothing_sound : IsSound start
+  nothing_sound : IsSoundDraft start
   nothing_sound = (
     subst (λ (ps : List Excerpt). AreWithin start.from ps) (sym no_excerpts) tt,
     subst (λ (n : ℕ). n ≤ length start.text.items) (sym from_start) (omega arith),

@@ -12,7 +12,7 @@ use Rattle.lrs_json.specs.declared.tree.Member.{Member}
 use Rattle.xapi_format.specs.XapiValuesMemberwise.{each_member, with_each_member}
 use Rattle.xapi_format.specs.XapiValuesNested.{is_nested}
 use Rattle.xapi_format.specs.Completed.{in_array, plural_nested_member, plural_object}
-use Rattle.xapi_received.specs.Marking.{Adds, IsSound, Marks, MarksMember, shown_text}
+use Rattle.xapi_received.specs.Marking.{AddsText, IsSoundDraft, Marks, MarksMember, shown_text}
 use Rattle.xapi_received.specs.declared.draft.Draft.{Draft}
 use Rattle.xapi_format.proofs.Appending.{member_more, member_parts}
 use Rattle.xapi_received.proofs.Drafting.{adds_as, adds_both}
@@ -60,16 +60,16 @@ marks_nested j x t a b is e n = marks_as j x (plural_object j) a b (e ∙ ap (λ
 -- ---- one member
 
 -- a name and a value
-pub member_marked : (change : List ℕ → Json → Json) (later : Bool) (name key : List ℕ) (j : Json) (a b d : Draft) → key ≡ name → IsUtf8 name → Adds (name_text later key) (name_text later key) a b
+pub member_marked : (change : List ℕ → Json → Json) (later : Bool) (name key : List ℕ) (j : Json) (a b d : Draft) → key ≡ name → IsUtf8 name → AddsText (name_text later key) (name_text later key) a b
     → Marks j (change key j) b d → MarksMember later later name j (change name j) a d
 member_marked change later name key j a b d is utf8 named n =
-    let parts : Adds (member_text later key j) (member_text later key (change key j)) a d =
+    let parts : AddsText (member_text later key j) (member_text later key (change key j)) a d =
     adds_as a d (name_text later key ++ written j) (member_text later key j) (name_text later key ++ written (change key j)) (member_text later key (change key j))
     (member_parts later key j) (member_parts later key (change key j))
     (adds_both a b d (name_text later key) (written j) (name_text later key) (written (change key j)) named n.adds) in record {
       utf8 = utf8;
       spellable = n.spellable;
-      adds = subst (λ (k : List ℕ). Adds (member_text later k j) (member_text later k (change k j)) a d) is parts;
+      adds = subst (λ (k : List ℕ). AddsText (member_text later k j) (member_text later k (change k j)) a d) is parts;
     }
 
 -- ---- the members of an object
@@ -80,10 +80,10 @@ seen ms = members_of (map member_view ms)
 -- With the rest of the members, the object is whole.
 pub record Rest (change : List ℕ → Json → Json) (all : Members) (start : Draft) (later : Bool) (rest : Members) (now : Draft) : Type 0 where
   pub writes : now.text.items ++ members_text later rest ≡ start.text.items ++ written (object all)
-  pub shows : IsSound start → IsSound now × (shown_text now ++ members_text later (each_member change rest) ≡ shown_text start ++ written (object (each_member change all)))
+  pub shows : IsSoundDraft start → IsSoundDraft now × (shown_text now ++ members_text later (each_member change rest) ≡ shown_text start ++ written (object (each_member change all)))
   pub spellable : AreSpellableMembers rest → AreSpellableMembers all
 
-pub rest_first : (change : List ℕ → Json → Json) (all : Members) (start now : Draft) → Adds (123 ∷ []) (123 ∷ []) start now → Rest change all start false all now
+pub rest_first : (change : List ℕ → Json → Json) (all : Members) (start now : Draft) → AddsText (123 ∷ []) (123 ∷ []) start now → Rest change all start false all now
 rest_first change all start now opened = record {
   writes = ap (λ (t : List ℕ). t ++ members_text false all) opened.writes ∙ append_assoc start.text.items (123 ∷ []) (members_text false all);
   shows = λ sound.
@@ -114,7 +114,7 @@ rest_step change ms start now next i m lt at so n =
     (rest_next change (seen ms) (seen (drop (i + 1) ms)) start now next (nat_lt 0 i) m.name (view m.value)
     (subst (λ (us : Members). Rest change (seen ms) start (nat_lt 0 i) us now) (first_left ms i m lt at) so) n)
 
-pub rest_last : (change : List ℕ → Json → Json) (ms left : List Member) (start now next : Draft) (later : Bool) → left ≡ [] → Rest change (seen ms) start later (seen left) now → Adds (125 ∷ []) (125 ∷ []) now next
+pub rest_last : (change : List ℕ → Json → Json) (ms left : List Member) (start now next : Draft) (later : Bool) → left ≡ [] → Rest change (seen ms) start later (seen left) now → AddsText (125 ∷ []) (125 ∷ []) now next
     → Marks (object (seen ms)) (object (each_member change (seen ms))) start next
 rest_last change ms left start now next later none so closed =
     let all : Rest change (seen ms) start later no_members now = subst (λ (us : List Member). Rest change (seen ms) start later (seen us) now) none so in record {

@@ -1,17 +1,17 @@
 -- An ending as plain numbers.
 use Rattle.std.specs.Prelude.{Bool, Option, Some, None, if◌then◌else◌}
 use Rattle.xapi_received.specs.declared.marks.Ending.{Ending}
-use Rattle.xapi_received.specs.declared.marks.Place.{Place}
+use Rattle.xapi_received.specs.declared.marks.ByteSpan.{ByteSpan}
 use Rattle.xapi_received.specs.declared.offsets.Offsets.{Offsets}
 
-abbrev pub place_if : Bool → Place → Option Place
-place_if stands place = if stands then Some place else None
+abbrev pub span_if : Bool → ByteSpan → Option ByteSpan
+span_if stands span = if stands then Some span else None
 
-abbrev pub ending_of : Bool → Option Place → Option Place → Ending
+abbrev pub ending_of : Bool → Option ByteSpan → Option ByteSpan → Ending
 ending_of later timestamp version = record { later = later; timestamp = timestamp; version = version }
 
 -- the ending, if there is one
 abbrev pub ending_at : Offsets → Option Ending
 ending_at o =
-    if o.stands then Some (ending_of o.later (place_if o.has_timestamp o.timestamp) (place_if o.has_version o.version))
+    if o.stands then Some (ending_of o.later (span_if o.has_timestamp o.timestamp) (span_if o.has_version o.version))
     else None

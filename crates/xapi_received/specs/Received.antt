@@ -15,26 +15,26 @@ use Rattle.xapi_received.specs.declared.marks.Bracket.{Bracket}
 use Rattle.xapi_received.specs.declared.marks.Bracket.TheVariants.{Absent, Opening, Closing}
 use Rattle.xapi_received.specs.declared.marks.Ending.{Ending}
 use Rattle.xapi_received.specs.declared.marks.Excerpt.{Excerpt}
-use Rattle.xapi_received.specs.declared.marks.Place.{Place}
+use Rattle.xapi_received.specs.declared.marks.ByteSpan.{ByteSpan}
 
--- ---- places and excerpts of a text
+-- ---- spans and excerpts of a text
 
--- the place lies in a text of that length
-abbrev pub IsWithin : ℕ → Place → Type 0
-IsWithin n place = (place.start ≤ place.end) × (place.end ≤ n)
+-- the span lies in a text of that length
+abbrev pub IsWithin : ℕ → ByteSpan → Type 0
+IsWithin n span = (span.start ≤ span.end) × (span.end ≤ n)
 
 -- so does this one, if there is one
-abbrev pub HasPlace : ℕ → Option Place → Type 0
-HasPlace n None = Unit {0}
-HasPlace n (Some place) = IsWithin n place
+abbrev pub HasSpan : ℕ → Option ByteSpan → Type 0
+HasSpan n None = Unit {0}
+HasSpan n (Some span) = IsWithin n span
 
 -- so does each of these
 abbrev pub AreWithin : ℕ → List Excerpt → Type 0
 AreWithin n [] = Unit {0}
-AreWithin n (excerpt ∷ excerpts) = IsWithin n excerpt.place × AreWithin n excerpts
+AreWithin n (excerpt ∷ excerpts) = IsWithin n excerpt.span × AreWithin n excerpts
 
-abbrev pub bytes_at : List ℕ → Place → List ℕ
-bytes_at text place = slice_range text place.start place.end
+abbrev pub bytes_at : List ℕ → ByteSpan → List ℕ
+bytes_at text span = slice_range text span.start span.end
 
 abbrev pub bracket_text : Bracket → List ℕ
 bracket_text Absent = []
@@ -42,7 +42,7 @@ bracket_text Opening = codes "["
 bracket_text Closing = codes "]"
 
 abbrev pub excerpt_text : List ℕ → Excerpt → List ℕ
-excerpt_text text excerpt = bytes_at text excerpt.place ++ bracket_text excerpt.bracket
+excerpt_text text excerpt = bytes_at text excerpt.span ++ bracket_text excerpt.bracket
 
 -- what the excerpts show
 abbrev pub excerpts_text : List ℕ → List Excerpt → List ℕ
@@ -50,18 +50,18 @@ excerpts_text text excerpts = flat_map (excerpt_text text) excerpts
 
 -- ---- what the store adds
 
--- the place of the first value of the wanted name, after one more value of that other name
-abbrev pub place_after : List ℕ → List ℕ → Place → Option Place → Option Place
-place_after wanted name place before = if bytes_eq name wanted then Some (unwrap_or before place) else before
+-- the span of the first value of the wanted name, after one more value of that other name
+abbrev pub span_after : List ℕ → List ℕ → ByteSpan → Option ByteSpan → Option ByteSpan
+span_after wanted name span before = if bytes_eq name wanted then Some (unwrap_or before span) else before
 
--- the value that was given under the name stands at the place, and there is none if none was given
-abbrev pub IsGiven : List ℕ → List ℕ → Json → Option Place → Type 0
-IsGiven text name received place =
-    HasPlace (length text) place × (option_map (bytes_at text) place ≡ option_map written (find name received))
+-- the value that was given under the name stands at the span, and there is none if none was given
+abbrev pub IsGiven : List ℕ → List ℕ → Json → Option ByteSpan → Type 0
+IsGiven text name received span =
+    HasSpan (length text) span × (option_map (bytes_at text) span ≡ option_map written (find name received))
 
--- the places lie in a text of that length
-abbrev pub HasPlaces : ℕ → Ending → Type 0
-HasPlaces n ending = HasPlace n ending.timestamp × HasPlace n ending.version
+-- the spans lie in a text of that length
+abbrev pub HasSpans : ℕ → Ending → Type 0
+HasSpans n ending = HasSpan n ending.timestamp × HasSpan n ending.version
 
 -- they are those of what was given
 abbrev pub AreGiven : List ℕ → Json → Ending → Type 0
@@ -71,7 +71,7 @@ AreGiven text received ending =
 -- To a value that is no object nothing is added.
 abbrev pub HasEnding : ℕ → Option Ending → Type 0
 HasEnding n None = Unit {0}
-HasEnding n (Some ending) = HasPlaces n ending
+HasEnding n (Some ending) = HasSpans n ending
 
 abbrev pub EndsAs : List ℕ → Json → Option Ending → Type 0
 EndsAs text received None = Unit {0}

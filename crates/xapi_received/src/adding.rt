@@ -7,9 +7,9 @@ ghost use Rattle.lrs_json.specs.Written.{Extends, members_text};
 ghost use Rattle.lrs_time.specs.Moments.{moment_text};
 ghost use Rattle.xapi_format.specs.Authorities.{authority_json};
 ghost use Rattle.xapi_format.specs.Completed.{added, added_behind_id, added_last, given_or};
-ghost use Rattle.xapi_received.specs.Received.{AreGiven, HasPlace, HasPlaces, IsGiven};
+ghost use Rattle.xapi_received.specs.Received.{AreGiven, HasSpan, HasSpans, IsGiven};
 
-use crate::marks::{Ending, Place};
+use crate::marks::{ByteSpan, Ending};
 use lrs_json::Memory;
 use lrs_time::Moment;
 use xapi_format::lrs_names::Id;
@@ -28,7 +28,7 @@ pub fn put_added(
     authority: &WrittenAuthority,
     into: &mut Vec<u8>,
 ) -> Result<(), Memory>
-    requires { HasPlaces (length text.now) ending.now }
+    requires { HasSpans (length text.now) ending.now }
     ensures ok { (received : Json) → AreGiven text.now received ending.now → OnOk result (into.new.items
         ≡ into.old.items ++ members_text ending.now.later
         (added received id.now (moment_text stored) (authority_json authority.now))) }
@@ -46,7 +46,7 @@ fn put_behind_id(
     authority: &WrittenAuthority,
     into: &mut Vec<u8>,
 ) -> Result<(), Memory>
-    requires { HasPlaces (length text.now) ending.now }
+    requires { HasSpans (length text.now) ending.now }
     ensures ok { (received : Json) → AreGiven text.now received ending.now → OnOk result (into.new.items
         ≡ into.old.items ++ members_text true
         (added_behind_id received (moment_text stored) (authority_json authority.now))) }
@@ -59,11 +59,11 @@ fn put_behind_id(
 // When it happened, and when it was stored.
 fn put_times(
     text: &[u8],
-    timestamp: Option<Place>,
+    timestamp: Option<ByteSpan>,
     stored: Moment,
     into: &mut Vec<u8>,
 ) -> Result<(), Memory>
-    requires { HasPlace (length text.now) timestamp }
+    requires { HasSpan (length text.now) timestamp }
     ensures ok { (received : Json) → IsGiven text.now (codes "timestamp") received timestamp
         → OnOk result (into.new.items ≡ into.old.items
         ++ (member_text true (codes "timestamp") (given_or (codes "timestamp") received (moment_text stored))
@@ -71,7 +71,7 @@ fn put_times(
     ensures kept { Extends into.old.items into.new.items }
 {
     match timestamp {
-        Some(place) => put_given_times(place.of(text), stored, into),
+        Some(span) => put_given_times(span.of(text), stored, into),
         None => put_own_times(stored, into),
     }
 }
@@ -80,11 +80,11 @@ fn put_times(
 #[tactic(auto, using(lrs_json::proofs::Extending::extends_trans))]
 fn put_signature(
     text: &[u8],
-    version: Option<Place>,
+    version: Option<ByteSpan>,
     authority: &WrittenAuthority,
     into: &mut Vec<u8>,
 ) -> Result<(), Memory>
-    requires { HasPlace (length text.now) version }
+    requires { HasSpan (length text.now) version }
     ensures ok { (received : Json) → IsGiven text.now (codes "version") received version
         → OnOk result (into.new.items ≡ into.old.items
         ++ members_text true (added_last received (authority_json authority.now))) }
@@ -95,15 +95,15 @@ fn put_signature(
 }
 
 // Its version, and the closing brace.
-fn put_version(text: &[u8], version: Option<Place>, into: &mut Vec<u8>) -> Result<(), Memory>
-    requires { HasPlace (length text.now) version }
+fn put_version(text: &[u8], version: Option<ByteSpan>, into: &mut Vec<u8>) -> Result<(), Memory>
+    requires { HasSpan (length text.now) version }
     ensures ok { (received : Json) → IsGiven text.now (codes "version") received version
         → OnOk result (into.new.items ≡ into.old.items ++ members_text true
         (members_of ((codes "version", given_or (codes "version") received (codes "1.0.0")) ∷ []))) }
     ensures kept { Extends into.old.items into.new.items }
 {
     match version {
-        Some(place) => put_given_version(place.of(text), into),
+        Some(span) => put_given_version(span.of(text), into),
         None => put_own_version(into),
     }
 }

@@ -5,19 +5,19 @@ ghost use Rattle.lrs_json.specs.Spellable.{IsSpellable};
 ghost use Rattle.lrs_json.specs.Texts.{member_text, name_text};
 ghost use Rattle.lrs_json.specs.View.{view};
 ghost use Rattle.lrs_json.specs.Written.{written};
-ghost use Rattle.xapi_received.specs.Marking.{Adds, Marks};
+ghost use Rattle.xapi_received.specs.Marking.{AddsText, Marks};
 ghost use Rattle.xapi_received.specs.Excerpts.{listed};
 ghost use Rattle.xapi_received.specs.Received.{IsWithin, bracket_text, bytes_at};
 
 use crate::excerpts::Excerpts;
-use crate::marks::{Bracket, Excerpt, Place};
+use crate::marks::{Bracket, ByteSpan, Excerpt};
 use lrs_json::appending::{put, put_name, put_tree};
 use lrs_json::{Member, Memory, Tree};
 use std::alloc::Global;
 use std::mem;
 
 /// The received text as far as it is written, with what is shown of it by then: the excerpts, and behind them all of
-/// the text from a place on. So what is written is shown, and an excerpt ends only where something is left out or a
+/// the text from an offset on. So what is written is shown, and an excerpt ends only where something is left out or a
 /// bracket comes in.
 #[derive(Drop)]
 pub struct Draft {
@@ -46,14 +46,14 @@ impl Draft {
 
     /// Writes bytes, which are shown.
     pub fn put(&mut self, bytes: &[u8]) -> Result<(), Memory>
-        ensures { OnOk result (Adds bytes.now bytes.now self.old self.new) }
+        ensures { OnOk result (AddsText bytes.now bytes.now self.old self.new) }
     {
         put(bytes, &mut self.text)
     }
 
     /// Writes the name of a member, which is shown.
     pub fn put_name(&mut self, later: bool, name: &str) -> Result<(), Memory>
-        ensures { OnOk result (Adds (name_text later name.now) (name_text later name.now) self.old self.new) }
+        ensures { OnOk result (AddsText (name_text later name.now) (name_text later name.now) self.old self.new) }
     {
         put_name(later, name, &mut self.text)
     }
@@ -76,7 +76,7 @@ impl Draft {
 
     /// Writes bytes that aren't shown. The next excerpt begins behind them.
     pub fn leave(&mut self, bytes: &[u8]) -> Result<(), Memory>
-        ensures adds { OnOk result (Adds bytes.now [] self.old self.new) }
+        ensures adds { OnOk result (AddsText bytes.now [] self.old self.new) }
         ensures ends { OnOk result (self.new.from ≡ length self.new.text.items) }
     {
         self.pause()?;
@@ -85,23 +85,23 @@ impl Draft {
     }
 
     /// Writes a member that isn't shown, and tells where its value stands. The next excerpt begins behind it.
-    pub fn leave_member(&mut self, later: bool, part: &Member) -> Result<Place, Memory>
-        ensures adds { OnOk result (Adds (member_text later part.now.name (view part.now.value)) []
+    pub fn leave_member(&mut self, later: bool, part: &Member) -> Result<ByteSpan, Memory>
+        ensures adds { OnOk result (AddsText (member_text later part.now.name (view part.now.value)) []
             self.old self.new) }
-        ensures within { IfOk result (λ place. IsWithin (length self.new.text.items) place) }
-        ensures value { IfOk result (λ place. bytes_at self.new.text.items place ≡ written (view part.now.value)) }
+        ensures within { IfOk result (λ span. IsWithin (length self.new.text.items) span) }
+        ensures value { IfOk result (λ span. bytes_at self.new.text.items span ≡ written (view part.now.value)) }
         ensures name { OnOk result (IsUtf8 part.now.name) }
         ensures spellable { OnOk result (IsSpellable (view part.now.value)) }
     {
         self.pause()?;
-        let place = put_placed(later, part, &mut self.text)?;
+        let span = put_spanned(later, part, &mut self.text)?;
         self.skip()?;
-        Ok(place)
+        Ok(span)
     }
 
     /// Ends the excerpt at the end of the text, unless nothing is in it.
     pub fn pause(&mut self) -> Result<(), Memory>
-        ensures adds { OnOk result (Adds [] [] self.old self.new) }
+        ensures adds { OnOk result (AddsText [] [] self.old self.new) }
         ensures ends { OnOk result (self.new.from ≡ length self.new.text.items) }
     {
         let start = self.from;
@@ -115,14 +115,14 @@ impl Draft {
 
     // Ends the excerpt at the end of the text.
     fn cut(&mut self, bracket: Bracket) -> Result<(), Memory>
-        ensures adds { OnOk result (Adds [] (bracket_text bracket) self.old self.new) }
+        ensures adds { OnOk result (AddsText [] (bracket_text bracket) self.old self.new) }
         ensures ends { OnOk result (self.new.from ≡ length self.new.text.items) }
     {
         let start = self.from;
         let end = end_of(self.text.as_slice())?;
-        let place = Place { start, end };
+        let span = ByteSpan { start, end };
         let before = mem::replace(&mut self.excerpts, Excerpts::Empty);
-        let excerpts = before.pushed(*self.text.allocator(), Excerpt { place, bracket })?;
+        let excerpts = before.pushed(*self.text.allocator(), Excerpt { span, bracket })?;
         self.excerpts = excerpts;
         self.from = end;
         Ok(())
@@ -152,11 +152,11 @@ impl Draft {
 }
 
 // Appends a member, and tells where its value stands.
-fn put_placed(later: bool, part: &Member, text: &mut Vec<u8>) -> Result<Place, Memory>
+fn put_spanned(later: bool, part: &Member, text: &mut Vec<u8>) -> Result<ByteSpan, Memory>
     ensures text { OnOk result (text.new.items ≡ text.old.items
         ++ member_text later part.now.name (view part.now.value)) }
-    ensures within { IfOk result (λ place. IsWithin (length text.new.items) place) }
-    ensures value { IfOk result (λ place. bytes_at text.new.items place ≡ written (view part.now.value)) }
+    ensures within { IfOk result (λ span. IsWithin (length text.new.items) span) }
+    ensures value { IfOk result (λ span. bytes_at text.new.items span ≡ written (view part.now.value)) }
     ensures name { OnOk result (IsUtf8 part.now.name) }
     ensures spellable { OnOk result (IsSpellable (view part.now.value)) }
 {
@@ -165,10 +165,10 @@ fn put_placed(later: bool, part: &Member, text: &mut Vec<u8>) -> Result<Place, M
     let start = end_of(text.as_slice())?;
     put_tree(&part.value, text)?;
     let end = end_of(text.as_slice())?;
-    Ok(Place { start, end })
+    Ok(ByteSpan { start, end })
 }
 
-// The place behind a text. No text that is kept needs more than 32 bits for it.
+// The offset behind a text. No text that is kept needs more than 32 bits for it.
 fn end_of(text: &[u8]) -> Result<u32, Memory>
     ensures { IfOk result (λ end. end ≡ length text.now) }
 {

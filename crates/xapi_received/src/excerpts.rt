@@ -81,8 +81,8 @@ fn fitted(excerpts: Vec<Excerpt>) -> Excerpts
 
 #[tactic(auto, using(lrs_json::proofs::Extending::extends_trans))]
 fn put_both(text: &[u8], first: Excerpt, second: Excerpt, into: &mut Vec<u8>) -> Result<(), Memory>
-    requires first { IsWithin (length text.now) first.place }
-    requires second { IsWithin (length text.now) second.place }
+    requires first { IsWithin (length text.now) first.span }
+    requires second { IsWithin (length text.now) second.span }
     ensures ok { OnOk result (into.new.items ≡ into.old.items
         ++ (excerpt_text text.now first ++ excerpt_text text.now second)) }
     ensures kept { Extends into.old.items into.new.items }

@@ -6,7 +6,7 @@ ghost use Rattle.lrs_json.specs.View.{view, member_view, members_of};
 ghost use Rattle.lrs_json.specs.Written.{comma_if};
 ghost use Rattle.xapi_format.specs.LrsNamesMembers.{is_one_of};
 ghost use Rattle.xapi_format.specs.Completed.{added_names, plural_member};
-ghost use Rattle.xapi_received.specs.Marking.{Adds, Completes, MarksMember, SoFar};
+ghost use Rattle.xapi_received.specs.Marking.{AddsText, Completes, MarksMember, SoFar};
 ghost use Rattle.xapi_received.specs.declared.draft.Draft.{Draft as SpecDraft};
 
 use crate::draft::Draft;
@@ -84,8 +84,8 @@ fn leave_out(
         → SoFar all start stands (member part.now.name (view part.now.value) ms) draft.old ending
         → SoFar all start true ms draft.new next) }
 {
-    let place = draft.leave_member(stands, part)?;
-    Ok(ending.after(part.name.as_str(), place))
+    let span = draft.leave_member(stands, part)?;
+    Ok(ending.after(part.name.as_str(), span))
 }
 
 fn keep(stands: bool, ending: Ending, part: &Member, draft: &mut Draft) -> Result<Ending, Memory>
@@ -113,7 +113,7 @@ fn mark_kept(stands: bool, later: bool, part: &Member, draft: &mut Draft) -> Res
 
 fn mark_comma(stands: bool, later: bool, draft: &mut Draft) -> Result<(), Memory>
     ensures { OnOk result ((later ≡ true → stands ≡ true)
-        → Adds (comma_if stands) (comma_if later) draft.old draft.new) }
+        → AddsText (comma_if stands) (comma_if later) draft.old draft.new) }
 {
     if later {
         draft.put(b",")

@@ -1,14 +1,14 @@
 // How the completed form of a received text is found in it.
 ghost use Rattle.std.specs.Prelude.{◌≡◌, ◌++◌, ◌<◌, None, length, codes, false, IfOk, OnOk};
 ghost use Rattle.lrs_json.specs.Written.{Extends};
-ghost use Rattle.xapi_received.specs.Received.{AreWithin, IsWithin, bracket_text, bytes_at, excerpt_text, excerpts_text, place_after};
+ghost use Rattle.xapi_received.specs.Received.{AreWithin, IsWithin, bracket_text, bytes_at, excerpt_text, excerpts_text, span_after};
 
 use lrs_json::Memory;
 use lrs_json::appending::put;
 
 /// Where bytes stand in a text: the number of the first, and of the one behind the last.
 #[derive(Clone, Copy)]
-pub struct Place {
+pub struct ByteSpan {
     pub start: u32,
     pub end: u32,
 }
@@ -24,7 +24,7 @@ pub enum Bracket {
 /// An excerpt of a text, and the bracket behind it.
 #[derive(Clone, Copy)]
 pub struct Excerpt {
-    pub place: Place,
+    pub span: ByteSpan,
     pub bracket: Bracket,
 }
 
@@ -33,11 +33,11 @@ pub struct Excerpt {
 #[derive(Clone, Copy)]
 pub struct Ending {
     pub later: bool,
-    pub timestamp: Option<Place>,
-    pub version: Option<Place>,
+    pub timestamp: Option<ByteSpan>,
+    pub version: Option<ByteSpan>,
 }
 
-impl Place {
+impl ByteSpan {
     /// The bytes there.
     pub fn of(self, text: &[u8]) -> &[u8]
         requires { IsWithin (length text.now) self }
@@ -60,25 +60,30 @@ impl Ending {
     }
 
     /// The same, after a member of that name that isn't kept, whose value stands there.
-    pub fn after(self, name: &str, place: Place) -> Ending
+    pub fn after(self, name: &str, span: ByteSpan) -> Ending
         ensures later { result.later ≡ self.later }
-        ensures timestamp { result.timestamp ≡ place_after (codes "timestamp") name.now place self.timestamp }
-        ensures version { result.version ≡ place_after (codes "version") name.now place self.version }
+        ensures timestamp { result.timestamp ≡ span_after (codes "timestamp") name.now span self.timestamp }
+        ensures version { result.version ≡ span_after (codes "version") name.now span self.version }
     {
         Ending {
             later: self.later,
-            timestamp: place_after("timestamp", name, place, self.timestamp),
-            version: place_after("version", name, place, self.version),
+            timestamp: span_after("timestamp", name, span, self.timestamp),
+            version: span_after("version", name, span, self.version),
         }
     }
 }
 
 // Where the first value of the wanted name stands.
-fn place_after(wanted: &str, name: &str, place: Place, before: Option<Place>) -> Option<Place>
-    ensures { result ≡ place_after wanted.now name.now place before }
+fn span_after(
+    wanted: &str,
+    name: &str,
+    span: ByteSpan,
+    before: Option<ByteSpan>,
+) -> Option<ByteSpan>
+    ensures { result ≡ span_after wanted.now name.now span before }
 {
     if name == wanted {
-        Some(before.unwrap_or(place))
+        Some(before.unwrap_or(span))
     } else {
         before
     }
@@ -125,11 +130,11 @@ fn put_first<'a>(
 /// Appends what the excerpt shows.
 #[tactic(auto, using(lrs_json::proofs::Extending::extends_trans))]
 pub fn put_excerpt(text: &[u8], excerpt: Excerpt, into: &mut Vec<u8>) -> Result<(), Memory>
-    requires { IsWithin (length text.now) excerpt.place }
+    requires { IsWithin (length text.now) excerpt.span }
     ensures ok { OnOk result (into.new.items ≡ into.old.items ++ excerpt_text text.now excerpt) }
     ensures kept { Extends into.old.items into.new.items }
 {
-    let bytes = excerpt.place.of(text);
+    let bytes = excerpt.span.of(text);
     put(bytes, into)?;
     put_bracket(excerpt.bracket, into)
 }

@@ -1,8 +1,8 @@
 // An ending as it is kept.
 ghost use Rattle.std.specs.Prelude.{◌≡◌, Some, None};
-ghost use Rattle.xapi_received.specs.Offsets.{ending_at, place_if};
+ghost use Rattle.xapi_received.specs.Offsets.{ending_at, span_if};
 
-use crate::marks::{Ending, Place};
+use crate::marks::{ByteSpan, Ending};
 
 /// An ending or none, as plain numbers, which take less room than options within an option.
 #[derive(Clone, Copy)]
@@ -13,8 +13,8 @@ pub struct Offsets {
     pub has_timestamp: bool,
     pub has_version: bool,
     /// Of no meaning where none was given.
-    pub timestamp: Place,
-    pub version: Place,
+    pub timestamp: ByteSpan,
+    pub version: ByteSpan,
 }
 
 impl Offsets {
@@ -37,15 +37,15 @@ impl Offsets {
             later: ending.later,
             has_timestamp: timestamp.stands,
             has_version: version.stands,
-            timestamp: timestamp.place,
-            version: version.place,
+            timestamp: timestamp.span,
+            version: version.span,
         }
     }
 
     fn nothing() -> Offsets
         ensures { ending_at result ≡ None }
     {
-        let nowhere = Place { start: 0, end: 0 };
+        let nowhere = ByteSpan { start: 0, end: 0 };
         Offsets {
             stands: false,
             later: false,
@@ -62,8 +62,8 @@ impl Offsets {
     {
         let stands = self.stands;
         let later = self.later;
-        let timestamp = place_if(self.has_timestamp, self.timestamp);
-        let version = place_if(self.has_version, self.version);
+        let timestamp = span_if(self.has_timestamp, self.timestamp);
+        let version = span_if(self.has_version, self.version);
         if stands {
             Some(Ending {
                 later,
@@ -76,30 +76,27 @@ impl Offsets {
     }
 }
 
-// Whether there is a place, and which.
+// Whether there is a span, and which.
 #[derive(Clone, Copy)]
 struct Flat {
     stands: bool,
-    place: Place,
+    span: ByteSpan,
 }
 
-fn flattened(place: Option<Place>) -> Flat
-    ensures { place_if result.stands result.place ≡ place }
+fn flattened(span: Option<ByteSpan>) -> Flat
+    ensures { span_if result.stands result.span ≡ span }
 {
-    match place {
-        Some(place) => Flat {
-            stands: true,
-            place,
-        },
+    match span {
+        Some(span) => Flat { stands: true, span },
         None => Flat {
             stands: false,
-            place: Place { start: 0, end: 0 },
+            span: ByteSpan { start: 0, end: 0 },
         },
     }
 }
 
-fn place_if(stands: bool, place: Place) -> Option<Place>
-    ensures { result ≡ place_if stands place }
+fn span_if(stands: bool, span: ByteSpan) -> Option<ByteSpan>
+    ensures { result ≡ span_if stands span }
 {
-    if stands { Some(place) } else { None }
+    if stands { Some(span) } else { None }
 }

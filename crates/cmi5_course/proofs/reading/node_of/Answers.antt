@@ -1,4 +1,4 @@
-use Rattle.cmi5_course.specs.Places.{seen}
+use Rattle.cmi5_course.specs.SpelledNodes.{seen}
 use Rattle.cmi5_course.proofs.Unbroken.{node_has_id}
 use Rattle.cmi5_course.proofs.reading.node_of.Goals as goal
 

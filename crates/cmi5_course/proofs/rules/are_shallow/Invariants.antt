@@ -1,7 +1,7 @@
 use Rattle.std.proofs.Common.{◌≡◌, drop, map}
 use Rattle.std.specs.Prelude.{nat_le}
 use Rattle.std.specs.List.{list_all}
-use Rattle.cmi5_course.specs.Places.{seen}
+use Rattle.cmi5_course.specs.SpelledNodes.{seen}
 use Rattle.cmi5_course.specs.declared.rules.TheConstants.{DEEPEST}
 use Rattle.cmi5_course.proofs.rules.are_shallow.Given as goal
 

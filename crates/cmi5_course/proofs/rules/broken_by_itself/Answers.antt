@@ -1,6 +1,6 @@
 use Rattle.std.proofs.Common.{◌+◌, map, drop, ap}
 use Rattle.std.specs.List.{flat_map}
-use Rattle.cmi5_course.specs.Places.{seen}
+use Rattle.cmi5_course.specs.SpelledNodes.{seen}
 use Rattle.cmi5_course.specs.Rules.{node_faults}
 use Rattle.cmi5_course.proofs.Lists.{drop_item, one_more}
 use Rattle.cmi5_course.proofs.rules.broken_by_itself.Goals as goal

@@ -1,7 +1,7 @@
 use Rattle.std.proofs.Common.{◌≡◌, drop, map}
 use Rattle.std.specs.List.{flat_map}
 use Rattle.lrs_names.specs.Rules.{least, lesser}
-use Rattle.cmi5_course.specs.Places.{seen}
+use Rattle.cmi5_course.specs.SpelledNodes.{seen}
 use Rattle.cmi5_course.specs.Rules.{node_faults}
 use Rattle.cmi5_course.proofs.rules.broken_by_itself.Given as goal
 

@@ -2,7 +2,7 @@ use Rattle.std.proofs.Common.{◌+◌, ◌∷◌, ◌++◌, map, drop, ap, sym, 
 use Rattle.std.specs.List.{flat_map}
 use Rattle.std.specs.Option.{option_to_list}
 use Rattle.lrs_json.proofs.Sets.{name_new}
-use Rattle.cmi5_course.specs.Places.{seen}
+use Rattle.cmi5_course.specs.SpelledNodes.{seen}
 use Rattle.cmi5_course.specs.Rules.{ids_of}
 use Rattle.cmi5_course.proofs.Lists.{drop_item}
 use Rattle.cmi5_course.proofs.rules.have_distinct_ids.Goals as goal

@@ -1,7 +1,7 @@
 use Rattle.std.proofs.Common.{drop, map}
 use Rattle.std.specs.List.{flat_map}
 use Rattle.lrs_json.proofs.Sets.{SetSoFar}
-use Rattle.cmi5_course.specs.Places.{seen}
+use Rattle.cmi5_course.specs.SpelledNodes.{seen}
 use Rattle.cmi5_course.specs.Rules.{ids_of}
 use Rattle.cmi5_course.proofs.rules.have_distinct_ids.Given as goal
 

@@ -1,6 +1,6 @@
 use Rattle.std.proofs.Common.{◌≡◌, ◌+◌, ◌≤◌, drop, map}
 use Rattle.std.specs.List.{count_by}
-use Rattle.cmi5_course.specs.Places.{seen}
+use Rattle.cmi5_course.specs.SpelledNodes.{seen}
 use Rattle.cmi5_course.specs.Rules.{is_unit_node}
 use Rattle.cmi5_course.proofs.rules.unit_count.Given as goal
 

@@ -8,7 +8,7 @@ use Rattle.cmi5_running_verdicts.proofs.holding.follow.Goals as goal
 pub loop-init : goal.loop-init
 loop-init c = record {
   long = refl;
-  moved = λ holder lt. ap (λ ps. moved_if (is_among holder ps) c.args.is_met (tally_of c.args.tallies.now holder)) (outward_first c.args.nodes.now (length c.args.nodes.now) (Some c.args.place));
+  moved = λ holder lt. ap (λ ps. moved_if (is_among holder ps) c.args.is_met (tally_of c.args.tallies.now holder)) (outward_first c.args.nodes.now (length c.args.nodes.now) (Some c.args.index));
 }
 
 pub loop-preserved : goal.loop-preserved

@@ -10,5 +10,5 @@ invariant-loop l = record {
   long : length l.tallies ≡ length l.fn.tallies;
   moved : (holder : ℕ) → holder < length l.fn.tallies
       → moved_if (is_among holder (outward l.nodes (length l.nodes - l.counter) (Some l.here))) l.is_met (tally_of l.tallies holder)
-      ≡ moved_if (is_under l.nodes holder l.fn.place) l.is_met (tally_of l.fn.tallies holder);
+      ≡ moved_if (is_under l.nodes holder l.fn.index) l.is_met (tally_of l.fn.tallies holder);
 }

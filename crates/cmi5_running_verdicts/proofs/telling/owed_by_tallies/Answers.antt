@@ -17,4 +17,4 @@ returns c = λ are.
     ∙ (with_items_is c.in_ok-said.said c.add_new.new.said (c.add_new.ensures.long ∙ c.as_mut_slice.ensures.len)
     ∙ said_with_new e held new c.requires c.args.tallies.now c.as_mut_slice.result.now c.add_new.new.said are few (c.as_mut_slice.ensures.value ∙ c.in_ok-said.ensures.said) c.add_new.ensures.long
     c.add_new.ensures.added) in
-    IfOk-weaker c.owed_by_said.result _ _ (λ places is. is e (all_of c.args.statements.now) refl said) c.owed_by_said.ensures
+    IfOk-weaker c.owed_by_said.result _ _ (λ indices is. is e (all_of c.args.statements.now) refl said) c.owed_by_said.ensures

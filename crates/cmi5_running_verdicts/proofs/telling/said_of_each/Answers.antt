@@ -5,21 +5,21 @@ use Rattle.cmi5_running_verdicts.specs.Told.{said_at}
 use Rattle.cmi5_verdict.specs.declared.said.Said.{Said}
 use Rattle.cmi5_running_verdicts.proofs.telling.said_of_each.Goals as goal
 
-pub loop-place-init : goal.loop-place-init
-loop-place-init c = c.in_ok-said.ensures.items
+pub loop-index-init : goal.loop-index-init
+loop-index-init c = c.in_ok-said.ensures.items
 
-pub loop-place-preserved : goal.loop-place-preserved
-loop-place-preserved c =
-    let at = c.loop-place in
+pub loop-index-preserved : goal.loop-index-preserved
+loop-index-preserved c =
+    let at = c.loop-index in
     let test = said_at c.args.tallies.now in
     ◌∙◌ {A = List Said} c.in_ok-push.ensures.items
     (ap (λ x. at.said.items ++ x ∷ []) c.said_at.ensures
-    ∙ (ap (λ (xs : List Said). xs ++ test at.place ∷ []) at.invariant ∙ sym (map-range_with_len_more test 0 at.place at.place (omega arith))))
+    ∙ (ap (λ (xs : List Said). xs ++ test at.index ∷ []) at.invariant ∙ sym (map-range_with_len_more test 0 at.index at.index (omega arith))))
 
 pub returns-clause-said : goal.returns-clause-said
 returns-clause-said c =
-    let at = c.loop-place in
-    let all : at.place ≡ length c.args.tallies.now = omega arith in
+    let at = c.loop-index in
+    let all : at.index ≡ length c.args.tallies.now = omega arith in
     at.invariant ∙ ap (λ n. map (said_at c.args.tallies.now) (range_with_len 0 n)) all
 
 pub returns-clause-few : goal.returns-clause-few

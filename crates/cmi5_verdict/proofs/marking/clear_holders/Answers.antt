@@ -8,7 +8,7 @@ use Rattle.cmi5_verdict.proofs.marking.clear_holders.Goals as goal
 pub loop-init : goal.loop-init
 loop-init c = record {
   long = refl;
-  left = λ holder lt. ap (λ ps. is_marked c.args.satisfied.now holder && not (is_among holder ps)) (outward_first c.args.nodes.now (length c.args.nodes.now) (Some c.args.place));
+  left = λ holder lt. ap (λ ps. is_marked c.args.satisfied.now holder && not (is_among holder ps)) (outward_first c.args.nodes.now (length c.args.nodes.now) (Some c.args.index));
 }
 
 pub loop-preserved : goal.loop-preserved

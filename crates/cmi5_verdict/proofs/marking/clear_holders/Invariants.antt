@@ -10,5 +10,5 @@ invariant-loop l = record {
   long : length l.satisfied ≡ length l.fn.satisfied;
   left : (holder : ℕ) → holder < length l.fn.satisfied
       → is_marked l.satisfied holder && not (is_among holder (outward l.nodes (length l.nodes - l.counter) (Some l.here)))
-      ≡ is_marked l.fn.satisfied holder && not (is_under l.nodes holder l.fn.place);
+      ≡ is_marked l.fn.satisfied holder && not (is_under l.nodes holder l.fn.index);
 }

@@ -4,7 +4,7 @@ use Rattle.cmi5_verdict.proofs.nodes.depth_of.Goals as goal
 
 pub loop-step-init : goal.loop-step-init
 loop-step-init c =
-    let first = ap length (outward_first c.args.nodes.now (length c.args.nodes.now) (Some c.args.place)) in
+    let first = ap length (outward_first c.args.nodes.now (length c.args.nodes.now) (Some c.args.index)) in
     omega (arith, first)
 
 pub loop-step-preserved : goal.loop-step-preserved

@@ -5,18 +5,18 @@ use Rattle.cmi5_verdict.specs.Marks.{is_owed_by}
 use Rattle.cmi5_verdict.proofs.Marked.{kept_end, kept_first, kept_next, range_on, range_over}
 use Rattle.cmi5_verdict.proofs.owing.owed_by.Goals as goal
 
-pub loop-place-init : goal.loop-place-init
-loop-place-init c = kept_first (is_owed_by c.args.nodes.now c.args.satisfied.now c.args.said.now) c.new-found.result.items (length c.args.nodes.now) c.new-found.ensures.items
+pub loop-index-init : goal.loop-index-init
+loop-index-init c = kept_first (is_owed_by c.args.nodes.now c.args.satisfied.now c.args.said.now) c.new-found.result.items (length c.args.nodes.now) c.new-found.ensures.items
 
-pub loop-place-preserved : goal.loop-place-preserved
-loop-place-preserved c =
-    let at = c.loop-place in
+pub loop-index-preserved : goal.loop-index-preserved
+loop-index-preserved c =
+    let at = c.loop-index in
     let test = is_owed_by c.args.nodes.now c.args.satisfied.now c.args.said.now in
-    kept_next test at.found.items c.push_if.new.list.items (range_with_len at.place (length c.args.nodes.now - at.place)) (range_with_len (at.place + 1) (length c.args.nodes.now - (at.place + 1))) _ at.place
-    (range_on (length c.args.nodes.now) at.place (omega arith)) (c.in_ok-push_if.ensures ∙ ap (λ b. at.found.items ++ (if b then at.place ∷ [] else [])) c.is_owed_by.ensures) at.invariant
+    kept_next test at.found.items c.push_if.new.list.items (range_with_len at.index (length c.args.nodes.now - at.index)) (range_with_len (at.index + 1) (length c.args.nodes.now - (at.index + 1))) _ at.index
+    (range_on (length c.args.nodes.now) at.index (omega arith)) (c.in_ok-push_if.ensures ∙ ap (λ b. at.found.items ++ (if b then at.index ∷ [] else [])) c.is_owed_by.ensures) at.invariant
 
 pub returns : goal.returns
 returns c =
-    let at = c.loop-place in
-    kept_end (is_owed_by c.args.nodes.now c.args.satisfied.now c.args.said.now) at.found.items (range_with_len at.place (length c.args.nodes.now - at.place)) _
-    (range_over (length c.args.nodes.now) at.place (omega arith)) at.invariant
+    let at = c.loop-index in
+    kept_end (is_owed_by c.args.nodes.now c.args.satisfied.now c.args.said.now) at.found.items (range_with_len at.index (length c.args.nodes.now - at.index)) _
+    (range_over (length c.args.nodes.now) at.index (omega arith)) at.invariant

@@ -9,10 +9,10 @@ pub returns-clause-noted : goal.returns-clause-noted
 returns-clause-noted c = λ k lt small.
     let e = seen c.args.enrolment.now in
     let all = all_of c.args.statements.now in
-    let place = c.args.first + k in
+    let index = c.args.first + k in
     let held = c.args.statements.now.held.now.held in
     let new = c.args.statements.now.new.now in
     let old = said_of c.args.said.now k in
     c.note_each.ensures.noted k (subst (λ n. k < n) (sym c.note_held.ensures.long) lt) small
-    ∙ (ap (λ s. either s (said_among e all place new)) (c.in_ok-note_held.ensures.noted k lt small)
-    ∙ (either_assoc old (said_among e all place held) (said_among e all place new) ∙ ap (λ s. either old s) (sym (among_both e all place held new))))
+    ∙ (ap (λ s. either s (said_among e all index new)) (c.in_ok-note_held.ensures.noted k lt small)
+    ∙ (either_assoc old (said_among e all index held) (said_among e all index new) ∙ ap (λ s. either old s) (sym (among_both e all index held new))))

@@ -10,8 +10,8 @@ use Rattle.cmi5_verdict.proofs.said.said_at.Goals as goal
 pub returns : goal.returns
 returns c =
     let told = said_in (seen c.args.enrolment.now) (all_of c.args.statements.now) in
-    let here : c.args.place + 0 ≡ c.args.place = omega arith in
+    let here : c.args.index + 0 ≡ c.args.index = omega arith in
     c.said_of.ensures
     ∙ (c.in_ok-note_all.ensures.noted 0 (omega arith) (omega arith)
-    ∙ (ap (λ (s : Said). either s (told (c.args.place + 0))) c.nothing.ensures
-    ∙ (unsaid_either (told (c.args.place + 0)) ∙ ap told here)))
+    ∙ (ap (λ (s : Said). either s (told (c.args.index + 0))) c.nothing.ensures
+    ∙ (unsaid_either (told (c.args.index + 0)) ∙ ap told here)))

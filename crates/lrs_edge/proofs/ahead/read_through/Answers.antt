@@ -4,11 +4,11 @@ use Rattle.lrs_edge.proofs.ahead.read_through.Goals as goal
 
 pub returns-in-Some-clause-number : goal.returns-in-Some-clause-number
 returns-in-Some-clause-number g c =
-    copied_number (g.B.Bytes.told c.args.inner.now) c.in-Some.offset c.args.place (length c.args.into.now) c.copied.result c.reach.new.piece.items
-    (c.copied.ensures.number ∙ ap (λ (l : List ℕ). min (length c.args.into.now) (length l - c.in-Some.offset)) c.deref.ensures.value) c.in-Some.ensures.reached
+    copied_number (g.B.Bytes.told c.args.inner.now) c.in-Some.within c.args.offset (length c.args.into.now) c.copied.result c.reach.new.piece.items
+    (c.copied.ensures.number ∙ ap (λ (l : List ℕ). min (length c.args.into.now) (length l - c.in-Some.within)) c.deref.ensures.value) c.in-Some.ensures.reached
 
 pub returns-in-Some-clause-bytes : goal.returns-in-Some-clause-bytes
 returns-in-Some-clause-bytes g c =
-    copied_bytes (g.B.Bytes.told c.args.inner.now) c.in-Some.offset c.args.place (length c.args.into.now) c.copied.result c.reach.new.piece.items c.copied.new.into
-    (c.copied.ensures.number ∙ ap (λ (l : List ℕ). min (length c.args.into.now) (length l - c.in-Some.offset)) c.deref.ensures.value)
-    (c.copied.ensures.bytes ∙ ap (λ (l : List ℕ). take c.copied.result (drop c.in-Some.offset l)) c.deref.ensures.value) c.in-Some.ensures.reached
+    copied_bytes (g.B.Bytes.told c.args.inner.now) c.in-Some.within c.args.offset (length c.args.into.now) c.copied.result c.reach.new.piece.items c.copied.new.into
+    (c.copied.ensures.number ∙ ap (λ (l : List ℕ). min (length c.args.into.now) (length l - c.in-Some.within)) c.deref.ensures.value)
+    (c.copied.ensures.bytes ∙ ap (λ (l : List ℕ). take c.copied.result (drop c.in-Some.within l)) c.deref.ensures.value) c.in-Some.ensures.reached

@@ -18,7 +18,7 @@ returns-in-Ids c =
 
 pub returns-in-Provider : goal.returns-in-Provider
 returns-in-Provider c =
-    subst (Tells c.shown-in-Provider.result c.args.same) (sym c.in-Provider.is) (c.shown-in-Provider.ensures (provider_body c.in-Provider.place c.in-Provider.token) c.provider_text.ensures)
+    subst (Tells c.shown-in-Provider.result c.args.same) (sym c.in-Provider.is) (c.shown-in-Provider.ensures (provider_body c.in-Provider.index c.in-Provider.token) c.provider_text.ensures)
 
 pub returns-in-Course : goal.returns-in-Course
 returns-in-Course c = subst (Tells c.shown-in-Course.result c.args.same) (sym c.in-Course.is) (c.shown-in-Course.ensures (course_body c.in-Course.id) c.course_text.ensures)

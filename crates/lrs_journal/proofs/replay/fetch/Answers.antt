@@ -12,20 +12,20 @@ load-requires g c = record {
 }
 
 pub returns-in-End-clause-found : goal.returns-in-End-clause-found
-returns-in-End-clause-found g c x told_x = (subst (IsAhead (drop c.args.place x)) c.in-End.is (c.in_ok-look.ensures.found x told_x), λ size is. absurd (cc is))
+returns-in-End-clause-found g c x told_x = (subst (IsAhead (drop c.args.offset x)) c.in-End.is (c.in_ok-look.ensures.found x told_x), λ size is. absurd (cc is))
 
 pub returns-in-Torn-clause-found : goal.returns-in-Torn-clause-found
-returns-in-Torn-clause-found g c x told_x = (subst (IsAhead (drop c.args.place x)) c.in-Torn.is (c.in_ok-look.ensures.found x told_x), λ size is. absurd (cc is))
+returns-in-Torn-clause-found g c x told_x = (subst (IsAhead (drop c.args.offset x)) c.in-Torn.is (c.in_ok-look.ensures.found x told_x), λ size is. absurd (cc is))
 
 pub returns-in-Frame-clause-found : goal.returns-in-Frame-clause-found
 returns-in-Frame-clause-found g c =
-    fetched_frame c.load.result (g.D.Disk.told c.args.disk.now) (g.D.Disk.told c.look.new.disk) c.args.place c.in-Frame.size c.load.new.into.items c.look.ensures.untouched.0
-    (λ x told_x. subst (IsAhead (drop c.args.place x)) c.in-Frame.is (c.in_ok-look.ensures.found x told_x)) c.load.ensures.whole
+    fetched_frame c.load.result (g.D.Disk.told c.args.disk.now) (g.D.Disk.told c.look.new.disk) c.args.offset c.in-Frame.size c.load.new.into.items c.look.ensures.untouched.0
+    (λ x told_x. subst (IsAhead (drop c.args.offset x)) c.in-Frame.is (c.in_ok-look.ensures.found x told_x)) c.load.ensures.whole
 
 pub returns-in-Frame-clause-fits : goal.returns-in-Frame-clause-fits
 returns-in-Frame-clause-fits g c =
     let fits = c.in_ok-look.ensures.fits c.in-Frame.size c.in-Frame.is in
-    fetched_within c.load.result c.args.place c.args.total c.in-Frame.size c.load.new.into.items fits.0 fits.1 c.load.ensures.length
+    fetched_within c.load.result c.args.offset c.args.total c.in-Frame.size c.load.new.into.items fits.0 fits.1 c.load.ensures.length
 
 pub returns-in-Frame-clause-untouched : goal.returns-in-Frame-clause-untouched
 returns-in-Frame-clause-untouched g c =

@@ -8,7 +8,7 @@ returns-in_err-size_to-clause-untouched g c =
 
 pub returns-then-all-clause-whole : goal.returns-then-all-clause-whole
 returns-then-all-clause-whole g c x told_x =
-    (refl, subst (λ (k : ℕ). c.fill.new.into.items ≡ take k (drop c.args.place x)) c.in_ok-size_to.ensures (c.in_ok-all.ensures.all c.if-all.true x told_x))
+    (refl, subst (λ (k : ℕ). c.fill.new.into.items ≡ take k (drop c.args.offset x)) c.in_ok-size_to.ensures (c.in_ok-all.ensures.all c.if-all.true x told_x))
 
 pub returns-then-all-clause-length : goal.returns-then-all-clause-length
 returns-then-all-clause-length g c n is =

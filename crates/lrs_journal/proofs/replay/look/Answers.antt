@@ -18,15 +18,15 @@ returns-clause-untouched g c =
 pub returns-clause-found : goal.returns-clause-found
 returns-clause-found g c x told_x =
     let told = g.D.Disk.told in
-    let place = c.args.place in
+    let offset = c.args.offset in
     let head : List ℕ = c.read_at.new.into in
     let n = c.in_ok-number.number in
     let word : List ℕ = to_be_bytes w32 c.word_of-size.result in
     let head_is : head ≡ get_or head 0 0 ∷ word = five_bytes head c.read_at.auto.into ∙ ap (λ (l : List ℕ). get_or head 0 0 ∷ l) (sym c.word_of-size.ensures) in
-    let number = at_some (λ b. n ≡ min 5 (length b - place)) (told c.args.disk.now) x told_x c.in_ok-number.ensures.number in
-    let bytes = at_some (λ b. take n head ≡ take n (drop place b)) (told c.args.disk.now) x told_x c.in_ok-number.ensures.bytes in
-    let behind = length-drop place x in
-    c.ahead_of.ensures.found (drop place x) (omega (arith, behind, c.read_at.auto.into, number)) (ap (λ (l : List ℕ). take n l) (sym head_is) ∙ bytes)
+    let number = at_some (λ b. n ≡ min 5 (length b - offset)) (told c.args.disk.now) x told_x c.in_ok-number.ensures.number in
+    let bytes = at_some (λ b. take n head ≡ take n (drop offset b)) (told c.args.disk.now) x told_x c.in_ok-number.ensures.bytes in
+    let behind = length-drop offset x in
+    c.ahead_of.ensures.found (drop offset x) (omega (arith, behind, c.read_at.auto.into, number)) (ap (λ (l : List ℕ). take n l) (sym head_is) ∙ bytes)
     (omega (arith, c.saturating_sub-left.ensures, c.requires x told_x, behind))
 
 pub returns-clause-fits : goal.returns-clause-fits

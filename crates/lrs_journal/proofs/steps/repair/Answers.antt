@@ -13,12 +13,12 @@ returns-in_err-cut-clause-any_moment g c =
     let I = g.D.Disk.image in
     let cn = g.met.D.Disk.counts_now in
     let on = g.met.D.Disk.only_now in
-    let place = c.args.place in
+    let offset = c.args.offset in
     let d0 = c.args.disk.now in
-    let P = IsCutBack place (I d0) in
-    let long : (f : List ℕ) → I d0 f → place ≤ length f = λ f left. c.requires.place f (c.requires.fixed f left) in
-    let at_start = started T S I cn on d0 P (λ f left. uncut place (I d0) f left (long f left)) in
-    goes_on T S I cn on d0 d0 c.cut.new.self P at_start c.cut.ensures.time (λ f left. let from = c.cut.ensures.crash f left in torn_cut place (I d0) from.0 f from.1 (long from.0 from.1) from.2)
+    let P = IsCutBack offset (I d0) in
+    let long : (f : List ℕ) → I d0 f → offset ≤ length f = λ f left. c.requires.offset f (c.requires.fixed f left) in
+    let at_start = started T S I cn on d0 P (λ f left. uncut offset (I d0) f left (long f left)) in
+    goes_on T S I cn on d0 d0 c.cut.new.self P at_start c.cut.ensures.time (λ f left. let from = c.cut.ensures.crash f left in torn_cut offset (I d0) from.0 f from.1 (long from.0 from.1) from.2)
 
 pub returns-in_err-sync-clause-any_moment : goal.returns-in_err-sync-clause-any_moment
 returns-in_err-sync-clause-any_moment g c =
@@ -27,12 +27,12 @@ returns-in_err-sync-clause-any_moment g c =
     let I = g.D.Disk.image in
     let cn = g.met.D.Disk.counts_now in
     let on = g.met.D.Disk.only_now in
-    let place = c.args.place in
+    let offset = c.args.offset in
     let d0 = c.args.disk.now in
-    let P = IsCutBack place (I d0) in
-    let long : (f : List ℕ) → I d0 f → place ≤ length f = λ f left. c.requires.place f (c.requires.fixed f left) in
-    let at_start = started T S I cn on d0 P (λ f left. uncut place (I d0) f left (long f left)) in
-    let cut = goes_on T S I cn on d0 d0 c.cut.new.self P at_start c.cut.ensures.time (λ f left. let from = c.cut.ensures.crash f left in torn_cut place (I d0) from.0 f from.1 (long from.0 from.1) from.2) in
+    let P = IsCutBack offset (I d0) in
+    let long : (f : List ℕ) → I d0 f → offset ≤ length f = λ f left. c.requires.offset f (c.requires.fixed f left) in
+    let at_start = started T S I cn on d0 P (λ f left. uncut offset (I d0) f left (long f left)) in
+    let cut = goes_on T S I cn on d0 d0 c.cut.new.self P at_start c.cut.ensures.time (λ f left. let from = c.cut.ensures.crash f left in torn_cut offset (I d0) from.0 f from.1 (long from.0 from.1) from.2) in
     stayed T S I cn on d0 c.cut.new.self c.sync.new.self P cut c.sync.ensures.time c.sync.ensures.crash
 
 pub returns-in_err-write_at-clause-any_moment : goal.returns-in_err-write_at-clause-any_moment
@@ -42,17 +42,17 @@ returns-in_err-write_at-clause-any_moment g c =
     let I = g.D.Disk.image in
     let cn = g.met.D.Disk.counts_now in
     let on = g.met.D.Disk.only_now in
-    let place = c.args.place in
+    let offset = c.args.offset in
     let d0 = c.args.disk.now in
-    let P = IsCutBack place (I d0) in
-    let long : (f : List ℕ) → I d0 f → place ≤ length f = λ f left. c.requires.place f (c.requires.fixed f left) in
-    let at_start = started T S I cn on d0 P (λ f left. uncut place (I d0) f left (long f left)) in
-    let cut = goes_on T S I cn on d0 d0 c.cut.new.self P at_start c.cut.ensures.time (λ f left. let from = c.cut.ensures.crash f left in torn_cut place (I d0) from.0 f from.1 (long from.0 from.1) from.2) in
+    let P = IsCutBack offset (I d0) in
+    let long : (f : List ℕ) → I d0 f → offset ≤ length f = λ f left. c.requires.offset f (c.requires.fixed f left) in
+    let at_start = started T S I cn on d0 P (λ f left. uncut offset (I d0) f left (long f left)) in
+    let cut = goes_on T S I cn on d0 d0 c.cut.new.self P at_start c.cut.ensures.time (λ f left. let from = c.cut.ensures.crash f left in torn_cut offset (I d0) from.0 f from.1 (long from.0 from.1) from.2) in
     let kept = stayed T S I cn on d0 c.cut.new.self c.sync.new.self P cut c.sync.ensures.time c.sync.ensures.crash in
     goes_on T S I cn on d0 c.sync.new.self c.write_at.new.self P kept c.write_at.ensures.time (λ f left.
     let torn = c.write_at.ensures.crash f left in
     let from = before _ _ _ torn.0 c.in_ok-cut.ensures.cut (sym c.sync.ensures.still ∙ c.in_ok-sync.ensures.durable torn.0 torn.1) in
-    torn_end place (I d0) from.0 torn.0 f (g.met.D.Disk.reads_image d0 from.0 from.1) (c.requires.place from.0 from.1) from.2 torn.2)
+    torn_end offset (I d0) from.0 torn.0 f (g.met.D.Disk.reads_image d0 from.0 from.1) (c.requires.offset from.0 from.1) from.2 torn.2)
 
 pub returns-clause-any_moment : goal.returns-clause-any_moment
 returns-clause-any_moment g c =
@@ -61,17 +61,17 @@ returns-clause-any_moment g c =
     let I = g.D.Disk.image in
     let cn = g.met.D.Disk.counts_now in
     let on = g.met.D.Disk.only_now in
-    let place = c.args.place in
+    let offset = c.args.offset in
     let d0 = c.args.disk.now in
-    let P = IsCutBack place (I d0) in
-    let long : (f : List ℕ) → I d0 f → place ≤ length f = λ f left. c.requires.place f (c.requires.fixed f left) in
-    let at_start = started T S I cn on d0 P (λ f left. uncut place (I d0) f left (long f left)) in
-    let cut = goes_on T S I cn on d0 d0 c.cut.new.self P at_start c.cut.ensures.time (λ f left. let from = c.cut.ensures.crash f left in torn_cut place (I d0) from.0 f from.1 (long from.0 from.1) from.2) in
+    let P = IsCutBack offset (I d0) in
+    let long : (f : List ℕ) → I d0 f → offset ≤ length f = λ f left. c.requires.offset f (c.requires.fixed f left) in
+    let at_start = started T S I cn on d0 P (λ f left. uncut offset (I d0) f left (long f left)) in
+    let cut = goes_on T S I cn on d0 d0 c.cut.new.self P at_start c.cut.ensures.time (λ f left. let from = c.cut.ensures.crash f left in torn_cut offset (I d0) from.0 f from.1 (long from.0 from.1) from.2) in
     let kept = stayed T S I cn on d0 c.cut.new.self c.sync.new.self P cut c.sync.ensures.time c.sync.ensures.crash in
     let wrote = goes_on T S I cn on d0 c.sync.new.self c.write_at.new.self P kept c.write_at.ensures.time (λ f left.
     let torn = c.write_at.ensures.crash f left in
     let from = before _ _ _ torn.0 c.in_ok-cut.ensures.cut (sym c.sync.ensures.still ∙ c.in_ok-sync.ensures.durable torn.0 torn.1) in
-    torn_end place (I d0) from.0 torn.0 f (g.met.D.Disk.reads_image d0 from.0 from.1) (c.requires.place from.0 from.1) from.2 torn.2) in
+    torn_end offset (I d0) from.0 torn.0 f (g.met.D.Disk.reads_image d0 from.0 from.1) (c.requires.offset from.0 from.1) from.2 torn.2) in
     stayed T S I cn on d0 c.write_at.new.self c.sync-2.new.self P wrote c.sync-2.ensures.time c.sync-2.ensures.crash
 
 pub returns-clause-closed : goal.returns-clause-closed
@@ -79,4 +79,4 @@ returns-clause-closed g c =
     on_ok_weaker c.sync-2.result (λ d f left.
     let after = before _ _ _ f c.in_ok-write_at.ensures.written (sym c.sync-2.ensures.still ∙ d f left) in
     let from = before _ _ _ after.0 c.in_ok-cut.ensures.cut (sym c.sync.ensures.still ∙ after.1) in
-    closed_end c.args.place (Reads g.D.Disk.told c.args.disk.now) from.0 after.0 f from.1 (c.requires.place from.0 from.1) from.2 after.2) c.sync-2.ensures.durable
+    closed_end c.args.offset (Reads g.D.Disk.told c.args.disk.now) from.0 after.0 f from.1 (c.requires.offset from.0 from.1) from.2 after.2) c.sync-2.ensures.durable

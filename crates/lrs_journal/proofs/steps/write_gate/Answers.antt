@@ -12,7 +12,7 @@ returns-clause-any_moment g c =
     let cn = g.met.D.Disk.counts_now in
     let on = g.met.D.Disk.only_now in
     let d0 = c.args.disk.now in
-    let P = IsAtGate c.args.place (I d0) in
+    let P = IsAtGate c.args.offset (I d0) in
     let at_start = started T S I cn on d0 P (λ f left. (f, left, refl, refl)) in
-    let opened = stepped T S I cn on d0 d0 c.write_at.new.self P _ at_start c.write_at.ensures.time c.write_at.ensures.crash (torn_gate c.args.place (I d0)) in
+    let opened = stepped T S I cn on d0 d0 c.write_at.new.self P _ at_start c.write_at.ensures.time c.write_at.ensures.crash (torn_gate c.args.offset (I d0)) in
     stayed T S I cn on d0 c.write_at.new.self c.sync.new.self P opened c.sync.ensures.time c.sync.ensures.crash

@@ -3,7 +3,7 @@ use Rattle.std.proofs.lemmas.Option.{slice_get_read}
 use Rattle.lrs_json.specs.Json.{Json}
 use Rattle.lrs_json.specs.View.{view, member_view}
 use Rattle.lrs_json.specs.declared.tree.Tree.{the_lemmas}
-use Rattle.lrs_json_equal.proofs.Places.{found_there, named_there}
+use Rattle.lrs_json_equal.proofs.Indices.{found_there, named_there}
 use Rattle.lrs_json_equal.proofs.equivalence.find_from.Goals as goal
 
 pub returns-then-eq-clause-found : goal.returns-then-eq-clause-found

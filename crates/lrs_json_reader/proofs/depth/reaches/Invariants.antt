@@ -1,6 +1,6 @@
 use Rattle.std.proofs.Common.{◌≡◌, ◌<◌, length}
 use Rattle.lrs_json_reader.specs.Brackets.{reaches}
-use Rattle.lrs_json_reader.specs.declared.depth.Mode.TheVariants.{Outside}
+use Rattle.lrs_json_reader.specs.declared.depth.ScanState.TheVariants.{Outside}
 use Rattle.lrs_json_reader.proofs.depth.reaches.Given as goal
 
 abbrev pub invariant-loop-left : goal.invariant-loop-left

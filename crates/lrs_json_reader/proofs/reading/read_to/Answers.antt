@@ -14,7 +14,7 @@ pub returns-in-Ok : goal.returns-in-Ok
 returns-in-Ok c =
     let bytes = c.args.bytes.now in
     let shallow = sym c.is_too_deep.ensures ∙ c.if-is_too_deep.false in
-    let a = text_read c.args.depth bytes c.in-Ok.tree c.in-Ok.places c.judge.result shallow c.in-Ok.ensures c.judge.ensures in
+    let a = text_read c.args.depth bytes c.in-Ok.tree c.in-Ok.flaws c.judge.result shallow c.in-Ok.ensures c.judge.ensures in
     record {
       too_deep = a.too_deep;
       bad = a.bad;

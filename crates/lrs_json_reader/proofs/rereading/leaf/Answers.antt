@@ -1,7 +1,7 @@
 use Rattle.std.proofs.Common.{◌≡◌, ◌≢◌, ◌∷◌, ◌++◌, ap, ◌∙◌, codes, arith, true, false}
 use Rattle.lrs_json.specs.declared.tree.Tree.{Null, Bool as Boolean, Words}
 use Rattle.lrs_json.proofs.Views.{view-Null, view-Bool, view-Words}
-use Rattle.lrs_json_reader.specs.Placed.{null, boolean, string}
+use Rattle.lrs_json_reader.specs.Located.{null, boolean, string}
 use Rattle.lrs_json_reader.specs.Grammar.{Quoted}
 use Rattle.lrs_json_reader.proofs.Values.{starts}
 use Rattle.lrs_json_reader.proofs.FirstBytes.{starts_at, only_null, only_true, only_false, only_string}

@@ -1,5 +1,5 @@
 use Rattle.std.proofs.Common.{◌∙◌, ap}
-use Rattle.lrs_json_reader.specs.declared.depth.Mode.TheVariants.{Outside}
+use Rattle.lrs_json_reader.specs.declared.depth.ScanState.TheVariants.{Outside}
 use Rattle.lrs_json_slices.specs.Scanning.{behind_close}
 use Rattle.lrs_json_slices.proofs.Closing.{string_if}
 use Rattle.lrs_json_slices.proofs.scanning.behind_string.Goals as goal

@@ -30,5 +30,5 @@ returns-in-Err-clause-does g c =
 pub returns-in-Err-clause-landed : goal.returns-in-Err-clause-landed
 returns-in-Err-clause-landed g c = unlanded g.D.Disk.told c.args.journal.now c.settle.new.self (c.in-Err.ensures.failed refl)
 
-pub returns-in-Err-clause-places : goal.returns-in-Err-clause-places
-returns-in-Err-clause-places g c = λ none. none_more c.args.fold.now.parts
+pub returns-in-Err-clause-slots : goal.returns-in-Err-clause-slots
+returns-in-Err-clause-slots g c = λ none. none_more c.args.fold.now.parts

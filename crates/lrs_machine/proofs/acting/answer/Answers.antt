@@ -24,8 +24,8 @@ returns-in-Err-clause-does g c =
     subst (λ t. Does g.D.Disk.told g.D.Disk.time g.D.Disk.image_since c.args.journal.now c.args.journal.now (state_of c.args.fold.now) (state_of c.args.fold.now) v (Err t) None) (sym c.from.ensures)
     (wanting_does g.D.Disk.told g.D.Disk.image g.D.Disk.time g.D.Disk.image_since g.met.D.Disk.only_now c.args.journal.now (state_of c.args.fold.now) (state_of c.args.fold.now) v c.requires.sound refl c.requires.settled)
 
-pub returns-in-Ok-Said-clause-places : goal.returns-in-Ok-Said-clause-places
-returns-in-Ok-Said-clause-places g c = λ none. none_more c.args.fold.now.parts
+pub returns-in-Ok-Said-clause-slots : goal.returns-in-Ok-Said-clause-slots
+returns-in-Ok-Said-clause-slots g c = λ none. none_more c.args.fold.now.parts
 
-pub returns-in-Err-clause-places : goal.returns-in-Err-clause-places
-returns-in-Err-clause-places g c = λ none. none_more c.args.fold.now.parts
+pub returns-in-Err-clause-slots : goal.returns-in-Err-clause-slots
+returns-in-Err-clause-slots g c = λ none. none_more c.args.fold.now.parts

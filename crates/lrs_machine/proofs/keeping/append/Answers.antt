@@ -37,14 +37,14 @@ returns-else-in_doubt-clause-kept g c = λ v is.
     failed_does g.D.Disk.told g.D.Disk.time g.D.Disk.image_since old new (state_of c.args.fold.now) (state_of c.release.new.self) v c.requires.settled none
     (unchanged_where g.D.Disk.told old new c.as_slice.result.now none (c.in-Err.ensures.failed (c.in-Err.ensures.fits fits refl))) c.release.ensures.same c.append.ensures.later (c.in-Err.ensures.any_moment_err refl none)
 
-pub returns-in-Ok-clause-places : goal.returns-in-Ok-clause-places
-returns-in-Ok-clause-places g c = λ none. absurd (cc none)
+pub returns-in-Ok-clause-slots : goal.returns-in-Ok-clause-slots
+returns-in-Ok-clause-slots g c = λ none. absurd (cc none)
 
-pub returns-then-in_doubt-clause-places : goal.returns-then-in_doubt-clause-places
-returns-then-in_doubt-clause-places g c = λ none. absurd (cc none)
+pub returns-then-in_doubt-clause-slots : goal.returns-then-in_doubt-clause-slots
+returns-then-in_doubt-clause-slots g c = λ none. absurd (cc none)
 
-pub returns-else-in_doubt-clause-places : goal.returns-else-in_doubt-clause-places
-returns-else-in_doubt-clause-places g c = λ none before made. c.release.ensures.undone before made
+pub returns-else-in_doubt-clause-slots : goal.returns-else-in_doubt-clause-slots
+returns-else-in_doubt-clause-slots g c = λ none before made. c.release.ensures.undone before made
 
 pub returns-then-in_doubt-clause-cause : goal.returns-then-in_doubt-clause-cause
 returns-then-in_doubt-clause-cause g c =

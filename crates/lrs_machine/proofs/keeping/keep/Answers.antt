@@ -17,5 +17,5 @@ returns-in-Err-clause-kept g c = λ v is.
     full_does g.D.Disk.told g.D.Disk.image g.D.Disk.time g.D.Disk.image_since g.met.D.Disk.only_now j (state_of c.args.fold.now) c.args.accepted c.in-Err.field-0.need c.in-Err.field-0.limit v c.requires.sound is c.requires.settled
     (subst (λ f. j.limit < need_of j f) c.as_slice.ensures (c.in-Err.ensures.full refl)) (subst (λ f. c.in-Err.field-0.need ≡ need_told j.end f) c.as_slice.ensures c.in-Err.ensures.told.0) c.in-Err.ensures.told.1
 
-pub returns-in-Err-clause-places : goal.returns-in-Err-clause-places
-returns-in-Err-clause-places g c = λ none. none_more c.args.fold.now.parts
+pub returns-in-Err-clause-slots : goal.returns-in-Err-clause-slots
+returns-in-Err-clause-slots g c = λ none. none_more c.args.fold.now.parts

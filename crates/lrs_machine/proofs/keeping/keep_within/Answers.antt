@@ -17,8 +17,8 @@ returns-in-Err-clause-kept g c = λ v is.
     subst (λ t. Does g.D.Disk.told g.D.Disk.time g.D.Disk.image_since c.args.journal.now c.args.journal.now (state_of c.args.fold.now) (state_of c.release.new.self) v (Err t) None) (sym c.from.ensures)
     (wanting_does g.D.Disk.told g.D.Disk.image g.D.Disk.time g.D.Disk.image_since g.met.D.Disk.only_now c.args.journal.now (state_of c.args.fold.now) (state_of c.release.new.self) v c.requires.sound (c.release.ensures.same ∙ c.ready-made.ensures.same) c.requires.settled)
 
-pub returns-in-Ok-clause-places : goal.returns-in-Ok-clause-places
-returns-in-Ok-clause-places g c = λ none. c.append.ensures.places none c.args.fold.now.parts c.ready-made.ensures.made
+pub returns-in-Ok-clause-slots : goal.returns-in-Ok-clause-slots
+returns-in-Ok-clause-slots g c = λ none. c.append.ensures.slots none c.args.fold.now.parts c.ready-made.ensures.made
 
-pub returns-in-Err-clause-places : goal.returns-in-Err-clause-places
-returns-in-Err-clause-places g c = λ none. c.release.ensures.undone c.args.fold.now.parts c.ready-made.ensures.made
+pub returns-in-Err-clause-slots : goal.returns-in-Err-clause-slots
+returns-in-Err-clause-slots g c = λ none. c.release.ensures.undone c.args.fold.now.parts c.ready-made.ensures.made

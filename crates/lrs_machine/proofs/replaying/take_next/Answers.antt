@@ -19,13 +19,13 @@ returns-in-Ok-take_entry-clause-taken g c =
     let t = c.in-Ok-take_entry.ensures in
     taken_more g.D.Disk.told c.args.replay.now c.next.new.self (state_of c.args.fold.now) (state_of c.take_entry.new.fold) c.args.opening.now.items c.take_entry.new.opening.items c.args.k c.next.new.into.items t.0
     c.requires.long c.next.ensures.limit c.next.ensures.still c.requires.replayed c.requires.read (c.in-Ok.ensures.moved more) (c.in-Ok.ensures.frame more) t.1 (t.2 ∙ c.deref.ensures.value)
-    (subst (λ l. may_follow (c.args.k == 0) l c.next.new.self.place (state_of c.args.fold.now) t.0 ≡ true) c.limit.ensures
-    (subst (λ p. may_follow (c.args.k == 0) c.limit.result p (state_of c.args.fold.now) t.0 ≡ true) c.place.ensures t.3)) t.4 t.5
+    (subst (λ l. may_follow (c.args.k == 0) l c.next.new.self.offset (state_of c.args.fold.now) t.0 ≡ true) c.limit.ensures
+    (subst (λ p. may_follow (c.args.k == 0) c.limit.result p (state_of c.args.fold.now) t.0 ≡ true) c.offset.ensures t.3)) t.4 t.5
 
 pub returns-in-Err-take_entry-clause-refused : goal.returns-in-Err-take_entry-clause-refused
 returns-in-Err-take_entry-clause-refused g c = λ bytes there.
     let more : c.in-Ok.more ≡ true = search rules in
     let read = c.requires.read bytes there in
-    taken_refused bytes c.args.replay.now c.next.new.self (state_of c.args.fold.now) (state_of c.take_entry.new.fold) c.args.opening.now.items c.take_entry.new.opening.items c.args.k c.limit.result c.place.result c.next.new.into.items c.in-Err-take_entry.refused
-    c.requires.long c.next.ensures.limit c.requires.replayed read (c.in-Ok.ensures.moved more) (c.in-Ok.ensures.frame more bytes there (map written_entry c.args.opening.now.items) read) c.limit.ensures c.place.ensures
-    (subst (λ f. TakesEntry f c.args.k c.limit.result c.place.result (state_of c.args.fold.now) (state_of c.take_entry.new.fold) c.args.opening.now.items c.take_entry.new.opening.items (Err c.in-Err-take_entry.refused)) c.deref.ensures.value c.in-Err-take_entry.ensures)
+    taken_refused bytes c.args.replay.now c.next.new.self (state_of c.args.fold.now) (state_of c.take_entry.new.fold) c.args.opening.now.items c.take_entry.new.opening.items c.args.k c.limit.result c.offset.result c.next.new.into.items c.in-Err-take_entry.refused
+    c.requires.long c.next.ensures.limit c.requires.replayed read (c.in-Ok.ensures.moved more) (c.in-Ok.ensures.frame more bytes there (map written_entry c.args.opening.now.items) read) c.limit.ensures c.offset.ensures
+    (subst (λ f. TakesEntry f c.args.k c.limit.result c.offset.result (state_of c.args.fold.now) (state_of c.take_entry.new.fold) c.args.opening.now.items c.take_entry.new.opening.items (Err c.in-Err-take_entry.refused)) c.deref.ensures.value c.in-Err-take_entry.ensures)

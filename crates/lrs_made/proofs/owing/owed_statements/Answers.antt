@@ -6,6 +6,6 @@ use Rattle.lrs_made.proofs.owing.owed_statements.Goals as goal
 
 pub returns : goal.returns
 returns c =
-    subst (λ (places : List ℕ). IfOk c.satisfied_statements.result (λ said. map value_of said.items
-    ≡ filter_map (satisfied_at (seen_enrolled c.args.enrolled.now) c.args.session.now) places))
-    (c.as_slice.ensures.value ∙ c.in_ok-places.ensures) c.satisfied_statements.ensures
+    subst (λ (indices : List ℕ). IfOk c.satisfied_statements.result (λ said. map value_of said.items
+    ≡ filter_map (satisfied_at (seen_enrolled c.args.enrolled.now) c.args.session.now) indices))
+    (c.as_slice.ensures.value ∙ c.in_ok-indices.ensures) c.satisfied_statements.ensures

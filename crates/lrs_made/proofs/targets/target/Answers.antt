@@ -12,7 +12,7 @@ returns-in-Some-clause-found c =
 
 pub returns-in-Some-clause-lent : goal.returns-in-Some-clause-lent
 returns-in-Some-clause-lent c =
-    target_lent (state_of c.args.parts.now) c.in-Some.known c.target_in.result c.in-Some.ensures.lent c.target_in.ensures.enrolled c.target_in.ensures.place
+    target_lent (state_of c.args.parts.now) c.in-Some.known c.target_in.result c.in-Some.ensures.lent c.target_in.ensures.enrolled c.target_in.ensures.index
 
 pub returns-in-None-clause-found : goal.returns-in-None-clause-found
 returns-in-None-clause-found c =

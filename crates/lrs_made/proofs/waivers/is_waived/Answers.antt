@@ -13,12 +13,12 @@ is_waived-requires-clause-enrolled c =
     let t = c.args.target.now in
     enrolment_lent (state_of c.args.parts.now) t.registration.now (enrolled_of t) (seen c.enrolment.result) c.requires.enrolled c.enrolment.ensures
 
-pub is_waived-requires-clause-place : goal.is_waived-requires-clause-place
-is_waived-requires-clause-place c =
-    subst (λ (e : SeenEnrolment). c.args.target.now.place < length e.nodes) (sym c.enrolment.ensures) c.requires.place
+pub is_waived-requires-clause-index : goal.is_waived-requires-clause-index
+is_waived-requires-clause-index c =
+    subst (λ (e : SeenEnrolment). c.args.target.now.index < length e.nodes) (sym c.enrolment.ensures) c.requires.index
 
 pub returns : goal.returns
 returns c =
-    let place = c.args.target.now.place in
+    let index = c.args.target.now.index in
     subst (λ (e : SeenEnrolment). IfOk c.is_waived.result (λ told. told
-    ≡ stands (state_of c.args.parts.now).statements e.registration (activity_at e place) waived)) c.enrolment.ensures c.is_waived.ensures
+    ≡ stands (state_of c.args.parts.now).statements e.registration (activity_at e index) waived)) c.enrolment.ensures c.is_waived.ensures

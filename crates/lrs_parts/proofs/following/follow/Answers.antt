@@ -5,7 +5,7 @@ use Rattle.cmi5_running_sessions.specs.Cmi5SessionMarked.{mark, marked}
 use Rattle.lrs_parts.specs.Progress.{KeepsUp}
 use Rattle.lrs_parts.specs.Trees.{voided_in}
 use Rattle.lrs_parts.proofs.Events.{marks_few}
-use Rattle.lrs_parts.proofs.Kept.{places_on}
+use Rattle.lrs_parts.proofs.Kept.{slots_on}
 use Rattle.xapi_statement.specs.Statements.{is_voided}
 use Rattle.xapi_statement.specs.Stored.{StoredStatement}
 use Rattle.lrs_parts.proofs.following.follow.Goals as goal
@@ -24,6 +24,6 @@ returns-clause-follows c = λ follows.
     (subst (λ (v : Bool). KeepsUp c.take_in.new.progress c.args.founding.now c.args.learning.now.courses.held c.args.learning.now.registrations.held (marked (take c.args.at all) ++ mark s v ∷ [])) voided
     (c.take_in.ensures.follows (marked (take c.args.at all)) (marks_few all c.args.at c.requires.few) follows))
 
-pub returns-clause-places : goal.returns-clause-places
-returns-clause-places c =
-    places_on c.args.progress.now.sessions c.take_in.new.progress.sessions c.void_by.new.progress.sessions c.take_in.ensures.places c.void_by.ensures.places
+pub returns-clause-slots : goal.returns-clause-slots
+returns-clause-slots c =
+    slots_on c.args.progress.now.sessions c.take_in.new.progress.sessions c.void_by.new.progress.sessions c.take_in.ensures.slots c.void_by.ensures.slots

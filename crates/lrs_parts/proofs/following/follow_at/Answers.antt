@@ -1,6 +1,6 @@
 use Rattle.std.proofs.Common.{◌∙◌, ◌+◌, Bool, ap, sym}
 use Rattle.std.specs.Prelude.{if◌then◌else◌}
-use Rattle.lrs_parts.proofs.Kept.{places_kept}
+use Rattle.lrs_parts.proofs.Kept.{slots_kept}
 use Rattle.lrs_parts.proofs.following.follow_at.Goals as goal
 
 pub follow-requires-clause-there : goal.follow-requires-clause-there
@@ -12,8 +12,8 @@ returns-then-is_at-clause-next c = sym (ap (λ (b : Bool). if b then c.args.at +
 pub returns-then-is_at-clause-follows : goal.returns-then-is_at-clause-follows
 returns-then-is_at-clause-follows c = c.follow.ensures.follows
 
-pub returns-then-is_at-clause-places : goal.returns-then-is_at-clause-places
-returns-then-is_at-clause-places c = c.follow.ensures.places
+pub returns-then-is_at-clause-slots : goal.returns-then-is_at-clause-slots
+returns-then-is_at-clause-slots c = c.follow.ensures.slots
 
 pub returns-else-is_at-clause-next : goal.returns-else-is_at-clause-next
 returns-else-is_at-clause-next c = sym (ap (λ (b : Bool). if b then c.args.at + 1 else c.args.at) (sym c.is_at.ensures ∙ c.if-is_at.false))
@@ -21,5 +21,5 @@ returns-else-is_at-clause-next c = sym (ap (λ (b : Bool). if b then c.args.at +
 pub returns-else-is_at-clause-follows : goal.returns-else-is_at-clause-follows
 returns-else-is_at-clause-follows c = λ follows. follows
 
-pub returns-else-is_at-clause-places : goal.returns-else-is_at-clause-places
-returns-else-is_at-clause-places c = places_kept c.args.progress.now.sessions
+pub returns-else-is_at-clause-slots : goal.returns-else-is_at-clause-slots
+returns-else-is_at-clause-slots c = slots_kept c.args.progress.now.sessions

@@ -1,12 +1,12 @@
 use Rattle.std.proofs.Common.{◌≡◌, ◌≤◌, ◌∙◌, ◌+◌, ℕ, List, ap, drop, length, take, refl, subst, sym}
 use Rattle.std.proofs.lemmas.List.{drop_all}
 use Rattle.std.proofs.lemmas.Option.{slice_get_read}
-use Rattle.cmi5_running_sessions.specs.Room.{HasPlacesFor}
+use Rattle.cmi5_running_sessions.specs.Room.{HasSlotsFor}
 use Rattle.cmi5_running_sessions.specs.Cmi5SessionMarked.{marked}
 use Rattle.lrs_ids.proofs.Turns.{turn}
 use Rattle.lrs_parts.specs.Progress.{KeepsUp}
 use Rattle.lrs_parts.proofs.Arrivals.{Next, next_of}
-use Rattle.lrs_parts.proofs.Kept.{places_kept, places_on, still_has}
+use Rattle.lrs_parts.proofs.Kept.{slots_kept, slots_on, still_has}
 use Rattle.lrs_parts.proofs.Voided.{each_at, tree_found}
 use Rattle.xapi_statement.specs.Statements.{add_each}
 use Rattle.xapi_statement.specs.Stored.{StoredStatement}
@@ -17,7 +17,7 @@ loop-statement-init c = record {
   within = c.requires.within;
   added = c.requires.added;
   follows = λ follows. follows;
-  places = places_kept c.args.progress.now.sessions;
+  slots = slots_kept c.args.progress.now.sessions;
 }
 
 pub follow_next-position-requires-clause-there : goal.follow_next-position-requires-clause-there
@@ -32,13 +32,13 @@ follow_next-position-requires-clause-there c =
     (at.invariant.added ∙ ap (λ (ss : List StoredStatement). add_each (take at.position all) ss) (turn coming at.statement-index s c.loop-statement-test.true c.statement-item.is)) in
     next.there
 
-pub follow_next-position-requires-clause-places : goal.follow_next-position-requires-clause-places
-follow_next-position-requires-clause-places c =
+pub follow_next-position-requires-clause-slots : goal.follow_next-position-requires-clause-slots
+follow_next-position-requires-clause-slots c =
     let at = c.loop-statement in
     let coming = c.args.coming.now in
     let s = c.statement-item.result in
-    still_has c.args.progress.now.sessions at.progress.sessions s at.invariant.places
-    (each_at (λ (x : StoredStatement). HasPlacesFor c.args.progress.now.sessions x) coming at.statement-index s c.requires.places
+    still_has c.args.progress.now.sessions at.progress.sessions s at.invariant.slots
+    (each_at (λ (x : StoredStatement). HasSlotsFor c.args.progress.now.sessions x) coming at.statement-index s c.requires.slots
     (slice_get_read coming (length coming) at.statement-index s refl c.loop-statement-test.true c.statement-item.is))
 
 pub follow_next-position-requires-clause-voided : goal.follow_next-position-requires-clause-voided
@@ -62,7 +62,7 @@ loop-statement-preserved c =
       within = subst (λ (n : ℕ). n ≤ length all) (sym c.follow_next-position.ensures.next) next.within;
       added = subst (λ (n : ℕ). all ≡ add_each (take n all) more) (sym c.follow_next-position.ensures.next) next.added;
       follows = λ follows. c.follow_next-position.ensures.follows (at.invariant.follows follows);
-      places = places_on c.args.progress.now.sessions at.progress.sessions c.follow_next-position.new.progress.sessions at.invariant.places c.follow_next-position.ensures.places;
+      slots = slots_on c.args.progress.now.sessions at.progress.sessions c.follow_next-position.new.progress.sessions at.invariant.slots c.follow_next-position.ensures.slots;
     }
 
 pub returns : goal.returns

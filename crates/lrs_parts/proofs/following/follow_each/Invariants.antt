@@ -1,5 +1,5 @@
 use Rattle.std.proofs.Common.{◌≡◌, ◌≤◌, drop, length, take}
-use Rattle.cmi5_running_sessions.specs.Room.{KeepsPlaces}
+use Rattle.cmi5_running_sessions.specs.Room.{KeepsSlots}
 use Rattle.cmi5_running_sessions.specs.Cmi5SessionMarked.{marked}
 use Rattle.lrs_parts.specs.Progress.{KeepsUp}
 use Rattle.xapi_statement.specs.Statements.{add_each}
@@ -12,5 +12,5 @@ invariant-loop-statement l = record {
   added : l.statements.held ≡ add_each (take l.position l.statements.held) (drop l.statement-index l.coming);
   follows : KeepsUp l.fn.progress l.founding l.learning.courses.held l.learning.registrations.held (marked (take l.first l.statements.held))
       → KeepsUp l.progress l.founding l.learning.courses.held l.learning.registrations.held (marked (take l.position l.statements.held));
-  places : KeepsPlaces l.fn.progress.sessions l.progress.sessions;
+  slots : KeepsSlots l.fn.progress.sessions l.progress.sessions;
 }

@@ -25,8 +25,8 @@ follow_each-requires-clause-added c =
     ∙ (ap (λ (ss : List StoredStatement). take (length old) ss) c.install.ensures.held ∙ front_of old c.args.coming.now) in
     c.install.ensures.held ∙ ap (λ (ss : List StoredStatement). add_each ss c.args.coming.now) (sym front)
 
-pub follow_each-requires-clause-places : goal.follow_each-requires-clause-places
-follow_each-requires-clause-places c = c.requires.places
+pub follow_each-requires-clause-slots : goal.follow_each-requires-clause-slots
+follow_each-requires-clause-slots c = c.requires.slots
 
 pub follow_each-requires-clause-targets : goal.follow_each-requires-clause-targets
 follow_each-requires-clause-targets c =

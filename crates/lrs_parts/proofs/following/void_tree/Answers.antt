@@ -2,7 +2,7 @@ use Rattle.std.proofs.Common.{◌≡◌, ◌++◌, ◌∷◌, ◌∙◌, ap, sub
 use Rattle.std.proofs.lemmas.Option.{none-some, same_Some}
 use Rattle.cmi5_running_sessions.specs.Cmi5SessionMarked.{mark}
 use Rattle.lrs_parts.specs.Progress.{KeepsUp}
-use Rattle.lrs_parts.proofs.Kept.{places_kept}
+use Rattle.lrs_parts.proofs.Kept.{slots_kept}
 use Rattle.xapi_statement.specs.Stored.{StoredStatement}
 use Rattle.lrs_parts.proofs.following.void_tree.Goals as goal
 
@@ -16,5 +16,5 @@ returns-in-Some-clause-follows c = λ s before behind is follows.
 pub returns-in_default-clause-follows : goal.returns-in_default-clause-follows
 returns-in_default-clause-follows c = λ s before behind is follows. absurd (none-some s (sym (ap option_copied c.in_default.is) ∙ is))
 
-pub returns-in_default-clause-places : goal.returns-in_default-clause-places
-returns-in_default-clause-places c = places_kept c.args.progress.now.sessions
+pub returns-in_default-clause-slots : goal.returns-in_default-clause-slots
+returns-in_default-clause-slots c = slots_kept c.args.progress.now.sessions

@@ -1,5 +1,5 @@
 use Rattle.std.proofs.Common.{IfSome, List, Option, subst, sym}
-use Rattle.cmi5_running_sessions.specs.Room.{MakesPlaces}
+use Rattle.cmi5_running_sessions.specs.Room.{MakesSlots}
 use Rattle.cmi5_running_verdicts.specs.Holding.{StandBehindHolders}
 use Rattle.cmi5_running_verdicts.specs.Cmi5VerdictEnrolmentEnrolment.{Enrolment}
 use Rattle.lrs_parts.proofs.Kept.{none_said}
@@ -17,7 +17,7 @@ returns-in_err-enrolment-clause-made c = none_said c.args.effect.now.statements 
 
 pub returns-clause-made : goal.returns-clause-made
 returns-clause-made c =
-    subst (λ (ss : List StoredStatement). MakesPlaces ss c.args.progress.now.sessions c.ready.new.self.sessions) c.as_slice.ensures c.ready.ensures.made
+    subst (λ (ss : List StoredStatement). MakesSlots ss c.args.progress.now.sessions c.ready.new.self.sessions) c.as_slice.ensures c.ready.ensures.made
 
 pub returns-clause-ready : goal.returns-clause-ready
 returns-clause-ready c =

@@ -5,7 +5,7 @@ use Rattle.lrs_parts.proofs.told.number_held.Goals as goal
 
 pub returns-in-Some : goal.returns-in-Some
 returns-in-Some c =
-    c.number_in.ensures ∙ ap (λ (o : Option ℕ). option_and_then (number_in c.args.registration.now c.args.registrations.now.held) o) (sym c.in-Some.is ∙ c.place.ensures)
+    c.number_in.ensures ∙ ap (λ (o : Option ℕ). option_and_then (number_in c.args.registration.now c.args.registrations.now.held) o) (sym c.in-Some.is ∙ c.index_of.ensures)
 
 pub returns-in-None : goal.returns-in-None
-returns-in-None c = ap (λ (o : Option ℕ). option_and_then (number_in c.args.registration.now c.args.registrations.now.held) o) (sym c.in-None.is ∙ c.place.ensures)
+returns-in-None c = ap (λ (o : Option ℕ). option_and_then (number_in c.args.registration.now c.args.registrations.now.held) o) (sym c.in-None.is ∙ c.index_of.ensures)

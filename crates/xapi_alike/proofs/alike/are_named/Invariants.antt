@@ -6,6 +6,6 @@ use Rattle.xapi_alike.proofs.alike.are_named.Given as goal
 
 abbrev pub invariant-loop-member : goal.invariant-loop-member
 invariant-loop-member l =
-    let ns = normal_members l.place (members_of (map member_view l.b)) in
-    are_named (normal_members l.place (members_of (map member_view l.a))) ns
-    ≡ are_named (normal_members l.place (members_of (map member_view (drop l.member-index l.a)))) ns
+    let ns = normal_members l.role (members_of (map member_view l.b)) in
+    are_named (normal_members l.role (members_of (map member_view l.a))) ns
+    ≡ are_named (normal_members l.role (members_of (map member_view (drop l.member-index l.a)))) ns

@@ -1,7 +1,7 @@
 use Rattle.std.proofs.Common.{List, length, subst}
 use Rattle.xapi_received.specs.Received.{AreWithin}
 use Rattle.xapi_received.specs.declared.marks.Excerpt.{Excerpt}
-use Rattle.xapi_received.proofs.Places.{first_put}
+use Rattle.xapi_received.proofs.Spans.{first_put}
 use Rattle.xapi_received.proofs.marks.put_first.Goals as goal
 
 pub put_excerpt-requires : goal.put_excerpt-requires

@@ -9,6 +9,6 @@ pub returns-clause-sound : goal.returns-clause-sound
 returns-clause-sound c =
     all_sound c.unit_in.result
     (λ unit e. node_sound
-    (view c.self.inside.tree) c.self.inside.nodes c.args.place unit c.self.invariant.read c.self.invariant.unbroken
-    (ap (λ ns. option_and_then (λ node. node.unit) (slice_get ns c.args.place)) (sym c.as_slice.ensures)
+    (view c.self.inside.tree) c.self.inside.nodes c.args.index unit c.self.invariant.read c.self.invariant.unbroken
+    (ap (λ ns. option_and_then (λ node. node.unit) (slice_get ns c.args.index)) (sym c.as_slice.ensures)
     ∙ sym c.unit_in.ensures ∙ e))

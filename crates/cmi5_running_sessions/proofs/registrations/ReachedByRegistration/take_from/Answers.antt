@@ -26,7 +26,7 @@ returns-clause-changed c =
           let found : lookup (is_same key) c.self.inside.map.entries ≡ Some old = sym c.get_mut.ensures.value ∙ ap option_copied_mut w.in-Some.is in
           rw w.self-inside-is
           (unit_changed key c.args.activity.now old new (Some new) c.self.inside.map.entries c.args.self.now (c.get_mut.follows.lender new).entries c.self.view_is (ap listed (sym found)) refl
-          ((c.get_mut.follows.holds new).3 (ap is_some found)).0 (λ place. None) w.remove.ensures.changed)
+          ((c.get_mut.follows.holds new).3 (ap is_some found)).0 (λ slot. None) w.remove.ensures.changed)
       | in-None w ↦
           let none : units_of key c.args.self.now ≡ [] =
           sym (ap (λ (es : UnitsByRegistration). units_of key es) c.self.view_is) ∙ ap listed (sym c.get_mut.ensures.value ∙ ap option_copied_mut w.in-None.is) in

@@ -15,7 +15,7 @@ returns-else-has_others-clause-changed c =
     let few = ap (λ (es : UnitsByRegistration). nat_lt 1 (length (units_of key es))) c.self.view_is ∙ (sym c.has_others.ensures ∙ c.if-has_others.false) in
     let there = ap (λ (es : UnitsByRegistration). is_some (unit_at key c.args.activity.now es)) c.self.view_is ∙ c.requires in
     unit_changed key c.args.activity.now us [] None c.self.inside.map.entries c.args.self.now c.remove-units.new.self.entries c.self.view_is refl refl c.remove-units.ensures.updates.0
-    (λ place. None) (only_one c.args.activity.now us few there)
+    (λ slot. None) (only_one c.args.activity.now us few there)
 
 pub returns-else-has_others-clause-fewer : goal.returns-else-has_others-clause-fewer
 returns-else-has_others-clause-fewer c =

@@ -1,18 +1,18 @@
 use Rattle.std.proofs.Common.{subst, sym}
 use Rattle.cmi5_running_sessions.specs.Kept.{SeenSessions, SaidStandsFor}
-use Rattle.cmi5_running_sessions.specs.Room.{HasPlacesFor, KeepsPlaces}
+use Rattle.cmi5_running_sessions.specs.Room.{HasSlotsFor, KeepsSlots}
 use Rattle.cmi5_running_sessions.proofs.Standing.{places_voided, seen_of, stands_voided}
 use Rattle.cmi5_running_sessions.proofs.sessions.Sessions.install_voided.Goals as goal
 
 pub install-requires : goal.install-requires
-install-requires c = (subst (λ (old : SeenSessions). HasPlacesFor old c.args.statement.now) (sym c.self.view_is) c.requires).own
+install-requires c = (subst (λ (old : SeenSessions). HasSlotsFor old c.args.statement.now) (sym c.self.view_is) c.requires).own
 
 pub returns-clause-stands : goal.returns-clause-stands
 returns-clause-stands c = λ those stands.
-    let places = subst (λ (old : SeenSessions). HasPlacesFor old c.args.statement.now) (sym c.self.view_is) c.requires in
-    stands_voided c.args.statement.now c.self.inside.own c.install.new.self c.self.inside.reached places c.install.ensures those (subst (λ (old : SeenSessions). SaidStandsFor old those) (sym c.self.view_is) stands)
+    let slots = subst (λ (old : SeenSessions). HasSlotsFor old c.args.statement.now) (sym c.self.view_is) c.requires in
+    stands_voided c.args.statement.now c.self.inside.own c.install.new.self c.self.inside.reached slots c.install.ensures those (subst (λ (old : SeenSessions). SaidStandsFor old those) (sym c.self.view_is) stands)
 
-pub returns-clause-places : goal.returns-clause-places
-returns-clause-places c =
-    let places = subst (λ (old : SeenSessions). HasPlacesFor old c.args.statement.now) (sym c.self.view_is) c.requires in
-    subst (λ (old : SeenSessions). KeepsPlaces old (seen_of c.install.new.self c.self.inside.reached)) c.self.view_is (places_voided c.args.statement.now c.self.inside.own c.install.new.self c.self.inside.reached places c.install.ensures)
+pub returns-clause-slots : goal.returns-clause-slots
+returns-clause-slots c =
+    let slots = subst (λ (old : SeenSessions). HasSlotsFor old c.args.statement.now) (sym c.self.view_is) c.requires in
+    subst (λ (old : SeenSessions). KeepsSlots old (seen_of c.install.new.self c.self.inside.reached)) c.self.view_is (places_voided c.args.statement.now c.self.inside.own c.install.new.self c.self.inside.reached slots c.install.ensures)

@@ -15,7 +15,7 @@ invariant_of-self c =
 
 pub returns-clause-changed : goal.returns-clause-changed
 returns-clause-changed c =
-    changed_at c.args.activity.now (λ place. None) None c.self.inside.map.entries c.args.self.now c.remove.new.self.entries c.self.view_is c.remove.ensures.updates.0 refl
+    changed_at c.args.activity.now (λ slot. None) None c.self.inside.map.entries c.args.self.now c.remove.new.self.entries c.self.view_is c.remove.ensures.updates.0 refl
 
 pub returns-clause-some : goal.returns-clause-some
 returns-clause-some c =

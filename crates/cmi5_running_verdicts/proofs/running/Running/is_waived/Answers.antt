@@ -7,4 +7,4 @@ use Rattle.cmi5_running_verdicts.proofs.running.Running.is_waived.Goals as goal
 pub returns : goal.returns
 returns c = λ e statements stands lt.
     c.is_waived_at.ensures
-    ∙ waiver_told e statements c.tallies.result.now (tallies_in c.args.self.now c.args.number e (marked statements) c.tallies.result.now c.tallies.ensures stands) c.args.place lt
+    ∙ waiver_told e statements c.tallies.result.now (tallies_in c.args.self.now c.args.number e (marked statements) c.tallies.result.now c.tallies.ensures stands) c.args.index lt

@@ -9,8 +9,8 @@ use Rattle.lrs_fold.specs.Written.{effect_by}
 use Rattle.lrs_reads.specs.LrsHistoryDeskEffects.{abandoning_one, enrolling, fetching, launching, sweeping, waiving}
 use Rattle.lrs_reads.specs.LrsHistoryLaunches.{target}
 use Rattle.lrs_learning.specs.Occasions.{occasion_at}
-use Rattle.lrs_learning.specs.LrsStateCourses.{place_of_course}
-use Rattle.lrs_learning.specs.LrsStateLaunches.{key_under, place_of_session}
+use Rattle.lrs_learning.specs.LrsStateCourses.{index_of_course}
+use Rattle.lrs_learning.specs.LrsStateLaunches.{key_under, index_of_session}
 use Rattle.lrs_learning.specs.LrsPartsParts.{state_of}
 use Rattle.lrs_record.specs.declared.entry.Write.{Write}
 use Rattle.lrs_record.specs.declared.entry.Write.TheVariants as write
@@ -51,7 +51,7 @@ returns-in-Enrol c =
     let st = state_of c.args.self.now.parts in
     let draw = c.args.draw.now in
     subst (GivesEffect st c.args.who c.args.moment draw c.enrolling.result) (sym c.in-Enrol.is)
-    (IfOk-weaker c.enrolling.result (λ made. (by : Who) → made ≡ enrolling st (occasion_at st by c.args.moment draw) c.in-Enrol.actor (place_of_course c.in-Enrol.course st.courses))
+    (IfOk-weaker c.enrolling.result (λ made. (by : Who) → made ≡ enrolling st (occasion_at st by c.args.moment draw) c.in-Enrol.actor (index_of_course c.in-Enrol.course st.courses))
     (λ made. made ≡ effect_by st c.args.who c.args.moment draw (write.Enrol c.in-Enrol.course c.in-Enrol.actor)) (λ made known. known c.args.who) c.enrolling.ensures)
 
 pub enrolling-requires : goal.enrolling-requires
@@ -86,7 +86,7 @@ returns-in-Abandon c =
     let st = state_of c.args.self.now.parts in
     let draw = c.args.draw.now in
     subst (GivesEffect st c.args.who c.args.moment draw c.abandoning_one.result) (sym c.in-Abandon.is)
-    (IfOk-weaker c.abandoning_one.result (λ made. (by : Who) → made ≡ abandoning_one st (occasion_at st by c.args.moment draw) (place_of_session c.in-Abandon.session st.launches))
+    (IfOk-weaker c.abandoning_one.result (λ made. (by : Who) → made ≡ abandoning_one st (occasion_at st by c.args.moment draw) (index_of_session c.in-Abandon.session st.launches))
     (λ made. made ≡ effect_by st c.args.who c.args.moment draw (write.Abandon c.in-Abandon.session)) (λ made known. known c.args.who) c.abandoning_one.ensures)
 
 pub returns-in-Sweep : goal.returns-in-Sweep

@@ -20,7 +20,7 @@ returns-in_default-clause-any_moment g c x is =
 pub write_gate-requires : goal.write_gate-requires
 write_gate-requires g c =
     let i = c.self.inside in
-    record { place = λ b told_b. let lt = gate_there g.D.Disk.told g.D.Disk.image g.met.D.Disk.reads_image i.disk i.limit i.gate i.number i.doubt c.self.invariant b told_b in omega (arith, lt) }
+    record { offset = λ b told_b. let lt = gate_there g.D.Disk.told g.D.Disk.image g.met.D.Disk.reads_image i.disk i.limit i.gate i.number i.doubt c.self.invariant b told_b in omega (arith, lt) }
 
 pub invariant_of-self : goal.invariant_of-self
 invariant_of-self g c =

@@ -1,7 +1,7 @@
 use Rattle.std.proofs.Common.{◌≡◌, ◌-◌, ℕ, take, drop, length, vec_len, List, [], map, Option, Ok, false, refl, sym, ap, ◌∙◌, subst, arith, rules}
 use Rattle.std.proofs.lemmas.List.{take_rest}
 use Rattle.lrs_json.specs.View.{view, member_view}
-use Rattle.lrs_json_reader.specs.Placed.{plain}
+use Rattle.lrs_json_reader.specs.Located.{plain}
 use Rattle.lrs_json_reader.specs.Grammar.{Value}
 use Rattle.lrs_json_reader.specs.Flaws.{earlier, earliest}
 use Rattle.lrs_json_reader.specs.Steps.{StepsToNext}
@@ -25,7 +25,7 @@ list-returns-in_err-goes_on-clause-reads t c =
 pub list-returns-in_err-value-clause-reads : goal.list-returns-in_err-value-clause-reads
 list-returns-in_err-value-clause-reads t c =
     reads_err Value plain view noted _ _ _ c.from_residual-in_err-value.ensures.1 (λ y is x rest v ends.
-    is ∙ list_item_fault _ _ _ (record { cursor = c.goes_on.new.self; places = c.loop-items.self.places }) _ _ c.requires.1 c.loop-items.invariant.so_far (goes_at c.if-branch.true (goes_later c.is_empty.ensures c.in_ok-goes_on.ensures)) c.in_err-value.ensures.reads x rest v ends)
+    is ∙ list_item_fault _ _ _ (record { cursor = c.goes_on.new.self; flaws = c.loop-items.self.flaws }) _ _ c.requires.1 c.loop-items.invariant.so_far (goes_at c.if-branch.true (goes_later c.is_empty.ensures c.in_ok-goes_on.ensures)) c.in_err-value.ensures.reads x rest v ends)
 
 pub list-loop-items-preserved : goal.list-loop-items-preserved
 list-loop-items-preserved t c = record {
@@ -47,7 +47,7 @@ object-returns-in_err-goes_on-clause-reads t c =
 pub object-returns-in_err-member-clause-reads : goal.object-returns-in_err-member-clause-reads
 object-returns-in_err-member-clause-reads t c =
     reads_err Value plain view noted _ _ _ c.from_residual-in_err-member.ensures.1 (λ y is x rest v ends.
-    is ∙ object_member_fault _ _ _ _ (record { cursor = c.goes_on.new.self; places = c.loop-members.self.places }) _ _ c.requires.1 c.loop-members.invariant.so_far (goes_at c.if-branch.true (goes_later c.is_empty.ensures c.in_ok-goes_on.ensures)) c.in_err-member.ensures.reads x rest v ends)
+    is ∙ object_member_fault _ _ _ _ (record { cursor = c.goes_on.new.self; flaws = c.loop-members.self.flaws }) _ _ c.requires.1 c.loop-members.invariant.so_far (goes_at c.if-branch.true (goes_later c.is_empty.ensures c.in_ok-goes_on.ensures)) c.in_err-member.ensures.reads x rest v ends)
 
 pub object-loop-members-preserved : goal.object-loop-members-preserved
 object-loop-members-preserved t c =
@@ -61,11 +61,11 @@ object-returns-clause-reads t c =
     let base = c.len-base.result in
     let size : vec_len c.args.lefts.now ≡ length c.args.lefts.now.items = search rules in
     let parts = stack_parts c.args.lefts.now.items c.loop-members.lefts.items so.own base so.on (c.len-base.ensures ∙ size) in
-    let among : List Member → List ℕ → Option ℕ = λ ms lefts. earlier c.loop-members.self.places.repeated (earliest (repeated_among [] (map (λ m. (member_view m).0) ms) lefts)) in
-    let places = c.deref.result.now in
-    let own = take_rest places base ∙ ap (drop base) c.deref.ensures.value ∙ parts.1 in
+    let among : List Member → List ℕ → Option ℕ = λ ms lefts. earlier c.loop-members.self.flaws.repeated (earliest (repeated_among [] (map (λ m. (member_view m).0) ms) lefts)) in
+    let flaws = c.deref.result.now in
+    let own = take_rest flaws base ∙ ap (drop base) c.deref.ensures.value ∙ parts.1 in
     object_done c.loop-members.members so.own c.args.self.now c.loop-members.self c.note_repeated.new.self c.requires.0 c.requires.1
-    (noted_last.repeated ∙ ap (λ ms. among ms (take (length places - base) (drop base places))) c.as_slice.ensures ∙ ap (among c.loop-members.members) own) noted_last.out_of_range so.so_far
+    (noted_last.repeated ∙ ap (λ ms. among ms (take (length flaws - base) (drop base flaws))) c.as_slice.ensures ∙ ap (among c.loop-members.members) own) noted_last.out_of_range so.so_far
     (subst (λ z. StepsToNext (has_some c.loop-members.members) 125 c.loop-members.self.cursor (Ok false) z) (sym noted_last.cursor) (goes_at c.if-branch.false (goes_later c.is_empty.ensures c.in_ok-goes_on.ensures)))
 
 pub member-returns-in_err-name-clause-reads : goal.member-returns-in_err-name-clause-reads

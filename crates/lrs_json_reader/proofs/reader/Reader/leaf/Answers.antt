@@ -1,5 +1,5 @@
 use Rattle.std.proofs.Common.{◌∷◌, ◌≢◌, refl, ap, ◌∙◌, codes, arith, true, false}
-use Rattle.lrs_json_reader.specs.Placed.{null, boolean}
+use Rattle.lrs_json_reader.specs.Located.{null, boolean}
 use Rattle.lrs_json.proofs.Views.{view-Null, view-Bool}
 use Rattle.lrs_json_reader.proofs.Values.{starts}
 use Rattle.lrs_json_reader.proofs.FirstBytes.{starts_at, only_null, only_true, only_false}

@@ -6,4 +6,4 @@ use Rattle.lrs_json_reader.proofs.reader.Reader.number.Goals as goal
 
 pub returns : goal.returns
 returns c =
-    number_done _ c.in_ok-spelling.spelling _ _ _ _ (view-Number c.of.result ∙ ap Json.number c.of.ensures) c.len-left.ensures c.note_number.ensures.cursor c.in_ok-spelling.ensures.found c.in_ok-spelling.ensures.all c.note_number.ensures.places
+    number_done _ c.in_ok-spelling.spelling _ _ _ _ (view-Number c.of.result ∙ ap Json.number c.of.ensures) c.len-left.ensures c.note_number.ensures.cursor c.in_ok-spelling.ensures.found c.in_ok-spelling.ensures.all c.note_number.ensures.flaws

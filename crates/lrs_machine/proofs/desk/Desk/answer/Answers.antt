@@ -75,14 +75,14 @@ returns-clause-durable g c =
     (line_of i.opened_at i.opening.items i.acts.items) (line_of i.opened_at i.opening.items c.note.new.acts.items) a.result.landed c.self.invariant.0 a.ensures.sound a.ensures.does a.ensures.landed is).0
     c.self.invariant.1.0 c.self.invariant.1.1
 
-pub returns-clause-places : goal.returns-clause-places
-returns-clause-places g c =
+pub returns-clause-slots : goal.returns-clause-slots
+returns-clause-slots g c =
     let i = c.self.inside in
     let a = c.act-said in
     let made = option_map (λ s. s.value) a.result.made in
     let is = noted i.opened_at i.opening.items i.acts.items c.note.new.acts.items made c.is_ok.result (is_ok a.result.said) a.result.landed c.moment.result (g.D.Disk.time a.new.journal.disk) c.note.ensures.noted c.is_ok.ensures.value c.moment.ensures in
     rw (sym c.self.view_is)
-    (λ same. a.ensures.places (not_longer (λ s. s.value) (line_of i.opened_at i.opening.items i.acts.items) (line_of i.opened_at i.opening.items c.note.new.acts.items) a.result.made (is_ok a.result.said) a.result.landed (g.D.Disk.time a.new.journal.disk) is same))
+    (λ same. a.ensures.slots (not_longer (λ s. s.value) (line_of i.opened_at i.opening.items i.acts.items) (line_of i.opened_at i.opening.items c.note.new.acts.items) a.result.made (is_ok a.result.said) a.result.landed (g.D.Disk.time a.new.journal.disk) is same))
 
 pub returns-clause-known : goal.returns-clause-known
 returns-clause-known g c = λ put.

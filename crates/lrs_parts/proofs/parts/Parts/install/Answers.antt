@@ -1,6 +1,6 @@
 -- Each part takes its change in, and what is kept of progress follows.
 use Rattle.std.proofs.Common.{◌+◌, ◌∙◌, List, ap, refl, subst, sym}
-use Rattle.cmi5_running_sessions.specs.Room.{HasPlacesForEach}
+use Rattle.cmi5_running_sessions.specs.Room.{HasSlotsForEach}
 use Rattle.cmi5_running_sessions.specs.Cmi5SessionMarked.{marked}
 use Rattle.lrs_state.specs.Courses.{courses_after}
 use Rattle.lrs_state.specs.Founding.{founding_after}
@@ -34,10 +34,10 @@ take_in_each-voided-requires-clause-ready c =
     let ready = subst (λ (v : SeenParts). IsReadyFor v c.args.effect) (sym c.self.view_is) c.requires in
     subst (λ (ss : List StoredStatement). IsIndexReadyFor c.self.inside.statements ss) (sym c.as_slice.ensures) ready.statements
 
-pub take_in_each-voided-requires-clause-places : goal.take_in_each-voided-requires-clause-places
-take_in_each-voided-requires-clause-places c =
+pub take_in_each-voided-requires-clause-slots : goal.take_in_each-voided-requires-clause-slots
+take_in_each-voided-requires-clause-slots c =
     let ready = subst (λ (v : SeenParts). IsReadyFor v c.args.effect) (sym c.self.view_is) c.requires in
-    subst (λ (ss : List StoredStatement). HasPlacesForEach c.self.inside.progress.sessions ss) (sym c.as_slice.ensures) ready.progress.sessions
+    subst (λ (ss : List StoredStatement). HasSlotsForEach c.self.inside.progress.sessions ss) (sym c.as_slice.ensures) ready.progress.sessions
 
 pub take_in_each-voided-requires-clause-targets : goal.take_in_each-voided-requires-clause-targets
 take_in_each-voided-requires-clause-targets c =

@@ -16,5 +16,5 @@ returns-in-Some c =
     let enrolled : enrolment_in old.founding old.learning.courses.held r ≡ Some e = subst (λ (v : SeenParts). enrolment_in v.founding v.learning.courses.held r ≡ Some e) (sym c.self.view_is) c.requires.enrolled in
     let counted = held_stands old.progress.running old.founding old.learning.courses.held old.learning.registrations.held (marked old.statements.held) r c.in-Some.number e
     (sym c.number_held.ensures ∙ c.in-Some.is) enrolled c.self.invariant.follows.counted in
-    c.is_waived.ensures e old.statements.held counted c.requires.place
-    ∙ ap (λ (v : SeenParts). stands v.statements.held e.registration (activity_at e c.args.place) waived) c.self.view_is
+    c.is_waived.ensures e old.statements.held counted c.requires.index
+    ∙ ap (λ (v : SeenParts). stands v.statements.held e.registration (activity_at e c.args.index) waived) c.self.view_is

@@ -5,4 +5,4 @@ use Rattle.lrs_parts.proofs.parts.Parts.owed_by_fold.Goals as goal
 
 pub returns : goal.returns
 returns c =
-    subst (λ (ss : List StoredStatement). IfOk c.owed.result (λ places. places.items ≡ owed (seen c.args.enrolment.now) ss)) c.behind_held.ensures.all c.owed.ensures
+    subst (λ (ss : List StoredStatement). IfOk c.owed.result (λ indices. indices.items ≡ owed (seen c.args.enrolment.now) ss)) c.behind_held.ensures.all c.owed.ensures

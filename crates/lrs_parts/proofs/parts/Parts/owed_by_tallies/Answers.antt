@@ -11,4 +11,4 @@ returns c =
     let e = seen c.args.enrolment.now in
     let here = subst (λ (v : SeenParts). TalliesStandFor v.progress.running (marked v.statements.held) c.args.number e) (sym c.self.view_is) c.requires in
     let stands = subst (λ (ss : List StoredStatement). TalliesStandFor c.self.inside.progress.running (marked ss) c.args.number e) (ap (λ (v : SeenParts). v.statements.held) c.self.view_is ∙ sym c.behind_held-statements.ensures.held) here in
-    subst (λ (ss : List StoredStatement). IfOk c.owed.result (λ places. places.items ≡ owed e ss)) c.behind_held-statements.ensures.all (c.owed.ensures stands)
+    subst (λ (ss : List StoredStatement). IfOk c.owed.result (λ indices. indices.items ≡ owed e ss)) c.behind_held-statements.ensures.all (c.owed.ensures stands)

@@ -4,8 +4,8 @@ use Rattle.cmi5_course.specs.Courses.{Course}
 use Rattle.cmi5_running_sessions.specs.Room as room
 use Rattle.std.specs.Cmp.Lexicographic.{slice_cmp}
 use Rattle.std.specs.Ordering.{nat_cmp}
-use Rattle.lrs_state.specs.Counted.{MakesPlaceFor}
-use Rattle.lrs_state.specs.Learning.{MakesLearningPlaces}
+use Rattle.lrs_state.specs.Counted.{MakesSlotFor}
+use Rattle.lrs_state.specs.Learning.{MakesLearningSlots}
 use Rattle.lrs_parts.specs.Parts.{SeenParts}
 use Rattle.lrs_parts.specs.Progress.{IsProgressReadyFor}
 use Rattle.lrs_state.specs.Providers.{token_of}
@@ -56,8 +56,8 @@ returns-clause-made c =
     let does = c.ready_each.ensures in
     let new = c.ready_each.new in
     record {
-      providers = subst (λ (v : SeenParts). MakesPlaceFor (slice_cmp nat_cmp) token_of x.providers v.providers new.providers) c.self.view_is does.made_providers;
-      documents = subst (λ (v : SeenParts). docs.MakesPlaces (is_written x.documents) v.documents new.documents) c.self.view_is does.made_documents;
-      learning = subst (λ (v : SeenParts). MakesLearningPlaces v.learning new.learning x) c.self.view_is does.made_learning;
-      sessions = subst (λ (v : SeenParts). room.MakesPlaces x.statements v.progress.sessions new.progress.sessions) c.self.view_is does.made_sessions;
+      providers = subst (λ (v : SeenParts). MakesSlotFor (slice_cmp nat_cmp) token_of x.providers v.providers new.providers) c.self.view_is does.made_providers;
+      documents = subst (λ (v : SeenParts). docs.MakesSlots (is_written x.documents) v.documents new.documents) c.self.view_is does.made_documents;
+      learning = subst (λ (v : SeenParts). MakesLearningSlots v.learning new.learning x) c.self.view_is does.made_learning;
+      sessions = subst (λ (v : SeenParts). room.MakesSlots x.statements v.progress.sessions new.progress.sessions) c.self.view_is does.made_sessions;
     }

@@ -2,7 +2,7 @@ use Rattle.std.proofs.Common.{◌∙◌, List, ap, inl, subst, sym}
 use Rattle.cmi5_running_sessions.specs.Room as room
 use Rattle.lrs_parts.proofs.Ahead.{back, learning_back}
 use Rattle.lrs_parts.proofs.Kept.{kept_still, said_back, same_states}
-use Rattle.lrs_parts.specs.Parts.{MakesPlacesFor, SeenParts}
+use Rattle.lrs_parts.specs.Parts.{MakesSlotsFor, SeenParts}
 use Rattle.lrs_state.specs.Providers.{token_of}
 use Rattle.xapi_docs.specs.Docs.{documents_in, is_written}
 use Rattle.xapi_docs.proofs.Back.{made_and_back}
@@ -30,14 +30,14 @@ pub returns-clause-undone : goal.returns-clause-undone
 returns-clause-undone c = λ before made_before.
     let x = c.args.effect.now in
     let old = c.self.inside in
-    let made = subst (λ (v : SeenParts). MakesPlacesFor before v x) (sym c.self.view_is) made_before in
+    let made = subst (λ (v : SeenParts). MakesSlotsFor before v x) (sym c.self.view_is) made_before in
     record {
       providers = back token_of x.providers before.providers old.providers c.release.new.self made.providers c.release.ensures.back;
       statements = inl c.release-2.ensures.nothing;
       documents = made_and_back (is_written x.documents) before.documents old.documents c.release_change.new.self made.documents c.release_change.ensures;
       learning = learning_back before.learning old.learning c.release-3.new.self x made.learning c.release-3.ensures.back;
       sessions = said_back x.statements before.progress.sessions old.progress.sessions c.release-4.new.self.sessions made.sessions
-          (subst (λ (ss : List StoredStatement). room.TakesPlacesBack ss old.progress.sessions c.release-4.new.self.sessions) c.as_slice.ensures c.release-4.ensures.back);
+          (subst (λ (ss : List StoredStatement). room.TakesSlotsBack ss old.progress.sessions c.release-4.new.self.sessions) c.as_slice.ensures c.release-4.ensures.back);
       running = inl c.release-4.ensures.nothing;
       targets = inl c.release-4.ensures.targets;
     }

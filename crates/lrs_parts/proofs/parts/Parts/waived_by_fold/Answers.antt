@@ -8,4 +8,4 @@ use Rattle.lrs_parts.proofs.parts.Parts.waived_by_fold.Goals as goal
 pub returns : goal.returns
 returns c =
     let e = seen c.args.enrolment.now in
-    subst (λ (ss : List StoredStatement). IfOk c.waived.result (λ told. told ≡ stands ss e.registration (activity_at e c.args.place) waived)) c.held_alone.ensures c.waived.ensures
+    subst (λ (ss : List StoredStatement). IfOk c.waived.result (λ told. told ≡ stands ss e.registration (activity_at e c.args.index) waived)) c.held_alone.ensures c.waived.ensures

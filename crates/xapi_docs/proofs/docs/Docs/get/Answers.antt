@@ -11,10 +11,10 @@ returns-in-Some c =
     let key = c.args.key.now in
     c.as_ref.ensures.value
     ∙ ap option_flatten (sym (ap option_copied c.in-Some.is) ∙ c.get.ensures.value)
-    ∙ sym (found keys_total key c.self.inside.map.entries c.self.invariant) ∙ ap (λ places. document_under key (documents_in places)) c.self.view_is
+    ∙ sym (found keys_total key c.self.inside.map.entries c.self.invariant) ∙ ap (λ slots. document_under key (documents_in slots)) c.self.view_is
 
 pub returns-in-None : goal.returns-in-None
 returns-in-None c =
     let key = c.args.key.now in
     ap option_flatten (sym (ap option_copied c.in-None.is) ∙ c.get.ensures.value)
-    ∙ sym (found keys_total key c.self.inside.map.entries c.self.invariant) ∙ ap (λ places. document_under key (documents_in places)) c.self.view_is
+    ∙ sym (found keys_total key c.self.inside.map.entries c.self.invariant) ∙ ap (λ slots. document_under key (documents_in slots)) c.self.view_is

@@ -13,5 +13,5 @@ returns-in-Some-clause-held c =
     let key = c.args.key in
     ap documents_in (c.get_mut.follows.holds (Some c.args.document)).0
     ∙ written keys_total keys_exact key c.args.document c.self.inside.map.entries c.self.invariant
-    (ap (λ places. is_some (lookup (is_at (key_cmp key)) places)) c.self.view_is ∙ c.requires)
-    ∙ ap (λ places. with_document key c.args.document (documents_in places)) c.self.view_is
+    (ap (λ slots. is_some (lookup (is_at (key_cmp key)) slots)) c.self.view_is ∙ c.requires)
+    ∙ ap (λ slots. with_document key c.args.document (documents_in slots)) c.self.view_is

@@ -8,5 +8,5 @@ use Rattle.xapi_docs.proofs.docs.Docs.remove.Goals as goal
 pub returns-clause-gone : goal.returns-clause-gone
 returns-clause-gone c =
     let key = c.args.key.now in
-    ap documents_in c.remove-place.ensures.entries ∙ removed keys_total key c.self.inside.map.entries c.self.invariant
-    ∙ ap (λ places. without_documents (key ∷ []) (documents_in places)) c.self.view_is
+    ap documents_in c.remove-slot.ensures.entries ∙ removed keys_total key c.self.inside.map.entries c.self.invariant
+    ∙ ap (λ slots. without_documents (key ∷ []) (documents_in slots)) c.self.view_is

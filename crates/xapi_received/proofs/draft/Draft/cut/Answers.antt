@@ -2,7 +2,7 @@ use Rattle.std.proofs.Common.{[], ◌∷◌, ◌++◌, length, refl, ap, ◌∙�
 use Rattle.xapi_received.specs.Excerpts.{listed}
 use Rattle.xapi_received.specs.declared.excerpts.Excerpts.{Excerpts}
 use Rattle.xapi_received.proofs.Drafting.{excerpt_added}
-use Rattle.xapi_received.proofs.Places.{excerpt_at}
+use Rattle.xapi_received.proofs.Spans.{excerpt_at}
 use Rattle.xapi_received.proofs.draft.Draft.cut.Goals as goal
 
 pub returns-clause-adds : goal.returns-clause-adds

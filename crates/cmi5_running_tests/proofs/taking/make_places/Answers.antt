@@ -1,6 +1,0 @@
-use Rattle.std.proofs.lemmas.Result.{on_ok_weaker}
-use Rattle.cmi5_running_tests.proofs.Readied.{places_of_one}
-use Rattle.cmi5_running_tests.proofs.taking.make_places.Goals as goal
-
-pub returns : goal.returns
-returns c = on_ok_weaker c.ready.result (places_of_one c.ready.new.self c.args.statement.now c.from_ref.result.now c.from_ref.ensures.value) c.ready.ensures.ready

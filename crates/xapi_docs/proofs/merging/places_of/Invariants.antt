@@ -1,8 +1,0 @@
-use Rattle.std.proofs.Common.{map, take}
-use Rattle.lrs_json.specs.View.{member_view, members_of}
-use Rattle.xapi_docs.specs.Merging.{HasPlaces}
-use Rattle.xapi_docs.proofs.merging.places_of.Given as goal
-
--- the places of the members so far
-abbrev pub invariant-loop-at : goal.invariant-loop-at
-invariant-loop-at l = HasPlaces l.places (members_of (map member_view (take l.at l.members)))
