@@ -2,10 +2,10 @@ pub mod Joined
 pub mod Copied
 pub mod EntryParts
 pub mod Exactly
+pub mod WriteReading
+pub mod WordReading
 pub mod Writes
+pub mod Telling
 pub mod Readable
 pub mod Told
-pub mod WriteReading
-pub mod OptionalReading
-pub mod WordReading
 pub mod EntryReading

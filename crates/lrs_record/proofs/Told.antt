@@ -1,5 +1,5 @@
 -- The text of a lawful entry tells the entry.
-use Rattle.std.proofs.Common.{◌≡◌, List, ℕ, Some, codes, arith, refl, sym, ap, ◌∙◌}
+use Rattle.std.proofs.Common.{◌≡◌, List, ℕ, codes, arith, refl, sym, ap}
 use Rattle.std.specs.Fmt.{decimal}
 use Rattle.std.proofs.lemmas.Fmt.{decimal_injective}
 use Rattle.lrs_fields.specs.Digits.{draw_text}
@@ -15,7 +15,7 @@ use Rattle.lrs_record.specs.declared.entry.Caller.{Caller}
 use Rattle.lrs_record.specs.declared.entry.Caller.TheVariants.{Nobody, Operator, Token}
 use Rattle.lrs_record.specs.declared.entry.Write.{Write}
 use Rattle.lrs_record.specs.declared.entry.Entry.{Entry}
-use Rattle.lrs_record.proofs.Writes.{made_again, write_in}
+use Rattle.lrs_record.proofs.Telling.{told_write}
 use Rattle.lrs_record.proofs.EntryParts.{member_texts}
 use Rattle.lrs_record.proofs.Readable.{readable}
 
@@ -41,15 +41,11 @@ same_string a b e = cc e
 same_spelling : (a b : List ℕ) → number a ≡ number b → a ≡ b
 same_spelling a b e = cc e
 
--- The name and the fields make the write again.
+-- the name and the fields tell the write
 same_write : (a b : Write) → IsLawfulWrite a → IsLawfulWrite b → HoldsWrite a → HoldsWrite b → write_json a ≡ write_json b → a ≡ b
 same_write a b lawful good x y e =
     let parts = same_parts a b e in
-    let members : members_for (write_fields a) ≡ members_for (write_fields b) = all_parts (members_for (write_fields a)) (members_for (write_fields b)) parts.1 in
-    let again : Some a ≡ Some b =
-    sym (made_again a lawful x) ∙ ap (λ name. write_in name (members_for (write_fields a))) parts.0
-    ∙ ap (λ ms. write_in (write_name b) ms) members ∙ made_again b good y in
-    cc again
+    told_write a b parts.0 (lawful, x) (good, y) (all_parts (members_for (write_fields a)) (members_for (write_fields b)) parts.1)
 
 told_by_json : (a b : Entry) → IsLawful a → IsLawful b → entry_json a ≡ entry_json b → a ≡ b
 unfolding entry_json

@@ -17,7 +17,6 @@ use Rattle.lrs_json_reader.specs.declared.cursor.Stop.TheVariants.{Bad}
 use Rattle.lrs_record.specs.Writes.{how_of, how_text}
 use Rattle.lrs_record.specs.declared.entry.How.{How}
 use Rattle.lrs_record.specs.declared.entry.How.TheVariants as how
-use Rattle.lrs_record.proofs.Writes.{read_how, read_mode, read_reason}
 use Rattle.std.proofs.lemmas.Slice.Eq.{bytes_eq-Decides}
 
 abbrev pub how_value : How → Value
@@ -36,6 +35,25 @@ word_spelled spelling of text (Some a) back own is =
     record { found = (tt, own a (sym is)); all = λ b may same. let twice : Some a ≡ Some b = is ∙ ap of same ∙ back b in cc twice }
 word_spelled {A} spelling of text None back own is =
     record { found = tt; all = λ b may same. let twice : ◌≡◌ {A = Option A} None (Some b) = is ∙ ap of same ∙ back b in absurd (cc twice) }
+
+-- ---- each word is read again as itself
+
+pub read_how : (h : How) → how_of (how_text h) ≡ Some h
+read_how how.Put = refl
+read_how how.Post = refl
+
+pub read_mode : (mode : Mode) → mode_of (mode_text mode) ≡ Some mode
+unfolding mode_of
+read_mode Normal = refl
+read_mode Browse = refl
+read_mode Review = refl
+
+pub read_reason : (reason : Reason) → reason_of (reason_text reason) ≡ Some reason
+unfolding reason_of
+read_reason TestedOut = refl
+read_reason EquivalentAu = refl
+read_reason EquivalentOutsideActivity = refl
+read_reason Administrative = refl
 
 same_word : (text word : List ℕ) → bytes_eq text word ≡ true → text ≡ word
 same_word text word is = (bytes_eq-Decides text word).0 is
@@ -79,42 +97,49 @@ mode_utf8 Normal = IsUtf8-small (mode_text Normal) refl
 mode_utf8 Browse = IsUtf8-small (mode_text Browse) refl
 mode_utf8 Review = IsUtf8-small (mode_text Review) refl
 
-pub mode_unread : (front old new own : List ℕ) (e : Stop) → ReadsField front text_value old (Err e) new → ReadsField front mode_value old (Err e) own
-mode_unread front old new own e = unspelled front mode_text (λ a. Unit {0}) (IsKept mode_value) old new own e (λ a is. (tt, mode_utf8 a))
-
-pub mode_read : (front old new text given : List ℕ) (found : Option Mode) (r : Result Mode Stop) → given ≡ text → ReadsField front text_value old (Ok text) new → found ≡ mode_of given → r ≡ ok_or found Bad
-    → ReadsField front mode_value old r new
-mode_read front old new text given found r lent reads is made =
-    subst (λ z. ReadsField front mode_value old z new) (sym made)
-    (spelled front mode_text (λ a. Unit {0}) (IsKept mode_value) old new text given (ok_or found Bad) (λ a is utf8. (utf8, tt)) (λ a is. (tt, mode_utf8 a)) lent reads
-    (word_spelled mode_text mode_of given found read_mode (mode_own given) is))
-
 reason_utf8 : (a : Reason) → IsUtf8 (reason_text a)
 reason_utf8 TestedOut = IsUtf8-small (reason_text TestedOut) refl
 reason_utf8 EquivalentAu = IsUtf8-small (reason_text EquivalentAu) refl
 reason_utf8 EquivalentOutsideActivity = IsUtf8-small (reason_text EquivalentOutsideActivity) refl
 reason_utf8 Administrative = IsUtf8-small (reason_text Administrative) refl
 
-pub reason_unread : (front old new own : List ℕ) (e : Stop) → ReadsField front text_value old (Err e) new → ReadsField front reason_value old (Err e) own
-reason_unread front old new own e = unspelled front reason_text (λ a. Unit {0}) (IsKept reason_value) old new own e (λ a is. (tt, reason_utf8 a))
-
-pub reason_read : (front old new text given : List ℕ) (found : Option Reason) (r : Result Reason Stop) → given ≡ text → ReadsField front text_value old (Ok text) new → found ≡ reason_of given → r ≡ ok_or found Bad
-    → ReadsField front reason_value old r new
-reason_read front old new text given found r lent reads is made =
-    subst (λ z. ReadsField front reason_value old z new) (sym made)
-    (spelled front reason_text (λ a. Unit {0}) (IsKept reason_value) old new text given (ok_or found Bad) (λ a is utf8. (utf8, tt)) (λ a is. (tt, reason_utf8 a)) lent reads
-    (word_spelled reason_text reason_of given found read_reason (reason_own given) is))
-
 how_utf8 : (a : How) → IsUtf8 (how_text a)
 how_utf8 how.Put = IsUtf8-small (how_text how.Put) refl
 how_utf8 how.Post = IsUtf8-small (how_text how.Post) refl
 
+-- ---- the fields
+
+abbrev word_value : {A : Type 0} → (A → List ℕ) → A → Value
+word_value spelling a = text_value (spelling a)
+
+unread : {A : Type 0} (spelling : A → List ℕ) → ((a : A) → IsUtf8 (spelling a)) → (front old new own : List ℕ) (e : Stop) → ReadsField front text_value old (Err e) new → ReadsField front (word_value spelling) old (Err e) own
+unread spelling utf8 front old new own e = unspelled front spelling (λ a. Unit {0}) (IsKept (word_value spelling)) old new own e (λ a is. (tt, utf8 a))
+
+read : {A : Type 0} (spelling : A → List ℕ) (of : List ℕ → Option A) → ((a : A) → IsUtf8 (spelling a)) → ((a : A) → of (spelling a) ≡ Some a) → ((text : List ℕ) (a : A) → of text ≡ Some a → text ≡ spelling a)
+    → (front old new text given : List ℕ) (found : Option A) (r : Result A Stop) → given ≡ text → ReadsField front text_value old (Ok text) new → found ≡ of given → r ≡ ok_or found Bad
+    → ReadsField front (word_value spelling) old r new
+read spelling of utf8 back own front old new text given found r lent reads is made =
+    subst (λ z. ReadsField front (word_value spelling) old z new) (sym made)
+    (spelled front spelling (λ a. Unit {0}) (IsKept (word_value spelling)) old new text given (ok_or found Bad) (λ a is utf8. (utf8, tt)) (λ a is. (tt, utf8 a)) lent reads
+    (word_spelled spelling of given found back (own given) is))
+
+pub mode_unread : (front old new own : List ℕ) (e : Stop) → ReadsField front text_value old (Err e) new → ReadsField front mode_value old (Err e) own
+mode_unread = unread mode_text mode_utf8
+
+pub mode_read : (front old new text given : List ℕ) (found : Option Mode) (r : Result Mode Stop) → given ≡ text → ReadsField front text_value old (Ok text) new → found ≡ mode_of given → r ≡ ok_or found Bad
+    → ReadsField front mode_value old r new
+mode_read = read mode_text mode_of mode_utf8 read_mode mode_own
+
+pub reason_unread : (front old new own : List ℕ) (e : Stop) → ReadsField front text_value old (Err e) new → ReadsField front reason_value old (Err e) own
+reason_unread = unread reason_text reason_utf8
+
+pub reason_read : (front old new text given : List ℕ) (found : Option Reason) (r : Result Reason Stop) → given ≡ text → ReadsField front text_value old (Ok text) new → found ≡ reason_of given → r ≡ ok_or found Bad
+    → ReadsField front reason_value old r new
+reason_read = read reason_text reason_of reason_utf8 read_reason reason_own
+
 pub how_unread : (front old new own : List ℕ) (e : Stop) → ReadsField front text_value old (Err e) new → ReadsField front how_value old (Err e) own
-how_unread front old new own e = unspelled front how_text (λ a. Unit {0}) (IsKept how_value) old new own e (λ a is. (tt, how_utf8 a))
+how_unread = unread how_text how_utf8
 
 pub how_read : (front old new text given : List ℕ) (found : Option How) (r : Result How Stop) → given ≡ text → ReadsField front text_value old (Ok text) new → found ≡ how_of given → r ≡ ok_or found Bad
     → ReadsField front how_value old r new
-how_read front old new text given found r lent reads is made =
-    subst (λ z. ReadsField front how_value old z new) (sym made)
-    (spelled front how_text (λ a. Unit {0}) (IsKept how_value) old new text given (ok_or found Bad) (λ a is utf8. (utf8, tt)) (λ a is. (tt, how_utf8 a)) lent reads
-    (word_spelled how_text how_of given found read_how (how_own given) is))
+how_read = read how_text how_of how_utf8 read_how how_own

@@ -1,18 +1,38 @@
 -- What a document stands under, and what is read of it.
-use Rattle.std.proofs.Common.{ℕ, List, [], ◌++◌, Result, Ok, Err, OnOk, Option, Some, None, codes, refl}
+use Rattle.std.proofs.Common.{ℕ, List, [], ◌++◌, Result, Ok, Err, OnOk, Option, Some, None, IfSome, codes, refl}
 use Rattle.lrs_agents.specs.declared.identifiers.Ifi.{Ifi}
 use Rattle.lrs_fields.specs.LrsDecimalNumbers.{Ends}
-use Rattle.lrs_fields.specs.Reading.{IsKept, MayFollowOptional, Reads, ReadsField, ReadsOptional}
-use Rattle.lrs_fields.specs.Values.{text_value, id_value, iri_value, agent_value}
+use Rattle.lrs_fields.specs.Reading.{IsKept, MayFollowOptional, Reads, ReadsField, ReadsOptional, field_text, optional_text}
+use Rattle.lrs_fields.specs.Values.{Value, text_value, id_value, iri_value, agent_value}
 use Rattle.lrs_fields.proofs.Differing.{differ_at}
 use Rattle.lrs_fields.proofs.Sequences.{both_stand, both_text, failed, made, mapped, paired, two}
 use Rattle.lrs_json_reader.specs.declared.cursor.Stop.{Stop}
 use Rattle.lrs_json_reader.specs.declared.cursor.Stop.TheVariants.{Memory}
 use Rattle.lrs_record.specs.Reading.{IsKeptKey, key_text}
 use Rattle.lrs_record.proofs.WriteReading.{both_ok}
-use Rattle.lrs_record.proofs.OptionalReading.{IsKeptOptional, activity_later, agent_later, at_registration, at_state, registration_later, state_later}
 use Rattle.xapi_keys.specs.declared.state_key.StateKey.{StateKey}
 use Rattle.lrs_record.proofs.store_writes.read_key.Goals as goal
+
+abbrev IsKeptOptional : {A : Type 0} → (A → Value) → Option A → Type 0
+IsKeptOptional value o = IfSome o (IsKept value)
+
+abbrev activity_later : List ℕ → List ℕ
+activity_later = field_text (codes ",\"activity\":") iri_value
+
+abbrev agent_later : Ifi → List ℕ
+agent_later = field_text (codes ",\"agent\":") agent_value
+
+abbrev at_registration : List ℕ
+at_registration = codes ",\"registration\":"
+
+abbrev registration_later : Option (List ℕ) → List ℕ
+registration_later = optional_text at_registration id_value
+
+abbrev at_state : List ℕ
+at_state = codes ",\"state\":"
+
+abbrev state_later : List ℕ → List ℕ
+state_later = field_text at_state text_value
 
 abbrev Keyed : Type 0
 Keyed = List ℕ × (Ifi × (Option (List ℕ) × List ℕ))
