@@ -32,10 +32,10 @@ ok_least fs (Ok o) e = subst (IsLeast fs) (sym e) (least_is fs)
 ok_least fs (Err x) e = tt
 
 -- one more node is made
-pub one_more_node : (whole before new : List Node) (index : SpelledNode) (rest : List SpelledNode) (made : Node)
-    → whole ≡ before ++ map node_of (index ∷ rest) → made ≡ node_of index → new ≡ before ++ made ∷ []
+pub one_more_node : (whole before new : List Node) (node : SpelledNode) (rest : List SpelledNode) (made : Node)
+    → whole ≡ before ++ map node_of (node ∷ rest) → made ≡ node_of node → new ≡ before ++ made ∷ []
     → whole ≡ new ++ map node_of rest
-one_more_node whole before new index rest made so is n =
+one_more_node whole before new node rest made so is n =
     so ∙ ap (λ z. before ++ z ∷ map node_of rest) (sym is) ∙ sym (append_assoc before (made ∷ []) (map node_of rest))
     ∙ ap (λ ns. ns ++ map node_of rest) (sym n)
 

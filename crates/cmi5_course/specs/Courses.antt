@@ -22,7 +22,7 @@ use Rattle.cmi5_course.specs.declared.course.NodeKind.{NodeKind}
 use Rattle.cmi5_course.specs.declared.course.NodeKind.TheVariants.{Course as CourseKind, Block, Unit as UnitKind}
 use Rattle.cmi5_course.specs.declared.course.Node.{Node}
 
--- what a node is, by its index and by its member `kind`
+-- what a node is, by whether another holds it and by its member `kind`
 abbrev pub kind_of : SpelledNode → NodeKind
 kind_of node = if is_none node.parent then CourseKind else (if is_unit_node node then UnitKind else Block)
 

@@ -6,7 +6,7 @@ use Rattle.cmi5_running_verdicts.specs.declared.tally.Tally.{Tally}
 use Rattle.cmi5_running_verdicts.proofs.Settled.{none_counted, none_voided}
 use Rattle.cmi5_verdict.specs.Cmi5SessionMarked.{MarkedStatement, mark}
 use Rattle.cmi5_verdict.specs.Cmi5SessionOwn.{is_cmi5_defined}
-use Rattle.cmi5_verdict.specs.Nodes.{SeenEnrolment, activity_at}
+use Rattle.cmi5_verdict.specs.Nodes.{SeenEnrolment, activity_of_node}
 use Rattle.lrs_json.specs.Json.{Json}
 use Rattle.lrs_json.specs.View.{view}
 use Rattle.cmi5_verdict.specs.XapiStatementStatements.{is_that_id}
@@ -14,7 +14,7 @@ use Rattle.cmi5_verdict.specs.XapiStatementStatement.{activity_of, registration_
 use Rattle.cmi5_verdict.specs.XapiStatementStored.{StoredStatement}
 
 about_none : (e : SeenEnrolment) (j : Json) → is_that_id e.registration (registration_of j) ≡ false → (index : ℕ) → is_about e index j ≡ false
-about_none e j other index = ap (λ b. b && is_cmi5_defined j && is_that_id (activity_at e index) (activity_of j)) other
+about_none e j other index = ap (λ b. b && is_cmi5_defined j && is_that_id (activity_of_node e index) (activity_of j)) other
 
 pub elsewhere_counted : (e : SeenEnrolment) → (those : List MarkedStatement) → (m : MarkedStatement) → (tallies : List Tally) → is_that_id e.registration (registration_of (view m.statement.received)) ≡ false
     → AreTallies e those tallies → AreTallies e (those ++ m ∷ []) tallies

@@ -13,7 +13,7 @@ use Rattle.cmi5_running_verdicts.specs.Tallies.{IsTally, how_many_say, is_met_by
 use Rattle.cmi5_running_verdicts.specs.declared.tally.Tally.{Tally}
 use Rattle.cmi5_verdict.specs.Cmi5SessionMarked.{MarkedStatement, mark}
 use Rattle.cmi5_verdict.specs.Cmi5SessionOwn.{is_cmi5_defined}
-use Rattle.cmi5_verdict.specs.Nodes.{SeenEnrolment, activity_at, unit_in}
+use Rattle.cmi5_verdict.specs.Nodes.{SeenEnrolment, activity_of_node, unit_in}
 use Rattle.cmi5_verdict.specs.Said.{meets, said_with}
 use Rattle.cmi5_verdict.specs.declared.said.Said.{Said}
 use Rattle.cmi5_verdict.proofs.Spoken.{same_said}
@@ -80,7 +80,7 @@ module _ (e : SeenEnrolment) (index : ℕ) (m : MarkedStatement) (verb : List �
   says_if : says_of_node e verb index m ≡ (if is_about e index (view m.statement.received) then bytes_eq (verb_of (view m.statement.received)) verb else false)
   says_if =
       flag (bytes_eq (verb_of (view m.statement.received)) verb) (is_that_id e.registration (registration_of (view m.statement.received))) (is_cmi5_defined (view m.statement.received))
-      (is_that_id (activity_at e index) (activity_of (view m.statement.received)))
+      (is_that_id (activity_of_node e index) (activity_of (view m.statement.received)))
 
   says_none : is_about e index (view m.statement.received) ≡ false → says_of_node e verb index m ≡ false
   says_none elsewhere = says_if ∙ ap (λ b. if b then bytes_eq (verb_of (view m.statement.received)) verb else false) elsewhere

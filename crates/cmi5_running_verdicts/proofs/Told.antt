@@ -15,7 +15,7 @@ use Rattle.cmi5_running_verdicts.specs.Tallies.{AreTallies, is_met_by_all, said_
 use Rattle.cmi5_running_verdicts.specs.Told.{any_voids, is_all_met_at, is_waived_at, said_at, voids_one}
 use Rattle.cmi5_running_verdicts.specs.declared.tally.Tally.{Tally}
 use Rattle.cmi5_verdict.specs.Cmi5SessionMarked.{mark, marked}
-use Rattle.cmi5_verdict.specs.Nodes.{SeenEnrolment, activity_at, is_met_at, is_satisfied, is_under, indices, under, unit_in, verdicts}
+use Rattle.cmi5_verdict.specs.Nodes.{SeenEnrolment, activity_of_node, is_met_at, is_satisfied, is_under, indices, under, unit_in, verdicts}
 use Rattle.cmi5_verdict.specs.Said.{counts_for, either, meets, said_among, said_in, said_of, unsaid}
 use Rattle.cmi5_verdict.specs.Units.{counts, stands}
 use Rattle.cmi5_verdict.specs.declared.said.Said.{Said}
@@ -64,7 +64,7 @@ module _ (e : SeenEnrolment) (statements : List StoredStatement) where
   ever : (index : ℕ) → list_any (says_of_node e satisfied index) (marked statements) ≡ list_any (counts_for e statements true satisfied index) statements
   ever index =
       any_marked (says_of_node e satisfied index) (counts_for e statements true satisfied index) (λ s. mark s (is_voided statements s)) statements
-      (λ s. sym (and-true (counts e.registration (activity_at e index) satisfied (view s.received))))
+      (λ s. sym (and-true (counts e.registration (activity_of_node e index) satisfied (view s.received))))
 
   many_still : (verb : List ℕ) (index : ℕ) (n : ℕ) → n ≡ length (filter (says_still e verb index) (marked statements)) → nat_lt 0 n ≡ list_any (counts_for e statements false verb index) statements
   many_still verb index n is = ap (λ k. nat_lt 0 k) is ∙ (kept_any (says_still e verb index) (marked statements) ∙ still verb index)
@@ -114,7 +114,7 @@ module _ (e : SeenEnrolment) (statements : List StoredStatement) (ts : List Tall
       ap (λ n. map (is_all_met_at ts) (range_with_len 0 n)) are.long
       ∙ map_alike (is_all_met_at ts) (is_satisfied e statements) 0 (length e.nodes) (λ p lt. verdict_told p (omega arith))
 
-  pub waiver_told : (index : ℕ) → index < length e.nodes → is_waived_at ts index ≡ stands statements e.registration (activity_at e index) waived
+  pub waiver_told : (index : ℕ) → index < length e.nodes → is_waived_at ts index ≡ stands statements e.registration (activity_of_node e index) waived
   unfolding said_among
   waiver_told index lt = ap (λ (s : Said). s.waived) (said_told index lt)
 
@@ -137,7 +137,7 @@ module _ (e : SeenEnrolment) (held new : List StoredStatement) (none : any_voids
   counts_same : (even_voided : Bool) (verb : List ℕ) (index : ℕ) → list_any (counts_for e (held ++ new) even_voided verb index) held ≡ list_any (counts_for e held even_voided verb index) held
   counts_same even_voided verb index =
       any_alike (counts_for e (held ++ new) even_voided verb index) (counts_for e held even_voided verb index) held
-      (λ s. ap (λ b. counts e.registration (activity_at e index) verb (view s.received) && (even_voided || not b)) (same_voided s))
+      (λ s. ap (λ b. counts e.registration (activity_of_node e index) verb (view s.received) && (even_voided || not b)) (same_voided s))
 
   same_held : (index : ℕ) → said_among e (held ++ new) index held ≡ said_in e held index
   unfolding said_among

@@ -15,7 +15,7 @@ use Rattle.cmi5_running_verdicts.specs.Tallies.{AreTallies, how_many_say, is_met
 use Rattle.cmi5_running_verdicts.specs.declared.tally.Tally.{Tally}
 use Rattle.cmi5_verdict.specs.Cmi5SessionMarked.{MarkedStatement, mark, marked, marked_by}
 use Rattle.cmi5_verdict.specs.Cmi5SessionOwn.{says}
-use Rattle.cmi5_verdict.specs.Nodes.{SeenEnrolment, activity_at, is_under, indices, unit_in}
+use Rattle.cmi5_verdict.specs.Nodes.{SeenEnrolment, activity_of_node, is_under, indices, unit_in}
 use Rattle.cmi5_verdict.specs.Said.{meets}
 use Rattle.cmi5_verdict.specs.declared.said.Said.{Said}
 use Rattle.cmi5_verdict.proofs.Spoken.{same_said}
@@ -110,7 +110,7 @@ marking statements s = mark s (is_voided statements s)
 -- a statement of another registration says nothing
 silent : (e : SeenEnrolment) (verb : List ℕ) (index : ℕ) (s : StoredStatement) (voided : Bool) → is_registered e s ≡ false → says_of_node e verb index (mark s voided) ≡ false
 silent e verb index s voided other =
-    off (says verb (view s.received)) (is_that_id e.registration (registration_of (view s.received))) (is_that_id (activity_at e index) (activity_of (view s.received)))
+    off (says verb (view s.received)) (is_that_id e.registration (registration_of (view s.received))) (is_that_id (activity_of_node e index) (activity_of (view s.received)))
     (same_registration e.registration (registration_of (view s.received)) ∙ other)
 
 registered_say_all : (e : SeenEnrolment) (statements : List StoredStatement) → SaySame e (marked_by statements (filter (is_registered e) statements)) (marked statements)

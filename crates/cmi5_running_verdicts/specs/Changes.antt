@@ -7,7 +7,7 @@ use Rattle.cmi5_running_verdicts.specs.Holding.{failing_under}
 use Rattle.cmi5_running_verdicts.specs.Tallies.{said_in_tally}
 use Rattle.cmi5_running_verdicts.specs.declared.tally.Tally.{Tally}
 use Rattle.cmi5_verdict.specs.Cmi5SessionOwn.{is_cmi5_defined}
-use Rattle.cmi5_verdict.specs.Nodes.{SeenEnrolment, activity_at, is_under, unit_in}
+use Rattle.cmi5_verdict.specs.Nodes.{SeenEnrolment, activity_of_node, is_under, unit_in}
 use Rattle.cmi5_verdict.specs.Said.{meets}
 use Rattle.cmi5_verdict.specs.declared.said.Said.{Said}
 use Rattle.lrs_json.specs.Json.{Json}
@@ -43,7 +43,7 @@ with_unmet unmet t = record {
 abbrev pub is_about : SeenEnrolment → ℕ → Json → Bool
 is_about e index j =
     is_that_id e.registration (registration_of j) && is_cmi5_defined j
-    && is_that_id (activity_at e index) (activity_of j)
+    && is_that_id (activity_of_node e index) (activity_of j)
 
 abbrev pub one_if : Bool → ℕ
 one_if holds = cond holds 1 0

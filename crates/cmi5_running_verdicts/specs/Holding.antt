@@ -10,4 +10,5 @@ StandBehindHolders nodes = (index parent : ℕ) → parent_of nodes index ≡ So
 
 -- how many nodes under that one, itself among them, don't pass
 abbrev pub failing_under : List Node → (ℕ → Bool) → ℕ → ℕ
-failing_under nodes passes holder = count_by (λ index. is_under nodes holder index && not (passes index)) (indices nodes)
+failing_under nodes passes holder =
+    count_by (λ index. is_under nodes holder index && not (passes index)) (indices nodes)

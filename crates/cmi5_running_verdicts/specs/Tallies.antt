@@ -7,7 +7,7 @@ use Rattle.cmi5_verdict.specs.Cmi5LaunchNames.{completed, passed, satisfied, wai
 use Rattle.cmi5_running_verdicts.specs.Holding.{failing_under}
 use Rattle.cmi5_running_verdicts.specs.declared.tally.Tally.{Tally}
 use Rattle.cmi5_verdict.specs.Cmi5SessionMarked.{MarkedStatement}
-use Rattle.cmi5_verdict.specs.Nodes.{SeenEnrolment, activity_at, unit_in}
+use Rattle.cmi5_verdict.specs.Nodes.{SeenEnrolment, activity_of_node, unit_in}
 use Rattle.cmi5_verdict.specs.Said.{meets}
 use Rattle.cmi5_verdict.specs.Units.{counts}
 use Rattle.cmi5_verdict.specs.declared.said.Said.{Said}
@@ -17,7 +17,7 @@ use Rattle.lrs_json.specs.View.{view}
 
 -- it says so of the node, voided or not
 abbrev pub says_of_node : SeenEnrolment → List ℕ → ℕ → MarkedStatement → Bool
-says_of_node e verb index m = counts e.registration (activity_at e index) verb (view m.statement.received)
+says_of_node e verb index m = counts e.registration (activity_of_node e index) verb (view m.statement.received)
 
 -- it says so, and isn't voided
 abbrev pub says_still : SeenEnrolment → List ℕ → ℕ → MarkedStatement → Bool

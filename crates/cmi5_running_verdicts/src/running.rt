@@ -9,7 +9,7 @@ ghost use Rattle.cmi5_running_verdicts.specs.Positions.{marked_at, marked_at_eac
 ghost use Rattle.cmi5_running_verdicts.specs.Running.{HasCounted, TalliesStandFor};
 ghost use Rattle.cmi5_running_verdicts.specs.Tallies.{AreTallies};
 ghost use Rattle.cmi5_verdict.specs.Cmi5SessionMarked.{MarkedStatement, mark, marked};
-ghost use Rattle.cmi5_verdict.specs.Nodes.{SeenEnrolment, activity_at, is_satisfied, owed, seen, verdicts};
+ghost use Rattle.cmi5_verdict.specs.Nodes.{SeenEnrolment, activity_of_node, is_satisfied, owed, seen, verdicts};
 ghost use Rattle.cmi5_verdict.specs.Statements.{all_of};
 ghost use Rattle.cmi5_verdict.specs.Units.{stands};
 ghost use Rattle.cmi5_verdict.specs.XapiStatementStored.{StoredStatement as SpecStatement};
@@ -244,7 +244,7 @@ impl Running {
     pub fn is_waived(&self, number: u32, index: u32) -> bool
         ensures { (e : SeenEnrolment) → (statements : List SpecStatement)
             → TalliesStandFor self.now (marked statements) number e → index < length e.nodes
-            → result ≡ stands statements e.registration (activity_at e index) waived }
+            → result ≡ stands statements e.registration (activity_of_node e index) waived }
     {
         is_waived_at(self.tallies(number), index as usize)
     }

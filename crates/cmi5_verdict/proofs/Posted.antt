@@ -9,7 +9,7 @@ use Rattle.std.proofs.lemmas.List.{drop_all, drop_more}
 use Rattle.std.proofs.lemmas.Option.{slice_get_past}
 use Rattle.cmi5_session.specs.Cmi5LaunchNames.{completed, passed, satisfied, waived}
 use Rattle.cmi5_session.specs.Own.{says}
-use Rattle.cmi5_verdict.specs.Nodes.{SeenEnrolment, activity_at}
+use Rattle.cmi5_verdict.specs.Nodes.{SeenEnrolment, activity_of_node}
 use Rattle.cmi5_verdict.specs.Said.{at_positions, counts_for, either, said_among, said_by, said_of, unsaid}
 use Rattle.cmi5_verdict.specs.declared.said.Said.{Said}
 use Rattle.cmi5_verdict.proofs.Spoken.{among_more, among_none, either_assoc, either_unsaid, same_said, unsaid_either}
@@ -101,7 +101,7 @@ none_of false false a w other = refl
 silent : (e : SeenEnrolment) (all : List StoredStatement) (index : ℕ) (s : StoredStatement) → is_that_id e.registration (registration_of (view s.received)) ≡ false
     → (even : Bool) (verb : List ℕ) → counts_for e all even verb index s ≡ false
 silent e all index s other even verb =
-    none_of (says verb (view s.received)) (is_that_id e.registration (registration_of (view s.received))) (is_that_id (activity_at e index) (activity_of (view s.received)))
+    none_of (says verb (view s.received)) (is_that_id e.registration (registration_of (view s.received))) (is_that_id (activity_of_node e index) (activity_of (view s.received)))
     (even || not (is_voided all s)) other
 
 pub said_elsewhere : (e : SeenEnrolment) (all : List StoredStatement) (index : ℕ) (s : StoredStatement) → is_that_id e.registration (registration_of (view s.received)) ≡ false

@@ -10,7 +10,7 @@ use Rattle.std.proofs.lemmas.List.Folds.{list_any-append}
 use Rattle.std.proofs.lemmas.List.FromFn.{fill_by_all}
 use Rattle.cmi5_session.specs.Cmi5LaunchNames.{completed, passed, satisfied, waived}
 use Rattle.cmi5_session.specs.Own.{is_cmi5_defined}
-use Rattle.cmi5_verdict.specs.Nodes.{SeenEnrolment, activity_at}
+use Rattle.cmi5_verdict.specs.Nodes.{SeenEnrolment, activity_of_node}
 use Rattle.cmi5_verdict.specs.Said.{counts_for, either, said_among, said_by, said_in, said_of, said_with, unsaid}
 use Rattle.cmi5_verdict.specs.declared.said.Said.{Said}
 use Rattle.lrs_json.specs.View.{view}
@@ -126,7 +126,7 @@ parts true verb voided = refl
 parts false verb voided = refl
 
 pub spoken : (e : SeenEnrolment) (all : List StoredStatement) (index : ℕ) (s : StoredStatement) (here : Bool)
-    → here ≡ is_that_id e.registration (registration_of (view s.received)) && is_cmi5_defined (view s.received) && is_that_id (activity_at e index) (activity_of (view s.received))
+    → here ≡ is_that_id e.registration (registration_of (view s.received)) && is_cmi5_defined (view s.received) && is_that_id (activity_of_node e index) (activity_of (view s.received))
     → (if here then said_with (verb_of (view s.received)) (is_voided all s) else unsaid) ≡ said_by e all index s
 unfolding said_by
 spoken e all index s here is =
@@ -134,7 +134,7 @@ spoken e all index s here is =
     let kept : Bool = not (is_voided all s) in
     let r : Bool = is_that_id e.registration (registration_of (view s.received)) in
     let d : Bool = is_cmi5_defined (view s.received) in
-    let a : Bool = is_that_id (activity_at e index) (activity_of (view s.received)) in
+    let a : Bool = is_that_id (activity_of_node e index) (activity_of (view s.received)) in
     ap (λ b. if b then said_with verb (is_voided all s) else unsaid) is ∙ (parts ((r && d) && a) verb (is_voided all s)
     ∙ same_said _ _ _ _ _ _ _ _ (flag (bytes_eq verb waived) kept r d a) (flag (bytes_eq verb completed) kept r d a) (flag (bytes_eq verb passed) kept r d a)
     (ap (λ b. if (r && d) && a then b else false) (sym (and-true (bytes_eq verb satisfied))) ∙ flag (bytes_eq verb satisfied) true r d a))

@@ -67,13 +67,13 @@ is_unit_in nodes index = is_some (unit_in nodes index)
 -- ---- verdicts
 
 -- the id under which the store knows it
-abbrev pub activity_at : SeenEnrolment → ℕ → List ℕ
-activity_at e index = activity_text e.base e.course index
+abbrev pub activity_of_node : SeenEnrolment → ℕ → List ℕ
+activity_of_node e index = activity_text e.base e.course index
 
 -- the node is no unit, or a unit that is met
 abbrev pub is_met_at : SeenEnrolment → List StoredStatement → ℕ → Bool
 is_met_at e statements index = option_map_or
-    (λ unit. is_met statements e.registration (activity_at e index) unit.move_on) (unit_in e.nodes index) true
+    (λ unit. is_met statements e.registration (activity_of_node e index) unit.move_on) (unit_in e.nodes index) true
 
 -- Every unit under it is met, or it is itself one that is.
 abbrev pub is_satisfied : SeenEnrolment → List StoredStatement → ℕ → Bool
@@ -89,7 +89,7 @@ verdicts e statements = map (is_satisfied e statements) (indices e.nodes)
 abbrev pub is_owed : SeenEnrolment → List StoredStatement → ℕ → Bool
 is_owed e statements index =
     not (is_unit_in e.nodes index) && is_satisfied e statements index
-    && not (was_said statements e.registration (activity_at e index) satisfied)
+    && not (was_said statements e.registration (activity_of_node e index) satisfied)
 
 abbrev pub at_depth : List Node → List ℕ → ℕ → List ℕ
 at_depth nodes indices depth = filter (λ index. depth_of nodes index == depth) indices

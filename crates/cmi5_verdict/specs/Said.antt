@@ -4,14 +4,14 @@ use Rattle.std.specs.List.{list_any}
 use Rattle.std.specs.Str.{bytes_eq}
 use Rattle.cmi5_course.specs.declared.unit.MoveOn.{MoveOn}
 use Rattle.cmi5_session.specs.Cmi5LaunchNames.{completed, passed, satisfied, waived}
-use Rattle.cmi5_verdict.specs.Nodes.{SeenEnrolment, activity_at}
+use Rattle.cmi5_verdict.specs.Nodes.{SeenEnrolment, activity_of_node}
 use Rattle.cmi5_verdict.specs.Units.{counts_among, moves_on}
 use Rattle.cmi5_verdict.specs.declared.said.Said.{Said}
 use Rattle.cmi5_session.specs.XapiStatementStored.{StoredStatement}
 
 -- a statement of that verb counts, among all, for the node of that number
 abbrev pub counts_for : SeenEnrolment → List StoredStatement → Bool → List ℕ → ℕ → StoredStatement → Bool
-counts_for e all even_voided verb index = counts_among even_voided all e.registration (activity_at e index) verb
+counts_for e all even_voided verb index = counts_among even_voided all e.registration (activity_of_node e index) verb
 
 -- nothing
 abbrev pub unsaid : Said

@@ -5,7 +5,7 @@ ghost use Rattle.std.specs.Fmt.{decimal};
 ghost use Rattle.std.specs.Str.{bytes_eq};
 ghost use Rattle.cmi5_session.specs.Cmi5LaunchActivities.{activity_text};
 ghost use Rattle.cmi5_session.specs.Own.{is_cmi5_defined};
-ghost use Rattle.cmi5_verdict.specs.Nodes.{activity_at, seen};
+ghost use Rattle.cmi5_verdict.specs.Nodes.{activity_of_node, seen};
 ghost use Rattle.cmi5_verdict.specs.FoundIndices.{is_index};
 ghost use Rattle.lrs_json.specs.View.{view};
 ghost use Rattle.cmi5_session.specs.XapiStatementStatements.{is_that_id};
@@ -23,7 +23,7 @@ pub fn index_meant(enrolment: &Enrolment<'_>, statement: &StoredStatement) -> Op
     ensures { (index : ℕ) → index < 2 ^ 64 → is_index index result
         ≡ is_that_id enrolment.now.registration.now (registration_of (view statement.now.received))
         && is_cmi5_defined (view statement.now.received)
-        && is_that_id (activity_at (seen enrolment.now) index) (activity_of (view statement.now.received)) }
+        && is_that_id (activity_of_node (seen enrolment.now) index) (activity_of (view statement.now.received)) }
 {
     let received = statement.received();
     if !is_meant(enrolment.registration, received) {
@@ -42,7 +42,7 @@ fn is_meant(registration: &Id, statement: &Tree) -> bool
 // The number of the node that is its object.
 fn index_about(enrolment: &Enrolment<'_>, statement: &Tree) -> Option<usize>
     ensures { (index : ℕ) → index < 2 ^ 64 → is_index index result
-        ≡ is_that_id (activity_at (seen enrolment.now) index) (activity_of (view statement.now)) }
+        ≡ is_that_id (activity_of_node (seen enrolment.now) index) (activity_of (view statement.now)) }
 {
     match activity_of(statement) {
         Some(id) => index_named(

@@ -1,7 +1,7 @@
 // Whether a unit was waived.
 ghost use Rattle.std.specs.Prelude.{◌≡◌, IfOk};
 ghost use Rattle.cmi5_session.specs.Cmi5LaunchNames.{waived};
-ghost use Rattle.cmi5_verdict.specs.Nodes.{activity_at, seen};
+ghost use Rattle.cmi5_verdict.specs.Nodes.{activity_of_node, seen};
 ghost use Rattle.cmi5_verdict.specs.Statements.{all_of};
 ghost use Rattle.cmi5_verdict.specs.Units.{stands};
 
@@ -19,7 +19,7 @@ pub fn waived(
     index: u32,
 ) -> Result<bool, Memory>
     ensures { IfOk result (λ told. told ≡ stands (all_of statements.now) enrolment.now.registration.now
-        (activity_at (seen enrolment.now) index) waived) }
+        (activity_of_node (seen enrolment.now) index) waived) }
 {
     let said = said_at(alloc, statements, enrolment, index as usize)?;
     Ok(said.waived)

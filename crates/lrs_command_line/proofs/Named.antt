@@ -6,17 +6,17 @@ use Rattle.clap.specs.Walk.{Row, Text}
 use Rattle.clap.specs.Simple.{subcommand_of}
 use Rattle.clap.specs.Faults.{fault_of}
 use Rattle.lrs_json.specs.Names.{is_among}
-use Rattle.lrs_command_line.specs.CommandLine.{Part, CommandLine, init, intake, serve, load, IsLineOf, IsPlain, IsNamed, IsCommandLine, IsTaken, ArePartsOf, Gives, words_of, value_of, is_name, options_of, program, whole_line}
+use Rattle.lrs_command_line.specs.CommandLine.{Part, CommandLine, init, intake, serve, load, IsLineOf, IsPlain, IsNamed, IsCommandLine, IsTaken, ArePartsOf, Gives, words_of, value_of, is_no_option, options_of, program, whole_line}
 use Rattle.lrs_command_line.specs.Shapes.{IsReadAs, Denotes, is_plain, alone, value_behind, said_by, init_with, intake_with, serve_with, load_with, init_in, intake_in, serve_in, load_in, command_in, is_faulty, is_nonempty, taken, named}
 use Rattle.lrs_command_line.specs.declared.words.ProgramCommand.{ProgramCommand}
 use Rattle.lrs_command_line.proofs.Plain.{AreOptions, same, plain_line, parts_of, alone_of, value_found}
 
 -- ---- the options of a command begin with `-`
 
-and_more : (x : List ℕ) (xs : List (List ℕ)) → is_name x ≡ false → AreOptions xs → AreOptions (x ∷ xs)
+and_more : (x : List ℕ) (xs : List (List ℕ)) → is_no_option x ≡ false → AreOptions xs → AreOptions (x ∷ xs)
 and_more x xs dash are name e = by (bytes_eq name x) refl e where
-  by : (b : Bool) → bytes_eq name x ≡ b → (b || is_among name xs) ≡ true → is_name name ≡ false
-  by true is e = ap is_name (same name x is) ∙ dash
+  by : (b : Bool) → bytes_eq name x ≡ b → (b || is_among name xs) ≡ true → is_no_option name ≡ false
+  by true is e = ap is_no_option (same name x is) ∙ dash
   by false is e = are name e
 
 no_more : AreOptions []
@@ -33,7 +33,7 @@ options_are (name ∷ words) = by (bytes_eq name (codes "init")) (bytes_eq name 
 
 -- ---- what a plain line says
 
-found : (name : List ℕ) (parts : List Part) (words : List (List ℕ)) → is_name name ≡ false → IsLineOf parts words
+found : (name : List ℕ) (parts : List Part) (words : List (List ℕ)) → is_no_option name ≡ false → IsLineOf parts words
     → value_behind name words ≡ value_of name parts
 found name parts words dash is = ap (value_behind name) is.line ∙ value_found (options_of words) name parts (options_are words) dash is.plain
 

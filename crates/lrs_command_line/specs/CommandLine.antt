@@ -44,17 +44,17 @@ value_of name (word w ∷ parts) = value_of name parts
 value_of name (option other value ∷ parts) = if bytes_eq other name then Some value else value_of name parts
 
 -- the word isn't empty, and doesn't begin with `-` as the name of an option does
-abbrev pub is_name : List ℕ → Bool
-is_name [] = false
-is_name (b ∷ rest) = not (b == 45)
+abbrev pub is_no_option : List ℕ → Bool
+is_no_option [] = false
+is_no_option (b ∷ rest) = not (b == 45)
 
 -- No word is empty and none begins with `-` but these options. Each of those stands at most once, and the next word is
 -- its value.
 abbrev pub ArePlain : List (List ℕ) → List Part → Type 0
 ArePlain options [] = ⊤
-ArePlain options (word w ∷ parts) = (is_name w ≡ true) × ArePlain options parts
+ArePlain options (word w ∷ parts) = (is_no_option w ≡ true) × ArePlain options parts
 ArePlain options (option name value ∷ parts) =
-    (is_among name options ≡ true) × (is_among name (line_of parts) ≡ false) × (is_name value ≡ true)
+    (is_among name options ≡ true) × (is_among name (line_of parts) ≡ false) × (is_no_option value ≡ true)
     × ArePlain options parts
 
 abbrev pub options_of_command : List ℕ → List (List ℕ)
@@ -179,20 +179,20 @@ pub record IsTaken (words : List (List ℕ)) (c : CommandLine) : Type 0 where
 -- ---- values
 
 -- a number as words spell it: 1 to `MOST_DIGITS` digits and nothing else
-pub record IsNumber (word : List ℕ) : Type 0 where
+pub record IsNumberWord (word : List ℕ) : Type 0 where
   pub some : 0 < length word
   pub few : length word ≤ MOST_DIGITS
   pub digits : list_all is_ascii_digit word ≡ true
 
 -- a number of this range
 pub record IsNumberIn (from to : ℕ) (word : List ℕ) : Type 0 where
-  pub number : IsNumber word
+  pub number : IsNumberWord word
   pub least : from ≤ digits_value 10 word
   pub most : digits_value 10 word ≤ to
 
 -- a number of bytes that a store may have
-abbrev pub IsLimit : List ℕ → Type 0
-IsLimit = IsNumberIn LEAST_BYTES MOST_BYTES
+abbrev pub IsLimitWord : List ℕ → Type 0
+IsLimitWord = IsNumberIn LEAST_BYTES MOST_BYTES
 
 -- the base address of the store, and its limit, if the words leave them out
 abbrev pub base_of : InitWords → List ℕ
@@ -204,7 +204,7 @@ limit_of w = option_map_or (digits_value 10) w.limit DEFAULT_LIMIT
 pub record IsInitInRange (w : InitWords) : Type 0 where
   pub admin : IsToken w.admin
   pub base : IsBase (base_of w)
-  pub limit : IfSome w.limit IsLimit
+  pub limit : IfSome w.limit IsLimitWord
 
 pub record IsServeInRange (w : ServeWords) : Type 0 where
   pub workers : IsNumberIn 1 MOST_PASSES w.workers

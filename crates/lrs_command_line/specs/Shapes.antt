@@ -10,7 +10,7 @@ use Rattle.clap.specs.declared.builder.command.Command.TheViews.{out-Command as 
 use Rattle.clap.specs.Faults.{fault_of}
 use Rattle.lrs_json.specs.Names.{is_among}
 use Rattle.lrs_command_line.specs.CommandLine.{CommandLine, init, intake, serve, load, IsInRange, base_of, limit_of}
-use Rattle.lrs_command_line.specs.CommandLine.{connections_of, count_of, is_name, options_of, program, seed_of}
+use Rattle.lrs_command_line.specs.CommandLine.{connections_of, count_of, is_no_option, options_of, program, seed_of}
 use Rattle.lrs_command_line.specs.CommandLine.{whole_line, workers_of}
 use Rattle.lrs_command_line.specs.declared.words.CommandLine as code
 use Rattle.lrs_command_line.specs.declared.words.CommandLine.TheVariants as line
@@ -49,15 +49,15 @@ is_option options word behind = is_among word options && not (is_among word behi
 -- the words are plain from the beginning of a part on, or from the word after an option's name
 abbrev pub is_plain : List (List ℕ) → Bool → List (List ℕ) → Bool
 is_plain options behind_option [] = not behind_option
-is_plain options true (value ∷ words) = is_name value && is_plain options false words
+is_plain options true (value ∷ words) = is_no_option value && is_plain options false words
 is_plain options false (word ∷ words) =
-    if is_name word then is_plain options false words else (is_option options word words && is_plain options true words)
+    if is_no_option word then is_plain options false words else (is_option options word words && is_plain options true words)
 
 -- the words that stand alone
 abbrev pub alone : Bool → List (List ℕ) → List (List ℕ)
 alone behind_option [] = []
 alone true (value ∷ words) = alone false words
-alone false (word ∷ words) = if is_name word then word ∷ alone false words else alone true words
+alone false (word ∷ words) = if is_no_option word then word ∷ alone false words else alone true words
 
 -- the word after this one
 abbrev pub value_behind : List ℕ → List (List ℕ) → Option (List ℕ)

@@ -4,7 +4,7 @@ ghost use Rattle.std.specs.List.{list_all};
 ghost use Rattle.std.specs.Option.{SomeIff, option_copied, option_map_or};
 ghost use Rattle.std.specs.Str.Parse.{digits_value};
 ghost use Rattle.lrs_state.specs.Founding.{IsToken, IsBase};
-ghost use Rattle.lrs_command_line.specs.CommandLine.{CommandLine as SpecCommandLine, init, serve, load, InitWords, ServeWords, LoadWords, IsCommandLine, IsInRange, IsInitInRange, IsServeInRange, IsLoadInRange, IsNumber, IsNumberIn, IsLimit};
+ghost use Rattle.lrs_command_line.specs.CommandLine.{CommandLine as SpecCommandLine, init, serve, load, InitWords, ServeWords, LoadWords, IsCommandLine, IsInRange, IsInitInRange, IsServeInRange, IsLoadInRange, IsNumberWord, IsNumberIn, IsLimitWord};
 ghost use Rattle.lrs_command_line.specs.Shapes.{IsReadAs, Denotes, command_of, named};
 
 mod plain;
@@ -91,7 +91,7 @@ fn are_digits(word: &str) -> bool
 }
 
 fn is_number(word: &str) -> bool
-    ensures { IsTrue result ↔ IsNumber word.now }
+    ensures { IsTrue result ↔ IsNumberWord word.now }
 {
     !word.is_empty() && word.len() <= MOST_DIGITS && are_digits(word)
 }
@@ -110,8 +110,8 @@ fn read_number(word: &str, least: u64, most: u64) -> Option<u64>
 }
 
 fn read_limit(limit: Option<&str>) -> Option<u64>
-    ensures { MatchOption result (IfSome (option_copied limit.entry) IsLimit → ⊥)
-        (λ n. IfSome (option_copied limit.entry) IsLimit
+    ensures { MatchOption result (IfSome (option_copied limit.entry) IsLimitWord → ⊥)
+        (λ n. IfSome (option_copied limit.entry) IsLimitWord
         × (n ≡ option_map_or (digits_value 10) (option_copied limit.entry) DEFAULT_LIMIT)) }
 {
     match limit {

@@ -36,7 +36,8 @@ pub trait Disk: Drop {
     /// Reads from an offset on, and answers how many bytes there were. They are fewer than asked for only at the end.
     fn read_at(&mut self, offset: u64, into: &mut [u8]) -> Result<usize, Failed>
         ensures room { IfOk result (λ n. n ≤ length into.old) }
-        ensures number { IfOk result (λ n. IfSome (told self.old) (λ b. n ≡ min (length into.old) (length b - offset))) }
+        ensures number { IfOk result (λ n. IfSome (told self.old)
+            (λ b. n ≡ min (length into.old) (length b - offset))) }
         ensures bytes { IfOk result (λ n. IfSome (told self.old) (λ b. take n into.new ≡ take n (drop offset b))) }
         ensures still { told self.new ≡ told self.old }
         ensures crash { Within (image self.old) (image self.new) }

@@ -32,7 +32,7 @@ fn door_of(rt: HostRuntime, patience: Patience) -> Result<TcpDoor<HostRuntime>, 
     }
 }
 
-// The offset of the first step that went otherwise than expected.
+// The index of the first step that went otherwise than expected.
 fn first_wrong(steps: &[bool]) -> Option<usize> {
     steps.iter().position(|step| !*step)
 }

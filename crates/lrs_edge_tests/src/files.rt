@@ -15,7 +15,7 @@ fn path_of(rt: HostRuntime, test: &str) -> Result<PathBuf, Fail> {
     Ok(path)
 }
 
-// The offset of the first step that went otherwise than expected.
+// The index of the first step that went otherwise than expected.
 fn first_wrong(steps: &[bool]) -> Option<usize> {
     steps.iter().position(|step| !*step)
 }

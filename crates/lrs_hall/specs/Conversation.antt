@@ -22,7 +22,7 @@ use Rattle.lrs_hall.specs.Responses.{IsReplyText, IsFixed, IsFraming, route_resp
 use Rattle.lrs_hall.specs.declared.talk.Finish.{Finish}
 use Rattle.lrs_hall.specs.declared.talk.Finish.TheVariants as finish
 
--- What is known of a worker between two acts: the point of its next draw, and what acts have made of X.
+-- What is known of a worker between two acts: where its next draw stands, and what acts have made of X.
 pub record Worker (X : Type 0) : Type 0 where
   pub draws : Draws
   pub reached : X

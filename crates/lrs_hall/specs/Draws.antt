@@ -3,7 +3,7 @@ use Rattle.std.specs.Prelude.{ℕ, ◌+◌, ◌*◌, ◌%◌, ◌^◌, List}
 use Rattle.rand_chacha.specs.ChaCha.{key_of, word_at}
 use Rattle.lrs_names.specs.declared.draw.Draw.{Draw}
 
--- draws stand at a point in a stream: the seed's key, the stream, and the number of the next draw
+-- where draws stand in a stream: the seed's key, the stream, and the number of the next draw
 pub record Draws : Type 0 where
   pub key : List ℕ
   pub stream : ℕ
@@ -13,7 +13,7 @@ pub record Draws : Type 0 where
 abbrev pub start_of : List ℕ → ℕ → Draws
 start_of seed stream = record { key = key_of seed; stream = stream; number = 0 }
 
--- four words from a point on as one number, the first most significant (ChaCha20 has ten double rounds)
+-- four words from there on as one number, the first most significant (ChaCha20 has ten double rounds)
 abbrev pub four_words : List ℕ → ℕ → ℕ → ℕ
 four_words key stream at =
     ((word_at 10 key stream at * 2 ^ 32 + word_at 10 key stream (at + 1)) * 2 ^ 32
@@ -26,6 +26,6 @@ draw_at p = record {
   secret = four_words p.key p.stream (8 * p.number + 4);
 }
 
--- after the draw at a point
+-- after the draw that stands there
 abbrev pub next_draws : Draws → Draws
 next_draws p = record p { number = (p.number + 1) % 2 ^ 65 }

@@ -50,7 +50,8 @@ memory_response = fixed 503 (codes "memory")
 -- what a request is answered that the routes refuse
 abbrev pub route_response : RouteRefused → FixedResponse
 route_response route.NoRoute = fixed 404 (codes "404")
-route_response (route.NoMethod allow) = record { status = 405; error = codes "405"; allow = method_names (methods_of allow) }
+route_response (route.NoMethod allow) =
+    record { status = 405; error = codes "405"; allow = method_names (methods_of allow) }
 route_response route.NoVersion = fixed 400 (codes "V1")
 route_response route.Memory = memory_response
 

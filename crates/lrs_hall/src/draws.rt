@@ -7,7 +7,7 @@ use rand_core::SeedableRng;
 use rand_core::utils::NextWord;
 use std::marker::Model;
 
-/// The draws of one stream, seen as the point before the next one: the seed's key, the stream and the draw's number.
+/// The draws of one stream, seen as where the next one stands: the seed's key, the stream and the draw's number.
 ///
 /// A stream is that of the ChaCha20 cipher with a counter and a stream number of 64 bits each. It has 2^65 draws,
 /// and begins again after the last.

@@ -5,7 +5,7 @@ use Rattle.cmi5_course.specs.Courses.{node_at}
 use Rattle.cmi5_course.specs.declared.course.Node.{Node}
 use Rattle.cmi5_course.specs.declared.reason.Reason.{Reason}
 use Rattle.cmi5_verdict.specs.Cmi5LaunchMade.{said_satisfied, said_waived, saying_json}
-use Rattle.cmi5_verdict.specs.Nodes.{activity_at as activity_of_node}
+use Rattle.cmi5_verdict.specs.Nodes.{activity_of_node}
 use Rattle.lrs_history.specs.Enrolments.{Enrolled, enrolment_of, owed_behind}
 use Rattle.lrs_history.specs.Launches.{Target, activity_at}
 use Rattle.lrs_ids.specs.Ids.{Supply, rest_of}

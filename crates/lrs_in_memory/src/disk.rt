@@ -146,8 +146,8 @@ impl Disk for MemDisk {
         ensures time { Elapses (moment_of self.old) (moment_of self.new) (LeavesSince self.old) (LeavesSince self.new)
             (Leaves self.new) }
         ensures cause { HasCause (faults_of self.old) (faults_of self.new) result }
-        ensures takes { Takes self.old self.new (Wrote offset bytes.now) (FailedWrite offset bytes.now) (length bytes.now)
-            result }
+        ensures takes { Takes self.old self.new (Wrote offset bytes.now) (FailedWrite offset bytes.now)
+            (length bytes.now) result }
     {
         self.ledger.enter(Act::Write { offset }, bytes)?;
         overwrite(&mut self.bytes, offset, bytes).unwrap();

@@ -19,7 +19,7 @@ fn link(alloc: Global) -> Result<MemLink, Memory>
     MemLink::new(alloc, input, Vec::new(alloc), 9, Vec::new(alloc))
 }
 
-// The offset of the first step that went otherwise than expected.
+// The index of the first step that went otherwise than expected.
 fn first_wrong(steps: &[bool]) -> Option<usize> {
     steps.iter().position(|step| !*step)
 }

@@ -20,7 +20,7 @@ fn one<T: Drop>(alloc: Global, item: T) -> Result<Vec<T>, Memory>
     Ok(items)
 }
 
-// The offset of the first step that went otherwise than expected.
+// The index of the first step that went otherwise than expected.
 fn first_wrong(steps: &[bool]) -> Option<usize> {
     steps.iter().position(|step| !*step)
 }

@@ -41,7 +41,8 @@ HasSameOffset old new = (new.offset ≡ old.offset) × (new.number ≡ old.numbe
 
 -- one frame more was read, of this payload
 abbrev pub HasNextOffset : {D : Type 0} → Replay D → Replay D → List ℕ → Type 0
-HasNextOffset old new payload = (new.offset ≡ old.offset + (FRAME_HEAD + length payload)) × (new.number ≡ old.number + 1)
+HasNextOffset old new payload =
+    (new.offset ≡ old.offset + (FRAME_HEAD + length payload)) × (new.number ≡ old.number + 1)
 
 -- these bytes begin with an open gate and a whole frame with a payload of this length
 abbrev pub IsWholeFrame : List ℕ → ℕ → Type 0

@@ -18,7 +18,8 @@ KeepsUpTo offset old c = (d : List ℕ) × old d × (take offset c ≡ take offs
 
 -- one of the old images, but for the byte at this offset
 abbrev pub IsAtGate : ℕ → (List ℕ → Type 0) → List ℕ → Type 0
-IsAtGate offset old c = (d : List ℕ) × old d × (take offset c ≡ take offset d) × (drop (offset + 1) c ≡ drop (offset + 1) d)
+IsAtGate offset old c =
+    (d : List ℕ) × old d × (take offset c ≡ take offset d) × (drop (offset + 1) c ≡ drop (offset + 1) d)
 
 -- one of the old images, cut at this offset or after it, or up to this offset and with at most one byte after
 abbrev pub IsCutBack : ℕ → (List ℕ → Type 0) → List ℕ → Type 0

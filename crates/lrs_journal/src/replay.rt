@@ -354,7 +354,8 @@ impl<D: Disk> Replay<D> {
         ensures frame { IfOk result (λ more. more ≡ true → ForSome (D.told self.old.disk)
             (λ bytes. (payloads : List (List ℕ)) → HasRead bytes self.old payloads
             → HasRead bytes self.new (payloads ++ into.new.items ∷ []))) }
-        ensures end { IfOk result (λ more. more ≡ false → HasSameOffset self.old self.new × ForSome (D.told self.old.disk)
+        ensures end { IfOk result (λ more. more ≡ false → HasSameOffset self.old self.new
+            × ForSome (D.told self.old.disk)
             (λ bytes. (payloads : List (List ℕ)) → HasRead bytes self.old payloads → HasRead bytes self.new payloads
             × Stands bytes self.old.limit payloads)) }
         ensures moved { IfOk result (λ more. more ≡ true → HasNextOffset self.old self.new into.new.items) }

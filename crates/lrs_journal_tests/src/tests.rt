@@ -15,7 +15,7 @@ fn disk_of(alloc: Global, bytes: &[u8], failing: Vec<u64>) -> Result<MemDisk, Me
     MemDisk::new(alloc, bytes.to_vec(alloc)?, failing, 99, 9_999)
 }
 
-// The offset of the first step that went otherwise than expected.
+// The index of the first step that went otherwise than expected.
 fn first_wrong(steps: &[bool]) -> Option<usize> {
     steps.iter().position(|step| !*step)
 }

@@ -12,7 +12,7 @@ use Rattle.cmi5_course.specs.declared.reason.Reason.{Reason}
 use Rattle.cmi5_launch.specs.Made.{Saying, launched_json, said_abandoned, said_launched, said_satisfied, said_waived, saying_json}
 use Rattle.cmi5_launch.specs.Names.{abandoned, launched, satisfied, waived}
 use Rattle.cmi5_session.specs.Moments.{began_at}
-use Rattle.cmi5_verdict.specs.Nodes.{activity_at as activity_of_node}
+use Rattle.cmi5_verdict.specs.Nodes.{activity_of_node}
 use Rattle.lrs_agents.specs.declared.agents.Agent.{Agent}
 use Rattle.lrs_history.specs.DeskEffects.{abandoning_each, abandoning_one, enrolling, fetching, giving, launching, sweeping, telling, waiving}
 use Rattle.lrs_history.specs.Effects.{owed_in_session}

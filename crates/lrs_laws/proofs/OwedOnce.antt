@@ -10,7 +10,7 @@ use Rattle.std.proofs.lemmas.List.{append_cancel_left}
 use Rattle.cmi5_course.specs.declared.course.Node.{Node}
 use Rattle.cmi5_launch.specs.Activities.{activity_text}
 use Rattle.cmi5_launch.specs.Names.{satisfied}
-use Rattle.cmi5_verdict.specs.Nodes.{SeenEnrolment, activity_at, at_depth, depth_of, from_depth, is_owed, is_satisfied, is_unit_in, owed, indices}
+use Rattle.cmi5_verdict.specs.Nodes.{SeenEnrolment, activity_of_node, at_depth, depth_of, from_depth, is_owed, is_satisfied, is_unit_in, owed, indices}
 use Rattle.cmi5_verdict.specs.Units.{was_said}
 use Rattle.lrs_laws.proofs.Counting.{many, many-append, many_filter, one_in_row, some_passes}
 use Rattle.lrs_laws.proofs.NewIds.{and_left, and_right, not_true}
@@ -73,7 +73,7 @@ same_number base course j k few small same =
 
 -- the registration is that one, and the node has that id
 abbrev pub is_that_node : SeenEnrolment → List ℕ → List ℕ → ℕ → Bool
-is_that_node e registration activity index = bytes_eq e.registration registration && bytes_eq (activity_at e index) activity
+is_that_node e registration activity index = bytes_eq e.registration registration && bytes_eq (activity_of_node e index) activity
 
 -- Such a node isn't owed, or it is owed once and was never said.
 abbrev pub IsOwedOnce : SeenEnrolment → List StoredStatement → List ℕ → List ℕ → Type 0
@@ -95,11 +95,11 @@ owed_once e statements registration activity few = by_some (some_passes due (ind
         many_filter (is_that_node e registration activity) (is_owed e statements) (indices e.nodes) in
         omega (arith, deep, same)
 
-    it_is : (p : ℕ) → due p ≡ true → (e.registration ≡ registration) × (activity_at e p ≡ activity)
+    it_is : (p : ℕ) → due p ≡ true → (e.registration ≡ registration) × (activity_of_node e p ≡ activity)
     it_is p is =
         let both : is_that_node e registration activity p ≡ true = and_right (is_owed e statements p) (is_that_node e registration activity p) is in (
-          same_text e.registration registration (sym (and_left (bytes_eq e.registration registration) (bytes_eq (activity_at e p) activity) both)),
-          same_text (activity_at e p) activity (sym (and_right (bytes_eq e.registration registration) (bytes_eq (activity_at e p) activity) both)),
+          same_text e.registration registration (sym (and_left (bytes_eq e.registration registration) (bytes_eq (activity_of_node e p) activity) both)),
+          same_text (activity_of_node e p) activity (sym (and_right (bytes_eq e.registration registration) (bytes_eq (activity_of_node e p) activity) both)),
         )
 
     alike : (j k : ℕ) → j < length e.nodes → k < length e.nodes → due j ≡ true → due k ≡ true → j ≡ k
@@ -110,9 +110,9 @@ owed_once e statements registration activity few = by_some (some_passes due (ind
 
     unsaid : (p : ℕ) → due p ≡ true → was_said statements registration activity satisfied ≡ false
     unsaid p is =
-        let never : was_said statements e.registration (activity_at e p) satisfied ≡ false =
-        not_true (was_said statements e.registration (activity_at e p) satisfied)
-        (and_right (not (is_unit_in e.nodes p) && is_satisfied e statements p) (not (was_said statements e.registration (activity_at e p) satisfied))
+        let never : was_said statements e.registration (activity_of_node e p) satisfied ≡ false =
+        not_true (was_said statements e.registration (activity_of_node e p) satisfied)
+        (and_right (not (is_unit_in e.nodes p) && is_satisfied e statements p) (not (was_said statements e.registration (activity_of_node e p) satisfied))
         (and_left (is_owed e statements p) (is_that_node e registration activity p) is)) in
         ap (λ r. was_said statements r activity satisfied) (sym (it_is p is).0) ∙ (ap (λ a. was_said statements e.registration a satisfied) (sym (it_is p is).1) ∙ never)
 

@@ -12,7 +12,7 @@ use Rattle.cmi5_launch.specs.Names.{satisfied}
 use Rattle.cmi5_session.specs.Own.{is_cmi5_defined, says}
 use Rattle.cmi5_session.specs.Rules.{broken_defined, verb_named}
 use Rattle.cmi5_session.specs.Views.{SeenSession, view_of}
-use Rattle.cmi5_verdict.specs.Nodes.{activity_at as activity_of_node}
+use Rattle.cmi5_verdict.specs.Nodes.{activity_of_node}
 use Rattle.cmi5_verdict.specs.Units.{counts, counts_among, was_said}
 use Rattle.lrs_agents.specs.declared.agents.Agent.{Agent}
 use Rattle.lrs_history.specs.Effects.{new_by}

@@ -6,7 +6,7 @@ use Rattle.std.specs.Str.{bytes_eq}
 use Rattle.std.proofs.lemmas.List.{length-take-le}
 use Rattle.std.proofs.lemmas.Option.{slice_get_past, slice_get_within}
 use Rattle.lrs_ids.specs.Ids.{are_distinct}
-use Rattle.lrs_parts.specs.Progress.{is_at, place_behind}
+use Rattle.lrs_parts.specs.Progress.{is_at, index_behind}
 use Rattle.lrs_parts.proofs.Events.{bytes_same, next_added, passes_there, same_bytes, same_place, stands_there, take_next, within_front}
 use Rattle.xapi_statement.specs.Statements.{add_each, ids_of, is_held}
 use Rattle.cmi5_running_verdicts.specs.XapiIndexAddingProofs.{add-new, add-old}
@@ -59,8 +59,8 @@ not_again all at s distinct held = by_item (slice_get all at) refl
 -- Of what came and is still to be followed, this is the next one: whether it stands at the position, and where the rest stands.
 pub record Next (all : List StoredStatement) (at : ℕ) (s : StoredStatement) (more : List StoredStatement) : Type 0 where
   pub there : is_at s all at ≡ true → slice_get all at ≡ Some s
-  pub within : place_behind s all at ≤ length all
-  pub added : all ≡ add_each (take (place_behind s all at) all) more
+  pub within : index_behind s all at ≤ length all
+  pub added : all ≡ add_each (take (index_behind s all at) all) more
 
 -- its id was held
 next_old : (all : List StoredStatement) (at : ℕ) (s : StoredStatement) (more : List StoredStatement) → at ≤ length all → is_at s all at ≡ false
@@ -71,7 +71,7 @@ next_old all at s more within elsewhere added = record {
   added = subst (λ (n : ℕ). all ≡ add_each (take n all) more) (sym index) added;
 }
   where
-    index : place_behind s all at ≡ at
+    index : index_behind s all at ≡ at
     index = ap (λ (b : Bool). if b then at + 1 else at) elsewhere
 
 -- it is new
@@ -87,7 +87,7 @@ next_new all at s more within added = record {
         ap (λ (n : ℕ). slice_get all n) (sym (length-take-le at all within))
         ∙ (ap (λ (ys : List StoredStatement). slice_get ys (length (take at all))) added ∙ next_added (take at all) more s)
 
-    index : place_behind s all at ≡ at + 1
+    index : index_behind s all at ≡ at + 1
     index =
         ap (λ (b : Bool). if b then at + 1 else at)
         (ap (λ (o : Option StoredStatement). option_map_or (λ (t : StoredStatement). bytes_eq t.id s.id) o false) here ∙ bytes_same s.id s.id refl)
@@ -102,6 +102,6 @@ next_of all at s more distinct within added = by_held (is_held s.id (take at all
     by_held false none = next_new all at s more within (added ∙ ap (λ (front : List StoredStatement). add_each front more) (add-new (take at all) s none))
 
 -- nothing stands behind the last one
-pub past_last : (all : List StoredStatement) (at : ℕ) (s : StoredStatement) → length all ≤ at → at ≡ place_behind s all at
+pub past_last : (all : List StoredStatement) (at : ℕ) (s : StoredStatement) → length all ≤ at → at ≡ index_behind s all at
 past_last all at s past =
     sym (ap (λ (o : Option StoredStatement). if option_map_or (λ (t : StoredStatement). bytes_eq t.id s.id) o false then at + 1 else at) (slice_get_past all at past))

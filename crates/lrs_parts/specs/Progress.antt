@@ -110,8 +110,8 @@ abbrev pub is_at : StoredStatement → List StoredStatement → ℕ → Bool
 is_at s statements at = option_map_or (λ (t : StoredStatement). bytes_eq t.id s.id) (slice_get statements at) false
 
 -- where the next one stands: behind that position, or there if this one's id was held
-abbrev pub place_behind : StoredStatement → List StoredStatement → ℕ → ℕ
-place_behind s statements at = if is_at s statements at then at + 1 else at
+abbrev pub index_behind : StoredStatement → List StoredStatement → ℕ → ℕ
+index_behind s statements at = if is_at s statements at then at + 1 else at
 
 -- ---- room
 

@@ -12,7 +12,7 @@ ghost use Rattle.cmi5_running_verdicts.specs.Cmi5VerdictNodes.{SeenEnrolment, se
 ghost use Rattle.lrs_ids.specs.Ids.{are_distinct};
 ghost use Rattle.lrs_parts.specs.Progress.{AreCounted, KeepsUp, IsUpToDate, IsReadyToEnrol};
 ghost use Rattle.lrs_parts.specs.Progress.{enrolment_at, enrolment_in, enrolment_with, is_at, is_voided_anew};
-ghost use Rattle.lrs_parts.specs.Progress.{number_named, place_behind, voided_anew};
+ghost use Rattle.lrs_parts.specs.Progress.{number_named, index_behind, voided_anew};
 ghost use Rattle.lrs_parts.specs.Trees.{AreTargets, voided_in};
 ghost use Rattle.lrs_state.specs.declared.founding.Founding.{Founding as SpecFounding};
 ghost use Rattle.lrs_state.specs.declared.registrations.HeldRegistration.{HeldRegistration as SpecRegistration};
@@ -205,7 +205,7 @@ fn follow_next(
         → slice_get statements.now.held at ≡ Some statement.now }
     requires slots { HasSlotsFor progress.old.sessions statement.now }
     requires voided { option_copied voided ≡ voided_in statements.now.held statement.now }
-    ensures next { result ≡ place_behind statement.now statements.now.held at }
+    ensures next { result ≡ index_behind statement.now statements.now.held at }
     ensures follows { KeepsUp progress.old founding.now learning.now.courses.held learning.now.registrations.held
         (marked (take at statements.now.held))
         → KeepsUp progress.new founding.now learning.now.courses.held learning.now.registrations.held
@@ -237,7 +237,7 @@ fn follow_at(
         → slice_get statements.now.held at ≡ Some statement.now }
     requires slots { HasSlotsFor progress.old.sessions statement.now }
     requires voided { option_copied voided ≡ voided_in statements.now.held statement.now }
-    ensures next { result ≡ place_behind statement.now statements.now.held at }
+    ensures next { result ≡ index_behind statement.now statements.now.held at }
     ensures follows { KeepsUp progress.old founding.now learning.now.courses.held learning.now.registrations.held
         (marked (take at statements.now.held))
         → KeepsUp progress.new founding.now learning.now.courses.held learning.now.registrations.held

@@ -6,7 +6,7 @@ ghost use Rattle.cmi5_running_sessions.specs.Cmi5SessionMarked.{marked};
 ghost use Rattle.cmi5_running_sessions.specs.Cmi5SessionMoments.{began_at, last_own};
 ghost use Rattle.cmi5_running_sessions.specs.Cmi5SessionOwn.{has_own};
 ghost use Rattle.cmi5_running_sessions.specs.Cmi5SessionViews.{seen as seen_session, view_of};
-ghost use Rattle.cmi5_running_verdicts.specs.Cmi5VerdictNodes.{activity_at, owed, seen, verdicts};
+ghost use Rattle.cmi5_running_verdicts.specs.Cmi5VerdictNodes.{activity_of_node, owed, seen, verdicts};
 ghost use Rattle.cmi5_running_verdicts.specs.Cmi5VerdictStatements.{all_of};
 ghost use Rattle.cmi5_running_verdicts.specs.Cmi5VerdictUnits.{stands};
 ghost use Rattle.lrs_parts.specs.Progress.{enrolment_in, number_held, number_in};
@@ -93,7 +93,7 @@ impl Parts {
             ≡ Some (seen enrolment.now) }
         requires index { index < length enrolment.now.nodes.now }
         ensures { IfOk result (λ told. told ≡ stands self.now.statements.held enrolment.now.registration.now
-            (activity_at (seen enrolment.now) index) waived) }
+            (activity_of_node (seen enrolment.now) index) waived) }
     {
         match number_held(&self.learning.registrations, registration) {
             Some(number) => Ok(self.progress.running.is_waived(number, index)),
@@ -160,7 +160,7 @@ impl Parts {
         index: u32,
     ) -> Result<bool, Memory>
         ensures { IfOk result (λ told. told ≡ stands self.now.statements.held enrolment.now.registration.now
-            (activity_at (seen enrolment.now) index) waived) }
+            (activity_of_node (seen enrolment.now) index) waived) }
     {
         waived(alloc, &self.held_alone(), enrolment, index)
     }

@@ -6,15 +6,15 @@ use Rattle.std.specs.BTreeMap.{is_at}
 use Rattle.std.specs.Map.{lookup}
 use Rattle.std.specs.declared.cmp.Ordering.{Ordering}
 
--- an index was made for the key
+-- a slot was made for the key
 abbrev pub HasSlot : {K V : Type 0} → (K → K → Ordering) → List (K × Option V) → K → Type 0
 HasSlot cmp slots key = IsTrue (is_some (lookup (is_at (cmp key)) slots))
 
--- what is held in the place of a key, if it isn't empty yet
+-- what is held in the slot of a key, if it isn't empty yet
 abbrev pub index_of : {K V : Type 0} → (K → K → Ordering) → List (K × Option V) → K → Option V
 index_of cmp slots key = option_and_then (λ index. index) (lookup (is_at (cmp key)) slots)
 
--- an index was made for the key, and is empty yet
+-- a slot was made for the key, and is empty yet
 abbrev pub is_empty_at : {K V : Type 0} → (K → K → Ordering) → List (K × Option V) → K → Bool
 is_empty_at cmp slots key = option_map_or is_none (lookup (is_at (cmp key)) slots) false
 

@@ -58,7 +58,7 @@ pub(crate) fn wanted_in(alloc: Global, pairs: &[Pair]) -> Result<ParameterValue,
     }
 }
 
-/// The place at which a list goes on.
+/// The position at which a list goes on.
 pub(crate) fn link_in(alloc: Global, pairs: &[Pair]) -> Result<ParameterValue, QueryRefused>
     ensures { Reads parameters_of_link pairs.now result }
 {

@@ -14,7 +14,7 @@ pub(crate) enum ParameterValue {
     Nothing,
     /// What a GET of statements asks for.
     Wanted(Wanted),
-    /// A place in a list of statements.
+    /// A position in a list of statements.
     Link(MoreLink),
     /// The id of a statement.
     Id(Id),

@@ -125,7 +125,7 @@ named_step p k j ms ns e = step_at (is_passed_over p k) k (normal (role_of_membe
 drop_member : (ms : List Member) (i : ℕ) (m : Member) → i < length ms → m ≡ get_or ms i m → drop i ms ≡ m ∷ drop (i + 1) ms
 drop_member ms i m lt e = rw add-one (drop-cons ms i m lt ∙ ap (λ (z : Member). z ∷ drop (suc i) ms) (sym e))
 
--- where the member at a role is alike to one, what is left after it decides
+-- where the member in a role is alike to one, what is left after it decides
 pub named_on : (p : Role) (ts : List Member) (i : ℕ) (m : Member) (ns : Named) (r : Bool) → i < length ts → m ≡ get_or ts i m → r ≡ is_alike_within p (member_view m).0 (member_view m).1 ns → r ≡ true
     → named_alike (normal_members p (members_of (map member_view (drop i ts)))) ns ≡ named_alike (normal_members p (members_of (map member_view (drop (i + 1) ts)))) ns
 named_on p ts i m ns r lt at is found =

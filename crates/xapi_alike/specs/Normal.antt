@@ -15,7 +15,7 @@ use Rattle.xapi_alike.specs.declared.role.Role.TheVariants.{Activities, Outcome,
 use Rattle.xapi_alike.specs.Roles.{is_passed_over, kind_at, role_of_object, role_of_member, role_of_item}
 use Rattle.xapi_alike.specs.Roles.{is_unordered, is_plural}
 
--- what a text says at its role
+-- what a text says in its role
 pub data Words : Type 0 where
   letters : List ℕ → Words
   -- sixteen bytes
@@ -74,7 +74,7 @@ said_at Timestamp text = instant_or text (timestamp_at text)
 said_at Duration text = span_or text (duration_at text)
 said_at Plain text = letters text
 
--- what an object is at a role: where an array may stand, an array of it
+-- what an object is in a role: where an array may stand, an array of it
 abbrev pub alone : Role → Normal → Normal
 alone role x = if is_plural role then items false (more x none) else x
 

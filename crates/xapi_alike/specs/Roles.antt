@@ -41,7 +41,7 @@ kind_or default Kind.StatementRef = Kind.StatementRef
 kind_or default Kind.SubStatement = Kind.SubStatement
 kind_or default Kind.Other = Kind.Other
 
--- The kind of an object at a role, by what it states. At other roles than these nothing is meant by an `objectType`,
+-- The kind of an object in a role, by what it states. In other roles than these nothing is meant by an `objectType`,
 -- which is a member as any other.
 unfoldable pub kind_at : Role → Kind → Kind
 kind_at Statement own = Kind.Unstated
@@ -70,7 +70,7 @@ role_of_kind Kind.StatementRef = Reference
 role_of_kind Kind.SubStatement = SubStatement
 role_of_kind Kind.Other = Plain
 
--- what an object of that kind is that stands at a role
+-- what an object of that kind is in a role
 unfoldable pub role_of_object : Role → Kind → Role
 role_of_object Statement kind = Statement
 role_of_object SubStatement kind = SubStatement

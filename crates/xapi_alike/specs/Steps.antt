@@ -16,7 +16,7 @@ is_alike_within role name j ns =
 abbrev pub is_named_within : Role → List ℕ → Named → Bool
 is_named_within role name ns = if is_passed_over role name then true else has_name name ns
 
--- of members that aren't normal yet: one of that name is alike at the role
+-- of members that aren't normal yet: one of that name is alike in the role
 abbrev pub any_alike : Role → List ℕ → Json → Members → Bool
 any_alike role name j no_members = false
 any_alike role name j (member k i ms) = (bytes_eq k name && alike (normal role j) (normal role i))

@@ -17,7 +17,7 @@ use xapi_values::Kind;
 // Fewer items are counted, and fewer members are looked for one by one.
 const FEW: usize = 32;
 
-/// Whether the values are the same at that role.
+/// Whether the values are the same in that role.
 #[cycle(alike)]
 pub fn are_alike(role: Role, a: &Tree, b: &Tree) -> bool
     ensures { result ≡ alike (normal role (view a.now)) (normal role (view b.now)) }

@@ -18,7 +18,7 @@ pub fn is_same_amount(a: &Number, b: &Number) -> bool
     a == b || are_equal(a.as_bytes(), b.as_bytes())
 }
 
-/// Whether the texts say the same at that role.
+/// Whether the texts say the same in that role.
 #[tactic(auto, unfolding(crate::specs::Normal::said_at))]
 pub fn is_same_text(role: Role, a: &Text, b: &Text) -> bool
     ensures { result ≡ same_words (said_at role a.now) (said_at role b.now) }

@@ -4,7 +4,7 @@ ghost use Rattle.xapi_alike.specs.Roles.{is_passed_over, kind_or, kind_at, role_
 
 use xapi_values::Kind;
 
-/// What stands at a role of a statement.
+/// What a value is in a statement.
 #[derive(Clone, Copy, Debug)]
 pub enum Role {
     Statement,

@@ -49,7 +49,7 @@ position-below q xs j is = by_test (nat_lt (position_or_len q xs) (length xs)) r
     by_test true lt at = let same : position_or_len q xs ≡ j = cc at in subst (λ k. k < length xs) same (below lt)
     by_test false lt at = cc at
 
--- what stands at the first place that passes is the first item that does
+-- what stands at the first index that passes is the first item that does
 position-item : {A : Type 0} (q : A → Bool) (xs : List A) → option_and_then (λ k. slice_get xs k) (position q xs) ≡ find q xs
 position-item q xs = by_test (nat_lt (position_or_len q xs) (length xs)) refl
   where

@@ -129,7 +129,7 @@ fn format_named(text: &str) -> Format
     }
 }
 
-// ---- the places of a more link
+// ---- the positions of a more link
 
 /// P14, but for how many statements there are.
 pub fn has_link_numbers(pairs: &[Pair]) -> bool

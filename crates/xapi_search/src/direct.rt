@@ -91,12 +91,12 @@ fn leap_each(lists: &[&[u32]], from: usize) -> Option<usize>
     ensures ahead { IfSome result (λ next. from ≤ next) }
     ensures skips { (k : ℕ) → from ≤ k → is_before k result ≡ true → is_in_each lists.now k ≡ false }
 {
-    let mut place = from;
+    let mut position = from;
     for &list in lists {
-        match first_from(list, place) {
-            Some(next) => place = next,
+        match first_from(list, position) {
+            Some(next) => position = next,
             None => return None,
         }
     }
-    Some(place)
+    Some(position)
 }

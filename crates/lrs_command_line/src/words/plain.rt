@@ -3,15 +3,15 @@
 ghost use Rattle.std.specs.Prelude.{◌≡◌, ◌≤◌, ◌∷◌, [], true, false, length, codes, IfSome, MatchOption, Some, option_map};
 ghost use Rattle.std.specs.Option.{option_copied};
 ghost use Rattle.lrs_json.specs.Names.{is_among};
-ghost use Rattle.lrs_command_line.specs.CommandLine.{is_name, options_of_command, options_of};
+ghost use Rattle.lrs_command_line.specs.CommandLine.{is_no_option, options_of_command, options_of};
 ghost use Rattle.lrs_command_line.specs.Shapes.{alone, command_of, init_with, is_option, is_plain, load_said, said_by, serve_with, value_behind};
 
 use crate::words::CommandLine;
 use lrs_json::Text;
 
 // Whether the word isn't empty and doesn't begin as an option's name does.
-fn is_name(word: &Text) -> bool
-    ensures { result ≡ is_name word.now }
+fn is_no_option(word: &Text) -> bool
+    ensures { result ≡ is_no_option word.now }
 {
     match word.as_bytes() {
         [] | [b'-', ..] => false,
@@ -57,11 +57,11 @@ fn pass_word<'a>(command: &str, word: &Text, words: &'a [Text]) -> Option<&'a [T
         ≡ is_plain (options_of_command command.now) false (word.now ∷ words.now)) }
     ensures shorter { IfSome result (λ rest. length rest.now ≤ length words.now) }
 {
-    if is_name(word) {
+    if is_no_option(word) {
         return Some(words);
     }
     match words {
-        [value, rest @ ..] if is_option(command, word, words) && is_name(value) => Some(rest),
+        [value, rest @ ..] if is_option(command, word, words) && is_no_option(value) => Some(rest),
         _ => None,
     }
 }
@@ -108,7 +108,7 @@ fn next_alone(line: &[Text]) -> Option<(&Text, &[Text])>
 {
     let mut left = line;
     while let [word, words @ ..] = left {
-        if is_name(word) {
+        if is_no_option(word) {
             return Some((word, words));
         }
         left = behind_value(words);

@@ -1,7 +1,7 @@
 -- The parts find the unit's registration with its course.
 use Rattle.std.proofs.Common.{◌≡◌, ◌<◌, IfOk, length, subst, sym}
 use Rattle.lrs_history.specs.Cmi5LaunchNames.{waived}
-use Rattle.lrs_history.specs.Cmi5VerdictNodes.{SeenEnrolment, activity_at, seen}
+use Rattle.lrs_history.specs.Cmi5VerdictNodes.{SeenEnrolment, activity_of_node, seen}
 use Rattle.lrs_history.specs.Cmi5VerdictUnits.{stands}
 use Rattle.lrs_made.proofs.Lent.{enrolment_lent}
 use Rattle.lrs_made.specs.Lent.{enrolled_of}
@@ -21,4 +21,4 @@ pub returns : goal.returns
 returns c =
     let index = c.args.target.now.index in
     subst (λ (e : SeenEnrolment). IfOk c.is_waived.result (λ told. told
-    ≡ stands (state_of c.args.parts.now).statements e.registration (activity_at e index) waived)) c.enrolment.ensures c.is_waived.ensures
+    ≡ stands (state_of c.args.parts.now).statements e.registration (activity_of_node e index) waived)) c.enrolment.ensures c.is_waived.ensures

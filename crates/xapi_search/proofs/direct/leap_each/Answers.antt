@@ -16,16 +16,16 @@ loop-list-preserved c =
     let next = c.in-Some.next in
     record {
       ahead = omega (arith, at.invariant.ahead, (c.in-Some.ensures.found next refl).0);
-      skips = leap_on c.args.lists.now at.list-index c.args.from at.place next c.loop-list-test.true c.in-Some.ensures at.invariant.skips;
+      skips = leap_on c.args.lists.now at.list-index c.args.from at.position next c.loop-list-test.true c.in-Some.ensures at.invariant.skips;
     }
 
 pub returns-in-None-clause-skips : goal.returns-in-None-clause-skips
 returns-in-None-clause-skips c = λ k le before.
     let at = c.loop-list in
-    leap_ends c.args.lists.now at.list-index c.args.from at.place c.loop-list-test.true c.in-None.ensures at.invariant.skips k le
+    leap_ends c.args.lists.now at.list-index c.args.from at.position c.loop-list-test.true c.in-None.ensures at.invariant.skips k le
 
 pub returns-clause-ahead : goal.returns-clause-ahead
 returns-clause-ahead c = c.loop-list.invariant.ahead
 
 pub returns-clause-skips : goal.returns-clause-skips
-returns-clause-skips c = λ k le before. c.loop-list.invariant.skips k le (ltb-true k c.loop-list.place before)
+returns-clause-skips c = λ k le before. c.loop-list.invariant.skips k le (ltb-true k c.loop-list.position before)

@@ -1,6 +1,6 @@
 use Rattle.std.proofs.Common.{◌≡◌, ◌∙◌, Some, ap, subst, sym}
 use Rattle.cmi5_running_sessions.specs.Cmi5SessionMarked.{marked}
-use Rattle.cmi5_running_verdicts.specs.Cmi5VerdictNodes.{activity_at, seen}
+use Rattle.cmi5_running_verdicts.specs.Cmi5VerdictNodes.{activity_of_node, seen}
 use Rattle.lrs_parts.specs.Parts.{SeenParts}
 use Rattle.lrs_parts.specs.Progress.{enrolment_in}
 use Rattle.lrs_parts.proofs.Enrolling.{held_stands}
@@ -17,4 +17,4 @@ returns-in-Some c =
     let counted = held_stands old.progress.running old.founding old.learning.courses.held old.learning.registrations.held (marked old.statements.held) r c.in-Some.number e
     (sym c.number_held.ensures ∙ c.in-Some.is) enrolled c.self.invariant.follows.counted in
     c.is_waived.ensures e old.statements.held counted c.requires.index
-    ∙ ap (λ (v : SeenParts). stands v.statements.held e.registration (activity_at e c.args.index) waived) c.self.view_is
+    ∙ ap (λ (v : SeenParts). stands v.statements.held e.registration (activity_of_node e c.args.index) waived) c.self.view_is
